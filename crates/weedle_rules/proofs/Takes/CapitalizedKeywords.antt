@@ -1,0 +1,10 @@
+-- Which rules of this section always take a byte. Written by tools/grammar.py.
+use Rattle.std.proofs.Common.{List, [], ◌∷◌, Bool, true, false}
+
+abbrev pub capitalized_keywords : List Bool
+capitalized_keywords =
+    true ∷ true ∷ true ∷ true ∷ true ∷ true ∷ true ∷ true ∷ true ∷ true ∷ true ∷ true ∷
+    true ∷ true ∷ true ∷ true ∷ true ∷ true ∷ true ∷ true ∷ true ∷ true ∷ true ∷ true ∷
+    true ∷ true ∷ true ∷ true ∷ true ∷ true ∷ true ∷ true ∷ true ∷ true ∷ true ∷ true ∷
+    true ∷ true ∷ true ∷ true ∷ true ∷ true ∷ true ∷ true ∷
+    []

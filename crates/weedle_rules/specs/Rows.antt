@@ -1,0 +1,70 @@
+-- The rows of a grammar, and what the rows without parts take.
+use Rattle.std.specs.Prelude.{ℕ, suc, Bool, true, false, ◌&&◌, ◌||◌, not, if◌then◌else◌, nat_le, ◌==◌, List, [], ◌∷◌, length, Option, Some, None, option_map}
+use Rattle.weedle_rules.specs.declared.class.Class.{Class}
+use Rattle.weedle_rules.specs.declared.class.Class.TheVariants.{Blank, Digit, OneToNine, Octal, Hex, Alnum, Name, Slash, XLetter, ELetter, Sign, NotQuote}
+
+abbrev pub is_from_to : ℕ → ℕ → ℕ → Bool
+is_from_to lo hi byte = nat_le lo byte && nat_le byte hi
+
+abbrev pub is_blank : ℕ → Bool
+is_blank byte = byte == 32 || byte == 9 || byte == 13 || byte == 10
+
+abbrev pub is_alnum : ℕ → Bool
+is_alnum byte = is_from_to 48 57 byte || is_from_to 65 90 byte || is_from_to 97 122 byte
+
+-- the byte is in the class
+abbrev pub is_in : Class → ℕ → Bool
+is_in Blank byte = is_blank byte
+is_in Digit byte = is_from_to 48 57 byte
+is_in OneToNine byte = is_from_to 49 57 byte
+is_in Octal byte = is_from_to 48 55 byte
+is_in Hex byte = is_from_to 48 57 byte || is_from_to 97 102 byte || is_from_to 65 70 byte
+is_in Alnum byte = is_alnum byte
+is_in Name byte = is_alnum byte || byte == 95 || byte == 45
+is_in Slash byte = byte == 47
+is_in XLetter byte = byte == 120 || byte == 88
+is_in ELetter byte = byte == 101 || byte == 69
+is_in Sign byte = byte == 43 || byte == 45
+is_in NotQuote byte = not (byte == 34)
+
+-- Rules are numbers.
+pub data Row : Type 0 where
+  Bytes : List ℕ → Row
+  OneOf : Class → Row
+  NotNext : Class → Row
+  Run : Class → Row
+  Past : List ℕ → Row
+  Seq : List ℕ → Row
+  First : List ℕ → Row
+  Opt : ℕ → Row
+  Many : ℕ → Row
+  ListOf : ℕ → ℕ → Row
+  List1 : ℕ → ℕ → Row
+  Tail : ℕ → ℕ → Row
+  If : List ℕ → ℕ → ℕ → Row
+
+-- the text begins with the bytes
+abbrev pub begins : List ℕ → List ℕ → Bool
+begins [] text = true
+begins (b ∷ bytes) [] = false
+begins (b ∷ bytes) (t ∷ text) = b == t && begins bytes text
+
+-- how many bytes a row without parts takes at the front of the text, or None where it fails
+abbrev pub take_bytes : List ℕ → List ℕ → Option ℕ
+take_bytes bytes text = if begins bytes text then Some (length bytes) else None
+
+abbrev pub take_one : Class → List ℕ → Option ℕ
+take_one class [] = None
+take_one class (b ∷ text) = if is_in class b then Some 1 else None
+
+abbrev pub take_not_next : Class → List ℕ → Option ℕ
+take_not_next class [] = Some 0
+take_not_next class (b ∷ text) = if is_in class b then None else Some 0
+
+abbrev pub run_length : Class → List ℕ → ℕ
+run_length class [] = 0
+run_length class (b ∷ text) = if is_in class b then suc (run_length class text) else 0
+
+abbrev pub take_past : List ℕ → List ℕ → Option ℕ
+take_past bytes [] = take_bytes bytes []
+take_past bytes (t ∷ text) = if begins bytes (t ∷ text) then Some (length bytes) else option_map suc (take_past bytes text)

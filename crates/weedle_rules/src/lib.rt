@@ -1,0 +1,32 @@
+//! The grammar of WebIDL definitions as data: a row for each rule, by number.
+//!
+//! ```rust
+//! use weedle_rules::{Row, Rule, row_of};
+//!
+//! match row_of(Rule::DEFINITIONS) {
+//!     Row::Many(rule) => assert!(rt; rule == Rule::DEFINITION),
+//!     _ => {}
+//! }
+//! ```
+//!
+//! What a rule reads from a text, and what it gives, is said once for any such table, in
+//! `specs/Meaning.antt`; the table itself is `specs/Table`, and [`laws`] has what always holds.
+#![tactic(auto)]
+
+mod class;
+pub mod laws;
+mod number;
+mod row;
+mod rows;
+mod rule;
+mod rule_names;
+#[cfg(test)]
+mod tests;
+
+pub use class::{Class, holds};
+pub use row::{Parts, Row};
+pub use rows::row_of;
+pub use rule::Rule;
+
+/// How many rules there are.
+pub const RULES: usize = 259;

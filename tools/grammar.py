@@ -1,0 +1,540 @@
+#!/usr/bin/env python3
+"""Writes the tables of `weedle_rules` from the grammar below.
+
+Run it at the top of the repository, then `rt fmt` in crates/weedle_rules:
+
+    python3 tools/grammar.py
+
+A rule is written once, in a section, above the rules that read it before a
+byte is taken: its number is its place in that order. Two places that write the
+same part (the same row and the same shape) share one rule.
+
+It writes, for each section S of the grammar,
+    specs/Table/S.antt      the numbers of its rules, and their rows and shapes
+    src/rows/s.rt           the same rows for the program
+    proofs/Takes/S.antt     which of its rules always take a byte
+    src/number/s.rt         their numbers for the program
+and over all sections specs/Table.antt, specs/Bound.antt, src/number.rt,
+src/rows.rt, src/rule_names.rt (the constants of `Rule`), proofs/Takes.antt and
+the number of rules in src/lib.rt.
+"""
+
+import re
+import sys
+from pathlib import Path
+
+CRATE = Path("crates/weedle_rules")
+HEAD = "written by tools/grammar.py"
+
+
+class Rule:
+    def __init__(self, name, row, shape, doc):
+        self.name, self.row, self.shape, self.doc = name, row, shape, doc
+
+
+class Section:
+    def __init__(self, name, module, about):
+        self.name, self.module, self.about, self.rules = name, module, about, []
+
+
+SECTIONS = []
+BY_NAME = {}
+BY_CONTENT = {}
+
+
+def section(name, about):
+    module = re.sub(r"(?<=[a-z])(?=[A-Z])", "_", name).lower()
+    SECTIONS.append(Section(name, module, about))
+
+
+def rule(name, row, shape="Plain", doc=None):
+    """Adds a rule, or finds the one that has this row and shape."""
+    content = (row, shape)
+    if content in BY_CONTENT:
+        return BY_CONTENT[content]
+    if name in BY_NAME:
+        sys.exit(f"two rules of the name {name}")
+    BY_NAME[name] = Rule(name, row, shape, doc)
+    BY_CONTENT[content] = name
+    SECTIONS[-1].rules.append(BY_NAME[name])
+    return name
+
+
+# The kinds of row.
+SPELLED = {
+    "//": "SLASH_SLASH", "/*": "SLASH_STAR", "*/": "STAR_SLASH", "///": "THREE_SLASHES", "\n": "LF",
+    "_": "UNDERSCORE", "-": "MINUS", "0": "ZERO", ".": "DOT", '"': "QUOTE",
+}
+
+
+def text_bytes(text, name=None):
+    return rule("BYTES_" + (name or SPELLED[text]), ("Bytes", text), "Silent")
+
+
+def upper(name):
+    if name == "NaN":
+        return "NAN"
+    name = re.sub(r"(?<=[a-z0-9])(?=[A-Z])", "_", name)
+    return re.sub(r"(?<=[A-Z])(?=[A-Z][a-z])", "_", name).upper()
+
+
+def one_of(klass):
+    return rule("ONE_OF_" + upper(klass), ("OneOf", klass), "Silent")
+
+
+def not_next(klass):
+    return rule("NOT_NEXT_" + upper(klass), ("NotNext", klass), "Silent")
+
+
+def run(klass):
+    return rule("RUN_" + upper(klass), ("Run", klass), "Silent")
+
+
+def past(text):
+    return rule("PAST_" + SPELLED[text], ("Past", text), "Silent")
+
+
+def seq(name, *parts, shape="Plain", doc=None):
+    return rule(name, ("Seq", parts), shape, doc)
+
+
+def first(name, *parts, shape="Plain", doc=None):
+    return rule(name, ("First", parts), shape, doc)
+
+
+def opt(x, shape="Plain"):
+    return rule("OPT_" + x, ("Opt", x), shape)
+
+
+def many(name, x, shape="Plain", doc=None):
+    return rule(name, ("Many", x), shape, doc)
+
+
+def punctuated(x, s):
+    tail = rule(f"TAIL_{x}_{s}", ("Tail", x, s))
+    return rule(f"LIST_{x}_{s}", ("List", x, tail))
+
+
+def bracketed(kind, opening, x, closing):
+    return seq(f"{kind}_{x}", opening, x, closing)
+
+
+def may_be_null(x):
+    return seq(f"MAY_BE_NULL_{x}", x, opt("Q_MARK"))
+
+
+# Trivia.
+section("Trivia", "Trivia: line comments, blanks and block comments.")
+seq("LINE_COMMENT", text_bytes("//"), not_next("Slash"), past("\n"), shape="Silent", doc="A line comment, as `// c` with its LF.")
+seq("BLANKS", one_of("Blank"), run("Blank"), shape="Silent", doc="Spaces, tabs, CRs and LFs, one at least.")
+seq("BLOCK_COMMENT", text_bytes("/*"), past("*/"), shape="Silent", doc="A block comment, as `/* c */`.")
+first("PIECE", "LINE_COMMENT", "BLANKS", "BLOCK_COMMENT", shape="Silent", doc="A comment or blanks.")
+many("TRIVIA", "PIECE", shape="Silent", doc="Comments and blanks, none included.")
+
+# Terminals.
+SYMBOLS = [
+    ("OpenParen", "("), ("CloseParen", ")"), ("OpenBracket", "["), ("CloseBracket", "]"), ("OpenBrace", "{"),
+    ("CloseBrace", "}"), ("Comma", ","), ("Minus", "-"), ("Dot", "."), ("Ellipsis", "..."), ("Colon", ":"),
+    ("SemiColon", ";"), ("LessThan", "<"), ("Assign", "="), ("GreaterThan", ">"), ("QMark", "?"),
+]
+KEYWORDS = (
+    "Or Optional Async Attribute Callback Const Deleter Dictionary Enum Getter Includes Inherit Interface Iterable "
+    "Maplike Namespace Partial Required Setlike Setter Static Stringifier Typedef Unrestricted Symbol Any Boolean "
+    "Byte Double False Float Long Null Object Octet Sequence Short True Unsigned Undefined Record ReadOnly Mixin "
+    "Implements LegacyCaller Constructor"
+).split()
+CAPITALIZED = (
+    "ByteString DOMString FrozenArray Infinity NaN USVString ArrayBuffer DataView Int8Array Int16Array Int32Array "
+    "Uint8Array Uint16Array Uint32Array Uint8ClampedArray Float32Array Float64Array ArrayBufferView BufferSource "
+    "Promise Error"
+).split()
+assert (len(SYMBOLS), len(KEYWORDS), len(CAPITALIZED)) == (16, 46, 21)
+
+section("Symbols", "Symbols: trivia, the symbol's bytes, trivia.")
+for name, text in SYMBOLS:
+    seq(upper(name), "TRIVIA", text_bytes(text, upper(name)), "TRIVIA", shape="Marked", doc=f"The symbol `{text}`.")
+
+
+def keyword(name, text):
+    seq(upper(name), "TRIVIA", text_bytes(text, upper(name)), not_next("Name"), "TRIVIA", shape="Marked", doc=f"The keyword `{text}`.")
+
+
+section("Keywords", "Keywords in lower case: trivia, the keyword's bytes with no name character next, trivia.")
+for name in KEYWORDS:
+    keyword(name, name.lower())
+
+section("CapitalizedKeywords", "Keywords with capitals: trivia, the keyword's bytes with no name character next, trivia.")
+for name in CAPITALIZED:
+    keyword(name, name)
+keyword("NegInfinity", "-Infinity")
+
+# Leaves.
+section("Leaves", "Leaves: names, numbers, strings and docstrings.")
+seq("IDENTIFIER", "TRIVIA", opt(text_bytes("_"), "Silent"),
+    seq("IDENTIFIER_TEXT", one_of("Alnum"), run("Name"), shape="Silent"), "TRIVIA", shape="Kept 2",
+    doc="A name, as `_interface`, whose underscore is dropped.")
+opt("BYTES_MINUS", "Silent")
+seq("DEC_LIT", "TRIVIA", seq("DEC_LIT_TEXT", "OPT_BYTES_MINUS", one_of("OneToNine"), run("Digit"), shape="Silent"), "TRIVIA",
+    shape="Kept 1", doc="A decimal integer, as `-12`.")
+seq("HEX_LIT", "TRIVIA",
+    seq("HEX_LIT_TEXT", "OPT_BYTES_MINUS", text_bytes("0"), one_of("XLetter"), run("Hex"), shape="Silent"), "TRIVIA",
+    shape="Kept 1", doc="A hexadecimal integer, as `0x1F`.")
+seq("OCT_LIT", "TRIVIA", seq("OCT_LIT_TEXT", "OPT_BYTES_MINUS", "BYTES_ZERO", run("Octal"), shape="Silent"), "TRIVIA",
+    shape="Kept 1", doc="An octal integer, as `017`.")
+seq("DIGITS", one_of("Digit"), run("Digit"), shape="Silent", doc="Digits, one at least.")
+seq("EXPONENT", one_of("ELetter"), opt(one_of("Sign"), "Silent"), "DIGITS", shape="Silent", doc="An exponent, as `e+3`.")
+seq("POINT_AFTER_DIGITS", "DIGITS", "BYTES_DOT", run("Digit"), shape="Silent")
+seq("POINT_BEFORE_DIGITS", run("Digit"), "BYTES_DOT", "DIGITS", shape="Silent")
+first("POINT", "POINT_AFTER_DIGITS", "POINT_BEFORE_DIGITS", shape="Silent", doc="Digits with a point among them, as `1.5` or `.5`.")
+seq("POINT_FORM", "POINT", opt("EXPONENT", "Silent"), shape="Silent")
+seq("EXPONENT_FORM", "DIGITS", "EXPONENT", shape="Silent")
+seq("FLOAT_VALUE_LIT", "TRIVIA",
+    seq("FLOAT_VALUE_LIT_TEXT", "OPT_BYTES_MINUS", first("FLOAT_FORM", "POINT_FORM", "EXPONENT_FORM", shape="Silent"), shape="Silent"),
+    "TRIVIA", shape="Kept 1", doc="A number with a point or an exponent, as `-1.5e3`.")
+seq("STRING_LIT", "TRIVIA", text_bytes('"'), run("NotQuote"), "BYTES_QUOTE", "TRIVIA", shape="Kept 2",
+    doc="A string, as `\"a\"`, kept without its quotes.")
+seq("DOC_LINE", run("Blank"), text_bytes("///"), "PAST_LF", shape="Line", doc="A docstring's line, as `/// c` with its LF.")
+seq("DOCSTRING", "DOC_LINE", many("MANY_DOC_LINE", "DOC_LINE"), shape="Joined", doc="A docstring: such lines, one at least.")
+
+# Literals.
+section("Literals", "Literals and default values.")
+first("BOOLEAN_LIT", "TRUE", "FALSE", doc="`true` or `false`.")
+first("INTEGER_LIT", "DEC_LIT", "HEX_LIT", "OCT_LIT", doc="An integer.")
+first("FLOAT_LIT", "FLOAT_VALUE_LIT", "NEG_INFINITY", "INFINITY", "NAN", doc="A floating point number, as `1.5` or `NaN`.")
+seq("EMPTY_ARRAY_LIT", "OPEN_BRACKET", "CLOSE_BRACKET", doc="An empty array, `[]`.")
+seq("EMPTY_DICTIONARY_LIT", "OPEN_BRACE", "CLOSE_BRACE", doc="An empty dictionary, `{}`.")
+first("DEFAULT_VALUE", "BOOLEAN_LIT", "EMPTY_ARRAY_LIT", "EMPTY_DICTIONARY_LIT", "FLOAT_LIT", "INTEGER_LIT", "NULL", "STRING_LIT",
+      doc="A default value.")
+first("CONST_VALUE", "BOOLEAN_LIT", "FLOAT_LIT", "INTEGER_LIT", "NULL", doc="A constant's value.")
+seq("DEFAULT", "ASSIGN", "DEFAULT_VALUE", doc="A default, as `= 5`.")
+
+# Types.
+section("SimpleTypes", "Types that hold no other type, and lists of names.")
+opt("UNSIGNED")
+seq("LONG_LONG_TYPE", "OPT_UNSIGNED", seq("LONG_LONG", "LONG", "LONG"), doc="`long long`, or `unsigned long long`.")
+seq("LONG_TYPE", "OPT_UNSIGNED", "LONG", doc="`long`, or `unsigned long`.")
+seq("SHORT_TYPE", "OPT_UNSIGNED", "SHORT", doc="`short`, or `unsigned short`.")
+first("INTEGER_TYPE", "LONG_LONG_TYPE", "LONG_TYPE", "SHORT_TYPE", doc="An integer type.")
+opt("UNRESTRICTED")
+seq("FLOAT_TYPE", "OPT_UNRESTRICTED", "FLOAT", doc="`float`, or `unrestricted float`.")
+seq("DOUBLE_TYPE", "OPT_UNRESTRICTED", "DOUBLE", doc="`double`, or `unrestricted double`.")
+first("FLOATING_POINT_TYPE", "FLOAT_TYPE", "DOUBLE_TYPE", doc="A floating point type.")
+first("CONST_TYPE", *[may_be_null(x) for x in ("INTEGER_TYPE", "FLOATING_POINT_TYPE", "BOOLEAN", "BYTE", "OCTET", "IDENTIFIER")],
+      doc="A constant's type, as `long?`.")
+punctuated("IDENTIFIER", "COMMA")
+bracketed("PARENTHESIZED", "OPEN_PAREN", "LIST_IDENTIFIER_COMMA", "CLOSE_PAREN")
+
+# Definitions.
+section("Definitions", "Definitions and their members.")
+opt("READ_ONLY")
+seq("ATTRIBUTE_INTERFACE_MEMBER", "OPT_READ_ONLY", "ATTRIBUTE", "IDENTIFIER", "IDENTIFIER", "SEMI_COLON",
+    doc="An attribute, as `readonly attribute long x;`.")
+first("INTERFACE_MEMBER", "ATTRIBUTE_INTERFACE_MEMBER", doc="A member of an interface.")
+many("INTERFACE_MEMBERS", "INTERFACE_MEMBER", doc="The members of an interface, none included.")
+seq("MEMBERS", "OPEN_BRACE", "INTERFACE_MEMBERS", "CLOSE_BRACE", doc="The members between braces.")
+seq("INTERFACE_DEFINITION", "INTERFACE", "IDENTIFIER", "MEMBERS", "SEMI_COLON", doc="An interface, as `interface A {};`.")
+first("DEFINITION", "INTERFACE_DEFINITION", doc="A definition.")
+many("DEFINITIONS", "DEFINITION", doc="Definitions, none included: the whole of a text.")
+
+RULES = [r for s in SECTIONS for r in s.rules]
+NUMBER = {r.name: i for i, r in enumerate(RULES)}
+
+
+# What the proofs want to know of the rules.
+def parts_of(row):
+    kind = row[0]
+    if kind in ("Seq", "First"):
+        return list(row[1])
+    if kind in ("Opt", "Many"):
+        return [row[1]]
+    if kind in ("List", "List1", "Tail"):
+        return [row[1], row[2]]
+    if kind == "If":
+        return list(row[1]) + [row[3]]
+    return []
+
+
+def row_takes(row, takes):
+    """Whether the row takes a byte wherever it doesn't fail."""
+    kind = row[0]
+    if kind in ("Bytes", "Past"):
+        return len(row[1]) > 0
+    if kind == "OneOf":
+        return True
+    if kind in ("Seq", "If"):
+        return any(takes[x] for x in row[1])
+    if kind == "First":
+        return all(takes[x] for x in row[1])
+    if kind == "List1":
+        return takes[row[1]] or takes[row[2]]
+    return False
+
+
+def find_takes():
+    takes = {r.name: False for r in RULES}
+    changed = True
+    while changed:
+        changed = False
+        for r in RULES:
+            new = row_takes(r.row, takes)
+            changed |= new != takes[r.name]
+            takes[r.name] = new
+    return takes
+
+
+TAKES = find_takes()
+
+
+def read_first(row):
+    """The rules that the row may read before a byte is taken."""
+    kind = row[0]
+    if kind in ("Seq", "If"):
+        out = []
+        for x in row[1]:
+            out.append(x)
+            if TAKES[x]:
+                return out
+        return out + ([row[3]] if kind == "If" else [])
+    if kind in ("List", "List1"):
+        return [row[1]] + ([] if TAKES[row[1]] else [row[2]])
+    if kind == "Tail":
+        return [row[2]]
+    return parts_of(row)
+
+
+for r in RULES:
+    for x in parts_of(r.row):
+        if x not in NUMBER:
+            sys.exit(f"{r.name} reads {x}, which no section has")
+    for x in read_first(r.row):
+        if NUMBER[x] >= NUMBER[r.name]:
+            sys.exit(f"{r.name} reads {x} before a byte is taken: write {x} above it")
+
+
+# Writing.
+def write(path, text):
+    path = CRATE / path
+    path.parent.mkdir(parents=True, exist_ok=True)
+    path.write_text(text)
+
+
+def quoted(text):
+    return '"' + text.replace('"', '\\"').replace("\n", "\\n") + '"'
+
+
+def spec_bytes(text):
+    return "codes " + quoted(text) if "\n" not in text and '"' not in text else " ∷ ".join(str(b) for b in text.encode()) + " ∷ []"
+
+
+def spec_list(names):
+    return "(" + " ∷ ".join(names) + " ∷ [])"
+
+
+SPEC_KIND = {"List": "ListOf"}
+
+
+def spec_row(row):
+    kind = row[0]
+    if kind in ("Bytes", "Past"):
+        return f"{kind} ({spec_bytes(row[1])})"
+    if kind in ("Seq", "First"):
+        return f"{kind} {spec_list(row[1])}"
+    if kind == "If":
+        return f"If {spec_list(row[1])} {row[2]} {row[3]}"
+    return " ".join([SPEC_KIND.get(kind, kind)] + list(row[1:]))
+
+
+def spec_section(s):
+    rows = [r.row for r in s.rules]
+    kinds = sorted({SPEC_KIND.get(row[0], row[0]) for row in rows})
+    classes = sorted({row[1] for row in rows if row[0] in ("OneOf", "NotNext", "Run")})
+    shapes = sorted({r.shape.split()[0] for r in s.rules})
+    own = {r.name for r in s.rules}
+    used = {}
+    for row in rows:
+        for x in parts_of(row):
+            if x not in own:
+                home = next(t for t in SECTIONS if any(r.name == x for r in t.rules))
+                used.setdefault(home.name, set()).add(x)
+    numerals = any(row[0] in ("Bytes", "Past") and "codes" in spec_bytes(row[1]) for row in rows)
+    out = [f"-- {s.about}", f"-- {HEAD[0].upper() + HEAD[1:]}: the number of each rule, and its row and shape, in the order of the numbers."]
+    out.append("use Rattle.std.specs.Prelude.{ℕ, List, [], ◌∷◌" + (", codes" if numerals else "") + "}")
+    if classes:
+        out.append("use Rattle.weedle_rules.specs.declared.class.Class.TheVariants.{" + ", ".join(classes) + "}")
+    out.append("use Rattle.weedle_rules.specs.Rows.{" + ", ".join(kinds) + "}")
+    out.append("use Rattle.weedle_rules.specs.Meaning.{" + ", ".join(shapes) + "}")
+    out.append("use Rattle.weedle_rules.specs.Entry.{Entry, rule}")
+    for home in SECTIONS:
+        if home.name in used:
+            out.append(f"use Rattle.weedle_rules.specs.Table.{home.name}.{{" + ", ".join(sorted(used[home.name], key=NUMBER.get)) + "}")
+    out.append("")
+    for r in s.rules:
+        out += [f"abbrev pub {r.name} : ℕ", f"{r.name} = {NUMBER[r.name]}", ""]
+    out += [f"abbrev pub {s.module} : List Entry", f"{s.module} ="]
+    for r in s.rules:
+        shape = r.shape if " " not in r.shape else f"({r.shape})"
+        out.append(f"    rule {r.name} {shape} ({spec_row(r.row)}) ∷")
+    out.append("    []")
+    write(f"specs/Table/{s.name}.antt", "\n".join(out) + "\n")
+
+
+def spec_table():
+    out = ["-- The grammar: the rows and shapes of all rules, section by section. " + HEAD[0].upper() + HEAD[1:] + "."]
+    out += ["use Rattle.std.specs.Prelude.{ℕ, zero, suc, List, [], ◌∷◌, ◌++◌}",
+            "use Rattle.weedle_rules.specs.Rows.{Row, First}",
+            "use Rattle.weedle_rules.specs.Trees.{Outcome}",
+            "use Rattle.weedle_rules.specs.Meaning.{Shape, Silent, Grammar, ReadsBy}",
+            "use Rattle.weedle_rules.specs.Entry.{Entry, entry_at}"]
+    out += [f"use Rattle.weedle_rules.specs.Table.{s.name}.{{{s.module}}}" for s in SECTIONS]
+    out.append("")
+    out += [f"pub mod {s.name}" for s in SECTIONS]
+    out.append("")
+    joined = SECTIONS[-1].module
+    for s in reversed(SECTIONS[:-1]):
+        joined = f"{s.module} ++ {joined}" if s is SECTIONS[-2] else f"{s.module} ++ ({joined})"
+    out += ["abbrev pub table : List Entry", f"table = {joined}", "",
+            "-- the row of a rule", "abbrev pub row_of : ℕ → Row", "row_of r = (entry_at table r).row", "",
+            "-- its shape", "abbrev pub shape_of : ℕ → Shape", "shape_of r = (entry_at table r).shape", "",
+            "-- the grammar", "abbrev pub webidl : Grammar", "webidl = record { row = row_of; shape = shape_of }", "",
+            "-- rule r at place p of the text has the outcome o",
+            "abbrev pub Reads : List ℕ → ℕ → ℕ → Outcome → Type 0", "Reads text r p o = ReadsBy webidl text r p o"]
+    write("specs/Table.antt", "\n".join(out) + "\n")
+
+
+def code_rule(x):
+    return f"Rule::{x}" if BY_NAME[x].doc else f"Rule({x})"
+
+
+def code_row(row):
+    kind = row[0]
+    if kind in ("Bytes", "Past"):
+        return f"Row::{kind}(b{quoted(row[1])})"
+    if kind in ("OneOf", "NotNext", "Run"):
+        return f"Row::{kind}(Class::{row[1]})"
+    if kind in ("Seq", "First"):
+        return f"Row::{kind}(parts_of(&[{', '.join(row[1])}]))"
+    if kind == "If":
+        return f"Row::If(parts_of(&[{', '.join(row[1])}]), {row[2]}, {code_rule(row[3])})"
+    return f"Row::{kind}({', '.join(code_rule(x) for x in row[1:])})"
+
+
+def code_section(s):
+    low, high = NUMBER[s.rules[0].name], NUMBER[s.rules[-1].name] + 1
+    text = "".join(code_row(r.row) for r in s.rules)
+    out = [f"//! {s.about}", "//!", f"//! {HEAD[0].upper() + HEAD[1:]}.", "",
+           "ghost use Rattle.std.specs.Prelude.{◌≡◌, ◌<◌, ◌≤◌};",
+           "ghost use Rattle.weedle_rules.specs.Table.{row_of};",
+           "ghost use Rattle.weedle_rules.specs.View.{row_view};", ""]
+    if "Class::" in text:
+        out.append("use crate::class::Class;")
+    own = {r.name for r in s.rules}
+    out += uses_of_numbers(own | {x for r in s.rules if r.row[0] in ("Seq", "First", "If") for x in r.row[1]})
+    out.append("use crate::row::{" + ("Row, parts_of" if "parts_of(" in text else "Row") + "};")
+    if "Rule" in text:
+        out.append("use crate::rule::Rule;")
+    requires = [f"    requires low {{ {low} ≤ number }}", f"    requires high {{ number < {high} }}"]
+    out += ["", f"/// The row of a rule from {low} to {high - 1}.", "pub(super) fn row(number: u16) -> Row"]
+    out += requires if low else [requires[1].replace("requires high", "requires")]
+    out += ["    ensures { row_view result ≡ row_of number }", "{", "    match number {"]
+    for i, r in enumerate(s.rules):
+        pattern = r.name if i + 1 < len(s.rules) else "_"
+        out.append(f"        {pattern} => {code_row(r.row)},")
+    out += ["    }", "}"]
+    write(f"src/rows/{s.module}.rt", "\n".join(out) + "\n")
+
+
+def code_rows():
+    out = ["//! The rows of the rules, section by section.", "//!", f"//! {HEAD[0].upper() + HEAD[1:]}.", "",
+           "ghost use Rattle.std.specs.Prelude.{◌≡◌};",
+           "ghost use Rattle.weedle_rules.specs.Table.{row_of as row_of_lem};",
+           "ghost use Rattle.weedle_rules.specs.View.{row_view};", "",
+           "use crate::row::Row;", "use crate::rule::Rule;", ""]
+    out += [f"mod {s.module};" for s in SECTIONS]
+    out += ["", "/// What a rule reads. It takes no memory.", "pub fn row_of(rule: Rule) -> Row",
+            "    ensures { row_view result ≡ row_of_lem rule }", "{", "    let number = rule.number();"]
+    for i, s in enumerate(SECTIONS):
+        high = NUMBER[s.rules[-1].name] + 1
+        lead = "    if" if i == 0 else "    } else if"
+        out.append(f"{lead} number < {high} {{" if i + 1 < len(SECTIONS) else "    } else {")
+        out.append(f"        {s.module}::row(number)")
+    out += ["    }", "}"]
+    write("src/rows.rt", "\n".join(out) + "\n")
+
+
+def code_numbers():
+    out = ["//! The number of each rule, section by section.", "//!", f"//! {HEAD[0].upper() + HEAD[1:]}.", ""]
+    out += [f"pub(crate) mod {s.module};" for s in SECTIONS]
+    write("src/number.rt", "\n".join(out) + "\n")
+    for s in SECTIONS:
+        out = [f"//! {s.about}", "//!", f"//! {HEAD[0].upper() + HEAD[1:]}.", ""]
+        out += [f"pub(crate) const {r.name}: u16 = {NUMBER[r.name]};" for r in s.rules]
+        write(f"src/number/{s.module}.rt", "\n".join(out) + "\n")
+
+
+def uses_of_numbers(names):
+    """The lines that bring the numbers of these rules into scope."""
+    homes = [s for s in SECTIONS if any(r.name in names for r in s.rules)]
+    return [f"use crate::number::{s.module}::*;" for s in homes]
+
+
+def code_names():
+    out = ["//! The rules by name.", "//!", f"//! {HEAD[0].upper() + HEAD[1:]}.", "",
+           "use crate::number;", "use crate::rule::Rule;"]
+    for s in SECTIONS:
+        out += ["", f"// {s.about}", "impl Rule {"]
+        for r in s.rules:
+            if r.doc:
+                out += [f"    /// {r.doc}", f"    pub const {r.name}: Rule = Rule(number::{s.module}::{r.name});"]
+        out.append("}")
+    write("src/rule_names.rt", "\n".join(out) + "\n")
+
+
+def spec_bound():
+    write("specs/Bound.antt", "\n".join([
+        f"-- How many rules there are. {HEAD[0].upper() + HEAD[1:]}.",
+        "use Rattle.std.specs.Prelude.{ℕ}", "", "abbrev pub rule_count : ℕ", f"rule_count = {len(RULES)}"]) + "\n")
+    path = CRATE / "src/lib.rt"
+    if path.exists():
+        path.write_text(re.sub(r"pub const RULES: usize = \d+;", f"pub const RULES: usize = {len(RULES)};", path.read_text()))
+
+
+def proof_takes():
+    for s in SECTIONS:
+        out = [f"-- Which rules of this section always take a byte. {HEAD[0].upper() + HEAD[1:]}.",
+               "use Rattle.std.proofs.Common.{List, [], ◌∷◌, Bool, true, false}", "",
+               f"abbrev pub {s.module} : List Bool", f"{s.module} ="]
+        flags = [("true" if TAKES[r.name] else "false") for r in s.rules]
+        for i in range(0, len(flags), 12):
+            out.append("    " + " ∷ ".join(flags[i:i + 12]) + " ∷")
+        out.append("    []")
+        write(f"proofs/Takes/{s.name}.antt", "\n".join(out) + "\n")
+    joined = SECTIONS[-1].module
+    for s in reversed(SECTIONS[:-1]):
+        joined = f"{s.module} ++ {joined}" if s is SECTIONS[-2] else f"{s.module} ++ ({joined})"
+    out = [f"-- Which rules always take a byte. {HEAD[0].upper() + HEAD[1:]}.",
+           "use Rattle.std.proofs.Common.{ℕ, zero, suc, List, [], ◌∷◌, ◌++◌, Bool, false}"]
+    out += [f"use Rattle.weedle_rules.proofs.Takes.{s.name}.{{{s.module}}}" for s in SECTIONS]
+    out.append("")
+    out += [f"pub mod {s.name}" for s in SECTIONS]
+    out += ["", "abbrev pub flags : List Bool", f"flags = {joined}", "",
+            "abbrev pub flag_at : List Bool → ℕ → Bool", "flag_at [] r = false", "flag_at (b ∷ bs) zero = b",
+            "flag_at (b ∷ bs) (suc r) = flag_at bs r", "", "-- the rule takes a byte wherever it doesn't fail",
+            "abbrev pub takes : ℕ → Bool", "takes r = flag_at flags r"]
+    write("proofs/Takes.antt", "\n".join(out) + "\n")
+
+
+def main():
+    for s in SECTIONS:
+        spec_section(s)
+        code_section(s)
+    spec_table()
+    spec_bound()
+    code_rows()
+    code_numbers()
+    code_names()
+    proof_takes()
+    print(f"{len(RULES)} rules in {len(SECTIONS)} sections: " + ", ".join(f"{s.module} {len(s.rules)}" for s in SECTIONS))
+
+
+if __name__ == "__main__":
+    main()
