@@ -1,0 +1,10 @@
+pub mod PlaceFacts
+pub mod RunFacts
+pub mod Steps
+pub mod Reached
+pub mod RuleFacts
+pub mod RunRules
+pub mod Choice
+pub mod LeafFacts
+pub mod TriviaFacts
+pub mod TokenFacts

@@ -1,0 +1,56 @@
+-- The meanings of the generic parts, by cases over the meanings of their parameters.
+use Rattle.std.specs.Prelude.{◌≡◌, ℕ, ◌+◌, List, drop, Option, Some, None, ◌⊎◌}
+use Rattle.weedle_base.specs.Reading.{Reading}
+use Rattle.weedle_base.specs.Runs.{for_memory}
+
+module _ {V : Type 0} (R : Reading V) where
+  abbrev pub option_gives : List ℕ → Option V → ℕ → Type 0
+  option_gives s (Some v) k = R.gives s v k
+  option_gives s None k = R.refuses s × (k ≡ 0)
+
+  abbrev pub option_alike : Option V → Option V → Type 0
+  option_alike (Some v) (Some w) = R.alike v w
+  option_alike (Some v) None = ⊥
+  option_alike None (Some w) = ⊥
+  option_alike None None = Unit {0}
+
+  unfoldable pub option_reading : Reading (Option V)
+  option_reading = record {
+    gives = option_gives;
+    refuses = λ s. ⊥;
+    stops = R.stops;
+    grows = R.grows;
+    alike = option_alike;
+  }
+
+module _ {V W : Type 0} (R : Reading V) (S : Reading W) where
+  unfoldable pub pair_reading : Reading (V × W)
+  pair_reading = record {
+    gives = λ s x k. (i : ℕ) × (j : ℕ) × R.gives s x.0 i × S.gives (drop i s) x.1 j × (k ≡ i + j);
+    refuses = λ s. R.refuses s ⊎ ((v : V) × (i : ℕ) × R.gives s v i × S.refuses (drop i s));
+    stops = λ s r code. R.stops s r code ⊎ ((v : V) × (i : ℕ) × R.gives s v i × S.stops (drop i s) r code);
+    grows = R.grows ⊎ S.grows;
+    alike = λ x y. R.alike x.0 y.0 × S.alike x.1 y.1;
+  }
+
+-- a value that holds another, for which memory was asked
+module _ {V B : Type 0} (inside : B → V) (R : Reading V) where
+  unfoldable pub boxed_reading : Reading B
+  boxed_reading = record {
+    gives = λ s b k. R.gives s (inside b) k;
+    refuses = R.refuses;
+    stops = λ s r code. for_memory s r code ⊎ R.stops s r code;
+    grows = Unit {0};
+    alike = λ b c. R.alike (inside b) (inside c);
+  }
+
+-- a value seen as another, as a struct as the pairs of its fields
+module _ {V X : Type 0} (view : X → V) (R : Reading V) where
+  unfoldable pub seen_reading : Reading X
+  seen_reading = record {
+    gives = λ s x k. R.gives s (view x) k;
+    refuses = R.refuses;
+    stops = R.stops;
+    grows = R.grows;
+    alike = λ x y. R.alike (view x) (view y);
+  }

@@ -1,0 +1,13 @@
+pub mod Places
+pub mod Reading
+pub mod Runs
+pub mod Generic
+pub mod Own
+pub mod Rules
+pub mod Trivia
+pub mod Names
+pub mod Tokens
+pub mod PlaceLaws
+pub mod RunLaws
+pub mod GenericLaws
+pub mod OwnLaws

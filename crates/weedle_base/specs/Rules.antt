@@ -1,0 +1,20 @@
+-- When a reading is that of a rule.
+use Rattle.std.specs.Prelude.{ℕ, List, [], ◌∷◌, map, Option, Some, None}
+use Rattle.weedle_base.specs.Own.{stops_for_memory}
+use Rattle.weedle_base.specs.Reading.{Reading}
+use Rattle.weedle_base.specs.declared.fault.ErrorKind.{ErrorKind}
+use Rattle.weedle_rules.specs.Table.{Reads}
+use Rattle.weedle_rules.specs.Trees.{Tree, Absent, Present, trees, Fails, Gives, Items as Listed}
+
+-- what R reads, the rule reads
+pub record IsRule {V : Type 0} (R : Reading V) (r : ℕ) (tree : V → Tree) (grows : Type 0) : Type 0 where
+  pub gives : (s : List ℕ) (v : V) (k : ℕ) → R.gives s v k → Reads s r 0 (Gives (tree v ∷ []) k)
+  pub refuses : (s : List ℕ) → R.refuses s → Reads s r 0 Fails
+  pub stops : (s x : List ℕ) (code : ErrorKind) → R.stops s x code → stops_for_memory grows s x code
+
+abbrev pub option_tree : {V : Type 0} → (V → Tree) → Option V → Tree
+option_tree tree None = Absent
+option_tree tree (Some v) = Present (tree v)
+
+abbrev pub items_tree : {V : Type 0} → (V → Tree) → List V → Tree
+items_tree tree vs = Listed (trees (map tree vs))

@@ -1,0 +1,51 @@
+-- Items one after another.
+use Rattle.std.specs.Prelude.{◌≡◌, ℕ, ◌+◌, ◌<◌, List, [], ◌∷◌, drop, ◌⊎◌}
+use Rattle.weedle_base.specs.Places.{IsSuffix}
+use Rattle.weedle_base.specs.Reading.{Reading}
+use Rattle.weedle_base.specs.declared.fault.ErrorKind.{ErrorKind}
+use Rattle.weedle_base.specs.declared.fault.ErrorKind.TheVariants.{Memory}
+
+-- the values stand one after another, and take so many bytes
+module _ {V : Type 0} (takes : List ℕ → V → ℕ → Type 0) where
+  abbrev pub Items : List ℕ → List V → ℕ → Type 0
+  Items s [] k = k ≡ 0
+  Items s (v ∷ vs) k = (i : ℕ) × (j : ℕ) × takes s v i × Items (drop i s) vs j × (k ≡ i + j)
+
+abbrev pub all_alike : {V : Type 0} → (V → V → Type 0) → List V → List V → Type 0
+all_alike alike [] [] = Unit {0}
+all_alike alike [] (w ∷ ws) = ⊥
+all_alike alike (v ∷ vs) [] = ⊥
+all_alike alike (v ∷ vs) (w ∷ ws) = alike v w × all_alike alike vs ws
+
+-- How a list goes on at a place: an item is taken, or the list ends there, or the whole is refused.
+pub record Step (V : Type 0) : Type 1 where
+  pub takes : List ℕ → V → ℕ → Type 0
+  pub ends : List ℕ → Type 0
+  pub refuses : List ℕ → Type 0
+  pub stops : List ℕ → List ℕ → ErrorKind → Type 0
+  pub alike : V → V → Type 0
+
+-- a request for memory was refused
+abbrev pub for_memory : List ℕ → List ℕ → ErrorKind → Type 0
+for_memory s r code = (code ≡ Memory) × IsSuffix s r
+
+-- Items until the list ends. The list is what `view` sees of a value.
+module _ {V L : Type 0} (view : L → List V) (S : Step V) where
+  abbrev pub run_reading : Reading L
+  run_reading = record {
+    gives = λ s v k. Items S.takes s (view v) k × S.ends (drop k s);
+    refuses = λ s. (vs : List V) × (k : ℕ) × Items S.takes s vs k × S.refuses (drop k s);
+    stops = λ s r code. for_memory s r code ⊎ ((vs : List V) × (k : ℕ) × Items S.takes s vs k × S.stops (drop k s) r code);
+    grows = Unit {0};
+    alike = λ v w. all_alike S.alike (view v) (view w);
+  }
+
+-- `Vec`: an item takes a byte or more; one that takes nothing refuses the whole
+abbrev pub vec_step : {V : Type 0} → Reading V → Step V
+vec_step {V} R = record {
+  takes = λ s v k. R.gives s v k × (0 < k);
+  ends = R.refuses;
+  refuses = λ s. (v : V) × R.gives s v 0;
+  stops = R.stops;
+  alike = R.alike;
+}

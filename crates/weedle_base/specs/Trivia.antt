@@ -1,0 +1,28 @@
+-- What the scanners of trivia and of names answer.
+use Rattle.std.specs.Borrow.{Bor}
+use Rattle.std.specs.Prelude.{◌≡◌, ℕ, List, [], drop, Bool, length, ◌&&◌, nat_lt, slice_index, Option, MatchOption, take}
+use Rattle.weedle_rules.specs.Rows.{is_in}
+use Rattle.weedle_rules.specs.Table.{Reads}
+use Rattle.weedle_rules.specs.Trees.{Tree, Fails, Gives}
+use Rattle.weedle_rules.specs.declared.class.Class.{Class}
+
+-- a rule gave these trees from the front of s, and rest follows what it took
+pub record Took (r : ℕ) (s : List ℕ) (ts : List Tree) (rest : List ℕ) : Type 0 where
+  pub place : ℕ
+  pub reads : Reads s r 0 (Gives ts place)
+  pub rest_is : rest ≡ drop place s
+
+-- the next byte is in the class
+abbrev pub is_next : Class → List ℕ → Bool
+is_next c s = nat_lt 0 (length s) && is_in c (slice_index s 0)
+
+-- Pieces.
+abbrev pub Trial : ℕ → List ℕ → Option (Bor (List ℕ)) → Type 0
+Trial r s o = MatchOption o (Reads s r 0 Fails) (λ rest. Took r s [] rest.now)
+
+-- a silent rule takes the text from the front of s, and rest follows
+pub record TookText (r : ℕ) (s text rest : List ℕ) : Type 0 where
+  pub place : ℕ
+  pub reads : Reads s r 0 (Gives [] place)
+  pub text_is : text ≡ take place s
+  pub rest_is : rest ≡ drop place s

@@ -1,0 +1,31 @@
+//! Why a text was not read.
+
+/// What a fault is.
+#[derive(Clone, Copy, Debug, PartialEq, Eq)]
+pub enum ErrorKind {
+    /// The text isn't what was looked for.
+    Mismatch,
+    /// Text was left over.
+    Unread,
+    /// Memory was refused.
+    Memory,
+}
+
+/// A place of the input, by what stands from there on, and what happened.
+#[derive(Clone, Copy, Debug, PartialEq, Eq)]
+pub struct Error<I> {
+    pub input: I,
+    pub code: ErrorKind,
+}
+
+/// What ends a call that reads.
+#[derive(Clone, Copy, Debug, PartialEq, Eq)]
+pub enum Err<E> {
+    /// The text doesn't fit: another alternative may be tried.
+    Error(E),
+    /// The call is to end at once: nothing else is tried.
+    Failure(E),
+}
+
+/// What follows the text that was read, and the value that was read from it.
+pub type IResult<I, O> = Result<(I, O), Err<Error<I>>>;

@@ -1,0 +1,16 @@
+//! The ground of the parser: faults, the trait [`Parse`] with its meaning and laws, trivia and the 84 terminals.
+#![tactic(auto)]
+
+mod fault;
+mod names;
+mod parse;
+pub mod scan;
+mod standard;
+pub mod term;
+mod token;
+mod trivia;
+
+pub use fault::{Err, Error, ErrorKind, IResult};
+pub use names::{ident_tag, is_alphanum_underscore_dash};
+pub use parse::Parse;
+pub use trivia::sp;

@@ -1,0 +1,62 @@
+//! What all symbols, and all keywords, share.
+
+ghost use Rattle.std.specs.Prelude.{◌≡◌, IfOk};
+ghost use Rattle.weedle_rules.specs.Trees.{Mark};
+ghost use Rattle.weedle_base.specs.Reading.{Answers};
+ghost use Rattle.weedle_base.specs.Own.{own};
+ghost use Rattle.weedle_base.specs.Tokens.{IsSymbol, IsKeyword};
+
+use crate::fault::{Err, Error, ErrorKind, IResult};
+use crate::scan::next_is;
+use crate::trivia::skip_trivia;
+use weedle_rules::{Class, Rule};
+
+/// Reads a symbol, with the trivia around it.
+pub fn symbol<'a, T: Drop>(
+    rule: Rule,
+    tag: &'static str,
+    value: T,
+    input: &'a str,
+) -> IResult<&'a str, T>
+    requires { IsSymbol rule tag.now }
+    ensures outcome { Answers (own rule (λ v. Mark) ⊥) input.now result }
+    ensures value { IfOk result (λ x. x.1 ≡ value) }
+{
+    let start = skip_trivia(input);
+    match start.strip_prefix(tag) {
+        Some(after) => Ok((skip_trivia(after), value)),
+        None => Err(Err::Error(Error {
+            input,
+            code: ErrorKind::Mismatch,
+        })),
+    }
+}
+
+/// Reads a keyword, behind which no name goes on, with the trivia around it.
+pub fn keyword<'a, T: Drop>(
+    rule: Rule,
+    tag: &'static str,
+    value: T,
+    input: &'a str,
+) -> IResult<&'a str, T>
+    requires { IsKeyword rule tag.now }
+    ensures outcome { Answers (own rule (λ v. Mark) ⊥) input.now result }
+    ensures value { IfOk result (λ x. x.1 ≡ value) }
+{
+    let start = skip_trivia(input);
+    match start.strip_prefix(tag) {
+        Some(after) => {
+            if next_is(Class::Name, after) {
+                return Err(Err::Error(Error {
+                    input,
+                    code: ErrorKind::Mismatch,
+                }));
+            }
+            Ok((skip_trivia(after), value))
+        }
+        None => Err(Err::Error(Error {
+            input,
+            code: ErrorKind::Mismatch,
+        })),
+    }
+}

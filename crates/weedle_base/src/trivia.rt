@@ -1,0 +1,85 @@
+//! The scanners of trivia.
+
+ghost use Rattle.std.specs.Prelude.{[]};
+ghost use Rattle.weedle_rules.specs.Table.Trivia.{LINE_COMMENT, BLANKS, BLOCK_COMMENT, PIECE, TRIVIA};
+ghost use Rattle.weedle_base.specs.Trivia.{Trial, Took, TookText};
+
+use crate::scan::{next_is, run};
+use memchr::{memchr, memmem};
+use weedle_rules::Class;
+
+fn line_comment(input: &str) -> Option<&str>
+    ensures { Trial LINE_COMMENT input.now result }
+{
+    match input.strip_prefix("//") {
+        Some(after) => {
+            if next_is(Class::Slash, after) {
+                return None;
+            }
+            match memchr(b'\n', after.as_bytes()) {
+                Some(i) => Some(&after[i + 1..]),
+                None => None,
+            }
+        }
+        None => None,
+    }
+}
+
+fn blanks(input: &str) -> Option<&str>
+    ensures { Trial BLANKS input.now result }
+{
+    let end = run(Class::Blank, input.as_bytes());
+    if end == 0 {
+        return None;
+    }
+    Some(&input[end..])
+}
+
+fn block_comment(input: &str) -> Option<&str>
+    ensures { Trial BLOCK_COMMENT input.now result }
+{
+    match input.strip_prefix("/*") {
+        Some(after) => match memmem::find(after.as_bytes(), b"*/") {
+            Some(i) => Some(&after[i + 2..]),
+            None => None,
+        },
+        None => None,
+    }
+}
+
+#[tactic(auto, using(crate::proofs::TriviaFacts::piece_line, crate::proofs::TriviaFacts::piece_blanks, crate::proofs::TriviaFacts::piece_block))]
+fn piece(input: &str) -> Option<&str>
+    ensures { Trial PIECE input.now result }
+{
+    if let Some(rest) = line_comment(input) {
+        return Some(rest);
+    }
+    if let Some(rest) = blanks(input) {
+        return Some(rest);
+    }
+    block_comment(input)
+}
+
+/// What follows the leading trivia.
+#[tactic(auto, using(crate::proofs::TriviaFacts::behind_none, crate::proofs::TriviaFacts::behind_more, crate::proofs::TriviaFacts::behind_all, crate::proofs::TriviaFacts::piece_shorter))]
+pub(crate) fn skip_trivia(input: &str) -> &str
+    ensures { Took TRIVIA input.now [] result.now }
+{
+    let mut rest = input;
+    while let Some(next) = piece(rest) {
+        rest = next;
+    }
+    rest
+}
+
+/// Reads trivia: comments and blanks, none included. Answers what follows, then the trivia.
+///
+/// `sp("// a\n/* b */ c")` is `("c", "// a\n/* b */ ")`. A comment that isn't closed is no trivia,
+/// nor is one that begins with `///`. Nothing is copied and no memory is taken; the ends of
+/// comments are found by `memchr`.
+pub fn sp(input: &str) -> (&str, &str)
+    ensures { TookText TRIVIA input.now result.1.now result.0.now }
+{
+    let rest = skip_trivia(input);
+    (rest, &input[..input.len() - rest.len()])
+}
