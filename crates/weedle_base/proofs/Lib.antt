@@ -8,3 +8,4 @@ pub mod Choice
 pub mod LeafFacts
 pub mod TriviaFacts
 pub mod TokenFacts
+pub mod NameFacts

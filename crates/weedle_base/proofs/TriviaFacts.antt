@@ -200,7 +200,7 @@ took_size {s = s} u t = omega (arith, (cut u t.reads).0, ap length t.rest_is, le
 pub took_cut : {r : ℕ} {s rest : List ℕ} {ts : List Tree} → IsUtf8 s → Took r s ts rest → IsCharBoundary s (length s - length rest)
 took_cut {s = s} u t = rw (took_size u t) (cut u t.reads)
 
-slice_front : (s : List ℕ) (n : ℕ) → slice_range s 0 n ≡ take n s
+pub slice_front : (s : List ℕ) (n : ℕ) → slice_range s 0 n ≡ take n s
 slice_front s n = grind arith
 
 pub took_text : {r : ℕ} {s rest text : List ℕ} → IsUtf8 s → Took r s [] rest → text ≡ slice_range s 0 (length s - length rest) → TookText r s text rest

@@ -1,11 +1,16 @@
 //! The scanners of names.
 
-ghost use Rattle.std.specs.Prelude.{◌≡◌, MatchOption};
+ghost use Rattle.std.specs.Prelude.{◌≡◌, [], ◌∷◌, MatchOption};
 ghost use Rattle.weedle_rules.specs.Rows.{is_in};
 ghost use Rattle.weedle_rules.specs.declared.class.Class.TheVariants.{Name};
+ghost use Rattle.weedle_rules.specs.Table.{Reads};
+ghost use Rattle.weedle_rules.specs.Table.Leaves.{IDENTIFIER, IDENTIFIER_TEXT, OPT_BYTES_UNDERSCORE};
+ghost use Rattle.weedle_rules.specs.Trees.{Text, Fails};
 ghost use Rattle.weedle_base.specs.Names.{IsTagged, LacksTag};
+ghost use Rattle.weedle_base.specs.Trivia.{Took, TookText};
 
-use crate::scan::next_is;
+use crate::scan::{next_is, run};
+use crate::trivia::skip_trivia;
 use weedle_rules::Class;
 
 /// Whether the character may stand in a name: an ASCII letter or digit, `_` or `-`. It takes no
@@ -32,4 +37,41 @@ pub fn ident_tag<'a>(tag: &'static str, input: &'a str) -> Option<(&'a str, &'a 
         }
         None => None,
     }
+}
+
+/// Reads an identifier: trivia, an underscore that is dropped, a letter or a digit and the name
+/// characters that follow it, trivia. Answers what follows, then the name.
+///
+/// `identifier(" _interface x")` is `Some(("x", "interface"))`; `identifier("__x")` is None. It
+/// takes no memory.
+pub fn identifier(input: &str) -> Option<(&str, &str)>
+    ensures { MatchOption result (Reads input.now IDENTIFIER 0 Fails) (λ x. Took IDENTIFIER input.now (Text x.1.now ∷ []) x.0.now) }
+{
+    let start = skip_trivia(input);
+    let name = skip_underscore(start);
+    match name_text(name) {
+        Some((rest, text)) => Some((skip_trivia(rest), text)),
+        None => None,
+    }
+}
+
+/// What follows an underscore at the front of the text, or the text itself.
+fn skip_underscore(input: &str) -> &str
+    ensures { Took OPT_BYTES_UNDERSCORE input.now [] result.now }
+{
+    match input.strip_prefix("_") {
+        Some(after) => after,
+        None => input,
+    }
+}
+
+/// What follows the name at the front of the text, and the name.
+fn name_text(input: &str) -> Option<(&str, &str)>
+    ensures { MatchOption result (Reads input.now IDENTIFIER_TEXT 0 Fails) (λ x. TookText IDENTIFIER_TEXT input.now x.1.now x.0.now) }
+{
+    if !next_is(Class::Alnum, input) {
+        return None;
+    }
+    let end = run(Class::Name, input.as_bytes());
+    Some((&input[end..], &input[..end]))
 }

@@ -1,12 +1,13 @@
-//! Scanners of bytes by their class, which the crates above share.
+//! Scanners that the crates above share.
 
 ghost use Rattle.std.specs.Prelude.{◌≡◌};
 ghost use Rattle.weedle_rules.specs.Rows.{run_length};
 ghost use Rattle.weedle_base.specs.Trivia.{is_next};
 
+pub use crate::names::identifier;
 use weedle_rules::{Class, holds};
 
-/// Whether the next byte is in the class.
+/// Whether the text has a next byte and it is in the class. It takes no memory.
 pub fn next_is(class: Class, input: &str) -> bool
     ensures { result ≡ is_next class input.now }
 {
@@ -16,7 +17,7 @@ pub fn next_is(class: Class, input: &str) -> bool
     }
 }
 
-/// How many bytes at the front are in the class.
+/// How many bytes at the front are in the class. It takes no memory.
 #[tactic(auto, using(crate::proofs::TriviaFacts::run_is))]
 pub fn run(class: Class, bytes: &[u8]) -> usize
     ensures { result ≡ run_length class bytes.now }
