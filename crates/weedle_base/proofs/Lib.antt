@@ -9,3 +9,5 @@ pub mod LeafFacts
 pub mod TriviaFacts
 pub mod TokenFacts
 pub mod NameFacts
+pub mod AlikeFacts
+pub mod RuleLawFacts

@@ -1,4 +1,5 @@
 pub mod Places
+pub mod Alike
 pub mod Reading
 pub mod Runs
 pub mod Generic
@@ -7,7 +8,9 @@ pub mod Rules
 pub mod Trivia
 pub mod Names
 pub mod Tokens
+pub mod AlikeLaws
 pub mod PlaceLaws
 pub mod RunLaws
 pub mod GenericLaws
 pub mod OwnLaws
+pub mod RuleLaws

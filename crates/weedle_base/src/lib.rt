@@ -2,6 +2,7 @@
 #![tactic(auto)]
 
 mod fault;
+pub mod laws;
 mod names;
 mod parse;
 pub mod scan;
@@ -9,8 +10,10 @@ mod standard;
 pub mod term;
 mod token;
 mod trivia;
+mod try_clone;
 
 pub use fault::{Err, Error, ErrorKind, IResult};
 pub use names::{ident_tag, is_alphanum_underscore_dash};
 pub use parse::Parse;
 pub use trivia::sp;
+pub use try_clone::TryClone;
