@@ -11,3 +11,7 @@ pub mod TokenFacts
 pub mod NameFacts
 pub mod AlikeFacts
 pub mod RuleLawFacts
+pub mod SilentRules
+pub mod WordFacts
+pub mod FindFacts
+pub mod LineFacts

@@ -68,7 +68,7 @@ module _ {r : ℕ} {b s start : List ℕ} (a : Took TRIVIA s [] start) (is : IsK
 
   name_goes_on : (after : List ℕ) → start ≡ b ++ after → is_next Name after ≡ true → Reads s r 0 Fails
   name_goes_on after split e =
-    no_node is.0 (then_fails_on a.reads a.rest_is (then_fails_on (tag_reads after is.2 is.3 split) (behind_tag b start after split)
+      no_node is.0 (then_fails_on a.reads a.rest_is (then_fails_on (tag_reads after is.2 is.3 split) (behind_tag b start after split)
       (fails (given (reads_not_next {r = NOT_NEXT_NAME} refl refl) (next_fails Name after e)))))
 
   pub keyword_lacks : LacksTag b start → Reads s r 0 Fails
@@ -84,11 +84,11 @@ module _ {r : ℕ} {b s start : List ℕ} (a : Took TRIVIA s [] start) (is : IsK
 
   pub keyword_reads : {after rest : List ℕ} → IsTagged b start after → Took TRIVIA after [] rest → Took r s (Mark ∷ []) rest
   keyword_reads {after} {rest} tagged z =
-    let behind : after ≡ drop (length b) start = behind_tag b start after tagged.split in
-    record {
-      place = a.place + (length b + (0 + (z.place + 0)));
-      reads = marked_node is.0 is.1 (parts_on a.reads a.rest_is (parts_on (tag_reads after is.2 is.3 tagged.split) behind
-          (parts_on (given (reads_not_next {r = NOT_NEXT_NAME} refl refl) (next_passes Name after tagged.ends)) refl (parts_on z.reads z.rest_is parts_none))));
-      rest_is = z.rest_is ∙ ap (λ (t : List ℕ). drop z.place t) (behind ∙ ap (λ (t : List ℕ). drop (length b) t) a.rest_is ∙ drop-drop (length b) a.place s)
-        ∙ drop-drop z.place (a.place + length b) s ∙ ap (λ (k : ℕ). drop k s) (omega arith);
-    }
+      let behind : after ≡ drop (length b) start = behind_tag b start after tagged.split in
+      record {
+        place = a.place + (length b + (0 + (z.place + 0)));
+        reads = marked_node is.0 is.1 (parts_on a.reads a.rest_is (parts_on (tag_reads after is.2 is.3 tagged.split) behind
+            (parts_on (given (reads_not_next {r = NOT_NEXT_NAME} refl refl) (next_passes Name after tagged.ends)) refl (parts_on z.reads z.rest_is parts_none))));
+        rest_is = z.rest_is ∙ ap (λ (t : List ℕ). drop z.place t) (behind ∙ ap (λ (t : List ℕ). drop (length b) t) a.rest_is ∙ drop-drop (length b) a.place s)
+            ∙ drop-drop z.place (a.place + length b) s ∙ ap (λ (k : ℕ). drop k s) (omega arith);
+      }

@@ -1,5 +1,5 @@
 -- A type that has a rule is lawful: a lemma that its law needs.
-use Rattle.std.proofs.Common.{refl, sym, ◌∙◌}
+use Rattle.std.proofs.Common.{refl}
 use Rattle.std.proofs.lemmas.Str.{IsCharBoundary-start}
 use Rattle.std.specs.Prelude.{◌≡◌, ℕ, [], ◌∷◌}
 use Rattle.weedle_base.specs.AlikeLaws.{equal_equivalence, seen_equivalence}

@@ -25,9 +25,9 @@ VecLaw {V} R = (x r : ℕ) (tree : V → Tree) → HasRule R x tree → row_of r
 -- a pair and a rule `Seq` of two parts
 abbrev pub PairLaw : {V W : Type 0} → Reading V → Reading W → Type 0
 PairLaw {V} {W} R S = (x y r : ℕ) (f : V → Tree) (g : W → Tree) → HasRule R x f → HasRule S y g → row_of r ≡ Seq (x ∷ y ∷ []) → shape_of r ≡ Plain
-  → HasRule (pair_reading R S) r (λ v. Node (trees (f v.0 ∷ g v.1 ∷ [])))
+    → HasRule (pair_reading R S) r (λ v. Node (trees (f v.0 ∷ g v.1 ∷ [])))
 
 -- a triple and a rule `Seq` of three parts
 abbrev pub TripleLaw : {T U V : Type 0} → Reading T → Reading U → Reading V → Type 0
 TripleLaw {T} {U} {V} P Q R = (x y z r : ℕ) (f : T → Tree) (g : U → Tree) (h : V → Tree) → HasRule P x f → HasRule Q y g → HasRule R z h → row_of r ≡ Seq (x ∷ y ∷ z ∷ []) → shape_of r ≡ Plain
-  → HasRule (seen_reading {X = T × U × V} (λ t. (t.0, (t.1, t.2))) (pair_reading P (pair_reading Q R))) r (λ t. Node (trees (f t.0 ∷ g t.1 ∷ h t.2 ∷ [])))
+    → HasRule (seen_reading {X = T × U × V} (λ t. (t.0, (t.1, t.2))) (pair_reading P (pair_reading Q R))) r (λ t. Node (trees (f t.0 ∷ g t.1 ∷ h t.2 ∷ [])))
