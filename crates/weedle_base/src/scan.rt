@@ -6,6 +6,7 @@ ghost use Rattle.weedle_base.specs.Scans.{IsWord, IsOne, IsRun};
 ghost use Rattle.weedle_base.specs.Trivia.{Trial, Took, TookText, is_next};
 
 pub use crate::names::identifier;
+pub use crate::trivia::skip_trivia;
 use weedle_rules::{Class, Rule, holds};
 
 /// Whether the text has a next byte and it is in the class. It takes no memory.

@@ -60,9 +60,9 @@ fn piece(input: &str) -> Option<&str>
     block_comment(input)
 }
 
-/// What follows the leading trivia.
+/// What follows the leading trivia. It takes no memory.
 #[tactic(auto, using(crate::proofs::TriviaFacts::behind_none, crate::proofs::TriviaFacts::behind_more, crate::proofs::TriviaFacts::behind_all, crate::proofs::TriviaFacts::piece_shorter))]
-pub(crate) fn skip_trivia(input: &str) -> &str
+pub fn skip_trivia(input: &str) -> &str
     ensures { Took TRIVIA input.now [] result.now }
 {
     let mut rest = input;
