@@ -1,12 +1,12 @@
 #!/usr/bin/env python3
 """Writes the 84 terminals of `weedle_base` from the lists in grammar.py.
 
-Run it at the top of the repository, then `rt fmt` in crates/weedle_base:
+Run it at the top of the repository, then `rt fmt` in both crates:
 
     python3 tools/terminals.py
 
-It writes src/term.rt, the files below src/term, and the tests src/term/tests.rt, which read
-each terminal with and without blanks round it.
+It writes src/term.rt and the files below src/term, and in crates/weedle_rows the tests
+src/terminals.rt, which read each terminal with and without blanks round it.
 """
 
 from pathlib import Path
@@ -14,6 +14,7 @@ from pathlib import Path
 from grammar import CAPITALIZED, KEYWORDS, SYMBOLS, upper
 
 FOLDER = Path("crates/weedle_base/src")
+TESTS = Path("crates/weedle_rows/src/terminals.rt")
 TYPE_KEYWORDS = (
     "Or Optional Unrestricted Symbol Any Boolean Byte Double False Float Long Null Object Octet Sequence Short True "
     "Unsigned Undefined Record"
@@ -83,7 +84,7 @@ def module():
            "//! no name character follows, so `longer` isn't `long`. None of them takes memory, and none ever",
            "//! gives a failure.", "//!", HEAD, ""]
     out += [f"mod {f.module};" for f in sorted(FILES, key=lambda f: f.module)]
-    out += ["#[cfg(test)]", "mod tests;", ""]
+    out.append("")
     for f in sorted(FILES, key=lambda f: f.module):
         out.append(f"pub use {f.module}::{{{', '.join(sorted(n for n, _, _ in f.terminals))}}};")
     return "\n".join(out) + "\n"
@@ -91,17 +92,19 @@ def module():
 
 def tests():
     out = ["//! Each terminal, with and without blanks round it.", "//!", HEAD, "",
-           "use super::*;", "use crate::parse::Parse;", "use std::alloc::Global;", "",
-           "/// What follows a terminal at the front of the text, or None where it isn't there.",
-           "fn rest<'a, T: Parse<'a>>(alloc: Global, input: &'a str) -> Option<&'a str> {",
-           "    match T::parse(alloc, input) {", "        Ok((rest, _)) => Some(rest),", "        Err(_) => None,", "    }", "}"]
+           "use std::alloc::Global;", "use std::process::Abort;", "use weedle_base::Parse;", "use weedle_base::term::*;", "",
+           "/// Reads a terminal alone, behind two blanks, before two blanks, between them, and before other text.",
+           "fn reads<'a, T: Parse<'a>>(rt: &impl Abort, alloc: Global, texts: [&'a str; 5]) {",
+           '    for (text, rest) in texts.into_iter().zip(["", "", "", "", "anything"]) {',
+           "        match T::parse(alloc, text) {",
+           '            Ok((left, _)) => assert!(rt; left == rest, "in {text}"),',
+           '            Err(_) => assert!(rt; false, "{text} is not read"),', "        }", "    }", "}"]
     for f in FILES:
+        out += ["", "#[test]", f"fn reads_{f.module}(rt: HostRuntime) {{", "    let alloc = rt.alloc();"]
         for name, text, _ in f.terminals:
-            out += ["", "#[test]", f"fn reads_{upper(name).lower()}(rt: HostRuntime) {{", "    let alloc = rt.alloc();"]
-            for blanks in (text, "  " + text, text + "  ", "  " + text + "  "):
-                out.append(f'    assert!(rt; rest::<{name}>(alloc, "{blanks}") == Some(""));')
-            out.append(f'    assert!(rt; rest::<{name}>(alloc, "{text}  anything") == Some("anything"));')
-            out.append("}")
+            texts = ", ".join(f'"{t}"' for t in (text, "  " + text, text + "  ", "  " + text + "  ", text + "  anything"))
+            out.append(f"    reads::<{name}>(&rt, alloc, [{texts}]);")
+        out.append("}")
     return "\n".join(out) + "\n"
 
 
@@ -110,7 +113,7 @@ def main():
     (FOLDER / "term.rt").write_text(module())
     for f in FILES:
         (FOLDER / f"term/{f.module}.rt").write_text(terminals(f))
-    (FOLDER / "term/tests.rt").write_text(tests())
+    TESTS.write_text(tests())
     print(f"{sum(len(f.terminals) for f in FILES)} terminals")
 
 
