@@ -12,5 +12,6 @@ HasOneOutcome text r p = (o : Outcome) × Reads text r p o × ((other : Outcome)
 abbrev pub IsShifted : List ℕ → ℕ → ℕ → Type 0
 IsShifted text r p = (o : Outcome) → Reads (drop p text) r 0 o ↔ Reads text r p (moved p o)
 
+-- wherever a rule ends, a character begins or the text ends
 abbrev pub EndsAtBoundary : List ℕ → ℕ → ℕ → Type 0
 EndsAtBoundary text r p = (ts : List Tree) (end : ℕ) → Reads text r p (Gives ts end) → IsCharBoundary text end

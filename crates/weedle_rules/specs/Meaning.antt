@@ -1,19 +1,27 @@
--- The meaning of a grammar: which outcome a rule has at a place of a text.
+-- The meaning of a grammar: which outcome a rule has at a place of a text. It is one relation for any table of rows and shapes, in which a failure is derived like any other outcome.
 use Rattle.std.specs.Prelude.{◌≡◌, ◌≢◌, ℕ, zero, suc, ◌+◌, ◌-◌, Bool, true, false, List, [], ◌∷◌, ◌++◌, map, take, drop, length, Option, Some, None}
 use Rattle.weedle_rules.specs.Rows.{Row, Bytes, OneOf, NotNext, Run, Past, Seq, First, Opt, Many, ListOf, List1, Tail, If, take_bytes, take_one, take_not_next, run_length, take_past}
 use Rattle.weedle_rules.specs.declared.class.Class.{Class}
 use Rattle.weedle_rules.specs.Trees.{Tree, Trees, Done, Then, Mark, Text, Node, Alt, Absent, Present, Items, Lines, trees, Outcome, Fails, Gives}
 
--- the tree that a rule's shape makes of what its row gave
+-- How a rule makes a tree of what its row gave.
 pub data Shape : Type 0 where
+  -- no tree
   Silent : Shape
+  -- a mark
   Marked : Shape
+  -- the bytes that the part of this number takes
   Kept : ℕ → Shape
+  -- the bytes that the third part takes, without the last: a docstring's line, which only its docstring takes up
   Line : Shape
+  -- the lines of the parts, joined by LF
   Joined : Shape
+  -- the tree of the first part
   Inner : Shape
+  -- by the kind of the row
   Plain : Shape
 
+-- a row and a shape for each rule
 pub record Grammar : Type 0 where
   pub row : ℕ → Row
   pub shape : ℕ → Shape
@@ -28,49 +36,57 @@ pub data Raw : Type 0 where
   Breaks : Raw
   Yields : List Tree → List ℕ → ℕ → Raw
 
+-- a row without parts, at place p
 abbrev pub leaf : ℕ → Option ℕ → Raw
 leaf p None = Breaks
 leaf p (Some taken) = Yields [] [] (p + taken)
 
+-- where pieces end that begin at place p
 abbrev pub last_end : ℕ → List Piece → ℕ
 last_end p [] = p
 last_end p (piece ∷ pieces) = last_end piece.end pieces
 
+-- the trees of pieces, in order
 abbrev pub given_of : List Piece → List Tree
 given_of [] = []
 given_of (piece ∷ pieces) = piece.given ++ given_of pieces
 
+-- the ends of pieces, in order
 abbrev pub ends_of : List Piece → List ℕ
 ends_of pieces = map (λ piece. piece.end) pieces
 
+-- a sequence at place p: its pieces, or that a part failed
 abbrev pub together : ℕ → Option (List Piece) → Raw
 together p None = Breaks
 together p (Some pieces) = Yields (given_of pieces) (ends_of pieces) (last_end p pieces)
 
+-- a piece before the others
 abbrev pub with_piece : Piece → Option (List Piece) → Option (List Piece)
 with_piece piece None = None
 with_piece piece (Some pieces) = Some (piece ∷ pieces)
 
--- the trees before those of the raw outcome
+-- these trees, then those that a row gave
 abbrev pub before : List Tree → Raw → Raw
 before ts Breaks = Breaks
 before ts (Yields us ends end) = Yields (ts ++ us) ends end
 
+-- what a rule gave, as a row's
 abbrev pub raw_of : Outcome → Raw
 raw_of Fails = Breaks
 raw_of (Gives ts end) = Yields ts [] end
 
--- part k gave Some
+-- the trees are those of a part that is there
 abbrev pub is_present : List Tree → Bool
 is_present (Present t ∷ []) = true
 is_present _ = false
 
+-- part k gave something
 abbrev pub gave_some : ℕ → List Piece → Bool
 gave_some k [] = false
 gave_some zero (piece ∷ pieces) = is_present piece.given
 gave_some (suc k) (piece ∷ pieces) = gave_some k pieces
 
--- the tree of a plain rule
+-- what a plain rule gives: a node of the parts' trees, or the items, or what the row gave
 abbrev pub plain : Row → List Tree → List Tree
 plain (Seq parts) ts = Node (trees ts) ∷ []
 plain (If parts k y) ts = Node (trees ts) ∷ []
@@ -107,9 +123,11 @@ kept text p [] k = []
 kept text p (end ∷ ends) zero = between text p end
 kept text p (end ∷ ends) (suc k) = kept text end ends k
 
+-- all bytes but the last
 abbrev pub but_last : List ℕ → List ℕ
 but_last bytes = take (length bytes - 1) bytes
 
+-- the trees of a rule at place p, by its shape
 abbrev pub formed : List ℕ → Row → Shape → ℕ → List Tree → List ℕ → List Tree
 formed text row Silent p ts ends = []
 formed text row Marked p ts ends = Mark ∷ []
@@ -119,6 +137,7 @@ formed text row Joined p ts ends = Lines (joined ts) ∷ []
 formed text row Inner p ts ends = take 1 ts
 formed text row Plain p ts ends = plain row ts
 
+-- the outcome of a rule at place p, from what its row gave
 abbrev pub shaped : List ℕ → Row → Shape → ℕ → Raw → Outcome
 shaped text row shape p Breaks = Fails
 shaped text row shape p (Yields ts ends end) = Gives (formed text row shape p ts ends) end
@@ -128,35 +147,46 @@ abbrev pub opted : ℕ → Outcome → Raw
 opted p Fails = Yields (Absent ∷ []) [] p
 opted p (Gives ts end) = Yields (map Present ts) [] end
 
+-- what a part gave, and its end
 abbrev pub piece : List Tree → ℕ → Piece
 piece ts end = record { given = ts; end = end }
 
 mutual
   -- rule r at place p of the text has the outcome o
   pub data ReadsBy (G : Grammar) (text : List ℕ) : ℕ → ℕ → Outcome → Type 0 where
+    -- by its row, shaped
     by_row : {r p : ℕ} {w : Raw} {o : Outcome} → ReadsRow G text (G.row r) p w → o ≡ shaped text (G.row r) (G.shape r) p w → ReadsBy G text r p o
 
   -- a row at place p yields w
   pub data ReadsRow (G : Grammar) (text : List ℕ) : Row → ℕ → Raw → Type 0 where
+    -- a row without parts: by the bytes alone
     by_bytes : {b : List ℕ} {p : ℕ} {w : Raw} → w ≡ leaf p (take_bytes b (drop p text)) → ReadsRow G text (Bytes b) p w
     by_one : {c : Class} {p : ℕ} {w : Raw} → w ≡ leaf p (take_one c (drop p text)) → ReadsRow G text (OneOf c) p w
     by_not_next : {c : Class} {p : ℕ} {w : Raw} → w ≡ leaf p (take_not_next c (drop p text)) → ReadsRow G text (NotNext c) p w
     by_run : {c : Class} {p : ℕ} {w : Raw} → w ≡ leaf p (Some (run_length c (drop p text))) → ReadsRow G text (Run c) p w
     by_past : {b : List ℕ} {p : ℕ} {w : Raw} → w ≡ leaf p (take_past b (drop p text)) → ReadsRow G text (Past b) p w
+    -- each part from the end of the one before
     by_seq : {parts : List ℕ} {p : ℕ} {w : Raw} {o : Option (List Piece)} → ReadsSeq G text parts p o → w ≡ together p o → ReadsRow G text (Seq parts) p w
+    -- the first part that doesn't fail
     by_first : {parts : List ℕ} {p : ℕ} {w : Raw} {o : Outcome} → ReadsFirst G text parts 0 p o → w ≡ raw_of o → ReadsRow G text (First parts) p w
+    -- the rule, or nothing where it fails
     by_opt : {x p : ℕ} {w : Raw} {o : Outcome} → ReadsBy G text x p o → w ≡ opted p o → ReadsRow G text (Opt x) p w
+    -- no more items where the rule fails; a failure where it takes nothing; else an item, and the same from its end
     many_end : {x p : ℕ} {w : Raw} → ReadsBy G text x p Fails → w ≡ Yields [] [] p → ReadsRow G text (Many x) p w
     many_stuck : {x p q : ℕ} {ts : List Tree} {w : Raw} → ReadsBy G text x p (Gives ts q) → q ≡ p → w ≡ Breaks → ReadsRow G text (Many x) p w
     many_more : {x p q : ℕ} {ts : List Tree} {w w' : Raw} → ReadsBy G text x p (Gives ts q) → q ≢ p → ReadsRow G text (Many x) q w → w' ≡ before ts w → ReadsRow G text (Many x) p w'
+    -- no item: nothing; else an item, and what follows it
     list_none : {x t p : ℕ} {w : Raw} → ReadsBy G text x p Fails → w ≡ Yields [] [] p → ReadsRow G text (ListOf x t) p w
     list_more : {x t p q : ℕ} {ts : List Tree} {o : Outcome} {w : Raw} → ReadsBy G text x p (Gives ts q) → ReadsBy G text t q o → w ≡ before ts (raw_of o) → ReadsRow G text (ListOf x t) p w
+    -- the same, but the first item is needed
     list1_fails : {x t p : ℕ} {w : Raw} → ReadsBy G text x p Fails → w ≡ Breaks → ReadsRow G text (List1 x t) p w
     list1_more : {x t p q : ℕ} {ts : List Tree} {o : Outcome} {w : Raw} → ReadsBy G text x p (Gives ts q) → ReadsBy G text t q o → w ≡ before ts (raw_of o) → ReadsRow G text (List1 x t) p w
+    -- no separator, or none that an item follows: no more items; a separator that takes nothing: a failure; else an item, and the same from its end
     tail_end : {x s p : ℕ} {w : Raw} → ReadsBy G text s p Fails → w ≡ Yields [] [] p → ReadsRow G text (Tail x s) p w
     tail_stuck : {x s p q : ℕ} {ts : List Tree} {w : Raw} → ReadsBy G text s p (Gives ts q) → q ≡ p → w ≡ Breaks → ReadsRow G text (Tail x s) p w
     tail_back : {x s p q : ℕ} {ts : List Tree} {w : Raw} → ReadsBy G text s p (Gives ts q) → q ≢ p → ReadsBy G text x q Fails → w ≡ Yields [] [] p → ReadsRow G text (Tail x s) p w
     tail_more : {x s p q e : ℕ} {ts us : List Tree} {w w' : Raw} → ReadsBy G text s p (Gives ts q) → q ≢ p → ReadsBy G text x q (Gives us e) → ReadsRow G text (Tail x s) e w → w' ≡ before us w → ReadsRow G text (Tail x s) p w'
+    -- the parts, and then rule y, if part k gave something; else nothing in its place
     if_fails : {parts : List ℕ} {k y p : ℕ} {w : Raw} → ReadsSeq G text parts p None → w ≡ Breaks → ReadsRow G text (If parts k y) p w
     if_absent : {parts : List ℕ} {k y p : ℕ} {w : Raw} {pieces : List Piece} → ReadsSeq G text parts p (Some pieces) → gave_some k pieces ≡ false → w ≡ Yields (given_of pieces ++ Absent ∷ []) [] (last_end p pieces) → ReadsRow G text (If parts k y) p w
     if_present : {parts : List ℕ} {k y p : ℕ} {w : Raw} {o : Outcome} {pieces : List Piece} → ReadsSeq G text parts p (Some pieces) → gave_some k pieces ≡ true → ReadsBy G text y (last_end p pieces) o → w ≡ before (given_of pieces) (raw_of o) → ReadsRow G text (If parts k y) p w
@@ -173,7 +203,7 @@ mutual
     first_here : {r i p q : ℕ} {rs : List ℕ} {ts : List Tree} {o : Outcome} → ReadsBy G text r p (Gives ts q) → o ≡ Gives (map (Alt i) ts) q → ReadsFirst G text (r ∷ rs) i p o
     first_next : {r i p : ℕ} {rs : List ℕ} {o : Outcome} → ReadsBy G text r p Fails → ReadsFirst G text rs (suc i) p o → ReadsFirst G text (r ∷ rs) i p o
 
--- an outcome with its end moved by s
+-- the outcome with its end moved on by s
 abbrev pub moved : ℕ → Outcome → Outcome
 moved s Fails = Fails
 moved s (Gives ts q) = Gives ts (s + q)

@@ -3,12 +3,15 @@ use Rattle.std.specs.Prelude.{ℕ, suc, Bool, true, false, ◌&&◌, ◌||◌, n
 use Rattle.weedle_rules.specs.declared.class.Class.{Class}
 use Rattle.weedle_rules.specs.declared.class.Class.TheVariants.{Blank, Digit, OneToNine, Octal, Hex, Alnum, Name, Slash, XLetter, ELetter, Sign, NotQuote}
 
+-- the byte lies between two others, both included
 abbrev pub is_from_to : ℕ → ℕ → ℕ → Bool
 is_from_to lo hi byte = nat_le lo byte && nat_le byte hi
 
+-- a space, a tab, a CR or an LF
 abbrev pub is_blank : ℕ → Bool
 is_blank byte = byte == 32 || byte == 9 || byte == 13 || byte == 10
 
+-- an ASCII letter or digit
 abbrev pub is_alnum : ℕ → Bool
 is_alnum byte = is_from_to 48 57 byte || is_from_to 65 90 byte || is_from_to 97 122 byte
 
@@ -27,7 +30,7 @@ is_in ELetter byte = byte == 101 || byte == 69
 is_in Sign byte = byte == 43 || byte == 45
 is_in NotQuote byte = not (byte == 34)
 
--- Rules are numbers.
+-- What a rule reads; rules are numbers. `ListOf` is the row `List`.
 pub data Row : Type 0 where
   Bytes : List ℕ → Row
   OneOf : Class → Row
@@ -49,22 +52,28 @@ begins [] text = true
 begins (b ∷ bytes) [] = false
 begins (b ∷ bytes) (t ∷ text) = b == t && begins bytes text
 
--- how many bytes a row without parts takes at the front of the text, or None where it fails
+-- How many bytes a row without parts takes at the front of the text, or None where it fails.
+
+-- these bytes
 abbrev pub take_bytes : List ℕ → List ℕ → Option ℕ
 take_bytes bytes text = if begins bytes text then Some (length bytes) else None
 
+-- one byte of the class
 abbrev pub take_one : Class → List ℕ → Option ℕ
 take_one class [] = None
 take_one class (b ∷ text) = if is_in class b then Some 1 else None
 
+-- none, where the next byte isn't in the class
 abbrev pub take_not_next : Class → List ℕ → Option ℕ
 take_not_next class [] = Some 0
 take_not_next class (b ∷ text) = if is_in class b then None else Some 0
 
+-- all bytes of the class at the front
 abbrev pub run_length : Class → List ℕ → ℕ
 run_length class [] = 0
 run_length class (b ∷ text) = if is_in class b then suc (run_length class text) else 0
 
+-- all up to the first occurrence of the bytes, and these
 abbrev pub take_past : List ℕ → List ℕ → Option ℕ
 take_past bytes [] = take_bytes bytes []
 take_past bytes (t ∷ text) = if begins bytes (t ∷ text) then Some (length bytes) else option_map suc (take_past bytes text)
