@@ -2,6 +2,12 @@
 #![tactic(auto)]
 
 #[cfg(test)]
+mod answers;
+#[cfg(test)]
 mod scanners;
 #[cfg(test)]
+mod standard;
+#[cfg(test)]
 mod terminals;
+#[cfg(test)]
+mod users;

@@ -1,22 +1,10 @@
 //! The scanners, and terminals that stand beside others.
 
+use crate::answers::is_mismatch;
 use std::alloc::Global;
 use std::test::Fail;
 use weedle_base::term::{Dot, Ellipsis, Long, NegInfinity, OpenParen};
-use weedle_base::{
-    Err, Error, ErrorKind, IResult, Parse, docstring, ident_tag, is_alphanum_underscore_dash, sp,
-};
-
-/// Whether the answer is a mismatch.
-fn is_mismatch<'a, T>(answer: &IResult<&'a str, T>) -> bool {
-    matches!(
-        answer,
-        Err(Err::Error(Error {
-            code: ErrorKind::Mismatch,
-            ..
-        }))
-    )
-}
+use weedle_base::{Parse, docstring, ident_tag, is_alphanum_underscore_dash, sp};
 
 #[test]
 fn trivia_is_comments_and_blanks(rt: HostRuntime) {
