@@ -1,0 +1,4 @@
+pub mod NameTrees
+pub mod ValueTrees
+pub mod Braces
+pub mod BraceLaws
