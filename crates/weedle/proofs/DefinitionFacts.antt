@@ -26,7 +26,6 @@ use Rattle.weedle.specs.NameTrees.{identifier_tree}
 use Rattle.weedle.specs.ValueTrees.{interface_member_tree, interface_members_tree, members_tree, interface_definition_tree, definition_tree}
 use Rattle.weedle.specs.declared.common.Braced.{Braced}
 use Rattle.weedle.specs.declared.common.Identifier.{Identifier}
-use Rattle.weedle.specs.declared.definition.Definition.{Definition}
 use Rattle.weedle.specs.declared.definition.Definition.TheVariants.{Interface as IsInterface}
 use Rattle.weedle.specs.declared.definition.InterfaceDefinition.{InterfaceDefinition}
 use Rattle.weedle.specs.declared.interface.InterfaceMember.{InterfaceMember}

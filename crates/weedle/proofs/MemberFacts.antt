@@ -22,7 +22,6 @@ use Rattle.weedle.specs.NameTrees.{identifier_tree}
 use Rattle.weedle.specs.ValueTrees.{attribute_member_tree, interface_member_tree}
 use Rattle.weedle.specs.declared.common.Identifier.{Identifier}
 use Rattle.weedle.specs.declared.interface.AttributeInterfaceMember.{AttributeInterfaceMember}
-use Rattle.weedle.specs.declared.interface.InterfaceMember.{InterfaceMember}
 use Rattle.weedle.specs.declared.interface.InterfaceMember.TheVariants.{Attribute as IsAttribute}
 
 abbrev read_only : Reading ReadOnly

@@ -1,8 +1,10 @@
 //! Definitions.
 
+ghost use Rattle.std.specs.Prelude.{◌≡◌};
 ghost use Rattle.weedle_base.specs.Own.{own};
 ghost use Rattle.weedle_base.specs.OwnLaws.{own_lawful};
 ghost use Rattle.weedle_rules.specs.Table.Definitions.{INTERFACE_DEFINITION, DEFINITION};
+ghost use Rattle.weedle.specs.Titles.{kind_text, name_text};
 ghost use Rattle.weedle.specs.ValueTrees.{interface_definition_tree, definition_tree};
 
 use crate::common::{Braced, Identifier};
@@ -64,4 +66,22 @@ impl<'a> Parse<'a> for Definition<'a> {
     }
 
     ghost lawful = { own_lawful DEFINITION definition_tree (Unit {0}) };
+}
+
+/// The word for the kind of a definition: `interface`. It takes no memory.
+pub fn kind_of(definition: &Definition<'_>) -> &'static str
+    ensures { result.now ≡ kind_text definition.now }
+{
+    match definition {
+        Definition::Interface(_) => "interface",
+    }
+}
+
+/// The name of a definition, as `Window` of `interface Window {};`. It takes no memory.
+pub fn name_of<'a>(definition: &Definition<'a>) -> &'a str
+    ensures { result.now ≡ name_text definition.now }
+{
+    match definition {
+        Definition::Interface(interface) => interface.identifier.0,
+    }
 }

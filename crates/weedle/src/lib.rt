@@ -16,7 +16,11 @@
 pub mod common;
 mod definition;
 pub mod interface;
+pub mod laws;
+mod program;
+mod reader;
 
-pub use definition::{Definition, Definitions, InterfaceDefinition};
-pub use weedle_base::term;
-pub use weedle_base::{Err, Error, ErrorKind, IResult, Parse};
+pub use definition::{Definition, Definitions, InterfaceDefinition, kind_of, name_of};
+pub use program::{RunFault, Status, run};
+pub use reader::parse;
+pub use weedle_base::{Err, Error, ErrorKind, IResult, Parse, term};
