@@ -22,8 +22,7 @@ use Rattle.weedle_rules.specs.Table.Symbols.{SEMI_COLON}
 use Rattle.weedle_rules.specs.Trees.{Mark, Node, Alt, trees}
 use Rattle.weedle.proofs.BraceFacts.{braced_rule}
 use Rattle.weedle.specs.Braces.{braced_reading}
-use Rattle.weedle.specs.NameTrees.{identifier_tree}
-use Rattle.weedle.specs.ValueTrees.{interface_member_tree, interface_members_tree, members_tree, interface_definition_tree, definition_tree}
+use Rattle.weedle.specs.ValueTrees.{identifier_tree, interface_member_tree, interface_members_tree, members_tree, interface_definition_tree, definition_tree}
 use Rattle.weedle.specs.declared.common.Braced.{Braced}
 use Rattle.weedle.specs.declared.common.Identifier.{Identifier}
 use Rattle.weedle.specs.declared.definition.Definition.TheVariants.{Interface as IsInterface}
@@ -41,13 +40,13 @@ braced_members_rule = braced_rule members_rule MEMBERS refl refl
 
 abbrev pub interface_parts : Reading (Interface × (Identifier × (Braced (Vec InterfaceMember) × SemiColon)))
 interface_parts =
-    pair_reading (own INTERFACE (λ v. Mark) ⊥) (pair_reading (own IDENTIFIER identifier_tree ⊥) (pair_reading (own MEMBERS members_tree (Unit {0})) (own SEMI_COLON (λ v. Mark) ⊥)))
+    pair_reading (own INTERFACE (λ v. Mark) ⊥) (pair_reading (own IDENTIFIER identifier_tree ⊥) (pair_reading (braced_reading members) (own SEMI_COLON (λ v. Mark) ⊥)))
 
 interface_rule : IsRule interface_parts INTERFACE_DEFINITION (λ x. Node (trees (Mark ∷ identifier_tree x.1.0 ∷ members_tree x.1.1.0 ∷ Mark ∷ []))) (Unit {0})
 interface_rule =
     let semi_colon = seq_last (still_rule (own_rule SEMI_COLON (λ v. Mark) ⊥)) in
     seq_rule (seq_next (still_rule (own_rule INTERFACE (λ v. Mark) ⊥)) (seq_next (still_rule (own_rule IDENTIFIER identifier_tree ⊥))
-    (seq_next (own_rule MEMBERS members_tree (Unit {0})) semi_colon))) INTERFACE_DEFINITION refl refl
+    (seq_next braced_members_rule semi_colon))) INTERFACE_DEFINITION refl refl
 
 abbrev pub interface_own : Reading InterfaceDefinition
 interface_own = own INTERFACE_DEFINITION interface_definition_tree (Unit {0})
@@ -57,9 +56,6 @@ one_definition_rule = first_rule (first_last 0 (own_rule INTERFACE_DEFINITION in
 
 module _ {s : List ℕ} where
   module _ {rest : List ℕ} where
-    pub members_got : {v : Braced (Vec InterfaceMember)} → Got (braced_reading members) s v rest → Got (own MEMBERS members_tree (Unit {0})) s v rest
-    members_got h = got_rule braced_members_rule members_tree _ h refl
-
     pub interface_definition_got : {interface : Interface} {identifier : Identifier} {members : Braced (Vec InterfaceMember)} {semi_colon : SemiColon}
         → Got interface_parts s (interface, (identifier, (members, semi_colon))) rest
         → Got (own INTERFACE_DEFINITION interface_definition_tree (Unit {0})) s (record { interface = interface; identifier = identifier; members = members; semi_colon = semi_colon }) rest
@@ -69,9 +65,6 @@ module _ {s : List ℕ} where
     definition_got h = got_rule one_definition_rule definition_tree _ h refl
 
   module _ {e : Fault (Error (Bor (List ℕ)))} where
-    pub members_fault : Faults (braced_reading members) s e → Faults (own MEMBERS members_tree (Unit {0})) s e
-    members_fault h = fault_rule braced_members_rule members_tree h
-
     pub interface_definition_fault : Faults interface_parts s e → Faults (own INTERFACE_DEFINITION interface_definition_tree (Unit {0})) s e
     interface_definition_fault h = fault_rule interface_rule interface_definition_tree h
 

@@ -1,4 +1,3 @@
-pub mod NameTrees
 pub mod ValueTrees
 pub mod Braces
 pub mod BraceLaws

@@ -2,15 +2,19 @@
 use Rattle.std.specs.Global.{Vec}
 use Rattle.std.specs.Prelude.{List, [], ◌∷◌}
 use Rattle.weedle_base.specs.Rules.{option_tree, items_tree}
-use Rattle.weedle_rules.specs.Trees.{Tree, Mark, Node, Alt, trees}
-use Rattle.weedle.specs.NameTrees.{identifier_tree}
+use Rattle.weedle_rules.specs.Trees.{Tree, Mark, Text, Node, Alt, trees}
 use Rattle.weedle.specs.declared.common.Braced.{Braced}
+use Rattle.weedle.specs.declared.common.Identifier.{Identifier}
 use Rattle.weedle.specs.declared.definition.Definition.{Definition}
 use Rattle.weedle.specs.declared.definition.Definition.TheVariants.{Interface as IsInterface}
 use Rattle.weedle.specs.declared.definition.InterfaceDefinition.{InterfaceDefinition}
 use Rattle.weedle.specs.declared.interface.AttributeInterfaceMember.{AttributeInterfaceMember}
 use Rattle.weedle.specs.declared.interface.InterfaceMember.{InterfaceMember}
 use Rattle.weedle.specs.declared.interface.InterfaceMember.TheVariants.{Attribute as IsAttribute}
+
+-- a name: its text
+abbrev pub identifier_tree : Identifier → Tree
+identifier_tree v = Text v.0.now
 
 -- an attribute: whether it is read-only, the keyword, its type, its name, the semicolon
 abbrev pub attribute_member_tree : AttributeInterfaceMember → Tree

@@ -5,14 +5,14 @@ ghost use Rattle.weedle_base.specs.OwnLaws.{own_lawful};
 ghost use Rattle.weedle_rules.specs.Table.Leaves.{IDENTIFIER};
 ghost use Rattle.weedle.specs.Braces.{braced_reading};
 ghost use Rattle.weedle.specs.BraceLaws.{braced_lawful};
-ghost use Rattle.weedle.specs.NameTrees.{identifier_tree};
+ghost use Rattle.weedle.specs.ValueTrees.{identifier_tree};
 
 use std::alloc::Global;
 use weedle_base::term::{CloseBrace, OpenBrace};
 use weedle_base::{Err, Error, ErrorKind, IResult, Parse, scan};
 
-/// A name, as `sessionStorage`; its text is without the underscore that may lead it, as in
-/// `_interface`.
+/// A name, as `sessionStorage`. It is `interface` for `_interface`, since one underscore may lead
+/// a name and is no part of it.
 #[derive(Clone, Copy, Debug, PartialEq, Eq, PartialOrd, Ord, Hash)]
 pub struct Identifier<'a>(pub &'a str);
 
@@ -20,8 +20,8 @@ pub struct Identifier<'a>(pub &'a str);
 impl<'a> Parse<'a> for Identifier<'a> {
     ghost reading = { own IDENTIFIER identifier_tree ⊥ };
 
-    /// Reads a name with the trivia around it, as ` name /* its type */`. A text that begins
-    /// otherwise, as `__name`, is refused. It takes no memory.
+    /// Reads a name with the blanks and comments around it, as ` name /* of a type */`. A text
+    /// with no name there, as `__name` or `/// name`, is refused. It takes no memory.
     fn parse(_alloc: Global, input: &'a str) -> IResult<&'a str, Self> {
         match scan::identifier(input) {
             Some((rest, name)) => Ok((rest, Identifier(name))),
@@ -47,7 +47,8 @@ pub struct Braced<T> {
 impl<'a, T: Parse<'a>> Parse<'a> for Braced<T> {
     ghost reading = { braced_reading T.reading };
 
-    /// Reads `{`, a value and `}`. It takes the memory that the value takes.
+    /// Reads `{`, a value and `}`. A text where one of them isn't read is refused. It takes the
+    /// memory that the value takes.
     fn parse(alloc: Global, input: &'a str) -> IResult<&'a str, Self> {
         let (rest, open_brace) = OpenBrace::parse(alloc, input)?;
         let (rest, body) = T::parse(alloc, rest)?;

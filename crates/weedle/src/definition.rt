@@ -1,4 +1,4 @@
-//! Definitions.
+//! Definitions, and what they are called.
 
 ghost use Rattle.std.specs.Prelude.{◌≡◌};
 ghost use Rattle.weedle_base.specs.Own.{own};
@@ -13,7 +13,7 @@ use std::alloc::Global;
 use weedle_base::term::{Interface, SemiColon};
 use weedle_base::{IResult, Parse};
 
-/// A list of definitions, one after another.
+/// Definitions one after another, as `interface A {}; interface B {};`.
 pub type Definitions<'a> = Vec<Definition<'a>>;
 
 /// An interface, as `interface Window { readonly attribute Storage sessionStorage; };`.
@@ -25,11 +25,12 @@ pub struct InterfaceDefinition<'a> {
     pub semi_colon: SemiColon,
 }
 
-#[tactic(auto, using(weedle_base::proofs::Steps::fault_first, weedle_base::proofs::Steps::fault_second, weedle_base::proofs::Steps::got_pair, crate::proofs::DefinitionFacts::members_got, crate::proofs::DefinitionFacts::members_fault, crate::proofs::DefinitionFacts::interface_definition_got, crate::proofs::DefinitionFacts::interface_definition_fault))]
+#[tactic(auto, using(weedle_base::proofs::Steps::fault_first, weedle_base::proofs::Steps::fault_second, weedle_base::proofs::Steps::got_pair, crate::proofs::DefinitionFacts::interface_definition_got, crate::proofs::DefinitionFacts::interface_definition_fault))]
 impl<'a> Parse<'a> for InterfaceDefinition<'a> {
     ghost reading = { own INTERFACE_DEFINITION interface_definition_tree (Unit {0}) };
 
-    /// Reads an interface. It takes memory for the list of its members.
+    /// Reads an interface, as `interface Window {};`. A text that misses a part, as the last
+    /// semicolon, is refused. It takes memory for the list of members.
     fn parse(alloc: Global, input: &'a str) -> IResult<&'a str, Self> {
         let (rest, interface) = Interface::parse(alloc, input)?;
         let (rest, identifier) = Identifier::parse(alloc, rest)?;
@@ -59,7 +60,8 @@ pub enum Definition<'a> {
 impl<'a> Parse<'a> for Definition<'a> {
     ghost reading = { own DEFINITION definition_tree (Unit {0}) };
 
-    /// Reads a definition. It takes memory for the lists in it.
+    /// Reads a definition, which is an interface. Any other text is refused. It takes memory for
+    /// the list of members.
     fn parse(alloc: Global, input: &'a str) -> IResult<&'a str, Self> {
         let (rest, definition) = InterfaceDefinition::parse(alloc, input)?;
         Ok((rest, Definition::Interface(definition)))

@@ -1,4 +1,4 @@
-//! Interfaces' members.
+//! The members of interfaces.
 
 ghost use Rattle.weedle_base.specs.Own.{own};
 ghost use Rattle.weedle_base.specs.OwnLaws.{own_lawful};
@@ -10,7 +10,7 @@ use std::alloc::Global;
 use weedle_base::term::{Attribute, ReadOnly, SemiColon};
 use weedle_base::{IResult, Parse};
 
-/// The members of an interface, one after another.
+/// The members of an interface, as `attribute long width; attribute long height;`.
 pub type InterfaceMembers<'a> = Vec<InterfaceMember<'a>>;
 
 /// An attribute, as `readonly attribute Storage sessionStorage;`.
@@ -27,7 +27,8 @@ pub struct AttributeInterfaceMember<'a> {
 impl<'a> Parse<'a> for AttributeInterfaceMember<'a> {
     ghost reading = { own ATTRIBUTE_INTERFACE_MEMBER attribute_member_tree ⊥ };
 
-    /// Reads an attribute, whose type is a name so far. It takes no memory.
+    /// Reads an attribute, as `attribute long length;`, whose type is one name. A text without a
+    /// type, a name or a semicolon is refused. It takes no memory.
     fn parse(alloc: Global, input: &'a str) -> IResult<&'a str, Self> {
         let (rest, readonly) = Option::<ReadOnly>::parse(alloc, input)?;
         let (rest, attribute) = Attribute::parse(alloc, rest)?;
@@ -59,7 +60,8 @@ pub enum InterfaceMember<'a> {
 impl<'a> Parse<'a> for InterfaceMember<'a> {
     ghost reading = { own INTERFACE_MEMBER interface_member_tree ⊥ };
 
-    /// Reads a member of an interface. It takes no memory.
+    /// Reads a member of an interface, which is an attribute. Any other text is refused. It takes
+    /// no memory.
     fn parse(alloc: Global, input: &'a str) -> IResult<&'a str, Self> {
         let (rest, member) = AttributeInterfaceMember::parse(alloc, input)?;
         Ok((rest, InterfaceMember::Attribute(member)))

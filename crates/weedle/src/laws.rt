@@ -2,8 +2,7 @@
 
 ghost use Rattle.weedle.specs.Laws.{ReadsDefinitions};
 
-/// On every text, a list of definitions gives or refuses what the grammar's rule of definitions
-/// does.
+/// What a list of definitions gives or refuses of a text, the grammar's rule of definitions does.
 pub fn definitions()
     ensures { ReadsDefinitions }
 {}

@@ -1,16 +1,19 @@
 //! A parser of WebIDL.
 //!
-//! [`parse`] reads a text as a list of definitions, or says from where on the text is none.
-//! [`run`] is the program: it reads a reader to its end and writes a report of the definitions.
+//! [`parse`] reads a text as a list of definitions, or says from where on it is none. [`run`] is
+//! the program: it reads a reader to its end, and writes what the text defines.
 //!
 //! ```rust
+//! use weedle::{name_of, parse};
+//!
 //! let text = "interface Window { readonly attribute Storage sessionStorage; };";
-//! let definitions = weedle::parse(rt.alloc(), text).expect(rt, "the text is WebIDL");
-//! assert!(rt; definitions.len() == 1);
+//! for definition in &parse(rt.alloc(), text)? {
+//!     assert_eq!(rt; name_of(definition), "Window");
+//! }
 //! ```
 //!
-//! What the grammar reads of a text is said in the crate `weedle_rules`; which tree of it stands
-//! for a value is said in `specs/ValueTrees.antt`.
+//! What the grammar reads of a text is said in the crate `weedle_rules`, and in
+//! `specs/ValueTrees.antt` which of its trees each value stands for.
 #![tactic(auto)]
 
 pub mod common;

@@ -13,16 +13,22 @@ use std::io::{ErrorKind, Read, Write};
 /// Whether the grammar read the whole text.
 #[derive(Clone, Copy, Debug, PartialEq, Eq)]
 pub enum Status {
+    /// The report has the definitions of the text.
     Read,
+    /// The report says where the unread rest begins.
     Unread,
 }
 
 /// Why a run ended with no report, or with a part of one.
 #[derive(Clone, Copy, Debug, PartialEq, Eq)]
 pub enum RunFault {
+    /// What was read is no text.
     NotUtf8,
+    /// Memory was refused.
     Memory,
+    /// The reader failed.
     Input,
+    /// The writer failed, or took no byte.
     Output,
 }
 
@@ -35,6 +41,9 @@ impl From<AllocError> for RunFault {
 }
 
 /// Reads the reader to its end, and writes the report of the text that it gave.
+///
+/// For `interface A {};` the lines are `interface A` and `definitions 1`. For
+/// `interface A {}; // end`, which isn't read whole, the one line is `unread at byte 16`.
 ///
 /// The report stands in memory, beside the text and its definitions, before the first write. A write
 /// that fails or takes no byte ends the run, and no write is tried again. The writer is not flushed.

@@ -8,15 +8,15 @@ use weedle_base::{Err, Error, ErrorKind, Parse};
 
 /// Reads a whole text as definitions, in their order.
 ///
-/// `interface A {}; interface B {};` has two. Blanks and comments may stand between the words of a
-/// definition and after it, but not alone, so a text of blanks is refused, and the empty text has
-/// no definition.
+/// `interface A {}; interface B {};` has two, and the empty text has none. Blanks and comments may
+/// stand around each word of a definition, but not where there is none: a text of blanks is
+/// refused.
 ///
-/// A text that isn't read whole is refused with [`Err::Error`], which has the rest from the first
-/// byte that belongs to no definition: `interface B {}` of `interface A {};interface B {}`. It
-/// takes memory for the lists of definitions and of their members, and ends with
-/// [`Err::Failure`], which has the whole text, where that is refused. The names in the definitions
-/// are parts of the text, and no copies.
+/// A text that isn't read whole is refused with [`Err::Error`], which has all that follows the
+/// last definition that can be read: `interface B {}` for `interface A {};interface B {}`.
+///
+/// It takes memory for the list of definitions and for the list of members of each, and ends with
+/// [`Err::Failure`] where that is refused. Names aren't copied: each is a part of the text.
 #[tactic(auto, using(crate::proofs::WholeFacts::whole))]
 pub fn parse(alloc: Global, raw: &str) -> Result<Definitions<'_>, Err<Error<&str>>>
     ensures { ParseAnswers raw.now result }

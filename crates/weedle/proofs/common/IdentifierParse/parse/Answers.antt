@@ -1,6 +1,6 @@
 use Rattle.std.proofs.Common.{refl}
 use Rattle.weedle_base.proofs.TokenFacts.{fault_own}
-use Rattle.weedle.specs.NameTrees.{identifier_tree}
+use Rattle.weedle.specs.ValueTrees.{identifier_tree}
 use Rattle.weedle.proofs.common.IdentifierParse.parse.Goals as goal
 
 pub returns-in-None : goal.returns-in-None
