@@ -4,10 +4,20 @@
 #[cfg(test)]
 mod answers;
 #[cfg(test)]
+mod definitions;
+#[cfg(test)]
+mod generic_parts;
+#[cfg(test)]
+mod leaves;
+#[cfg(test)]
+mod program;
+#[cfg(test)]
 mod scanners;
 #[cfg(test)]
 mod standard;
 #[cfg(test)]
 mod terminals;
+#[cfg(test)]
+mod types;
 #[cfg(test)]
 mod users;

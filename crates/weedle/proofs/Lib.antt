@@ -1,0 +1,4 @@
+pub mod BraceFacts
+pub mod MemberFacts
+pub mod DefinitionFacts
+pub mod WholeFacts

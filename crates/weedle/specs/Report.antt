@@ -1,0 +1,41 @@
+-- What is written of a text that was read.
+use Rattle.std.specs.Prelude.{◌≡◌, ℕ, ◌-◌, ◌<◌, List, [], ◌∷◌, ◌++◌, length, take, flat_map, decimal, codes, Option}
+use Rattle.std.specs.Io.KnownBytes.{Appends, Consumes, IsAtEnd}
+use Rattle.weedle.specs.Titles.{kind_text, name_text}
+use Rattle.weedle.specs.Whole.{IsWhole, IsLeft}
+use Rattle.weedle.specs.declared.definition.Definition.{Definition}
+use Rattle.weedle.specs.declared.program.Status.{Status}
+use Rattle.weedle.specs.declared.program.Status.TheVariants.{Read, Unread}
+
+-- a text and a line feed
+abbrev pub line : List ℕ → List ℕ
+line text = text ++ 10 ∷ []
+
+-- the kind of a definition, a space and its name
+abbrev pub definition_line : Definition → List ℕ
+definition_line definition = line (kind_text definition ++ 32 ∷ name_text definition)
+
+-- a line for each definition in order, and then how many they are
+abbrev pub whole_report : List Definition → List ℕ
+whole_report definitions =
+    flat_map definition_line definitions ++ line (codes "definitions " ++ decimal (length definitions))
+
+-- the line of a text that is not read whole: the byte at which the unread rest begins
+abbrev pub unread_report : List ℕ → List ℕ → List ℕ
+unread_report text rest = line (codes "unread at byte " ++ decimal (length text - length rest))
+
+-- the report of a text: its definitions where the grammar reads it whole, and else where the unread rest begins
+abbrev pub IsReport : List ℕ → List ℕ → Status → Type 0
+IsReport text report Read =
+    (definitions : List Definition) × IsWhole text definitions × (report ≡ whole_report definitions)
+IsReport text report Unread =
+    ((definitions : List Definition) → ¬ IsWhole text definitions)
+    × ((rest : List ℕ) × IsLeft text rest × (report ≡ unread_report text rest))
+
+-- a reader gave these bytes, all that it had left
+abbrev pub ReadsAll : Option (List ℕ) → Option (List ℕ) → List ℕ → Type 0
+ReadsAll old new bytes = Consumes old new bytes × IsAtEnd new
+
+-- a writer took the beginning of these bytes, and not all of them
+abbrev pub AppendsPart : Option (List ℕ) → Option (List ℕ) → List ℕ → Type 0
+AppendsPart old new bytes = (n : ℕ) × (n < length bytes) × Appends old new (take n bytes)

@@ -1,0 +1,29 @@
+//! A parser of WebIDL.
+//!
+//! [`parse`] reads a text as a list of definitions, or says from where on it is none. [`run`] is
+//! the program: it reads a reader to its end, and writes what the text defines.
+//!
+//! ```rust
+//! use weedle::{name_of, parse};
+//!
+//! let text = "interface Window { readonly attribute Storage sessionStorage; };";
+//! for definition in &parse(rt.alloc(), text)? {
+//!     assert_eq!(rt; name_of(definition), "Window");
+//! }
+//! ```
+//!
+//! What the grammar reads of a text is said in the crate `weedle_rules`, and in
+//! `specs/ValueTrees.antt` which of its trees each value stands for.
+#![tactic(auto)]
+
+pub mod common;
+mod definition;
+pub mod interface;
+pub mod laws;
+mod program;
+mod reader;
+
+pub use definition::{Definition, Definitions, InterfaceDefinition, kind_of, name_of};
+pub use program::{RunFault, Status, run};
+pub use reader::parse;
+pub use weedle_base::{Err, Error, ErrorKind, IResult, Parse, term};
