@@ -1,0 +1,4 @@
+pub mod Brackets
+pub mod Lists
+pub mod ListLaws
+pub mod MayBeNull

@@ -1,0 +1,126 @@
+//! A body between two brackets.
+
+ghost use Rattle.weedle_rules.specs.Table.Symbols.{OPEN_PAREN, CLOSE_PAREN, OPEN_BRACKET, CLOSE_BRACKET, OPEN_BRACE, CLOSE_BRACE, LESS_THAN, GREATER_THAN};
+ghost use Rattle.weedle_parts.specs.Brackets.{bracket_reading, bracket_lawful};
+
+use std::alloc::Global;
+use weedle_base::term::{
+    CloseBrace, CloseBracket, CloseParen, GreaterThan, LessThan, OpenBrace, OpenBracket, OpenParen,
+};
+use weedle_base::{IResult, Parse};
+
+/// `(` body `)`.
+#[derive(Clone, Copy, Debug, Default, Drop, PartialEq, Eq, PartialOrd, Ord, Hash)]
+pub struct Parenthesized<T> {
+    pub open_paren: OpenParen,
+    pub body: T,
+    pub close_paren: CloseParen,
+}
+
+#[tactic(auto, using(weedle_base::proofs::Steps::fault_first, weedle_base::proofs::Steps::fault_second, weedle_base::proofs::Steps::fault_seen, weedle_base::proofs::Steps::got_pair, weedle_base::proofs::Steps::got_seen))]
+impl<'a, T: Parse<'a>> Parse<'a> for Parenthesized<T> {
+    ghost reading = { bracket_reading OPEN_PAREN CLOSE_PAREN (λ p. (p.open_paren, (p.body, p.close_paren))) T.reading };
+
+    fn parse(alloc: Global, input: &'a str) -> IResult<&'a str, Self> {
+        let (rest, open_paren) = OpenParen::parse(alloc, input)?;
+        let (rest, body) = T::parse(alloc, rest)?;
+        let (rest, close_paren) = CloseParen::parse(alloc, rest)?;
+        Ok((
+            rest,
+            Parenthesized {
+                open_paren,
+                body,
+                close_paren,
+            },
+        ))
+    }
+
+    ghost lawful = { bracket_lawful OPEN_PAREN CLOSE_PAREN (λ p. (p.open_paren, (p.body, p.close_paren))) T.reading T.lawful };
+}
+
+/// `[` body `]`.
+#[derive(Clone, Copy, Debug, Default, Drop, PartialEq, Eq, PartialOrd, Ord, Hash)]
+pub struct Bracketed<T> {
+    pub open_bracket: OpenBracket,
+    pub body: T,
+    pub close_bracket: CloseBracket,
+}
+
+#[tactic(auto, using(weedle_base::proofs::Steps::fault_first, weedle_base::proofs::Steps::fault_second, weedle_base::proofs::Steps::fault_seen, weedle_base::proofs::Steps::got_pair, weedle_base::proofs::Steps::got_seen))]
+impl<'a, T: Parse<'a>> Parse<'a> for Bracketed<T> {
+    ghost reading = { bracket_reading OPEN_BRACKET CLOSE_BRACKET (λ p. (p.open_bracket, (p.body, p.close_bracket))) T.reading };
+
+    fn parse(alloc: Global, input: &'a str) -> IResult<&'a str, Self> {
+        let (rest, open_bracket) = OpenBracket::parse(alloc, input)?;
+        let (rest, body) = T::parse(alloc, rest)?;
+        let (rest, close_bracket) = CloseBracket::parse(alloc, rest)?;
+        Ok((
+            rest,
+            Bracketed {
+                open_bracket,
+                body,
+                close_bracket,
+            },
+        ))
+    }
+
+    ghost lawful = { bracket_lawful OPEN_BRACKET CLOSE_BRACKET (λ p. (p.open_bracket, (p.body, p.close_bracket))) T.reading T.lawful };
+}
+
+/// `{` body `}`.
+#[derive(Clone, Copy, Debug, Default, Drop, PartialEq, Eq, PartialOrd, Ord, Hash)]
+pub struct Braced<T> {
+    pub open_brace: OpenBrace,
+    pub body: T,
+    pub close_brace: CloseBrace,
+}
+
+#[tactic(auto, using(weedle_base::proofs::Steps::fault_first, weedle_base::proofs::Steps::fault_second, weedle_base::proofs::Steps::fault_seen, weedle_base::proofs::Steps::got_pair, weedle_base::proofs::Steps::got_seen))]
+impl<'a, T: Parse<'a>> Parse<'a> for Braced<T> {
+    ghost reading = { bracket_reading OPEN_BRACE CLOSE_BRACE (λ p. (p.open_brace, (p.body, p.close_brace))) T.reading };
+
+    fn parse(alloc: Global, input: &'a str) -> IResult<&'a str, Self> {
+        let (rest, open_brace) = OpenBrace::parse(alloc, input)?;
+        let (rest, body) = T::parse(alloc, rest)?;
+        let (rest, close_brace) = CloseBrace::parse(alloc, rest)?;
+        Ok((
+            rest,
+            Braced {
+                open_brace,
+                body,
+                close_brace,
+            },
+        ))
+    }
+
+    ghost lawful = { bracket_lawful OPEN_BRACE CLOSE_BRACE (λ p. (p.open_brace, (p.body, p.close_brace))) T.reading T.lawful };
+}
+
+/// `<` body `>`.
+#[derive(Clone, Copy, Debug, Default, Drop, PartialEq, Eq, PartialOrd, Ord, Hash)]
+pub struct Generics<T> {
+    pub open_angle: LessThan,
+    pub body: T,
+    pub close_angle: GreaterThan,
+}
+
+#[tactic(auto, using(weedle_base::proofs::Steps::fault_first, weedle_base::proofs::Steps::fault_second, weedle_base::proofs::Steps::fault_seen, weedle_base::proofs::Steps::got_pair, weedle_base::proofs::Steps::got_seen))]
+impl<'a, T: Parse<'a>> Parse<'a> for Generics<T> {
+    ghost reading = { bracket_reading LESS_THAN GREATER_THAN (λ p. (p.open_angle, (p.body, p.close_angle))) T.reading };
+
+    fn parse(alloc: Global, input: &'a str) -> IResult<&'a str, Self> {
+        let (rest, open_angle) = LessThan::parse(alloc, input)?;
+        let (rest, body) = T::parse(alloc, rest)?;
+        let (rest, close_angle) = GreaterThan::parse(alloc, rest)?;
+        Ok((
+            rest,
+            Generics {
+                open_angle,
+                body,
+                close_angle,
+            },
+        ))
+    }
+
+    ghost lawful = { bracket_lawful LESS_THAN GREATER_THAN (λ p. (p.open_angle, (p.body, p.close_angle))) T.reading T.lawful };
+}

@@ -1,0 +1,31 @@
+//! Identifiers.
+
+ghost use Rattle.weedle_rules.specs.Table.Leaves.{IDENTIFIER};
+ghost use Rattle.weedle_rules.specs.Trees.{Text};
+ghost use Rattle.weedle_base.specs.Own.{own};
+ghost use Rattle.weedle_base.specs.OwnLaws.{own_lawful};
+
+use std::alloc::Global;
+use weedle_base::scan::identifier;
+use weedle_base::{Err, Error, ErrorKind, IResult, Parse};
+
+/// A name, without the underscore that may stand before it.
+#[derive(Clone, Copy, Debug, PartialEq, Eq, PartialOrd, Ord, Hash)]
+pub struct Identifier<'a>(pub &'a str);
+
+#[tactic(auto, using(weedle_base::proofs::TokenFacts::got_own))]
+impl<'a> Parse<'a> for Identifier<'a> {
+    ghost reading = { own IDENTIFIER (λ v. Text v.0.now) ⊥ };
+
+    fn parse(_alloc: Global, input: &'a str) -> IResult<&'a str, Self> {
+        match identifier(input) {
+            Some((rest, name)) => Ok((rest, Identifier(name))),
+            None => Err(Err::Error(Error {
+                input,
+                code: ErrorKind::Mismatch,
+            })),
+        }
+    }
+
+    ghost lawful = { own_lawful IDENTIFIER (λ v. Text v.0.now) ⊥ };
+}
