@@ -6,7 +6,7 @@ use Rattle.weedle_base.specs.Own.{own}
 use Rattle.weedle_base.specs.OwnLaws.{own_lawful}
 use Rattle.weedle_base.specs.Reading.{Reading, IsLawful}
 use Rattle.weedle_base.specs.declared.term.symbols.QMark.{QMark}
-use Rattle.weedle_parts.specs.declared.types.MayBeNull.{MayBeNull}
+use Rattle.weedle_parts.specs.declared.types.may_be_null.MayBeNull.{MayBeNull}
 use Rattle.weedle_rules.specs.Table.Symbols.{Q_MARK}
 use Rattle.weedle_rules.specs.Trees.{Mark}
 

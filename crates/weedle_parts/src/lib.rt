@@ -2,4 +2,5 @@
 #![tactic(auto)]
 
 pub mod common;
+pub mod laws;
 pub mod types;

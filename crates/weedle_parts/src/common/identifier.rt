@@ -1,7 +1,7 @@
 //! Identifiers.
 
 ghost use Rattle.weedle_rules.specs.Table.Leaves.{IDENTIFIER};
-ghost use Rattle.weedle_rules.specs.Trees.{Text};
+ghost use Rattle.weedle_parts.specs.ValueTrees.{identifier_tree};
 ghost use Rattle.weedle_base.specs.Own.{own};
 ghost use Rattle.weedle_base.specs.OwnLaws.{own_lawful};
 
@@ -15,7 +15,7 @@ pub struct Identifier<'a>(pub &'a str);
 
 #[tactic(auto, using(weedle_base::proofs::TokenFacts::got_own))]
 impl<'a> Parse<'a> for Identifier<'a> {
-    ghost reading = { own IDENTIFIER (λ v. Text v.0.now) ⊥ };
+    ghost reading = { own IDENTIFIER identifier_tree ⊥ };
 
     fn parse(_alloc: Global, input: &'a str) -> IResult<&'a str, Self> {
         match identifier(input) {
@@ -27,5 +27,5 @@ impl<'a> Parse<'a> for Identifier<'a> {
         }
     }
 
-    ghost lawful = { own_lawful IDENTIFIER (λ v. Text v.0.now) ⊥ };
+    ghost lawful = { own_lawful IDENTIFIER identifier_tree ⊥ };
 }

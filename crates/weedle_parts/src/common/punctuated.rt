@@ -7,9 +7,7 @@ ghost use Rattle.weedle_parts.specs.ListLaws.{punctuated_lawful, punctuated_non_
 use std::alloc::Global;
 use weedle_base::{Err, Error, ErrorKind, IResult, Parse};
 
-/// Items with a separator between any two of them; or nothing.
-///
-/// A separator behind the last item isn't read. One that takes no byte refuses the whole list.
+/// item separator item separator .. item; or nothing.
 #[derive(Debug, Drop, PartialEq, Eq, PartialOrd, Ord, Hash)]
 pub struct Punctuated<T, S> {
     pub list: Vec<T>,
@@ -39,7 +37,7 @@ impl<'a, T: Parse<'a>, S: Parse<'a> + Default> Parse<'a> for Punctuated<T, S> {
     ghost lawful = { punctuated_lawful T.reading S.reading T.lawful S.lawful (λ p. p.list.items) (λ p. S.is_default p.separator) };
 }
 
-/// An item at least, with a separator between any two; behind the last one another may stand.
+/// item separator item separator .. item, and one separator more where it stands.
 #[derive(Debug, Drop, PartialEq, Eq, PartialOrd, Ord, Hash)]
 pub struct PunctuatedNonEmpty<T, S> {
     pub list: Vec<T>,
