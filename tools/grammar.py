@@ -14,9 +14,10 @@ It writes, for each section S of the grammar,
     src/rows/s.rt           the same rows for the program
     proofs/Takes/S.antt     which of its rules always take a byte
     src/number/s.rt         their numbers for the program
+    src/rule_names/s.rt     the constants of `Rule`
 and over all sections specs/Table.antt, specs/Bound.antt, src/number.rt,
-src/rows.rt, src/rule_names.rt (the constants of `Rule`), proofs/Takes.antt and
-the number of rules in src/lib.rt.
+src/rows.rt, src/rule_names.rt, proofs/Takes.antt and the number of rules in
+src/lib.rt.
 """
 
 import re
@@ -401,8 +402,22 @@ def spec_table():
     write("specs/Table.antt", "\n".join(out) + "\n")
 
 
-def code_rule(x):
-    return f"Rule::{x}" if BY_NAME[x].doc else f"Rule({x})"
+def plain_text(row):
+    """The row in words, for the doc line of a part."""
+    kind = row[0]
+    if kind in ("Bytes", "Past"):
+        text = row[1].replace("\n", "LF")
+        return f"the bytes `{text}`" if kind == "Bytes" else f"everything past `{text}`"
+    if kind in ("OneOf", "NotNext", "Run"):
+        lead = {"OneOf": "one byte", "NotNext": "no byte", "Run": "all bytes"}[kind]
+        return f"{lead} of the class `{row[1]}`" + (" next" if kind == "NotNext" else "")
+    if kind == "Opt":
+        return f"`{row[1]}` or nothing"
+    if kind == "Many":
+        return f"`{row[1]}` again and again"
+    if kind in ("List", "List1", "Tail"):
+        return f"items `{row[1]}`"
+    return ", ".join(f"`{x}`" for x in row[1]) if kind == "Seq" else "the first of " + ", ".join(f"`{x}`" for x in row[1])
 
 
 def code_row(row):
@@ -414,8 +429,8 @@ def code_row(row):
     if kind in ("Seq", "First"):
         return f"Row::{kind}(parts_of(&[{', '.join(row[1])}]))"
     if kind == "If":
-        return f"Row::If(parts_of(&[{', '.join(row[1])}]), {row[2]}, {code_rule(row[3])})"
-    return f"Row::{kind}({', '.join(code_rule(x) for x in row[1:])})"
+        return f"Row::If(parts_of(&[{', '.join(row[1])}]), {row[2]}, Rule::{row[3]})"
+    return f"Row::{kind}({', '.join(f'Rule::{x}' for x in row[1:])})"
 
 
 def code_section(s):
@@ -478,15 +493,17 @@ def uses_of_numbers(names):
 
 
 def code_names():
-    out = ["//! The rules by name.", "//!", f"//! {HEAD[0].upper() + HEAD[1:]}.", "",
-           "use crate::number;", "use crate::rule::Rule;"]
-    for s in SECTIONS:
-        out += ["", f"// {s.about}", "impl Rule {"]
-        for r in s.rules:
-            if r.doc:
-                out += [f"    /// {r.doc}", f"    pub const {r.name}: Rule = Rule(number::{s.module}::{r.name});"]
-        out.append("}")
+    out = ["//! The rules by name, section by section.", "//!", f"//! {HEAD[0].upper() + HEAD[1:]}.", ""]
+    out += [f"mod {s.module};" for s in SECTIONS]
     write("src/rule_names.rt", "\n".join(out) + "\n")
+    for s in SECTIONS:
+        out = [f"//! {s.about}", "//!", f"//! {HEAD[0].upper() + HEAD[1:]}.", "",
+               f"use crate::number::{s.module};", "use crate::rule::Rule;", "", "impl Rule {"]
+        for r in s.rules:
+            doc = r.doc or f"A part: {plain_text(r.row)}."
+            out += [f"    /// {doc}", f"    pub const {r.name}: Rule = Rule({s.module}::{r.name});"]
+        out.append("}")
+        write(f"src/rule_names/{s.module}.rt", "\n".join(out) + "\n")
 
 
 def spec_bound():

@@ -9,3 +9,9 @@ pub mod LeafFacts
 pub mod TriviaFacts
 pub mod TokenFacts
 pub mod NameFacts
+pub mod AlikeFacts
+pub mod RuleLawFacts
+pub mod SilentRules
+pub mod WordFacts
+pub mod FindFacts
+pub mod LineFacts

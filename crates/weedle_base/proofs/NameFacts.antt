@@ -1,7 +1,7 @@
 -- Identifiers.
 use Rattle.std.proofs.Common.{refl, ap, ◌∙◌, subst, arith}
 use Rattle.std.proofs.lemmas.Bool.{lt-ltb}
-use Rattle.std.specs.Prelude.{◌≡◌, ℕ, suc, ◌+◌, ◌-◌, List, [], ◌∷◌, ◌++◌, drop, take, true, false, length, nat_lt, Some, None, slice_range}
+use Rattle.std.specs.Prelude.{◌≡◌, ℕ, suc, ◌+◌, ◌-◌, List, [], ◌∷◌, ◌++◌, drop, take, true, false, length, nat_lt, Some, None}
 use Rattle.std.specs.Str.Pattern.{LacksTextAt}
 use Rattle.weedle_base.proofs.LeafFacts.{both, reads_bytes, reads_one, reads_run, takes_none}
 use Rattle.weedle_base.proofs.RuleFacts.{of_row, parts_none, parts_on}
@@ -9,9 +9,9 @@ use Rattle.weedle_base.proofs.Steps.{rest_add}
 use Rattle.weedle_base.proofs.TriviaFacts.{given, silent_node, front, second_false}
 use Rattle.weedle_base.specs.Trivia.{Took, is_next, TookText}
 use Rattle.weedle_rules.proofs.Suffix.{then_on, then_fails_on, fails, nothing, no_node}
-use Rattle.weedle_rules.specs.Meaning.{Kept, by_seq, by_opt}
-use Rattle.weedle_rules.specs.Rows.{Seq, take_one, run_length, is_in, is_alnum}
-use Rattle.weedle_rules.specs.Table.{row_of, shape_of, Reads}
+use Rattle.weedle_rules.specs.Meaning.{by_seq, by_opt}
+use Rattle.weedle_rules.specs.Rows.{take_one, run_length, is_in, is_alnum}
+use Rattle.weedle_rules.specs.Table.{Reads}
 use Rattle.weedle_rules.specs.Table.Leaves.{BYTES_UNDERSCORE, OPT_BYTES_UNDERSCORE, ONE_OF_ALNUM, RUN_NAME, IDENTIFIER_TEXT, IDENTIFIER}
 use Rattle.weedle_rules.specs.Table.Trivia.{TRIVIA}
 use Rattle.weedle_rules.specs.Trees.{Text, Fails, Gives}

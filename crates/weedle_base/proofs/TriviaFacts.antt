@@ -3,14 +3,14 @@ use Rattle.std.proofs.Common.{refl, ap, ◌∙◌, subst, arith}
 use Rattle.std.proofs.lemmas.Bool.{lt-ltb}
 use Rattle.std.proofs.lemmas.List.{drop-drop, length-drop}
 use Rattle.std.specs.Borrow.{Bor}
-use Rattle.std.specs.Prelude.{◌-◌, slice_range, take, ◌≡◌, ◌≢◌, ℕ, zero, suc, ◌+◌, ◌<◌, ◌≤◌, List, [], ◌∷◌, ◌++◌, drop, Bool, true, false, length, ◌&&◌, nat_lt, get_or, Option, Some, None, if◌then◌else◌}
+use Rattle.std.specs.Prelude.{slice_range, take, ◌≡◌, ◌≢◌, ℕ, zero, suc, ◌+◌, ◌<◌, ◌≤◌, List, [], ◌∷◌, ◌++◌, drop, Bool, true, false, length, ◌&&◌, nat_lt, get_or, Option, Some, None, if◌then◌else◌}
 use Rattle.std.specs.Str.{IsCharBoundary, IsUtf8}
 use Rattle.std.specs.Str.Pattern.{LacksTextAt}
 use Rattle.memchr.specs.Find.{IsFirstByte, FindsNeedle, is_byte}
 use Rattle.weedle_base.proofs.LeafFacts.{both, silent, reads_bytes, reads_one, reads_not_next, reads_run, reads_past, cut, takes_none, takes_some, found_past, nowhere_past, found_byte, nowhere_byte}
 use Rattle.weedle_base.proofs.RuleFacts.{of_row, Parts, parts_none, parts_on}
 use Rattle.weedle_base.proofs.RunRules.{row_forth}
-use Rattle.weedle_base.specs.Trivia.{Took, TookText, is_next, Trial}
+use Rattle.weedle_base.specs.Trivia.{Took, is_next, Trial}
 use Rattle.weedle_rules.proofs.Checked.{rank, ranked}
 use Rattle.weedle_rules.proofs.Exists.{advances}
 use Rattle.weedle_rules.proofs.Suffix.{then_fails_on, then_fails, fails, no_node}
@@ -193,20 +193,5 @@ piece_shorter {rest} {next} u t =
     let b = (cut u t.reads).0 in
     omega (arith, ap length t.rest_is, length-drop t.place rest, p, b)
 
--- the text that a rule takes, by what it leaves
-pub took_size : {r : ℕ} {s rest : List ℕ} {ts : List Tree} → IsUtf8 s → (t : Took r s ts rest) → length s - length rest ≡ t.place
-took_size {s = s} u t = omega (arith, (cut u t.reads).0, ap length t.rest_is, length-drop t.place s)
-
-pub took_cut : {r : ℕ} {s rest : List ℕ} {ts : List Tree} → IsUtf8 s → Took r s ts rest → IsCharBoundary s (length s - length rest)
-took_cut {s = s} u t = rw (took_size u t) (cut u t.reads)
-
 pub slice_front : (s : List ℕ) (n : ℕ) → slice_range s 0 n ≡ take n s
 slice_front s n = grind arith
-
-pub took_text : {r : ℕ} {s rest text : List ℕ} → IsUtf8 s → Took r s [] rest → text ≡ slice_range s 0 (length s - length rest) → TookText r s text rest
-took_text {s = s} {rest = rest} u t e = record {
-  place = t.place;
-  reads = t.reads;
-  text_is = e ∙ slice_front s (length s - length rest) ∙ ap (λ (n : ℕ). take n s) (took_size u t);
-  rest_is = t.rest_is;
-}

@@ -2,17 +2,12 @@
 use Rattle.std.specs.Prelude.{◌≡◌, ℕ, ◌+◌, List, drop, Option, Some, None, ◌⊎◌}
 use Rattle.weedle_base.specs.Reading.{Reading}
 use Rattle.weedle_base.specs.Runs.{for_memory}
+use Rattle.weedle_base.specs.Alike.{option_alike}
 
 module _ {V : Type 0} (R : Reading V) where
   abbrev pub option_gives : List ℕ → Option V → ℕ → Type 0
   option_gives s (Some v) k = R.gives s v k
   option_gives s None k = R.refuses s × (k ≡ 0)
-
-  abbrev pub option_alike : Option V → Option V → Type 0
-  option_alike (Some v) (Some w) = R.alike v w
-  option_alike (Some v) None = ⊥
-  option_alike None (Some w) = ⊥
-  option_alike None None = Unit {0}
 
   unfoldable pub option_reading : Reading (Option V)
   option_reading = record {
@@ -20,7 +15,7 @@ module _ {V : Type 0} (R : Reading V) where
     refuses = λ s. ⊥;
     stops = R.stops;
     grows = R.grows;
-    alike = option_alike;
+    alike = option_alike R.alike;
   }
 
 module _ {V W : Type 0} (R : Reading V) (S : Reading W) where

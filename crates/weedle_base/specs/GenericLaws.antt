@@ -3,39 +3,23 @@ use Rattle.std.proofs.Common.{sym, ap, ◌∙◌, subst, inl, inr}
 use Rattle.std.proofs.lemmas.Str.{IsCharBoundary-start}
 use Rattle.std.specs.Prelude.{◌≡◌, ℕ, ◌+◌, List, drop, Option, Some, None}
 use Rattle.std.specs.Str.{IsCharBoundary, IsUtf8}
-use Rattle.weedle_base.specs.Generic.{option_reading, option_gives, option_alike, pair_reading, boxed_reading, seen_reading}
+use Rattle.weedle_base.specs.Generic.{option_reading, option_gives, pair_reading, boxed_reading, seen_reading}
 use Rattle.weedle_base.specs.PlaceLaws.{boundary_add, utf8_rest}
 use Rattle.weedle_base.specs.Reading.{Reading, IsLawful}
 use Rattle.weedle_base.specs.declared.fault.ErrorKind.{ErrorKind}
+use Rattle.weedle_base.specs.Alike.{option_alike}
+use Rattle.weedle_base.specs.AlikeLaws.{option_equivalence, pair_equivalence, seen_equivalence}
 
 module _ {V : Type 0} (R : Reading V) (lawful : IsLawful R) where
   option_within : (s : List ℕ) (v : Option V) (k : ℕ) → IsUtf8 s → option_gives R s v k → IsCharBoundary s k
   option_within s (Some v) k u h = lawful.within s v k u h
   option_within s None k u h = rw h.1 (IsCharBoundary-start s u)
 
-  option_one : (s : List ℕ) (v w : Option V) (k l : ℕ) → IsUtf8 s → option_gives R s v k → option_gives R s w l → option_alike R v w × (k ≡ l)
+  option_one : (s : List ℕ) (v w : Option V) (k l : ℕ) → IsUtf8 s → option_gives R s v k → option_gives R s w l → option_alike R.alike v w × (k ≡ l)
   option_one s (Some v) (Some w) k l u a b = lawful.one s v w k l u a b
   option_one s (Some v) None k l u a b = absurd (lawful.apart s v k u a b.0)
   option_one s None (Some w) k l u a b = absurd (lawful.apart s w l u b a.0)
   option_one s None None k l u a b = (tt, a.1 ∙ sym b.1)
-
-  option_same : (v : Option V) → option_alike R v v
-  option_same (Some v) = lawful.equivalence.same v
-  option_same None = tt
-
-  option_back : (v w : Option V) → option_alike R v w → option_alike R w v
-  option_back (Some v) (Some w) h = lawful.equivalence.back v w h
-  option_back (Some v) None h = h
-  option_back None (Some w) h = h
-  option_back None None h = tt
-
-  option_along : (t v w : Option V) → option_alike R t v → option_alike R v w → option_alike R t w
-  option_along (Some t) (Some v) (Some w) h l = lawful.equivalence.along t v w h l
-  option_along (Some t) (Some v) None h l = l
-  option_along (Some t) None w h l = absurd h
-  option_along None (Some v) w h l = absurd h
-  option_along None None (Some w) h l = l
-  option_along None None None h l = tt
 
   pub option_lawful : IsLawful (option_reading R)
   unfolding option_reading
@@ -43,7 +27,7 @@ module _ {V : Type 0} (R : Reading V) (lawful : IsLawful R) where
     within = option_within;
     one = option_one;
     apart = λ s v k u h n. n;
-    equivalence = record { same = option_same; back = option_back; along = option_along };
+    equivalence = option_equivalence lawful.equivalence;
     growing = lawful.growing;
   }
 
@@ -82,11 +66,7 @@ module _ {V W : Type 0} (R : Reading V) (S : Reading W) (first : IsLawful R) (se
     within = pair_within;
     one = pair_one;
     apart = pair_apart;
-    equivalence = record {
-      same = λ x. (first.equivalence.same x.0, second.equivalence.same x.1);
-      back = λ x y h. (first.equivalence.back x.0 y.0 h.0, second.equivalence.back x.1 y.1 h.1);
-      along = λ x y z h l. (first.equivalence.along x.0 y.0 z.0 h.0 l.0, second.equivalence.along x.1 y.1 z.1 h.1 l.1);
-    };
+    equivalence = pair_equivalence first.equivalence second.equivalence;
     growing = pair_growing;
   }
 
@@ -97,11 +77,7 @@ module _ {V B : Type 0} (inside : B → V) (R : Reading V) (lawful : IsLawful R)
     within = λ s b k u h. lawful.within s (inside b) k u h;
     one = λ s b c k l u h m. lawful.one s (inside b) (inside c) k l u h m;
     apart = λ s b k u h m. lawful.apart s (inside b) k u h m;
-    equivalence = record {
-      same = λ b. lawful.equivalence.same (inside b);
-      back = λ b c h. lawful.equivalence.back (inside b) (inside c) h;
-      along = λ b c d h l. lawful.equivalence.along (inside b) (inside c) (inside d) h l;
-    };
+    equivalence = seen_equivalence inside lawful.equivalence;
     growing = λ s r code h. tt;
   }
 
@@ -112,10 +88,6 @@ module _ {V X : Type 0} (view : X → V) (R : Reading V) (lawful : IsLawful R) w
     within = λ s x k u h. lawful.within s (view x) k u h;
     one = λ s x y k l u h m. lawful.one s (view x) (view y) k l u h m;
     apart = λ s x k u h m. lawful.apart s (view x) k u h m;
-    equivalence = record {
-      same = λ b. lawful.equivalence.same (view b);
-      back = λ b c h. lawful.equivalence.back (view b) (view c) h;
-      along = λ b c d h l. lawful.equivalence.along (view b) (view c) (view d) h l;
-    };
+    equivalence = seen_equivalence view lawful.equivalence;
     growing = lawful.growing;
   }

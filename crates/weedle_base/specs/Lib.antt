@@ -1,13 +1,17 @@
 pub mod Places
+pub mod Alike
 pub mod Reading
 pub mod Runs
 pub mod Generic
 pub mod Own
 pub mod Rules
 pub mod Trivia
+pub mod Scans
 pub mod Names
 pub mod Tokens
+pub mod AlikeLaws
 pub mod PlaceLaws
 pub mod RunLaws
 pub mod GenericLaws
 pub mod OwnLaws
+pub mod RuleLaws

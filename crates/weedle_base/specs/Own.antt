@@ -7,6 +7,7 @@ use Rattle.weedle_base.specs.declared.fault.ErrorKind.TheVariants.{Memory}
 use Rattle.weedle_rules.specs.Table.{Reads}
 use Rattle.weedle_rules.specs.Trees.{Tree, Fails, Gives}
 
+-- a call stops for want of memory, at a suffix of the text, if the type asks for memory at all
 abbrev pub stops_for_memory : Type 0 → List ℕ → List ℕ → ErrorKind → Type 0
 stops_for_memory grows s x code = grows × (code ≡ Memory) × IsSuffix s x
 

@@ -1,7 +1,8 @@
 -- A type that has a rule is lawful: a lemma that its law needs.
-use Rattle.std.proofs.Common.{refl, sym, ◌∙◌}
+use Rattle.std.proofs.Common.{refl}
 use Rattle.std.proofs.lemmas.Str.{IsCharBoundary-start}
 use Rattle.std.specs.Prelude.{◌≡◌, ℕ, [], ◌∷◌}
+use Rattle.weedle_base.specs.AlikeLaws.{equal_equivalence, seen_equivalence}
 use Rattle.weedle_base.specs.Own.{own}
 use Rattle.weedle_base.specs.Reading.{IsLawful}
 use Rattle.weedle_rules.proofs.Grammar.{at_boundary}
@@ -21,6 +22,6 @@ module _ {V : Type 0} (r : ℕ) (tree : V → Tree) (grows : Type 0) where
     within = λ s v k u h. at_boundary s r 0 u (IsCharBoundary-start s u) (tree v ∷ []) k h;
     one = λ s v w k l u h m. gave_same (one_outcome h m refl);
     apart = λ s v k u h m. gave_fails (one_outcome h m refl);
-    equivalence = record { same = λ v. refl; back = λ v w e. sym e; along = λ u v w e f. e ∙ f };
+    equivalence = seen_equivalence tree equal_equivalence;
     growing = λ s x code h. h.0;
   }

@@ -8,6 +8,7 @@ use Rattle.weedle_base.specs.declared.fault.Err.TheVariants.{Error as Recoverabl
 use Rattle.weedle_base.specs.declared.fault.Error.{Error}
 use Rattle.weedle_base.specs.declared.fault.ErrorKind.{ErrorKind}
 use Rattle.weedle_base.specs.declared.fault.ErrorKind.TheVariants.{Mismatch}
+use Rattle.weedle_base.specs.Alike.{IsEquivalence}
 
 pub record Reading (V : Type 0) : Type 1 where
   -- from the text comes the value, and so many bytes are taken
@@ -42,11 +43,6 @@ module _ {V : Type 0} (R : Reading V) (s : List ℕ) where
   abbrev pub Answers : Result (Bor (List ℕ) × V) (Fault (Error (Bor (List ℕ)))) → Type 0
   Answers (Ok x) = Got R s x.1 x.0.now
   Answers (Err e) = Faults R s e
-
-pub record IsEquivalence {V : Type 0} (alike : V → V → Type 0) : Type 0 where
-  pub same : (v : V) → alike v v
-  pub back : (v w : V) → alike v w → alike w v
-  pub along : (u v w : V) → alike u v → alike v w → alike u w
 
 -- The laws of a reading.
 pub record IsLawful {V : Type 0} (R : Reading V) : Type 0 where

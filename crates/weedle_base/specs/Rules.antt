@@ -6,15 +6,21 @@ use Rattle.weedle_base.specs.declared.fault.ErrorKind.{ErrorKind}
 use Rattle.weedle_rules.specs.Table.{Reads}
 use Rattle.weedle_rules.specs.Trees.{Tree, Absent, Present, trees, Fails, Gives, Items as Listed}
 
--- what R reads, the rule reads
+-- What R gives, the rule gives, with the tree of the value; where R refuses, the rule fails; and R stops only for want of memory, if it grows.
 pub record IsRule {V : Type 0} (R : Reading V) (r : ℕ) (tree : V → Tree) (grows : Type 0) : Type 0 where
   pub gives : (s : List ℕ) (v : V) (k : ℕ) → R.gives s v k → Reads s r 0 (Gives (tree v ∷ []) k)
   pub refuses : (s : List ℕ) → R.refuses s → Reads s r 0 Fails
   pub stops : (s x : List ℕ) (code : ErrorKind) → R.stops s x code → stops_for_memory grows s x code
 
+-- the tree of an option
 abbrev pub option_tree : {V : Type 0} → (V → Tree) → Option V → Tree
 option_tree tree None = Absent
 option_tree tree (Some v) = Present (tree v)
 
+-- the tree of a list
 abbrev pub items_tree : {V : Type 0} → (V → Tree) → List V → Tree
 items_tree tree vs = Listed (trees (map tree vs))
+
+-- the same, of a reading that asks for memory where it says so
+abbrev pub HasRule : {V : Type 0} → Reading V → ℕ → (V → Tree) → Type 0
+HasRule R r tree = IsRule R r tree R.grows

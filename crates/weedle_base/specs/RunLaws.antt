@@ -5,8 +5,10 @@ use Rattle.std.proofs.lemmas.Str.{IsCharBoundary-start}
 use Rattle.std.specs.Prelude.{◌≡◌, ℕ, ◌+◌, ◌<◌, List, [], ◌∷◌, drop}
 use Rattle.std.specs.Str.{IsCharBoundary, IsUtf8}
 use Rattle.weedle_base.specs.PlaceLaws.{boundary_add, utf8_rest}
-use Rattle.weedle_base.specs.Reading.{Reading, IsLawful, IsEquivalence}
-use Rattle.weedle_base.specs.Runs.{Step, Items, all_alike, run_reading, vec_step}
+use Rattle.weedle_base.specs.Reading.{Reading, IsLawful}
+use Rattle.weedle_base.specs.Runs.{Step, Items, run_reading, vec_step}
+use Rattle.weedle_base.specs.Alike.{IsEquivalence, all_alike}
+use Rattle.weedle_base.specs.AlikeLaws.{all_equivalence, seen_equivalence}
 
 pub record IsLawfulStep {V : Type 0} (S : Step V) : Type 0 where
   pub within : (s : List ℕ) (v : V) (k : ℕ) → IsUtf8 s → S.takes s v k → IsCharBoundary s k
@@ -40,24 +42,6 @@ module _ {V : Type 0} (S : Step V) (lawful : IsLawfulStep S) where
         let q = Items-same (drop h.0 s) vs ws h.1 m.1 (utf8_rest s h.0 u bound) h.3 end_a items end_b in
         ((p.0, q.0), h.4 ∙ ap (λ (n : ℕ). n + h.1) p.1 ∙ ap (λ (n : ℕ). m.0 + n) q.1 ∙ sym m.4)
 
-module _ {V : Type 0} {alike : V → V → Type 0} (e : IsEquivalence alike) where
-  all_same : (v : List V) → all_alike alike v v
-  all_same [] = tt
-  all_same (v ∷ vs) = (e.same v, all_same vs)
-
-  all_back : (v w : List V) → all_alike alike v w → all_alike alike w v
-  all_back [] [] h = tt
-  all_back [] (w ∷ ws) h = h
-  all_back (v ∷ vs) [] h = h
-  all_back (v ∷ vs) (w ∷ ws) h = (e.back v w h.0, all_back vs ws h.1)
-
-  all_along : (t v w : List V) → all_alike alike t v → all_alike alike v w → all_alike alike t w
-  all_along [] [] w h l = l
-  all_along [] (v ∷ vs) w h l = absurd h
-  all_along (t ∷ ts) [] w h l = absurd h
-  all_along (t ∷ ts) (v ∷ vs) [] h l = l
-  all_along (t ∷ ts) (v ∷ vs) (w ∷ ws) h l = (e.along t v w h.0 l.0, all_along ts vs ws h.1 l.1)
-
 module _ {V L : Type 0} (view : L → List V) (S : Step V) (lawful : IsLawfulStep S) where
   pub run_lawful : IsLawful (run_reading view S)
   run_lawful = record {
@@ -67,11 +51,7 @@ module _ {V L : Type 0} (view : L → List V) (S : Step V) (lawful : IsLawfulSte
         let p = Items-same S lawful S.ends S.refuses lawful.takes_ends lawful.takes_refuses s (view v) m.0 k m.1 u h.0 h.1 m.2 m.3 in
         let bound = Items-within S lawful s (view v) k u h.0 in
         lawful.ends_refuses (drop k s) (utf8_rest s k u bound) h.1 (subst (λ (n : ℕ). S.refuses (drop n s)) (sym p.1) m.3);
-    equivalence = record {
-      same = λ v. all_same lawful.equivalence (view v);
-      back = λ v w h. all_back lawful.equivalence (view v) (view w) h;
-      along = λ t v w h l. all_along lawful.equivalence (view t) (view v) (view w) h l;
-    };
+    equivalence = seen_equivalence view (all_equivalence lawful.equivalence);
     growing = λ s r code h. tt;
   }
 

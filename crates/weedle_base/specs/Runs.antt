@@ -4,18 +4,13 @@ use Rattle.weedle_base.specs.Places.{IsSuffix}
 use Rattle.weedle_base.specs.Reading.{Reading}
 use Rattle.weedle_base.specs.declared.fault.ErrorKind.{ErrorKind}
 use Rattle.weedle_base.specs.declared.fault.ErrorKind.TheVariants.{Memory}
+use Rattle.weedle_base.specs.Alike.{all_alike}
 
 -- the values stand one after another, and take so many bytes
 module _ {V : Type 0} (takes : List ℕ → V → ℕ → Type 0) where
   abbrev pub Items : List ℕ → List V → ℕ → Type 0
   Items s [] k = k ≡ 0
   Items s (v ∷ vs) k = (i : ℕ) × (j : ℕ) × takes s v i × Items (drop i s) vs j × (k ≡ i + j)
-
-abbrev pub all_alike : {V : Type 0} → (V → V → Type 0) → List V → List V → Type 0
-all_alike alike [] [] = Unit {0}
-all_alike alike [] (w ∷ ws) = ⊥
-all_alike alike (v ∷ vs) [] = ⊥
-all_alike alike (v ∷ vs) (w ∷ ws) = alike v w × all_alike alike vs ws
 
 -- How a list goes on at a place: an item is taken, or the list ends there, or the whole is refused.
 pub record Step (V : Type 0) : Type 1 where

@@ -1,7 +1,9 @@
 //! The ground of the parser: faults, the trait [`Parse`] with its meaning and laws, trivia and the 84 terminals.
 #![tactic(auto)]
 
+mod doc_lines;
 mod fault;
+pub mod laws;
 mod names;
 mod parse;
 pub mod scan;
@@ -9,8 +11,11 @@ mod standard;
 pub mod term;
 mod token;
 mod trivia;
+mod try_clone;
 
+pub use doc_lines::docstring;
 pub use fault::{Err, Error, ErrorKind, IResult};
 pub use names::{ident_tag, is_alphanum_underscore_dash};
 pub use parse::Parse;
 pub use trivia::sp;
+pub use try_clone::TryClone;

@@ -1,11 +1,13 @@
 //! Scanners that the crates above share.
 
-ghost use Rattle.std.specs.Prelude.{◌≡◌};
+ghost use Rattle.std.specs.Prelude.{◌≡◌, []};
 ghost use Rattle.weedle_rules.specs.Rows.{run_length};
-ghost use Rattle.weedle_base.specs.Trivia.{is_next};
+ghost use Rattle.weedle_base.specs.Scans.{IsWord, IsOne, IsRun};
+ghost use Rattle.weedle_base.specs.Trivia.{Trial, Took, TookText, is_next};
 
 pub use crate::names::identifier;
-use weedle_rules::{Class, holds};
+pub use crate::trivia::skip_trivia;
+use weedle_rules::{Class, Rule, holds};
 
 /// Whether the text has a next byte and it is in the class. It takes no memory.
 pub fn next_is(class: Class, input: &str) -> bool
@@ -28,4 +30,41 @@ pub fn run(class: Class, bytes: &[u8]) -> usize
         }
     }
     bytes.len()
+}
+
+/// What follows the word, where the input begins with it.
+pub fn after_word<'a>(rule: Rule, word: &'static str, input: &'a str) -> Option<&'a str>
+    requires { IsWord rule word.now }
+    ensures { Trial rule input.now result }
+{
+    input.strip_prefix(word)
+}
+
+/// What follows the first byte, where it is in the class.
+pub fn after_one(rule: Rule, class: Class, input: &str) -> Option<&str>
+    requires { IsOne rule class }
+    ensures { Trial rule input.now result }
+{
+    if next_is(class, input) {
+        Some(&input[1..])
+    } else {
+        None
+    }
+}
+
+/// What follows the bytes of the class at the front.
+pub fn after_run(rule: Rule, class: Class, input: &str) -> &str
+    requires { IsRun rule class }
+    ensures { Took rule input.now [] result.now }
+{
+    let end = run(class, input.as_bytes());
+    &input[end..]
+}
+
+/// The text that the rule took, where it left the rest.
+pub fn taken<'a>(rule: Rule, start: &'a str, rest: &str) -> &'a str
+    requires { Took rule start.now [] rest.now }
+    ensures { TookText rule start.now result.now rest.now }
+{
+    &start[..start.len() - rest.len()]
 }

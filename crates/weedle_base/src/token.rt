@@ -7,9 +7,9 @@ ghost use Rattle.weedle_base.specs.Own.{own};
 ghost use Rattle.weedle_base.specs.Tokens.{IsSymbol, IsKeyword};
 
 use crate::fault::{Err, Error, ErrorKind, IResult};
-use crate::scan::next_is;
+use crate::names::ident_tag;
 use crate::trivia::skip_trivia;
-use weedle_rules::{Class, Rule};
+use weedle_rules::Rule;
 
 /// Reads a symbol, with the trivia around it.
 pub fn symbol<'a, T: Drop>(
@@ -32,7 +32,7 @@ pub fn symbol<'a, T: Drop>(
     }
 }
 
-/// Reads a keyword, behind which no name goes on, with the trivia around it.
+/// Reads a keyword that no name character follows, with the trivia around it.
 pub fn keyword<'a, T: Drop>(
     rule: Rule,
     tag: &'static str,
@@ -44,16 +44,8 @@ pub fn keyword<'a, T: Drop>(
     ensures value { IfOk result (λ x. x.1 ≡ value) }
 {
     let start = skip_trivia(input);
-    match start.strip_prefix(tag) {
-        Some(after) => {
-            if next_is(Class::Name, after) {
-                return Err(Err::Error(Error {
-                    input,
-                    code: ErrorKind::Mismatch,
-                }));
-            }
-            Ok((skip_trivia(after), value))
-        }
+    match ident_tag(tag, start) {
+        Some((after, _)) => Ok((skip_trivia(after), value)),
         None => Err(Err::Error(Error {
             input,
             code: ErrorKind::Mismatch,

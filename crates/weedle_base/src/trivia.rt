@@ -4,9 +4,9 @@ ghost use Rattle.std.specs.Prelude.{[]};
 ghost use Rattle.weedle_rules.specs.Table.Trivia.{LINE_COMMENT, BLANKS, BLOCK_COMMENT, PIECE, TRIVIA};
 ghost use Rattle.weedle_base.specs.Trivia.{Trial, Took, TookText};
 
-use crate::scan::{next_is, run};
+use crate::scan::{next_is, run, taken};
 use memchr::{memchr, memmem};
-use weedle_rules::Class;
+use weedle_rules::{Class, Rule};
 
 fn line_comment(input: &str) -> Option<&str>
     ensures { Trial LINE_COMMENT input.now result }
@@ -60,9 +60,9 @@ fn piece(input: &str) -> Option<&str>
     block_comment(input)
 }
 
-/// What follows the leading trivia.
+/// What follows the leading trivia. It takes no memory.
 #[tactic(auto, using(crate::proofs::TriviaFacts::behind_none, crate::proofs::TriviaFacts::behind_more, crate::proofs::TriviaFacts::behind_all, crate::proofs::TriviaFacts::piece_shorter))]
-pub(crate) fn skip_trivia(input: &str) -> &str
+pub fn skip_trivia(input: &str) -> &str
     ensures { Took TRIVIA input.now [] result.now }
 {
     let mut rest = input;
@@ -81,5 +81,5 @@ pub fn sp(input: &str) -> (&str, &str)
     ensures { TookText TRIVIA input.now result.1.now result.0.now }
 {
     let rest = skip_trivia(input);
-    (rest, &input[..input.len() - rest.len()])
+    (rest, taken(Rule::TRIVIA, input, rest))
 }

@@ -1,7 +1,6 @@
-use Rattle.std.proofs.Common.{◌≡◌, sym, ◌∙◌, ap, ℕ, List, true, take, drop}
-use Rattle.weedle_rules.specs.declared.class.Class.TheVariants.{Name, Alnum}
+use Rattle.std.proofs.Common.{◌≡◌, sym, ◌∙◌, ap, ℕ, take, drop}
+use Rattle.weedle_rules.specs.declared.class.Class.TheVariants.{Name}
 use Rattle.weedle_rules.specs.Rows.{run_length}
-use Rattle.weedle_base.specs.Trivia.{is_next}
 use Rattle.weedle_base.proofs.LeafFacts.{cut}
 use Rattle.weedle_base.proofs.NameFacts.{no_text, some_text}
 use Rattle.weedle_base.proofs.TriviaFacts.{slice_front}

@@ -1,0 +1,66 @@
+-- Words, one byte of a class and runs of them.
+use Rattle.std.specs.Prelude.{◌≡◌, ℕ, suc, ◌-◌, List, [], ◌∷◌, drop, true, false, length, nat_lt, Option, Some, None, MatchOption}
+use Rattle.std.specs.Borrow.{Bor}
+use Rattle.std.specs.Str.{IsCharBoundary, IsUtf8}
+use Rattle.std.specs.Str.Pattern.{LacksTextAt, FindsTextPrefix, StripsPrefix}
+use Rattle.std.proofs.Common.{refl, ap, ◌∙◌, arith}
+use Rattle.std.proofs.lemmas.Bool.{lt-ltb}
+use Rattle.std.proofs.lemmas.List.{length-drop}
+use Rattle.std.proofs.lemmas.Str.{IsUtf8-drop}
+use Rattle.weedle_rules.specs.declared.class.Class.{Class}
+use Rattle.weedle_rules.specs.Rows.{take_one, run_length, is_in}
+use Rattle.weedle_rules.specs.Trees.{Tree, Fails, Gives}
+use Rattle.weedle_rules.specs.Table.{Reads}
+use Rattle.weedle_base.proofs.LeafFacts.{both, reads_bytes, reads_one, reads_run, cut, takes_none}
+use Rattle.weedle_base.specs.Trivia.{Took, Trial, is_next}
+use Rattle.weedle_base.proofs.TriviaFacts.{given, front, second_false}
+use Rattle.weedle_base.specs.Scans.{IsWord, IsOne, IsRun}
+
+-- A word.
+pub word_trial : (r : ℕ) {b : List ℕ} (s : List ℕ) → IsWord r b → (o : Option (Bor (List ℕ))) → MatchOption o (LacksTextAt b s 0) (λ x. StripsPrefix (FindsTextPrefix b) s x.now) → Trial r s o
+word_trial r {b} s is None n = given (reads_bytes is.0 is.1) (takes_none b s n)
+word_trial r {b} s is (Some rest) h =
+    let m = front b s rest.now h.0 h.1.0 h.1.1 h.2 in
+    record { place = length b; reads = given (reads_bytes is.0 is.1) m.0; rest_is = m.1 }
+
+-- One byte of a class.
+one_none : (c : Class) (s : List ℕ) → is_next c s ≡ false → take_one c s ≡ None
+one_none c [] h = refl
+one_none c (t ∷ s) h = let e : is_in c t ≡ false = second_false (nat_lt 0 (suc (length s))) (is_in c t) (lt-ltb 0 (suc (length s)) (omega arith)) h in rw e refl
+
+one_some : (c : Class) (s : List ℕ) → is_next c s ≡ true → take_one c s ≡ Some 1
+one_some c [] h = cc
+one_some c (t ∷ s) h = let e : is_in c t ≡ true = (both (nat_lt 0 (suc (length s))) (is_in c t) h).1 in rw e refl
+
+module _ {r : ℕ} {c : Class} (is : IsOne r c) {s : List ℕ} where
+  pub one_lacks : is_next c s ≡ false → Reads s r 0 Fails
+  one_lacks h = given (reads_one is.0 is.1) (one_none c s h)
+
+  one_reads : is_next c s ≡ true → Reads s r 0 (Gives [] 1)
+  one_reads h = given (reads_one is.0 is.1) (one_some c s h)
+
+  pub one_took : is_next c s ≡ true → {rest : List ℕ} → rest ≡ drop 1 s → Took r s [] rest
+  one_took h e = record { place = 1; reads = one_reads h; rest_is = e }
+
+pub one_cut : (r : ℕ) {c : Class} → IsOne r c → {s : List ℕ} → is_next c s ≡ true → IsUtf8 s → IsCharBoundary s 1
+one_cut r is h u = cut {r = r} u (one_reads is h)
+
+-- A run of bytes of a class.
+module _ {r : ℕ} {c : Class} (is : IsRun r c) {s : List ℕ} where
+  pub run_took : {n : ℕ} → n ≡ run_length c s → {rest : List ℕ} → rest ≡ drop n s → Took r s [] rest
+  run_took {n} h {rest} e = record { place = run_length c s; reads = reads_run is.0 is.1; rest_is = e ∙ ap (λ (k : ℕ). drop k s) h }
+
+pub run_cut : (r : ℕ) {c : Class} → IsRun r c → {s : List ℕ} {n : ℕ} → n ≡ run_length c s → IsUtf8 s → IsCharBoundary s n
+run_cut r is h u = rw h (cut u (reads_run {r = r} is.0 is.1))
+
+-- What a rule took, by what it left.
+module _ {r : ℕ} {s rest : List ℕ} (u : IsUtf8 s) (h : Took r s [] rest) where
+  taken_place : h.place ≡ length s - length rest
+  taken_place = let b = (cut u h.reads).0 in omega (arith, ap length h.rest_is, length-drop h.place s, b)
+
+  pub taken_cut : IsCharBoundary s (length s - length rest)
+  taken_cut = rw (← taken_place) (cut {r = r} u h.reads)
+
+-- what follows a rule is text
+pub rest_utf8 : {r : ℕ} {s rest : List ℕ} {ts : List Tree} → IsUtf8 s → Took r s ts rest → IsUtf8 rest
+rest_utf8 {r} {s} u h = rw h.rest_is (IsUtf8-drop s h.place u (cut {r = r} u h.reads))
