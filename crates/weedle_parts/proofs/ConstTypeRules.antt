@@ -1,13 +1,12 @@
 -- The types of constants, and their rule.
 use Rattle.std.proofs.Common.{refl, inl, inr}
 use Rattle.std.specs.Borrow.{Bor}
-use Rattle.std.specs.Prelude.{◌≡◌, ℕ, List, [], ◌∷◌, ◌⊎◌, Option}
+use Rattle.std.specs.Prelude.{ℕ, List, ◌⊎◌}
 use Rattle.weedle_base.proofs.Choice.{choice_reading, choice_tree, first_last, first_more, first_rule}
-use Rattle.weedle_base.proofs.RuleFacts.{own_rule, option_rule, pair_rule, got_rule, fault_rule}
-use Rattle.weedle_base.specs.Generic.{pair_reading, option_reading}
+use Rattle.weedle_base.proofs.RuleFacts.{own_rule, got_rule, fault_rule}
 use Rattle.weedle_base.specs.Own.{own}
 use Rattle.weedle_base.specs.Reading.{Reading, Got, Faults}
-use Rattle.weedle_base.specs.Rules.{IsRule, option_tree}
+use Rattle.weedle_base.specs.Rules.{IsRule}
 use Rattle.weedle_base.specs.declared.fault.Err.{Err as Fault}
 use Rattle.weedle_base.specs.declared.fault.Error.{Error}
 use Rattle.weedle_base.specs.declared.term.type_keywords.Boolean.{Boolean}

@@ -1,7 +1,7 @@
 -- The types of floating-point numbers, and their rules.
 use Rattle.std.proofs.Common.{refl, inl, inr}
 use Rattle.std.specs.Borrow.{Bor}
-use Rattle.std.specs.Prelude.{◌≡◌, ℕ, List, [], ◌∷◌, ◌⊎◌, Option}
+use Rattle.std.specs.Prelude.{ℕ, List, [], ◌∷◌, ◌⊎◌, Option}
 use Rattle.weedle_base.proofs.Choice.{choice_reading, choice_tree, first_last, first_more, first_rule}
 use Rattle.weedle_base.proofs.RuleFacts.{own_rule, option_rule, pair_rule, got_rule, fault_rule}
 use Rattle.weedle_base.specs.Generic.{pair_reading, option_reading}
@@ -21,7 +21,7 @@ use Rattle.weedle_parts.specs.declared.types.floating_point.FloatingPointType.{F
 use Rattle.weedle_parts.specs.declared.types.floating_point.FloatingPointType.TheVariants.{Float as IsFloat, Double as IsDouble}
 use Rattle.weedle_rules.specs.Table.Keywords.{DOUBLE, FLOAT, UNRESTRICTED}
 use Rattle.weedle_rules.specs.Table.SimpleTypes.{OPT_UNRESTRICTED, FLOAT_TYPE, DOUBLE_TYPE, FLOATING_POINT_TYPE}
-use Rattle.weedle_rules.specs.Trees.{Tree, Mark, Node, Alt, trees}
+use Rattle.weedle_rules.specs.Trees.{Mark, Node, Alt, trees}
 
 abbrev unrestricted_reading : Reading (Option Unrestricted)
 unrestricted_reading = option_reading (mark UNRESTRICTED)

@@ -1,7 +1,7 @@
 -- The types of integers, and their rules.
 use Rattle.std.proofs.Common.{refl, inl, inr}
 use Rattle.std.specs.Borrow.{Bor}
-use Rattle.std.specs.Prelude.{◌≡◌, ℕ, List, [], ◌∷◌, ◌⊎◌, Option}
+use Rattle.std.specs.Prelude.{ℕ, List, [], ◌∷◌, ◌⊎◌, Option}
 use Rattle.weedle_base.proofs.Choice.{choice_reading, choice_tree, first_last, first_more, first_rule}
 use Rattle.weedle_base.proofs.RuleFacts.{own_rule, option_rule, pair_rule, got_rule, fault_rule}
 use Rattle.weedle_base.specs.Generic.{pair_reading, option_reading}
@@ -22,7 +22,7 @@ use Rattle.weedle_parts.specs.declared.types.integer.LongType.{LongType}
 use Rattle.weedle_parts.specs.declared.types.integer.ShortType.{ShortType}
 use Rattle.weedle_rules.specs.Table.Keywords.{LONG, SHORT, UNSIGNED}
 use Rattle.weedle_rules.specs.Table.SimpleTypes.{OPT_UNSIGNED, LONG_LONG, LONG_LONG_TYPE, LONG_TYPE, SHORT_TYPE, INTEGER_TYPE}
-use Rattle.weedle_rules.specs.Trees.{Tree, Mark, Node, Alt, trees}
+use Rattle.weedle_rules.specs.Trees.{Mark, Node, Alt, trees}
 
 abbrev unsigned_reading : Reading (Option Unsigned)
 unsigned_reading = option_reading (mark UNSIGNED)

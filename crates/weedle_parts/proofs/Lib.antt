@@ -5,3 +5,4 @@ pub mod PartRules
 pub mod IntegerRules
 pub mod FloatingPointRules
 pub mod ConstTypeRules
+pub mod RuleLawFacts

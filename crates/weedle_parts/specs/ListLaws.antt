@@ -3,12 +3,13 @@ use Rattle.std.proofs.Common.{sym, ◌∙◌, subst, inl, inr, arith}
 use Rattle.std.proofs.lemmas.Str.{IsCharBoundary-start}
 use Rattle.std.specs.Prelude.{◌≡◌, ℕ, ◌<◌, List, [], ◌∷◌, drop}
 use Rattle.std.specs.Str.{IsCharBoundary, IsUtf8}
+use Rattle.weedle_base.specs.Alike.{all_alike}
+use Rattle.weedle_base.specs.AlikeLaws.{all_equivalence, seen_equivalence}
 use Rattle.weedle_base.specs.Generic.{pair_reading, option_reading}
 use Rattle.weedle_base.specs.GenericLaws.{pair_lawful, option_lawful}
 use Rattle.weedle_base.specs.PlaceLaws.{boundary_add, utf8_rest}
-use Rattle.weedle_base.specs.Reading.{Reading, IsLawful, IsEquivalence}
+use Rattle.weedle_base.specs.Reading.{Reading, IsLawful}
 use Rattle.weedle_base.specs.RunLaws.{IsLawfulStep, run_lawful}
-use Rattle.weedle_base.specs.Runs.{all_alike}
 use Rattle.weedle_parts.specs.Lists.{list_gives, next_step, punctuated_reading, list1_reading, list_reading, list1_gives, punctuated_non_empty_reading, tail_reading}
 
 module _ {V W : Type 0} (R : Reading V) (S : Reading W) (item : IsLawful R) (separator : IsLawful S) where
@@ -92,20 +93,13 @@ module _ {V W : Type 0} (R : Reading V) (S : Reading W) (item : IsLawful R) (sep
   list_apart s (v ∷ vs) k u a b = head_lawful.apart s (v, vs) k u a (inr b)
 
   module _ {L : Type 0} (view : L → List V) (known : L → Type 0) where
-    view_equivalence : IsEquivalence (λ (l m : L). all_alike R.alike (view l) (view m))
-    view_equivalence = record {
-      same = λ l. tail_lawful.equivalence.same (view l);
-      back = λ l m h. tail_lawful.equivalence.back (view l) (view m) h;
-      along = λ l m n h i. tail_lawful.equivalence.along (view l) (view m) (view n) h i;
-    }
-
     pub punctuated_lawful : IsLawful (punctuated_reading R S view known)
     unfolding punctuated_reading
     punctuated_lawful = record {
       within = λ s l k u h. list_within s (view l) k u h.0;
       one = λ s l m j k u h i. list_one s (view l) (view m) j k u h.0 i.0;
       apart = λ s l k u h r. list_apart s (view l) k u h.0 r;
-      equivalence = view_equivalence;
+      equivalence = seen_equivalence view (all_equivalence item.equivalence);
       growing = λ s r code h. tt;
     }
 
@@ -118,6 +112,6 @@ module _ {V W : Type 0} (R : Reading V) (S : Reading W) (item : IsLawful R) (sep
       within = λ s l k u h. whole_lawful.within s (view l, h.0.0) k u h.0.1;
       one = λ s l m j k u h i. let p = whole_lawful.one s (view l, h.0.0) (view m, i.0.0) j k u h.0.1 i.0.1 in (p.0.0, p.1);
       apart = λ s l k u h r. whole_lawful.apart s (view l, h.0.0) k u h.0.1 r;
-      equivalence = view_equivalence;
+      equivalence = seen_equivalence view (all_equivalence item.equivalence);
       growing = λ s r code h. tt;
     }

@@ -1,8 +1,9 @@
 -- Lists with separators.
 use Rattle.std.specs.Prelude.{◌≡◌, ℕ, ◌+◌, ◌<◌, List, [], ◌∷◌, drop, ◌⊎◌, Option}
+use Rattle.weedle_base.specs.Alike.{all_alike}
 use Rattle.weedle_base.specs.Generic.{pair_reading, option_reading}
 use Rattle.weedle_base.specs.Reading.{Reading}
-use Rattle.weedle_base.specs.Runs.{Step, all_alike, run_reading}
+use Rattle.weedle_base.specs.Runs.{Step, run_reading}
 
 module _ {V W : Type 0} (R : Reading V) (S : Reading W) where
   -- A separator that takes a byte or more, and an item. Where no item follows it, the separator is given back.

@@ -1,5 +1,5 @@
 -- The trees of values.
-use Rattle.std.specs.Prelude.{List, [], ◌∷◌}
+use Rattle.std.specs.Prelude.{[], ◌∷◌}
 use Rattle.weedle_base.specs.Rules.{option_tree, items_tree}
 use Rattle.weedle_parts.specs.declared.common.brackets.Braced.{Braced}
 use Rattle.weedle_parts.specs.declared.common.brackets.Bracketed.{Bracketed}
@@ -47,16 +47,17 @@ module _ {T : Type 0} (tree : T → Tree) where
   abbrev pub generics_tree : Generics T → Tree
   generics_tree v = bracket_tree (tree v.body)
 
-  -- of the items, without what separates them
-  abbrev pub punctuated_tree : {S : Type 0} → Punctuated T S → Tree
-  punctuated_tree v = items_tree tree v.list.items
-
-  abbrev pub punctuated_non_empty_tree : {S : Type 0} → PunctuatedNonEmpty T S → Tree
-  punctuated_non_empty_tree v = items_tree tree v.list.items
-
   -- of a type, and of the mark behind it
   abbrev pub may_be_null_tree : MayBeNull T → Tree
   may_be_null_tree v = Node (trees (tree v.type_ ∷ option_tree mark_tree v.q_mark ∷ []))
+
+-- of the items, without what separates them
+module _ {T S : Type 0} (tree : T → Tree) where
+  abbrev pub punctuated_tree : Punctuated T S → Tree
+  punctuated_tree v = items_tree tree v.list.items
+
+  abbrev pub punctuated_non_empty_tree : PunctuatedNonEmpty T S → Tree
+  punctuated_non_empty_tree v = items_tree tree v.list.items
 
 -- of the types of integers
 abbrev pub long_long_type_tree : LongLongType → Tree

@@ -1,7 +1,7 @@
 //! A body between two brackets.
 
 ghost use Rattle.weedle_rules.specs.Table.Symbols.{OPEN_PAREN, CLOSE_PAREN, OPEN_BRACKET, CLOSE_BRACKET, OPEN_BRACE, CLOSE_BRACE, LESS_THAN, GREATER_THAN};
-ghost use Rattle.weedle_parts.specs.Brackets.{bracket_reading, bracket_lawful};
+ghost use Rattle.weedle_parts.specs.Brackets.{bracket_lawful, parenthesized_view, parenthesized_reading, bracketed_view, bracketed_reading, braced_view, braced_reading, generics_view, generics_reading};
 
 use std::alloc::Global;
 use weedle_base::term::{
@@ -19,7 +19,7 @@ pub struct Parenthesized<T> {
 
 #[tactic(auto, using(weedle_base::proofs::Steps::fault_first, weedle_base::proofs::Steps::fault_second, weedle_base::proofs::Steps::fault_seen, weedle_base::proofs::Steps::got_pair, weedle_base::proofs::Steps::got_seen))]
 impl<'a, T: Parse<'a>> Parse<'a> for Parenthesized<T> {
-    ghost reading = { bracket_reading OPEN_PAREN CLOSE_PAREN (λ p. (p.open_paren, (p.body, p.close_paren))) T.reading };
+    ghost reading = { parenthesized_reading T.reading };
 
     fn parse(alloc: Global, input: &'a str) -> IResult<&'a str, Self> {
         let (rest, open_paren) = OpenParen::parse(alloc, input)?;
@@ -35,7 +35,7 @@ impl<'a, T: Parse<'a>> Parse<'a> for Parenthesized<T> {
         ))
     }
 
-    ghost lawful = { bracket_lawful OPEN_PAREN CLOSE_PAREN (λ p. (p.open_paren, (p.body, p.close_paren))) T.reading T.lawful };
+    ghost lawful = { bracket_lawful OPEN_PAREN CLOSE_PAREN parenthesized_view T.reading T.lawful };
 }
 
 /// `[` body `]`.
@@ -48,7 +48,7 @@ pub struct Bracketed<T> {
 
 #[tactic(auto, using(weedle_base::proofs::Steps::fault_first, weedle_base::proofs::Steps::fault_second, weedle_base::proofs::Steps::fault_seen, weedle_base::proofs::Steps::got_pair, weedle_base::proofs::Steps::got_seen))]
 impl<'a, T: Parse<'a>> Parse<'a> for Bracketed<T> {
-    ghost reading = { bracket_reading OPEN_BRACKET CLOSE_BRACKET (λ p. (p.open_bracket, (p.body, p.close_bracket))) T.reading };
+    ghost reading = { bracketed_reading T.reading };
 
     fn parse(alloc: Global, input: &'a str) -> IResult<&'a str, Self> {
         let (rest, open_bracket) = OpenBracket::parse(alloc, input)?;
@@ -64,7 +64,7 @@ impl<'a, T: Parse<'a>> Parse<'a> for Bracketed<T> {
         ))
     }
 
-    ghost lawful = { bracket_lawful OPEN_BRACKET CLOSE_BRACKET (λ p. (p.open_bracket, (p.body, p.close_bracket))) T.reading T.lawful };
+    ghost lawful = { bracket_lawful OPEN_BRACKET CLOSE_BRACKET bracketed_view T.reading T.lawful };
 }
 
 /// `{` body `}`.
@@ -77,7 +77,7 @@ pub struct Braced<T> {
 
 #[tactic(auto, using(weedle_base::proofs::Steps::fault_first, weedle_base::proofs::Steps::fault_second, weedle_base::proofs::Steps::fault_seen, weedle_base::proofs::Steps::got_pair, weedle_base::proofs::Steps::got_seen))]
 impl<'a, T: Parse<'a>> Parse<'a> for Braced<T> {
-    ghost reading = { bracket_reading OPEN_BRACE CLOSE_BRACE (λ p. (p.open_brace, (p.body, p.close_brace))) T.reading };
+    ghost reading = { braced_reading T.reading };
 
     fn parse(alloc: Global, input: &'a str) -> IResult<&'a str, Self> {
         let (rest, open_brace) = OpenBrace::parse(alloc, input)?;
@@ -93,7 +93,7 @@ impl<'a, T: Parse<'a>> Parse<'a> for Braced<T> {
         ))
     }
 
-    ghost lawful = { bracket_lawful OPEN_BRACE CLOSE_BRACE (λ p. (p.open_brace, (p.body, p.close_brace))) T.reading T.lawful };
+    ghost lawful = { bracket_lawful OPEN_BRACE CLOSE_BRACE braced_view T.reading T.lawful };
 }
 
 /// `<` body `>`.
@@ -106,7 +106,7 @@ pub struct Generics<T> {
 
 #[tactic(auto, using(weedle_base::proofs::Steps::fault_first, weedle_base::proofs::Steps::fault_second, weedle_base::proofs::Steps::fault_seen, weedle_base::proofs::Steps::got_pair, weedle_base::proofs::Steps::got_seen))]
 impl<'a, T: Parse<'a>> Parse<'a> for Generics<T> {
-    ghost reading = { bracket_reading LESS_THAN GREATER_THAN (λ p. (p.open_angle, (p.body, p.close_angle))) T.reading };
+    ghost reading = { generics_reading T.reading };
 
     fn parse(alloc: Global, input: &'a str) -> IResult<&'a str, Self> {
         let (rest, open_angle) = LessThan::parse(alloc, input)?;
@@ -122,5 +122,5 @@ impl<'a, T: Parse<'a>> Parse<'a> for Generics<T> {
         ))
     }
 
-    ghost lawful = { bracket_lawful LESS_THAN GREATER_THAN (λ p. (p.open_angle, (p.body, p.close_angle))) T.reading T.lawful };
+    ghost lawful = { bracket_lawful LESS_THAN GREATER_THAN generics_view T.reading T.lawful };
 }

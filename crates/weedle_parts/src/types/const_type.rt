@@ -6,11 +6,11 @@ ghost use Rattle.weedle_base.specs.Own.{own};
 ghost use Rattle.weedle_base.specs.OwnLaws.{own_lawful};
 ghost use Rattle.weedle_parts.specs.ValueTrees.{const_type_tree};
 
-use std::alloc::Global;
 use super::floating_point::FloatingPointType;
 use super::integer::IntegerType;
 use super::may_be_null::MayBeNull;
 use crate::common::Identifier;
+use std::alloc::Global;
 use weedle_base::term::{Boolean, Byte, Octet};
 use weedle_base::{IResult, Parse};
 

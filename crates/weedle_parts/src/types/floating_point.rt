@@ -24,7 +24,13 @@ impl<'a> Parse<'a> for FloatType {
     fn parse(alloc: Global, input: &'a str) -> IResult<&'a str, Self> {
         let (rest, unrestricted) = Option::parse(alloc, input)?;
         let (rest, float) = Parse::parse(alloc, rest)?;
-        Ok((rest, FloatType { unrestricted, float }))
+        Ok((
+            rest,
+            FloatType {
+                unrestricted,
+                float,
+            },
+        ))
     }
 
     ghost lawful = { own_lawful FLOAT_TYPE float_type_tree ⊥ };
@@ -44,7 +50,13 @@ impl<'a> Parse<'a> for DoubleType {
     fn parse(alloc: Global, input: &'a str) -> IResult<&'a str, Self> {
         let (rest, unrestricted) = Option::parse(alloc, input)?;
         let (rest, double) = Parse::parse(alloc, rest)?;
-        Ok((rest, DoubleType { unrestricted, double }))
+        Ok((
+            rest,
+            DoubleType {
+                unrestricted,
+                double,
+            },
+        ))
     }
 
     ghost lawful = { own_lawful DOUBLE_TYPE double_type_tree ⊥ };

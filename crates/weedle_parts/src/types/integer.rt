@@ -24,7 +24,13 @@ impl<'a> Parse<'a> for LongLongType {
     fn parse(alloc: Global, input: &'a str) -> IResult<&'a str, Self> {
         let (rest, unsigned) = Option::parse(alloc, input)?;
         let (rest, long_long) = Parse::parse(alloc, rest)?;
-        Ok((rest, LongLongType { unsigned, long_long }))
+        Ok((
+            rest,
+            LongLongType {
+                unsigned,
+                long_long,
+            },
+        ))
     }
 
     ghost lawful = { own_lawful LONG_LONG_TYPE long_long_type_tree ⊥ };
