@@ -1,11 +1,13 @@
 //! Lists whose items stand between separators.
 
+ghost use Rattle.weedle_base.specs.Alike.{all_alike};
+ghost use Rattle.weedle_base.specs.AlikeLaws.{all_equivalence, pair_equivalence, seen_equivalence};
 ghost use Rattle.weedle_base.specs.Reading.{Answers};
 ghost use Rattle.weedle_parts.specs.Lists.{after_first, punctuated_reading, punctuated_non_empty_reading};
 ghost use Rattle.weedle_parts.specs.ListLaws.{punctuated_lawful, punctuated_non_empty_lawful};
 
-use std::alloc::Global;
-use weedle_base::{Err, Error, ErrorKind, IResult, Parse};
+use std::alloc::{AllocError, Global};
+use weedle_base::{Err, Error, ErrorKind, IResult, Parse, TryClone};
 
 /// item separator item separator .. item; or nothing.
 #[derive(Debug, Drop, PartialEq, Eq, PartialOrd, Ord, Hash)]
@@ -37,6 +39,18 @@ impl<'a, T: Parse<'a>, S: Parse<'a> + Default> Parse<'a> for Punctuated<T, S> {
     ghost lawful = { punctuated_lawful T.reading S.reading T.lawful S.lawful (λ p. p.list.items) (λ p. S.is_default p.separator) };
 }
 
+impl<T: TryClone, S: TryClone> TryClone for Punctuated<T, S> {
+    ghost alike = { λ a b. all_alike T.alike a.list.items b.list.items × S.alike a.separator b.separator };
+
+    fn try_clone(&self, alloc: Global) -> Result<Self, AllocError> {
+        let list = self.list.try_clone(alloc)?;
+        let separator = self.separator.try_clone(alloc)?;
+        Ok(Punctuated { list, separator })
+    }
+
+    ghost equivalence = { seen_equivalence (λ p. (p.list.items, p.separator)) (pair_equivalence (all_equivalence T.equivalence) S.equivalence) };
+}
+
 /// item separator item separator .. item, and one separator more where it stands.
 #[derive(Debug, Drop, PartialEq, Eq, PartialOrd, Ord, Hash)]
 pub struct PunctuatedNonEmpty<T, S> {
@@ -57,6 +71,18 @@ impl<'a, T: Parse<'a>, S: Parse<'a> + Default> Parse<'a> for PunctuatedNonEmpty<
     }
 
     ghost lawful = { punctuated_non_empty_lawful T.reading S.reading T.lawful S.lawful (λ p. p.list.items) (λ p. S.is_default p.separator) };
+}
+
+impl<T: TryClone, S: TryClone> TryClone for PunctuatedNonEmpty<T, S> {
+    ghost alike = { λ a b. all_alike T.alike a.list.items b.list.items × S.alike a.separator b.separator };
+
+    fn try_clone(&self, alloc: Global) -> Result<Self, AllocError> {
+        let list = self.list.try_clone(alloc)?;
+        let separator = self.separator.try_clone(alloc)?;
+        Ok(PunctuatedNonEmpty { list, separator })
+    }
+
+    ghost equivalence = { seen_equivalence (λ p. (p.list.items, p.separator)) (pair_equivalence (all_equivalence T.equivalence) S.equivalence) };
 }
 
 /// Reads the items after the first, each behind its separator.
