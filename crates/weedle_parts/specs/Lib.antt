@@ -1,0 +1,6 @@
+pub mod Brackets
+pub mod Lists
+pub mod ListLaws
+pub mod MayBeNull
+pub mod ValueTrees
+pub mod RuleLaws

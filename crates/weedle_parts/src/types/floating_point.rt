@@ -1,0 +1,105 @@
+//! The types of floating-point numbers.
+
+ghost use Rattle.std.specs.Prelude.{◌≡◌};
+ghost use Rattle.weedle_rules.specs.Table.SimpleTypes.{FLOAT_TYPE, DOUBLE_TYPE, FLOATING_POINT_TYPE};
+ghost use Rattle.weedle_base.specs.Own.{own};
+ghost use Rattle.weedle_base.specs.OwnLaws.{own_lawful};
+ghost use Rattle.weedle_parts.specs.ValueTrees.{float_type_tree, double_type_tree, floating_point_type_tree};
+
+use std::alloc::Global;
+use weedle_base::term::{Double, Float, Unrestricted};
+use weedle_base::{IResult, Parse};
+
+/// `unrestricted`, where it stands, and `float`.
+#[derive(Clone, Copy, Debug, PartialEq, Eq, PartialOrd, Ord, Hash)]
+pub struct FloatType {
+    pub unrestricted: Option<Unrestricted>,
+    pub float: Float,
+}
+
+#[tactic(auto, using(weedle_base::proofs::Steps::fault_first, weedle_base::proofs::Steps::fault_second, weedle_base::proofs::Steps::got_pair, crate::proofs::FloatingPointRules::float_type_got, crate::proofs::FloatingPointRules::float_type_fault))]
+impl<'a> Parse<'a> for FloatType {
+    ghost reading = { own FLOAT_TYPE float_type_tree ⊥ };
+
+    fn parse(alloc: Global, input: &'a str) -> IResult<&'a str, Self> {
+        let (rest, unrestricted) = Option::parse(alloc, input)?;
+        let (rest, float) = Parse::parse(alloc, rest)?;
+        Ok((
+            rest,
+            FloatType {
+                unrestricted,
+                float,
+            },
+        ))
+    }
+
+    ghost lawful = { own_lawful FLOAT_TYPE float_type_tree ⊥ };
+}
+
+/// `unrestricted`, where it stands, and `double`.
+#[derive(Clone, Copy, Debug, PartialEq, Eq, PartialOrd, Ord, Hash)]
+pub struct DoubleType {
+    pub unrestricted: Option<Unrestricted>,
+    pub double: Double,
+}
+
+#[tactic(auto, using(weedle_base::proofs::Steps::fault_first, weedle_base::proofs::Steps::fault_second, weedle_base::proofs::Steps::got_pair, crate::proofs::FloatingPointRules::double_type_got, crate::proofs::FloatingPointRules::double_type_fault))]
+impl<'a> Parse<'a> for DoubleType {
+    ghost reading = { own DOUBLE_TYPE double_type_tree ⊥ };
+
+    fn parse(alloc: Global, input: &'a str) -> IResult<&'a str, Self> {
+        let (rest, unrestricted) = Option::parse(alloc, input)?;
+        let (rest, double) = Parse::parse(alloc, rest)?;
+        Ok((
+            rest,
+            DoubleType {
+                unrestricted,
+                double,
+            },
+        ))
+    }
+
+    ghost lawful = { own_lawful DOUBLE_TYPE double_type_tree ⊥ };
+}
+
+/// A type of floating-point numbers.
+#[derive(Clone, Copy, Debug, PartialEq, Eq, PartialOrd, Ord, Hash)]
+pub enum FloatingPointType {
+    Float(FloatType),
+    Double(DoubleType),
+}
+
+#[tactic(auto, using(weedle_base::proofs::Choice::choose_left, weedle_base::proofs::Choice::choose_right, weedle_base::proofs::Choice::end_left, weedle_base::proofs::Choice::end_right, crate::proofs::FloatingPointRules::floating_point_type_got, crate::proofs::FloatingPointRules::floating_point_type_fault))]
+impl<'a> Parse<'a> for FloatingPointType {
+    ghost reading = { own FLOATING_POINT_TYPE floating_point_type_tree ⊥ };
+
+    fn parse(alloc: Global, input: &'a str) -> IResult<&'a str, Self> {
+        if let (rest, Some(member)) = Option::parse(alloc, input)? {
+            return Ok((rest, FloatingPointType::Float(member)));
+        }
+        let (rest, member) = Parse::parse(alloc, input)?;
+        Ok((rest, FloatingPointType::Double(member)))
+    }
+
+    ghost lawful = { own_lawful FLOATING_POINT_TYPE floating_point_type_tree ⊥ };
+}
+
+impl From<FloatType> for FloatingPointType {
+    ghost use Rattle.weedle_parts.specs.declared.types.floating_point.FloatingPointType.TheVariants.{Float};
+
+    ghost from_gives = { λ v e. e ≡ Float v };
+
+    fn from(value: FloatType) -> Self {
+        FloatingPointType::Float(value)
+    }
+}
+
+impl From<DoubleType> for FloatingPointType {
+    ghost use Rattle.weedle_parts.specs.declared.types.floating_point.FloatingPointType.TheVariants.{Double};
+
+    ghost from_gives = { λ v e. e ≡ Double v };
+
+    fn from(value: DoubleType) -> Self {
+        FloatingPointType::Double(value)
+    }
+}

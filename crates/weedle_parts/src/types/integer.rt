@@ -1,0 +1,133 @@
+//! The types of integers.
+
+ghost use Rattle.std.specs.Prelude.{◌≡◌};
+ghost use Rattle.weedle_rules.specs.Table.SimpleTypes.{LONG_LONG_TYPE, LONG_TYPE, SHORT_TYPE, INTEGER_TYPE};
+ghost use Rattle.weedle_base.specs.Own.{own};
+ghost use Rattle.weedle_base.specs.OwnLaws.{own_lawful};
+ghost use Rattle.weedle_parts.specs.ValueTrees.{long_long_type_tree, long_type_tree, short_type_tree, integer_type_tree};
+
+use std::alloc::Global;
+use weedle_base::term::{Long, Short, Unsigned};
+use weedle_base::{IResult, Parse};
+
+/// `unsigned`, where it stands, `long` and `long`.
+#[derive(Clone, Copy, Debug, PartialEq, Eq, PartialOrd, Ord, Hash)]
+pub struct LongLongType {
+    pub unsigned: Option<Unsigned>,
+    pub long_long: (Long, Long),
+}
+
+#[tactic(auto, using(weedle_base::proofs::Steps::fault_first, weedle_base::proofs::Steps::fault_second, weedle_base::proofs::Steps::got_pair, crate::proofs::IntegerRules::long_long_type_got, crate::proofs::IntegerRules::long_long_type_fault))]
+impl<'a> Parse<'a> for LongLongType {
+    ghost reading = { own LONG_LONG_TYPE long_long_type_tree ⊥ };
+
+    fn parse(alloc: Global, input: &'a str) -> IResult<&'a str, Self> {
+        let (rest, unsigned) = Option::parse(alloc, input)?;
+        let (rest, long_long) = Parse::parse(alloc, rest)?;
+        Ok((
+            rest,
+            LongLongType {
+                unsigned,
+                long_long,
+            },
+        ))
+    }
+
+    ghost lawful = { own_lawful LONG_LONG_TYPE long_long_type_tree ⊥ };
+}
+
+/// `unsigned`, where it stands, and `long`.
+#[derive(Clone, Copy, Debug, PartialEq, Eq, PartialOrd, Ord, Hash)]
+pub struct LongType {
+    pub unsigned: Option<Unsigned>,
+    pub long: Long,
+}
+
+#[tactic(auto, using(weedle_base::proofs::Steps::fault_first, weedle_base::proofs::Steps::fault_second, weedle_base::proofs::Steps::got_pair, crate::proofs::IntegerRules::long_type_got, crate::proofs::IntegerRules::long_type_fault))]
+impl<'a> Parse<'a> for LongType {
+    ghost reading = { own LONG_TYPE long_type_tree ⊥ };
+
+    fn parse(alloc: Global, input: &'a str) -> IResult<&'a str, Self> {
+        let (rest, unsigned) = Option::parse(alloc, input)?;
+        let (rest, long) = Parse::parse(alloc, rest)?;
+        Ok((rest, LongType { unsigned, long }))
+    }
+
+    ghost lawful = { own_lawful LONG_TYPE long_type_tree ⊥ };
+}
+
+/// `unsigned`, where it stands, and `short`.
+#[derive(Clone, Copy, Debug, PartialEq, Eq, PartialOrd, Ord, Hash)]
+pub struct ShortType {
+    pub unsigned: Option<Unsigned>,
+    pub short: Short,
+}
+
+#[tactic(auto, using(weedle_base::proofs::Steps::fault_first, weedle_base::proofs::Steps::fault_second, weedle_base::proofs::Steps::got_pair, crate::proofs::IntegerRules::short_type_got, crate::proofs::IntegerRules::short_type_fault))]
+impl<'a> Parse<'a> for ShortType {
+    ghost reading = { own SHORT_TYPE short_type_tree ⊥ };
+
+    fn parse(alloc: Global, input: &'a str) -> IResult<&'a str, Self> {
+        let (rest, unsigned) = Option::parse(alloc, input)?;
+        let (rest, short) = Parse::parse(alloc, rest)?;
+        Ok((rest, ShortType { unsigned, short }))
+    }
+
+    ghost lawful = { own_lawful SHORT_TYPE short_type_tree ⊥ };
+}
+
+/// A type of integers.
+#[derive(Clone, Copy, Debug, PartialEq, Eq, PartialOrd, Ord, Hash)]
+pub enum IntegerType {
+    LongLong(LongLongType),
+    Long(LongType),
+    Short(ShortType),
+}
+
+#[tactic(auto, using(weedle_base::proofs::Choice::choose_left, weedle_base::proofs::Choice::choose_right, weedle_base::proofs::Choice::end_left, weedle_base::proofs::Choice::end_right, crate::proofs::IntegerRules::integer_type_got, crate::proofs::IntegerRules::integer_type_fault))]
+impl<'a> Parse<'a> for IntegerType {
+    ghost reading = { own INTEGER_TYPE integer_type_tree ⊥ };
+
+    fn parse(alloc: Global, input: &'a str) -> IResult<&'a str, Self> {
+        if let (rest, Some(member)) = Option::parse(alloc, input)? {
+            return Ok((rest, IntegerType::LongLong(member)));
+        }
+        if let (rest, Some(member)) = Option::parse(alloc, input)? {
+            return Ok((rest, IntegerType::Long(member)));
+        }
+        let (rest, member) = Parse::parse(alloc, input)?;
+        Ok((rest, IntegerType::Short(member)))
+    }
+
+    ghost lawful = { own_lawful INTEGER_TYPE integer_type_tree ⊥ };
+}
+
+impl From<LongLongType> for IntegerType {
+    ghost use Rattle.weedle_parts.specs.declared.types.integer.IntegerType.TheVariants.{LongLong};
+
+    ghost from_gives = { λ v e. e ≡ LongLong v };
+
+    fn from(value: LongLongType) -> Self {
+        IntegerType::LongLong(value)
+    }
+}
+
+impl From<LongType> for IntegerType {
+    ghost use Rattle.weedle_parts.specs.declared.types.integer.IntegerType.TheVariants.{Long};
+
+    ghost from_gives = { λ v e. e ≡ Long v };
+
+    fn from(value: LongType) -> Self {
+        IntegerType::Long(value)
+    }
+}
+
+impl From<ShortType> for IntegerType {
+    ghost use Rattle.weedle_parts.specs.declared.types.integer.IntegerType.TheVariants.{Short};
+
+    ghost from_gives = { λ v e. e ≡ Short v };
+
+    fn from(value: ShortType) -> Self {
+        IntegerType::Short(value)
+    }
+}
