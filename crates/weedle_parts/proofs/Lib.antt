@@ -6,3 +6,11 @@ pub mod IntegerRules
 pub mod FloatingPointRules
 pub mod ConstTypeRules
 pub mod RuleLawFacts
+pub mod KeptFacts
+pub mod QuoteFacts
+pub mod BooleanRules
+pub mod IntegerLitRules
+pub mod FloatRules
+pub mod EmptyRules
+pub mod ValueRules
+pub mod DefaultRules

@@ -3,4 +3,5 @@ pub mod Lists
 pub mod ListLaws
 pub mod MayBeNull
 pub mod ValueTrees
+pub mod LiteralTrees
 pub mod RuleLaws

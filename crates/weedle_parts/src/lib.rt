@@ -1,6 +1,18 @@
-//! The parts that many rules of the grammar share: brackets, lists with separators, identifiers, and the simple types.
+//! What the types and definitions of the grammar share: brackets, lists with separators, names,
+//! literals and the types that hold no other type.
+//!
+//! ```rust
+//! use weedle_parts::common::{Identifier, Parenthesized, Punctuated};
+//! use weedle_base::Parse;
+//! use weedle_base::term::Comma;
+//!
+//! let text = "(a, b) c";
+//! let (rest, names) = Parenthesized::<Punctuated<Identifier, Comma>>::parse(rt.alloc(), text).expect(rt, "names");
+//! assert!(rt; rest == "c" && names.body.list.len() == 2);
+//! ```
 #![tactic(auto)]
 
 pub mod common;
 pub mod laws;
+pub mod literal;
 pub mod types;

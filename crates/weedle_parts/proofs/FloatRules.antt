@@ -1,0 +1,44 @@
+-- The rule of floats.
+use Rattle.std.specs.Prelude.{ℕ, List, ◌⊎◌}
+use Rattle.std.specs.Borrow.{Bor}
+use Rattle.std.proofs.Common.{refl, inl, inr}
+use Rattle.weedle_rules.specs.Trees.{Mark, Alt}
+use Rattle.weedle_rules.specs.Table.CapitalizedKeywords.{INFINITY, NAN, NEG_INFINITY}
+use Rattle.weedle_rules.specs.Table.Leaves.{FLOAT_VALUE_LIT}
+use Rattle.weedle_rules.specs.Table.Literals.{FLOAT_LIT}
+use Rattle.weedle_base.specs.declared.fault.Err.{Err as Fault}
+use Rattle.weedle_base.specs.declared.fault.Error.{Error}
+use Rattle.weedle_base.specs.declared.term.capitalized_keywords.Infinity.{Infinity}
+use Rattle.weedle_base.specs.declared.term.capitalized_keywords.NaN.{NaN}
+use Rattle.weedle_base.specs.declared.term.capitalized_keywords.NegInfinity.{NegInfinity}
+use Rattle.weedle_base.specs.Own.{own}
+use Rattle.weedle_base.specs.Reading.{Reading, Got, Faults}
+use Rattle.weedle_base.specs.Rules.{IsRule}
+use Rattle.weedle_base.proofs.Choice.{choice_reading, choice_tree, first_last, first_more, first_rule}
+use Rattle.weedle_base.proofs.RuleFacts.{own_rule, got_rule, fault_rule}
+use Rattle.weedle_parts.specs.declared.literal.float.FloatValueLit.{FloatValueLit}
+use Rattle.weedle_parts.specs.declared.literal.float.FloatLit.TheVariants.{Value, NegInfinity as IsNegInfinity, Infinity as IsInfinity, NaN as IsNaN}
+use Rattle.weedle_parts.specs.LiteralTrees.{float_value_tree, float_tree}
+
+abbrev pub float_parts : Reading (FloatValueLit ⊎ (NegInfinity ⊎ (Infinity ⊎ NaN)))
+float_parts = choice_reading (own FLOAT_VALUE_LIT float_value_tree ⊥) (choice_reading (own NEG_INFINITY (λ v. Mark) ⊥) (choice_reading (own INFINITY (λ v. Mark) ⊥) (own NAN (λ v. Mark) ⊥)))
+
+float_rule : IsRule float_parts FLOAT_LIT (choice_tree (λ v. Alt 0 (float_value_tree v)) (choice_tree (λ v. Alt 1 Mark) (choice_tree (λ v. Alt 2 Mark) (λ v. Alt 3 Mark)))) ⊥
+float_rule = first_rule (first_more 0 (own_rule FLOAT_VALUE_LIT float_value_tree ⊥) (first_more 1 (own_rule NEG_INFINITY (λ v. Mark) ⊥) (first_more 2 (own_rule INFINITY (λ v. Mark) ⊥) (first_last 3 (own_rule NAN (λ v. Mark) ⊥))))) FLOAT_LIT refl refl
+
+module _ {s : List ℕ} where
+  pub float_fault : {e : Fault (Error (Bor (List ℕ)))} → Faults float_parts s e → Faults (own FLOAT_LIT float_tree ⊥) s e
+  float_fault h = fault_rule float_rule float_tree h
+
+  module _ {rest : List ℕ} where
+    pub float_got_0 : {v : FloatValueLit} → Got float_parts s (inl v) rest → Got (own FLOAT_LIT float_tree ⊥) s (Value v) rest
+    float_got_0 h = got_rule float_rule float_tree _ h refl
+
+    pub float_got_1 : {v : NegInfinity} → Got float_parts s (inr (inl v)) rest → Got (own FLOAT_LIT float_tree ⊥) s (IsNegInfinity v) rest
+    float_got_1 h = got_rule float_rule float_tree _ h refl
+
+    pub float_got_2 : {v : Infinity} → Got float_parts s (inr (inr (inl v))) rest → Got (own FLOAT_LIT float_tree ⊥) s (IsInfinity v) rest
+    float_got_2 h = got_rule float_rule float_tree _ h refl
+
+    pub float_got_3 : {v : NaN} → Got float_parts s (inr (inr (inr v))) rest → Got (own FLOAT_LIT float_tree ⊥) s (IsNaN v) rest
+    float_got_3 h = got_rule float_rule float_tree _ h refl

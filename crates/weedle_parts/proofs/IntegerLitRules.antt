@@ -1,0 +1,39 @@
+-- The rule of whole numbers.
+use Rattle.std.specs.Prelude.{ℕ, List, ◌⊎◌}
+use Rattle.std.specs.Borrow.{Bor}
+use Rattle.std.proofs.Common.{refl, inl, inr}
+use Rattle.weedle_rules.specs.Trees.{Alt}
+use Rattle.weedle_rules.specs.Table.Leaves.{DEC_LIT, HEX_LIT, OCT_LIT}
+use Rattle.weedle_rules.specs.Table.Literals.{INTEGER_LIT}
+use Rattle.weedle_base.specs.declared.fault.Err.{Err as Fault}
+use Rattle.weedle_base.specs.declared.fault.Error.{Error}
+use Rattle.weedle_base.specs.Own.{own}
+use Rattle.weedle_base.specs.Reading.{Reading, Got, Faults}
+use Rattle.weedle_base.specs.Rules.{IsRule}
+use Rattle.weedle_base.proofs.Choice.{choice_reading, choice_tree, first_last, first_more, first_rule}
+use Rattle.weedle_base.proofs.RuleFacts.{own_rule, got_rule, fault_rule}
+use Rattle.weedle_parts.specs.declared.literal.integer.DecLit.{DecLit}
+use Rattle.weedle_parts.specs.declared.literal.integer.HexLit.{HexLit}
+use Rattle.weedle_parts.specs.declared.literal.integer.OctLit.{OctLit}
+use Rattle.weedle_parts.specs.declared.literal.integer.IntegerLit.TheVariants.{Dec, Hex, Oct}
+use Rattle.weedle_parts.specs.LiteralTrees.{dec_tree, hex_tree, oct_tree, integer_tree}
+
+abbrev pub integer_parts : Reading (DecLit ⊎ (HexLit ⊎ OctLit))
+integer_parts = choice_reading (own DEC_LIT dec_tree ⊥) (choice_reading (own HEX_LIT hex_tree ⊥) (own OCT_LIT oct_tree ⊥))
+
+integer_rule : IsRule integer_parts INTEGER_LIT (choice_tree (λ v. Alt 0 (dec_tree v)) (choice_tree (λ v. Alt 1 (hex_tree v)) (λ v. Alt 2 (oct_tree v)))) ⊥
+integer_rule = first_rule (first_more 0 (own_rule DEC_LIT dec_tree ⊥) (first_more 1 (own_rule HEX_LIT hex_tree ⊥) (first_last 2 (own_rule OCT_LIT oct_tree ⊥)))) INTEGER_LIT refl refl
+
+module _ {s : List ℕ} where
+  pub integer_fault : {e : Fault (Error (Bor (List ℕ)))} → Faults integer_parts s e → Faults (own INTEGER_LIT integer_tree ⊥) s e
+  integer_fault h = fault_rule integer_rule integer_tree h
+
+  module _ {rest : List ℕ} where
+    pub integer_got_0 : {v : DecLit} → Got integer_parts s (inl v) rest → Got (own INTEGER_LIT integer_tree ⊥) s (Dec v) rest
+    integer_got_0 h = got_rule integer_rule integer_tree _ h refl
+
+    pub integer_got_1 : {v : HexLit} → Got integer_parts s (inr (inl v)) rest → Got (own INTEGER_LIT integer_tree ⊥) s (Hex v) rest
+    integer_got_1 h = got_rule integer_rule integer_tree _ h refl
+
+    pub integer_got_2 : {v : OctLit} → Got integer_parts s (inr (inr v)) rest → Got (own INTEGER_LIT integer_tree ⊥) s (Oct v) rest
+    integer_got_2 h = got_rule integer_rule integer_tree _ h refl
