@@ -12,7 +12,10 @@ use weedle_parts::common::{
 use weedle_parts::types::MayBeNull;
 
 /// What follows a list, and its names joined by blanks, or None where there is no list.
-fn names<'a>(alloc: Global, answer: IResult<&'a str, Vec<Identifier<'a>>>) -> Result<Option<(&'a str, String)>, Fail> {
+fn names<'a>(
+    alloc: Global,
+    answer: IResult<&'a str, Vec<Identifier<'a>>>,
+) -> Result<Option<(&'a str, String)>, Fail> {
     match answer {
         Ok((rest, list)) => {
             let mut text = String::new(alloc);
@@ -82,10 +85,18 @@ fn a_separator_that_takes_nothing_refuses_the_list(rt: HostRuntime) {
 #[test]
 fn brackets_stand_round_a_value(rt: HostRuntime) {
     let alloc = rt.alloc();
-    assert!(rt; matches!(Parenthesized::<Comma>::parse(alloc, " ( , ) x"), Ok(("x", read)) if read.body == Comma));
-    assert!(rt; matches!(Bracketed::<Comma>::parse(alloc, "[,]x"), Ok(("x", read)) if read.body == Comma));
-    assert!(rt; matches!(Braced::<Comma>::parse(alloc, "{,}x"), Ok(("x", read)) if read.body == Comma));
-    assert!(rt; matches!(Generics::<Comma>::parse(alloc, "<,>x"), Ok(("x", read)) if read.body == Comma));
+    assert!(rt;
+        matches!(Parenthesized::<Comma>::parse(alloc, " ( , ) x"), Ok(("x", read)) if read.body == Comma)
+    );
+    assert!(rt;
+        matches!(Bracketed::<Comma>::parse(alloc, "[,]x"), Ok(("x", read)) if read.body == Comma)
+    );
+    assert!(rt;
+        matches!(Braced::<Comma>::parse(alloc, "{,}x"), Ok(("x", read)) if read.body == Comma)
+    );
+    assert!(rt;
+        matches!(Generics::<Comma>::parse(alloc, "<,>x"), Ok(("x", read)) if read.body == Comma)
+    );
     assert!(rt; is_mismatch(&Bracketed::<Comma>::parse(alloc, "(,)")));
     assert!(rt; is_mismatch(&Parenthesized::<Comma>::parse(alloc, "(,")));
 }
@@ -93,8 +104,12 @@ fn brackets_stand_round_a_value(rt: HostRuntime) {
 #[test]
 fn a_mark_may_follow(rt: HostRuntime) {
     let alloc = rt.alloc();
-    assert!(rt; matches!(MayBeNull::<Dot>::parse(alloc, ".?x"), Ok(("x", read)) if read.q_mark == Some(QMark)));
-    assert!(rt; matches!(MayBeNull::<Dot>::parse(alloc, ".x"), Ok(("x", read)) if read.q_mark.is_none()));
+    assert!(rt;
+        matches!(MayBeNull::<Dot>::parse(alloc, ".?x"), Ok(("x", read)) if read.q_mark == Some(QMark))
+    );
+    assert!(rt;
+        matches!(MayBeNull::<Dot>::parse(alloc, ".x"), Ok(("x", read)) if read.q_mark.is_none())
+    );
 }
 
 #[test]

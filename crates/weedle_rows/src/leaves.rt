@@ -39,7 +39,10 @@ fn a_float_has_a_point_or_an_exponent(rt: HostRuntime) {
         ("5.", "", "5."),
         ("1.5e", "e", "1.5"),
     ] {
-        assert!(rt; FloatValueLit::parse(alloc, text) == Ok((rest, FloatValueLit(value))), "on {text}");
+        assert!(rt;
+            FloatValueLit::parse(alloc, text) == Ok((rest, FloatValueLit(value))),
+            "on {text}"
+        );
     }
     assert!(rt; is_mismatch(&FloatValueLit::parse(alloc, "5")));
     assert!(rt; is_mismatch(&FloatValueLit::parse(alloc, ".")));
@@ -77,15 +80,23 @@ fn a_docstring_holds_its_lines(rt: HostRuntime) -> Result<(), Fail> {
 fn values_are_tried_in_order(rt: HostRuntime) {
     let alloc = rt.alloc();
     let hex = IntegerLit::Hex(HexLit("-0x1F"));
-    let array = EmptyArrayLit { open_bracket: OpenBracket, close_bracket: CloseBracket };
+    let array = EmptyArrayLit {
+        open_bracket: OpenBracket,
+        close_bracket: CloseBracket,
+    };
     assert!(rt; DefaultValue::parse(alloc, "-0x1F") == Ok(("", DefaultValue::Integer(hex))));
     assert!(rt; DefaultValue::parse(alloc, "[ ]") == Ok(("", DefaultValue::EmptyArray(array))));
     assert!(rt; is_mismatch(&DefaultValue::parse(alloc, "truex")));
-    assert!(rt; DefaultValue::parse(alloc, "\"a\"") == Ok(("", DefaultValue::String(StringLit("a")))));
+    assert!(rt;
+        DefaultValue::parse(alloc, "\"a\"") == Ok(("", DefaultValue::String(StringLit("a"))))
+    );
     assert!(rt; DefaultValue::parse(alloc, "null") == Ok(("", DefaultValue::Null(Null))));
     assert!(rt; BooleanLit::parse(alloc, "false x") == Ok(("x", BooleanLit(false))));
     assert!(rt; matches!(EmptyDictionaryLit::parse(alloc, "{ }x"), Ok(("x", _))));
-    let read = Default { assign: Assign, value: DefaultValue::Boolean(BooleanLit(true)) };
+    let read = Default {
+        assign: Assign,
+        value: DefaultValue::Boolean(BooleanLit(true)),
+    };
     assert!(rt; Default::parse(alloc, "= true") == Ok(("", read)));
 }
 
