@@ -29,18 +29,18 @@ use Rattle.weedle.specs.declared.definition.Definition.TheVariants.{Interface as
 use Rattle.weedle.specs.declared.definition.InterfaceDefinition.{InterfaceDefinition}
 use Rattle.weedle.specs.declared.interface.InterfaceMember.{InterfaceMember}
 
-abbrev pub members : Reading (Vec InterfaceMember)
-members = run_reading (λ v. v.items) (vec_step (own INTERFACE_MEMBER interface_member_tree ⊥))
+abbrev pub members_reading : Reading (Vec InterfaceMember)
+members_reading = run_reading (λ v. v.items) (vec_step (own INTERFACE_MEMBER interface_member_tree ⊥))
 
-members_rule : IsRule members INTERFACE_MEMBERS interface_members_tree (Unit {0})
+members_rule : IsRule members_reading INTERFACE_MEMBERS interface_members_tree (Unit {0})
 members_rule = run_rule (still_rule (own_rule INTERFACE_MEMBER interface_member_tree ⊥)) (λ v. v.items) INTERFACE_MEMBERS refl refl tt
 
-braced_members_rule : IsRule (braced_reading members) MEMBERS members_tree (Unit {0})
+braced_members_rule : IsRule (braced_reading members_reading) MEMBERS members_tree (Unit {0})
 braced_members_rule = braced_rule members_rule MEMBERS refl refl
 
 abbrev pub interface_parts : Reading (Interface × (Identifier × (Braced (Vec InterfaceMember) × SemiColon)))
 interface_parts =
-    pair_reading (own INTERFACE (λ v. Mark) ⊥) (pair_reading (own IDENTIFIER identifier_tree ⊥) (pair_reading (braced_reading members) (own SEMI_COLON (λ v. Mark) ⊥)))
+    pair_reading (own INTERFACE (λ v. Mark) ⊥) (pair_reading (own IDENTIFIER identifier_tree ⊥) (pair_reading (braced_reading members_reading) (own SEMI_COLON (λ v. Mark) ⊥)))
 
 interface_rule : IsRule interface_parts INTERFACE_DEFINITION (λ x. Node (trees (Mark ∷ identifier_tree x.1.0 ∷ members_tree x.1.1.0 ∷ Mark ∷ []))) (Unit {0})
 interface_rule =

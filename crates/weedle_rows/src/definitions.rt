@@ -1,3 +1,5 @@
+//! What is read of texts.
+
 use std::alloc::{AllocError, Global};
 use std::process::Abort;
 use std::test::Fail;

@@ -1,25 +1,24 @@
+//! What a run writes of texts.
+
 use std::alloc::Global;
 use std::io;
 use std::io::{ErrorKind, Read, Write};
 use std::test::Fail;
 use weedle::{RunFault, Status, run};
 
-// Gives one byte a call.
+// Gives at most so many bytes a call.
 #[derive(Drop)]
-struct ByteReader<'a> {
+struct ShortReader<'a> {
     bytes: &'a [u8],
+    most: usize,
 }
 
-impl Read for ByteReader<'_> {
+impl Read for ShortReader<'_> {
     fn read(&mut self, buf: &mut [u8]) -> io::Result<usize> {
-        match (self.bytes.split_first(), buf.first_mut()) {
-            (Some((byte, rest)), Some(place)) => {
-                *place = *byte;
-                self.bytes = rest;
-                Ok(1)
-            }
-            _ => Ok(0),
-        }
+        let count = self.bytes.len().min(buf.len()).min(self.most);
+        buf[..count].copy_from_slice(&self.bytes[..count]);
+        self.bytes = &self.bytes[count..];
+        Ok(count)
     }
 }
 
@@ -59,6 +58,10 @@ impl Write for ShortWriter {
     }
 }
 
+fn short_reader(bytes: &[u8], most: usize) -> ShortReader<'_> {
+    ShortReader { bytes, most }
+}
+
 fn short_writer(alloc: Global, most: usize, calls: usize) -> ShortWriter {
     ShortWriter {
         taken: Vec::new(alloc),
@@ -80,25 +83,23 @@ fn reports_what_is_read_and_what_is_left(rt: HostRuntime) -> Result<(), Fail> {
         ("interface A {};}", Status::Unread, "unread at byte 15\n"),
     ];
     for (text, status, report) in table {
-        let mut reader = ByteReader {
-            bytes: text.as_bytes(),
-        };
-        let mut writer = short_writer(rt.alloc(), 1, 100);
-        assert_eq!(rt;
-            run(rt.alloc(), &mut reader, &mut writer),
-            Ok(status),
-            "of {text:?}"
-        );
-        assert_eq!(rt; writer.taken.as_slice(), report.as_bytes(), "of {text:?}");
+        for most in [1, 100] {
+            let mut reader = short_reader(text.as_bytes(), most);
+            let mut writer = short_writer(rt.alloc(), most, 100);
+            assert_eq!(rt;
+                run(rt.alloc(), &mut reader, &mut writer),
+                Ok(status),
+                "of {text:?}"
+            );
+            assert_eq!(rt; writer.taken.as_slice(), report.as_bytes(), "of {text:?}");
+        }
     }
     Ok(())
 }
 
 #[test]
 fn ends_where_a_write_fails(rt: HostRuntime) {
-    let mut reader = ByteReader {
-        bytes: b"interface A {};",
-    };
+    let mut reader = short_reader(b"interface A {};", 1);
     let mut writer = short_writer(rt.alloc(), 4, 2);
     assert_eq!(rt;
         run(rt.alloc(), &mut reader, &mut writer),
@@ -109,9 +110,7 @@ fn ends_where_a_write_fails(rt: HostRuntime) {
 
 #[test]
 fn ends_where_a_write_takes_nothing(rt: HostRuntime) {
-    let mut reader = ByteReader {
-        bytes: b"interface A {};",
-    };
+    let mut reader = short_reader(b"interface A {};", 1);
     let mut writer = short_writer(rt.alloc(), 0, 100);
     assert_eq!(rt;
         run(rt.alloc(), &mut reader, &mut writer),
@@ -138,7 +137,7 @@ fn tells_a_bad_reader_from_refused_memory(rt: HostRuntime) {
 fn refuses_bytes_that_are_no_text(rt: HostRuntime) {
     let table = [b"\xff".as_slice(), b"interface A {};\xff".as_slice()];
     for bytes in table {
-        let mut reader = ByteReader { bytes };
+        let mut reader = short_reader(bytes, 1);
         let mut writer = short_writer(rt.alloc(), 4, 100);
         assert_eq!(rt;
             run(rt.alloc(), &mut reader, &mut writer),
