@@ -11,7 +11,7 @@ use Rattle.weedle_base.specs.declared.term.type_keywords.True.{True}
 use Rattle.weedle_base.specs.declared.term.type_keywords.False.{False}
 use Rattle.weedle_base.specs.Reading.{Reading, Got, Faults}
 use Rattle.weedle_base.specs.Generic.{option_reading}
-use Rattle.weedle_base.proofs.Choice.{choice_reading, choice_tree, choose_left, choose_right, first_last, first_more, first_rule}
+use Rattle.weedle_base.proofs.Choice.{choice_reading, choice_tree, choose_left, choose_right, end_left, end_right, first_last, first_more, first_rule}
 use Rattle.weedle_base.specs.Own.{own}
 use Rattle.weedle_base.specs.Rules.{IsRule}
 use Rattle.weedle_base.proofs.RuleFacts.{own_rule, got_rule, fault_rule}
@@ -32,3 +32,6 @@ module _ {s : List ℕ} where
 
   pub chose_false : {rest end : List ℕ} {w : False} → Got (option_reading (own {V = True} TRUE (λ v. Mark) ⊥)) s None rest → Got (own FALSE (λ v. Mark) ⊥) s w end → Got (own BOOLEAN_LIT boolean_tree ⊥) s (record { 0 = false }) end
   chose_false h m = got_rule boolean_rule boolean_tree _ (choose_right (own TRUE (λ v. Mark) ⊥) (own FALSE (λ v. Mark) ⊥) h m) refl
+
+-- what the search for a proof of its `parse` is to use
+pub ruleset boolean_steps = (end_left, end_right, boolean_fault, chose_true, chose_false)

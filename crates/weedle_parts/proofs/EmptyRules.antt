@@ -15,6 +15,7 @@ use Rattle.weedle_base.specs.Own.{own}
 use Rattle.weedle_base.specs.Reading.{Reading, Got, Faults}
 use Rattle.weedle_base.specs.Rules.{IsRule}
 use Rattle.weedle_base.specs.Generic.{pair_reading}
+use Rattle.weedle_base.proofs.Steps.{fault_first, fault_second, got_pair}
 use Rattle.weedle_base.proofs.RuleFacts.{own_rule, pair_rule, got_rule, fault_rule}
 use Rattle.weedle_parts.specs.LiteralTrees.{empty_array_tree, empty_dictionary_tree}
 
@@ -31,6 +32,9 @@ module _ {s : List ℕ} where
   pub empty_array_fault : {e : Fault (Error (Bor (List ℕ)))} → Faults empty_array_parts s e → Faults (own EMPTY_ARRAY_LIT empty_array_tree ⊥) s e
   empty_array_fault h = fault_rule empty_array_rule empty_array_tree h
 
+-- what the search for a proof of its `parse` is to use
+pub ruleset empty_array_steps = (fault_first, fault_second, got_pair, empty_array_fault, empty_array_got)
+
 abbrev pub empty_dictionary_parts : Reading (OpenBrace × CloseBrace)
 empty_dictionary_parts = pair_reading (own OPEN_BRACE (λ v. Mark) ⊥) (own CLOSE_BRACE (λ v. Mark) ⊥)
 
@@ -43,3 +47,6 @@ module _ {s : List ℕ} where
 
   pub empty_dictionary_fault : {e : Fault (Error (Bor (List ℕ)))} → Faults empty_dictionary_parts s e → Faults (own EMPTY_DICTIONARY_LIT empty_dictionary_tree ⊥) s e
   empty_dictionary_fault h = fault_rule empty_dictionary_rule empty_dictionary_tree h
+
+-- what the search for a proof of its `parse` is to use
+pub ruleset empty_dictionary_steps = (fault_first, fault_second, got_pair, empty_dictionary_fault, empty_dictionary_got)

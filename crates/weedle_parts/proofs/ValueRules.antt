@@ -12,7 +12,7 @@ use Rattle.weedle_base.specs.declared.term.type_keywords.Null.{Null}
 use Rattle.weedle_base.specs.Own.{own}
 use Rattle.weedle_base.specs.Reading.{Reading, Got, Faults}
 use Rattle.weedle_base.specs.Rules.{IsRule}
-use Rattle.weedle_base.proofs.Choice.{choice_reading, choice_tree, first_last, first_more, first_rule}
+use Rattle.weedle_base.proofs.Choice.{choice_reading, choice_tree, choose_left, choose_right, end_left, end_right, first_last, first_more, first_rule}
 use Rattle.weedle_base.proofs.RuleFacts.{own_rule, got_rule, fault_rule}
 use Rattle.weedle_parts.specs.declared.literal.boolean.BooleanLit.{BooleanLit}
 use Rattle.weedle_parts.specs.declared.literal.empty.EmptyArrayLit.{EmptyArrayLit}
@@ -57,6 +57,9 @@ module _ {s : List ℕ} where
     pub default_value_got_6 : {v : StringLit} → Got default_value_parts s (inr (inr (inr (inr (inr (inr v)))))) rest → Got (own DEFAULT_VALUE default_value_tree ⊥) s (DefaultString v) rest
     default_value_got_6 h = got_rule default_value_rule default_value_tree _ h refl
 
+-- what the search for a proof of its `parse` is to use
+pub ruleset default_value_steps = (choose_left, choose_right, end_left, end_right, default_value_fault, default_value_got_0, default_value_got_1, default_value_got_2, default_value_got_3, default_value_got_4, default_value_got_5, default_value_got_6)
+
 -- a constant's value
 abbrev pub const_value_parts : Reading (BooleanLit ⊎ (FloatLit ⊎ (IntegerLit ⊎ Null)))
 const_value_parts = choice_reading (own BOOLEAN_LIT boolean_tree ⊥) (choice_reading (own FLOAT_LIT float_tree ⊥) (choice_reading (own INTEGER_LIT integer_tree ⊥) (own NULL (λ v. Mark) ⊥)))
@@ -80,3 +83,6 @@ module _ {s : List ℕ} where
 
     pub const_value_got_3 : {v : Null} → Got const_value_parts s (inr (inr (inr v))) rest → Got (own CONST_VALUE const_value_tree ⊥) s (ConstNull v) rest
     const_value_got_3 h = got_rule const_value_rule const_value_tree _ h refl
+
+-- what the search for a proof of its `parse` is to use
+pub ruleset const_value_steps = (choose_left, choose_right, end_left, end_right, const_value_fault, const_value_got_0, const_value_got_1, const_value_got_2, const_value_got_3)

@@ -20,7 +20,7 @@ pub struct Default<'a> {
     pub value: DefaultValue<'a>,
 }
 
-#[tactic(auto, using(weedle_base::proofs::Steps::fault_first, weedle_base::proofs::Steps::fault_second, weedle_base::proofs::Steps::got_pair, crate::proofs::DefaultRules::default_got, crate::proofs::DefaultRules::default_fault))]
+#[tactic(auto, using(crate::proofs::DefaultRules::default_steps))]
 impl<'a> Parse<'a> for Default<'a> {
     ghost reading = { own DEFAULT default_tree ⊥ };
 

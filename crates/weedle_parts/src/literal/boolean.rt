@@ -13,7 +13,7 @@ use weedle_base::{IResult, Parse};
 #[derive(Clone, Copy, Debug, PartialEq, Eq, PartialOrd, Ord, Hash)]
 pub struct BooleanLit(pub bool);
 
-#[tactic(auto, using(weedle_base::proofs::Choice::end_left, weedle_base::proofs::Choice::end_right, crate::proofs::BooleanRules::boolean_fault, crate::proofs::BooleanRules::chose_true, crate::proofs::BooleanRules::chose_false))]
+#[tactic(auto, using(crate::proofs::BooleanRules::boolean_steps))]
 impl<'a> Parse<'a> for BooleanLit {
     ghost reading = { own BOOLEAN_LIT boolean_tree ⊥ };
 

@@ -18,7 +18,7 @@ pub struct EmptyArrayLit {
     pub close_bracket: CloseBracket,
 }
 
-#[tactic(auto, using(weedle_base::proofs::Steps::fault_first, weedle_base::proofs::Steps::fault_second, weedle_base::proofs::Steps::got_pair, crate::proofs::EmptyRules::empty_array_got, crate::proofs::EmptyRules::empty_array_fault))]
+#[tactic(auto, using(crate::proofs::EmptyRules::empty_array_steps))]
 impl<'a> Parse<'a> for EmptyArrayLit {
     ghost reading = { own EMPTY_ARRAY_LIT empty_array_tree ⊥ };
 
@@ -46,7 +46,7 @@ pub struct EmptyDictionaryLit {
     pub close_brace: CloseBrace,
 }
 
-#[tactic(auto, using(weedle_base::proofs::Steps::fault_first, weedle_base::proofs::Steps::fault_second, weedle_base::proofs::Steps::got_pair, crate::proofs::EmptyRules::empty_dictionary_got, crate::proofs::EmptyRules::empty_dictionary_fault))]
+#[tactic(auto, using(crate::proofs::EmptyRules::empty_dictionary_steps))]
 impl<'a> Parse<'a> for EmptyDictionaryLit {
     ghost reading = { own EMPTY_DICTIONARY_LIT empty_dictionary_tree ⊥ };
 

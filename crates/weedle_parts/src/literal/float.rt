@@ -55,7 +55,7 @@ pub enum FloatLit<'a> {
     NaN(NaN),
 }
 
-#[tactic(auto, using(weedle_base::proofs::Choice::choose_left, weedle_base::proofs::Choice::choose_right, weedle_base::proofs::Choice::end_left, weedle_base::proofs::Choice::end_right, crate::proofs::FloatRules::float_fault, crate::proofs::FloatRules::float_got_0, crate::proofs::FloatRules::float_got_1, crate::proofs::FloatRules::float_got_2, crate::proofs::FloatRules::float_got_3))]
+#[tactic(auto, using(crate::proofs::FloatRules::float_steps))]
 impl<'a> Parse<'a> for FloatLit<'a> {
     ghost reading = { own FLOAT_LIT float_tree ⊥ };
 

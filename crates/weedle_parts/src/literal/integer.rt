@@ -100,7 +100,7 @@ pub enum IntegerLit<'a> {
     Oct(OctLit<'a>),
 }
 
-#[tactic(auto, using(weedle_base::proofs::Choice::choose_left, weedle_base::proofs::Choice::choose_right, weedle_base::proofs::Choice::end_left, weedle_base::proofs::Choice::end_right, crate::proofs::IntegerLitRules::integer_fault, crate::proofs::IntegerLitRules::integer_got_0, crate::proofs::IntegerLitRules::integer_got_1, crate::proofs::IntegerLitRules::integer_got_2))]
+#[tactic(auto, using(crate::proofs::IntegerLitRules::integer_steps))]
 impl<'a> Parse<'a> for IntegerLit<'a> {
     ghost reading = { own INTEGER_LIT integer_tree ⊥ };
 

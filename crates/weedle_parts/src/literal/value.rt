@@ -35,7 +35,7 @@ pub enum DefaultValue<'a> {
     String(StringLit<'a>),
 }
 
-#[tactic(auto, using(weedle_base::proofs::Choice::choose_left, weedle_base::proofs::Choice::choose_right, weedle_base::proofs::Choice::end_left, weedle_base::proofs::Choice::end_right, crate::proofs::ValueRules::default_value_fault, crate::proofs::ValueRules::default_value_got_0, crate::proofs::ValueRules::default_value_got_1, crate::proofs::ValueRules::default_value_got_2, crate::proofs::ValueRules::default_value_got_3, crate::proofs::ValueRules::default_value_got_4, crate::proofs::ValueRules::default_value_got_5, crate::proofs::ValueRules::default_value_got_6))]
+#[tactic(auto, using(crate::proofs::ValueRules::default_value_steps))]
 impl<'a> Parse<'a> for DefaultValue<'a> {
     ghost reading = { own DEFAULT_VALUE default_value_tree ⊥ };
 
@@ -149,7 +149,7 @@ pub enum ConstValue<'a> {
     Null(Null),
 }
 
-#[tactic(auto, using(weedle_base::proofs::Choice::choose_left, weedle_base::proofs::Choice::choose_right, weedle_base::proofs::Choice::end_left, weedle_base::proofs::Choice::end_right, crate::proofs::ValueRules::const_value_fault, crate::proofs::ValueRules::const_value_got_0, crate::proofs::ValueRules::const_value_got_1, crate::proofs::ValueRules::const_value_got_2, crate::proofs::ValueRules::const_value_got_3))]
+#[tactic(auto, using(crate::proofs::ValueRules::const_value_steps))]
 impl<'a> Parse<'a> for ConstValue<'a> {
     ghost reading = { own CONST_VALUE const_value_tree ⊥ };
 
