@@ -1,22 +1,14 @@
--- What stands between braces, from its parts and as a rule.
-use Rattle.std.specs.Prelude.{◌≡◌, ℕ, List, [], ◌∷◌}
+-- What stands between braces, as a rule.
+use Rattle.std.specs.Prelude.{◌≡◌, ℕ, [], ◌∷◌}
 use Rattle.weedle_base.proofs.RuleFacts.{own_rule, still_rule, seen_rule, seq_rule, seq_next, seq_last}
-use Rattle.weedle_base.proofs.Steps.{got_seen}
-use Rattle.weedle_base.specs.Reading.{Reading, Got}
+use Rattle.weedle_base.specs.Reading.{Reading}
 use Rattle.weedle_base.specs.Rules.{IsRule}
-use Rattle.weedle_base.specs.declared.term.symbols.CloseBrace.{CloseBrace}
-use Rattle.weedle_base.specs.declared.term.symbols.OpenBrace.{OpenBrace}
 use Rattle.weedle_rules.specs.Meaning.{Plain}
 use Rattle.weedle_rules.specs.Rows.{Seq}
 use Rattle.weedle_rules.specs.Table.{row_of, shape_of}
 use Rattle.weedle_rules.specs.Table.Symbols.{OPEN_BRACE, CLOSE_BRACE}
 use Rattle.weedle_rules.specs.Trees.{Tree, Mark, Node, trees}
-use Rattle.weedle.specs.Braces.{braced_view, braced_parts, braced_reading}
-
-pub braced_got : {T : Type 0} (R : Reading T) {s rest : List ℕ} {open_brace : OpenBrace} {body : T} {close_brace : CloseBrace}
-    → Got (braced_parts R) s (open_brace, (body, close_brace)) rest
-    → Got (braced_reading R) s (record { open_brace = open_brace; body = body; close_brace = close_brace }) rest
-braced_got R h = got_seen braced_view (braced_parts R) _ h
+use Rattle.weedle.specs.Braces.{braced_view, braced_reading}
 
 pub braced_rule : {T : Type 0} {R : Reading T} {x : ℕ} {tree : T → Tree} {grows : Type 0} → IsRule R x tree grows
     → (r : ℕ) → row_of r ≡ Seq (OPEN_BRACE ∷ x ∷ CLOSE_BRACE ∷ []) → shape_of r ≡ Plain

@@ -1,4 +1,5 @@
 -- Definitions, from their parts.
+use Rattle.weedle_base.proofs.Steps.{part_steps}
 use Rattle.std.proofs.Common.{refl}
 use Rattle.std.specs.Borrow.{Bor}
 use Rattle.std.specs.Global.{Vec}
@@ -70,3 +71,6 @@ module _ {s : List ℕ} where
 
     pub definition_fault : Faults (own INTERFACE_DEFINITION interface_definition_tree (Unit {0})) s e → Faults (own DEFINITION definition_tree (Unit {0})) s e
     definition_fault h = fault_rule one_definition_rule definition_tree h
+
+-- what the search for the proof of its `parse` uses
+pub ruleset interface_definition_steps = (part_steps, interface_definition_got, interface_definition_fault)

@@ -1,4 +1,5 @@
 -- Members of interfaces, from their parts.
+use Rattle.weedle_base.proofs.Steps.{part_steps}
 use Rattle.std.proofs.Common.{refl}
 use Rattle.std.specs.Borrow.{Bor}
 use Rattle.std.specs.Prelude.{ℕ, List, [], ◌∷◌, Option}
@@ -60,3 +61,6 @@ module _ {s : List ℕ} where
 
     pub interface_member_fault : Faults (own ATTRIBUTE_INTERFACE_MEMBER attribute_member_tree ⊥) s e → Faults (own INTERFACE_MEMBER interface_member_tree ⊥) s e
     interface_member_fault h = fault_rule member_rule interface_member_tree h
+
+-- what the search for the proof of its `parse` uses
+pub ruleset attribute_member_steps = (part_steps, attribute_member_got, attribute_member_fault)

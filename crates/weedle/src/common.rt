@@ -43,7 +43,7 @@ pub struct Braced<T> {
     pub close_brace: CloseBrace,
 }
 
-#[tactic(auto, using(weedle_base::proofs::Steps::fault_first, weedle_base::proofs::Steps::fault_second, weedle_base::proofs::Steps::fault_seen, weedle_base::proofs::Steps::got_pair, crate::proofs::BraceFacts::braced_got))]
+#[tactic(auto, using(weedle_base::proofs::Steps::seen_steps))]
 impl<'a, T: Parse<'a>> Parse<'a> for Braced<T> {
     ghost reading = { braced_reading T.reading };
 

@@ -25,7 +25,7 @@ pub struct InterfaceDefinition<'a> {
     pub semi_colon: SemiColon,
 }
 
-#[tactic(auto, using(weedle_base::proofs::Steps::fault_first, weedle_base::proofs::Steps::fault_second, weedle_base::proofs::Steps::got_pair, crate::proofs::DefinitionFacts::interface_definition_got, crate::proofs::DefinitionFacts::interface_definition_fault))]
+#[tactic(auto, using(crate::proofs::DefinitionFacts::interface_definition_steps))]
 impl<'a> Parse<'a> for InterfaceDefinition<'a> {
     ghost reading = { own INTERFACE_DEFINITION interface_definition_tree (Unit {0}) };
 

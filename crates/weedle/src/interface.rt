@@ -23,7 +23,7 @@ pub struct AttributeInterfaceMember<'a> {
     pub semi_colon: SemiColon,
 }
 
-#[tactic(auto, using(weedle_base::proofs::Steps::fault_first, weedle_base::proofs::Steps::fault_second, weedle_base::proofs::Steps::got_pair, crate::proofs::MemberFacts::attribute_member_got, crate::proofs::MemberFacts::attribute_member_fault))]
+#[tactic(auto, using(crate::proofs::MemberFacts::attribute_member_steps))]
 impl<'a> Parse<'a> for AttributeInterfaceMember<'a> {
     ghost reading = { own ATTRIBUTE_INTERFACE_MEMBER attribute_member_tree ⊥ };
 

@@ -124,3 +124,6 @@ module _ {V W : Type 0} (R : Reading V) (S : Reading W) where
 
     pub fails_later : o ≡ None → {f : Fault (Error (Bor (List ℕ)))} → Faults S s f → Faults (choice_reading R S) s f
     fails_later e g = end_right (subst (λ (x : Option V). Got (option_reading R) s x rest) e h) g
+
+-- what the search for the proof of a choice uses: an alternative that fits, those after it, and a fault of either
+pub ruleset choice_steps = (choose_left, choose_right, end_left, end_right)

@@ -98,3 +98,9 @@ module _ {V : Type 0} (R : Reading V) where
     pub fault_memory : (s : List ℕ) (e : Error (Bor (List ℕ))) → e.code ≡ Memory → IsSuffix s e.input.now → Faults (boxed_reading inside R) s (Failure e)
     unfolding boxed_reading
     fault_memory s e c h = record { says = inl (c, h) }
+
+-- what the search for the proof of a body with `?` uses: a part after another, and a fault of either
+pub ruleset part_steps = (fault_first, fault_second, got_pair)
+
+-- the same, of a struct that is seen as its parts
+pub ruleset seen_steps = (fault_first, fault_second, fault_seen, got_pair, got_seen)

@@ -24,7 +24,7 @@ impl<'a, T: Parse<'a>> Parse<'a> for Option<T> {
     ghost lawful = { option_lawful T.reading T.lawful };
 }
 
-#[tactic(auto, using(crate::proofs::Steps::fault_first, crate::proofs::Steps::fault_second, crate::proofs::Steps::got_pair))]
+#[tactic(auto, using(crate::proofs::Steps::part_steps))]
 impl<'a, T: Parse<'a>, U: Parse<'a>> Parse<'a> for (T, U) {
     ghost reading = { pair_reading T.reading U.reading };
 
@@ -87,7 +87,7 @@ impl<'a, T: Parse<'a>> Parse<'a> for Vec<T> {
     ghost lawful = { run_lawful (λ v. v.items) (vec_step T.reading) (vec_step_lawful T.reading T.lawful) };
 }
 
-#[tactic(auto, using(crate::proofs::Steps::fault_first, crate::proofs::Steps::fault_second, crate::proofs::Steps::fault_seen, crate::proofs::Steps::got_pair))]
+#[tactic(auto, using(crate::proofs::Steps::seen_steps))]
 impl<'a, T: Parse<'a>, U: Parse<'a>, V: Parse<'a>> Parse<'a> for (T, U, V) {
     ghost reading = { seen_reading (λ x. (x.0, (x.1, x.2))) (pair_reading T.reading (pair_reading U.reading V.reading)) };
 

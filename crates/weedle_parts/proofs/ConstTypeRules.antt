@@ -2,7 +2,7 @@
 use Rattle.std.proofs.Common.{refl, inl, inr}
 use Rattle.std.specs.Borrow.{Bor}
 use Rattle.std.specs.Prelude.{ℕ, List, ◌⊎◌}
-use Rattle.weedle_base.proofs.Choice.{choice_reading, choice_tree, first_last, first_more, first_rule}
+use Rattle.weedle_base.proofs.Choice.{choice_reading, choice_tree, first_last, first_more, first_rule, choice_steps}
 use Rattle.weedle_base.proofs.RuleFacts.{own_rule, got_rule, fault_rule}
 use Rattle.weedle_base.specs.Own.{own}
 use Rattle.weedle_base.specs.Reading.{Reading, Got, Faults}
@@ -74,3 +74,6 @@ const_type_got (IsIdentifier v) h = got_rule const_type_rule const_type_tree _ h
 
 pub const_type_fault : {s : List ℕ} {e : Fault (Error (Bor (List ℕ)))} → Faults const_type_parts s e → Faults (own CONST_TYPE const_type_tree ⊥) s e
 const_type_fault h = fault_rule const_type_rule const_type_tree h
+
+-- what the search for the proof of its `parse` uses
+pub ruleset const_type_steps = (choice_steps, const_type_got, const_type_fault)

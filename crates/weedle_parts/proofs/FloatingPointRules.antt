@@ -1,8 +1,9 @@
 -- The types of floating-point numbers, and their rules.
+use Rattle.weedle_base.proofs.Steps.{part_steps}
 use Rattle.std.proofs.Common.{refl, inl, inr}
 use Rattle.std.specs.Borrow.{Bor}
 use Rattle.std.specs.Prelude.{ℕ, List, [], ◌∷◌, ◌⊎◌, Option}
-use Rattle.weedle_base.proofs.Choice.{choice_reading, choice_tree, first_last, first_more, first_rule}
+use Rattle.weedle_base.proofs.Choice.{choice_reading, choice_tree, first_last, first_more, first_rule, choice_steps}
 use Rattle.weedle_base.proofs.RuleFacts.{own_rule, option_rule, pair_rule, got_rule, fault_rule}
 use Rattle.weedle_base.specs.Generic.{pair_reading, option_reading}
 use Rattle.weedle_base.specs.Own.{own}
@@ -72,3 +73,12 @@ floating_point_type_got (IsDouble v) h = got_rule floating_point_type_rule float
 
 pub floating_point_type_fault : {s : List ℕ} {e : Fault (Error (Bor (List ℕ)))} → Faults floating_point_type_parts s e → Faults (own FLOATING_POINT_TYPE floating_point_type_tree ⊥) s e
 floating_point_type_fault h = fault_rule floating_point_type_rule floating_point_type_tree h
+
+-- what the search for the proof of its `parse` uses
+pub ruleset float_type_steps = (part_steps, float_type_got, float_type_fault)
+
+-- what the search for the proof of its `parse` uses
+pub ruleset double_type_steps = (part_steps, double_type_got, double_type_fault)
+
+-- what the search for the proof of its `parse` uses
+pub ruleset floating_point_type_steps = (choice_steps, floating_point_type_got, floating_point_type_fault)

@@ -1,8 +1,9 @@
 -- The types of integers, and their rules.
+use Rattle.weedle_base.proofs.Steps.{part_steps}
 use Rattle.std.proofs.Common.{refl, inl, inr}
 use Rattle.std.specs.Borrow.{Bor}
 use Rattle.std.specs.Prelude.{ℕ, List, [], ◌∷◌, ◌⊎◌, Option}
-use Rattle.weedle_base.proofs.Choice.{choice_reading, choice_tree, first_last, first_more, first_rule}
+use Rattle.weedle_base.proofs.Choice.{choice_reading, choice_tree, first_last, first_more, first_rule, choice_steps}
 use Rattle.weedle_base.proofs.RuleFacts.{own_rule, option_rule, pair_rule, got_rule, fault_rule}
 use Rattle.weedle_base.specs.Generic.{pair_reading, option_reading}
 use Rattle.weedle_base.specs.Own.{own}
@@ -93,3 +94,15 @@ integer_type_got (IsShort v) h = got_rule integer_type_rule integer_type_tree _ 
 
 pub integer_type_fault : {s : List ℕ} {e : Fault (Error (Bor (List ℕ)))} → Faults integer_type_parts s e → Faults (own INTEGER_TYPE integer_type_tree ⊥) s e
 integer_type_fault h = fault_rule integer_type_rule integer_type_tree h
+
+-- what the search for the proof of its `parse` uses
+pub ruleset long_long_type_steps = (part_steps, long_long_type_got, long_long_type_fault)
+
+-- what the search for the proof of its `parse` uses
+pub ruleset long_type_steps = (part_steps, long_type_got, long_type_fault)
+
+-- what the search for the proof of its `parse` uses
+pub ruleset short_type_steps = (part_steps, short_type_got, short_type_fault)
+
+-- what the search for the proof of its `parse` uses
+pub ruleset integer_type_steps = (choice_steps, integer_type_got, integer_type_fault)

@@ -18,7 +18,7 @@ pub struct Parenthesized<T> {
     pub close_paren: CloseParen,
 }
 
-#[tactic(auto, using(weedle_base::proofs::Steps::fault_first, weedle_base::proofs::Steps::fault_second, weedle_base::proofs::Steps::fault_seen, weedle_base::proofs::Steps::got_pair, weedle_base::proofs::Steps::got_seen))]
+#[tactic(auto, using(weedle_base::proofs::Steps::seen_steps))]
 impl<'a, T: Parse<'a>> Parse<'a> for Parenthesized<T> {
     ghost reading = { parenthesized_reading T.reading };
 
@@ -62,7 +62,7 @@ pub struct Bracketed<T> {
     pub close_bracket: CloseBracket,
 }
 
-#[tactic(auto, using(weedle_base::proofs::Steps::fault_first, weedle_base::proofs::Steps::fault_second, weedle_base::proofs::Steps::fault_seen, weedle_base::proofs::Steps::got_pair, weedle_base::proofs::Steps::got_seen))]
+#[tactic(auto, using(weedle_base::proofs::Steps::seen_steps))]
 impl<'a, T: Parse<'a>> Parse<'a> for Bracketed<T> {
     ghost reading = { bracketed_reading T.reading };
 
@@ -106,7 +106,7 @@ pub struct Braced<T> {
     pub close_brace: CloseBrace,
 }
 
-#[tactic(auto, using(weedle_base::proofs::Steps::fault_first, weedle_base::proofs::Steps::fault_second, weedle_base::proofs::Steps::fault_seen, weedle_base::proofs::Steps::got_pair, weedle_base::proofs::Steps::got_seen))]
+#[tactic(auto, using(weedle_base::proofs::Steps::seen_steps))]
 impl<'a, T: Parse<'a>> Parse<'a> for Braced<T> {
     ghost reading = { braced_reading T.reading };
 
@@ -150,7 +150,7 @@ pub struct Generics<T> {
     pub close_angle: GreaterThan,
 }
 
-#[tactic(auto, using(weedle_base::proofs::Steps::fault_first, weedle_base::proofs::Steps::fault_second, weedle_base::proofs::Steps::fault_seen, weedle_base::proofs::Steps::got_pair, weedle_base::proofs::Steps::got_seen))]
+#[tactic(auto, using(weedle_base::proofs::Steps::seen_steps))]
 impl<'a, T: Parse<'a>> Parse<'a> for Generics<T> {
     ghost reading = { generics_reading T.reading };
 

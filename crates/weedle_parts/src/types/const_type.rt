@@ -25,7 +25,7 @@ pub enum ConstType<'a> {
     Identifier(MayBeNull<Identifier<'a>>),
 }
 
-#[tactic(auto, using(weedle_base::proofs::Choice::choose_left, weedle_base::proofs::Choice::choose_right, weedle_base::proofs::Choice::end_left, weedle_base::proofs::Choice::end_right, crate::proofs::ConstTypeRules::const_type_got, crate::proofs::ConstTypeRules::const_type_fault))]
+#[tactic(auto, using(crate::proofs::ConstTypeRules::const_type_steps))]
 impl<'a> Parse<'a> for ConstType<'a> {
     ghost reading = { own CONST_TYPE const_type_tree ⊥ };
 

@@ -15,7 +15,7 @@ pub struct MayBeNull<T> {
     pub q_mark: Option<QMark>,
 }
 
-#[tactic(auto, using(weedle_base::proofs::Steps::fault_first, weedle_base::proofs::Steps::fault_second, weedle_base::proofs::Steps::fault_seen, weedle_base::proofs::Steps::got_pair, weedle_base::proofs::Steps::got_seen))]
+#[tactic(auto, using(weedle_base::proofs::Steps::seen_steps))]
 impl<'a, T: Parse<'a>> Parse<'a> for MayBeNull<T> {
     ghost reading = { may_be_null_reading T.reading };
 
