@@ -1,5 +1,6 @@
-//! Literals, with the trivia around them. None of them takes memory: what a literal keeps of the
-//! text it borrows.
+//! Literals, with the trivia around them. None of them takes memory, and none ever gives a failure:
+//! what a literal keeps of the text it borrows. Where a type has several forms they are tried in
+//! turn, and each of them reads the trivia before the literal again.
 
 mod boolean;
 mod empty;

@@ -11,7 +11,7 @@ use weedle_base::term::Assign;
 use weedle_base::{IResult, Parse};
 
 /// A default, as `= 5` behind an argument's name. Without the `=`, or where no value follows it, it is
-/// a mismatch. It takes no memory.
+/// a mismatch. It takes no memory and never gives a failure.
 #[derive(Clone, Copy, Debug, PartialEq, Eq, PartialOrd, Ord, Hash)]
 pub struct Default<'a> {
     /// The `=`.

@@ -13,7 +13,7 @@ use weedle_base::{IResult, Parse, TryClone, docstring};
 /// The text of a docstring: its lines without their `///`, and an LF between two, so `/// a` and
 /// `///b` on two lines are ` a`, an LF and `b`. It reads what [`docstring`] reads: where the first
 /// line is no such line, or the text ends before its LF, it is a mismatch. It takes memory for the
-/// text.
+/// text, and where that is refused it is a failure.
 #[derive(Debug, PartialEq, Eq, PartialOrd, Ord, Hash, Drop)]
 pub struct Docstring(pub String);
 

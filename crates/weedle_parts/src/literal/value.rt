@@ -16,7 +16,7 @@ use weedle_base::term::Null;
 use weedle_base::{IResult, Parse};
 
 /// The value of a default, as `"blob"` or `[]`: the first of the seven forms that fits. Anything else
-/// is a mismatch, as `undefined` is.
+/// is a mismatch, as `undefined` is. Up to thirteen literals and words are tried.
 #[derive(Clone, Copy, Debug, PartialEq, Eq, PartialOrd, Ord, Hash)]
 pub enum DefaultValue<'a> {
     /// A boolean, as `true`.
@@ -136,7 +136,7 @@ impl<'a> From<StringLit<'a>> for DefaultValue<'a> {
 }
 
 /// The value of a constant, as `1.5` or `null`: the first of the four forms that fits. Anything else
-/// is a mismatch, as a text in quotes is.
+/// is a mismatch, as a text in quotes is. Up to ten literals and words are tried.
 #[derive(Clone, Copy, Debug, PartialEq, Eq, PartialOrd, Ord, Hash)]
 pub enum ConstValue<'a> {
     /// A boolean, as `true`.
