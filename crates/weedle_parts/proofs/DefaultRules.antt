@@ -12,7 +12,7 @@ use Rattle.weedle_base.specs.Own.{own}
 use Rattle.weedle_base.specs.Reading.{Reading, Got, Faults}
 use Rattle.weedle_base.specs.Rules.{IsRule}
 use Rattle.weedle_base.specs.Generic.{pair_reading}
-use Rattle.weedle_base.proofs.Steps.{fault_first, fault_second, got_pair}
+use Rattle.weedle_base.proofs.Steps.{part_steps}
 use Rattle.weedle_base.proofs.RuleFacts.{own_rule, pair_rule, got_rule, fault_rule}
 use Rattle.weedle_parts.specs.declared.literal.value.DefaultValue.{DefaultValue}
 use Rattle.weedle_parts.specs.LiteralTrees.{default_value_tree, default_tree}
@@ -31,4 +31,4 @@ module _ {s : List ℕ} where
   default_fault h = fault_rule default_rule default_tree h
 
 -- what the search for a proof of its `parse` is to use
-pub ruleset default_steps = (fault_first, fault_second, got_pair, default_fault, default_got)
+pub ruleset default_steps = (part_steps, default_fault, default_got)

@@ -15,7 +15,7 @@ use Rattle.weedle_base.specs.Own.{own}
 use Rattle.weedle_base.specs.Reading.{Reading, Got, Faults}
 use Rattle.weedle_base.specs.Rules.{IsRule}
 use Rattle.weedle_base.specs.Generic.{pair_reading}
-use Rattle.weedle_base.proofs.Steps.{fault_first, fault_second, got_pair}
+use Rattle.weedle_base.proofs.Steps.{part_steps}
 use Rattle.weedle_base.proofs.RuleFacts.{own_rule, pair_rule, got_rule, fault_rule}
 use Rattle.weedle_parts.specs.LiteralTrees.{empty_array_tree, empty_dictionary_tree}
 
@@ -33,7 +33,7 @@ module _ {s : List ℕ} where
   empty_array_fault h = fault_rule empty_array_rule empty_array_tree h
 
 -- what the search for a proof of its `parse` is to use
-pub ruleset empty_array_steps = (fault_first, fault_second, got_pair, empty_array_fault, empty_array_got)
+pub ruleset empty_array_steps = (part_steps, empty_array_fault, empty_array_got)
 
 abbrev pub empty_dictionary_parts : Reading (OpenBrace × CloseBrace)
 empty_dictionary_parts = pair_reading (own OPEN_BRACE (λ v. Mark) ⊥) (own CLOSE_BRACE (λ v. Mark) ⊥)
@@ -49,4 +49,4 @@ module _ {s : List ℕ} where
   empty_dictionary_fault h = fault_rule empty_dictionary_rule empty_dictionary_tree h
 
 -- what the search for a proof of its `parse` is to use
-pub ruleset empty_dictionary_steps = (fault_first, fault_second, got_pair, empty_dictionary_fault, empty_dictionary_got)
+pub ruleset empty_dictionary_steps = (part_steps, empty_dictionary_fault, empty_dictionary_got)

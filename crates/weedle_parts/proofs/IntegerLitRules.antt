@@ -10,7 +10,7 @@ use Rattle.weedle_base.specs.declared.fault.Error.{Error}
 use Rattle.weedle_base.specs.Own.{own}
 use Rattle.weedle_base.specs.Reading.{Reading, Got, Faults}
 use Rattle.weedle_base.specs.Rules.{IsRule}
-use Rattle.weedle_base.proofs.Choice.{choice_reading, choice_tree, choose_left, choose_right, end_left, end_right, first_last, first_more, first_rule}
+use Rattle.weedle_base.proofs.Choice.{choice_reading, choice_tree, first_last, first_more, first_rule, choice_steps}
 use Rattle.weedle_base.proofs.RuleFacts.{own_rule, got_rule, fault_rule}
 use Rattle.weedle_parts.specs.declared.literal.integer.DecLit.{DecLit}
 use Rattle.weedle_parts.specs.declared.literal.integer.HexLit.{HexLit}
@@ -39,4 +39,4 @@ module _ {s : List ℕ} where
     integer_got_2 h = got_rule integer_rule integer_tree _ h refl
 
 -- what the search for a proof of its `parse` is to use
-pub ruleset integer_steps = (choose_left, choose_right, end_left, end_right, integer_fault, integer_got_0, integer_got_1, integer_got_2)
+pub ruleset integer_steps = (choice_steps, integer_fault, integer_got_0, integer_got_1, integer_got_2)

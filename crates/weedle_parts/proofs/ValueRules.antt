@@ -12,7 +12,7 @@ use Rattle.weedle_base.specs.declared.term.type_keywords.Null.{Null}
 use Rattle.weedle_base.specs.Own.{own}
 use Rattle.weedle_base.specs.Reading.{Reading, Got, Faults}
 use Rattle.weedle_base.specs.Rules.{IsRule}
-use Rattle.weedle_base.proofs.Choice.{choice_reading, choice_tree, choose_left, choose_right, end_left, end_right, first_last, first_more, first_rule}
+use Rattle.weedle_base.proofs.Choice.{choice_reading, choice_tree, first_last, first_more, first_rule, choice_steps}
 use Rattle.weedle_base.proofs.RuleFacts.{own_rule, got_rule, fault_rule}
 use Rattle.weedle_parts.specs.declared.literal.boolean.BooleanLit.{BooleanLit}
 use Rattle.weedle_parts.specs.declared.literal.empty.EmptyArrayLit.{EmptyArrayLit}
@@ -58,7 +58,7 @@ module _ {s : List ℕ} where
     default_value_got_6 h = got_rule default_value_rule default_value_tree _ h refl
 
 -- what the search for a proof of its `parse` is to use
-pub ruleset default_value_steps = (choose_left, choose_right, end_left, end_right, default_value_fault, default_value_got_0, default_value_got_1, default_value_got_2, default_value_got_3, default_value_got_4, default_value_got_5, default_value_got_6)
+pub ruleset default_value_steps = (choice_steps, default_value_fault, default_value_got_0, default_value_got_1, default_value_got_2, default_value_got_3, default_value_got_4, default_value_got_5, default_value_got_6)
 
 -- a constant's value
 abbrev pub const_value_parts : Reading (BooleanLit ⊎ (FloatLit ⊎ (IntegerLit ⊎ Null)))
@@ -85,4 +85,4 @@ module _ {s : List ℕ} where
     const_value_got_3 h = got_rule const_value_rule const_value_tree _ h refl
 
 -- what the search for a proof of its `parse` is to use
-pub ruleset const_value_steps = (choose_left, choose_right, end_left, end_right, const_value_fault, const_value_got_0, const_value_got_1, const_value_got_2, const_value_got_3)
+pub ruleset const_value_steps = (choice_steps, const_value_fault, const_value_got_0, const_value_got_1, const_value_got_2, const_value_got_3)

@@ -12,6 +12,8 @@ mod leaves;
 #[cfg(test)]
 mod program;
 #[cfg(test)]
+mod readme;
+#[cfg(test)]
 mod scanners;
 #[cfg(test)]
 mod standard;

@@ -55,7 +55,7 @@ pub enum FloatLit<'a> {
     NaN(NaN),
 }
 
-#[tactic(auto, using(crate::proofs::FloatRules::float_steps))]
+#[tactic(auto, using(crate::proofs::FloatLitRules::float_steps))]
 impl<'a> Parse<'a> for FloatLit<'a> {
     ghost reading = { own FLOAT_LIT float_tree ⊥ };
 

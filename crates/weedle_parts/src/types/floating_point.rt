@@ -17,7 +17,7 @@ pub struct FloatType {
     pub float: Float,
 }
 
-#[tactic(auto, using(crate::proofs::FloatingPointRules::float_type_steps))]
+#[tactic(auto, using(crate::proofs::FloatingPointTypeRules::float_type_steps))]
 impl<'a> Parse<'a> for FloatType {
     ghost reading = { own FLOAT_TYPE float_type_tree ⊥ };
 
@@ -43,7 +43,7 @@ pub struct DoubleType {
     pub double: Double,
 }
 
-#[tactic(auto, using(crate::proofs::FloatingPointRules::double_type_steps))]
+#[tactic(auto, using(crate::proofs::FloatingPointTypeRules::double_type_steps))]
 impl<'a> Parse<'a> for DoubleType {
     ghost reading = { own DOUBLE_TYPE double_type_tree ⊥ };
 
@@ -69,7 +69,7 @@ pub enum FloatingPointType {
     Double(DoubleType),
 }
 
-#[tactic(auto, using(crate::proofs::FloatingPointRules::floating_point_type_steps))]
+#[tactic(auto, using(crate::proofs::FloatingPointTypeRules::floating_point_type_steps))]
 impl<'a> Parse<'a> for FloatingPointType {
     ghost reading = { own FLOATING_POINT_TYPE floating_point_type_tree ⊥ };
 

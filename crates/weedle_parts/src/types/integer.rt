@@ -17,7 +17,7 @@ pub struct LongLongType {
     pub long_long: (Long, Long),
 }
 
-#[tactic(auto, using(crate::proofs::IntegerRules::long_long_type_steps))]
+#[tactic(auto, using(crate::proofs::IntegerTypeRules::long_long_type_steps))]
 impl<'a> Parse<'a> for LongLongType {
     ghost reading = { own LONG_LONG_TYPE long_long_type_tree ⊥ };
 
@@ -43,7 +43,7 @@ pub struct LongType {
     pub long: Long,
 }
 
-#[tactic(auto, using(crate::proofs::IntegerRules::long_type_steps))]
+#[tactic(auto, using(crate::proofs::IntegerTypeRules::long_type_steps))]
 impl<'a> Parse<'a> for LongType {
     ghost reading = { own LONG_TYPE long_type_tree ⊥ };
 
@@ -63,7 +63,7 @@ pub struct ShortType {
     pub short: Short,
 }
 
-#[tactic(auto, using(crate::proofs::IntegerRules::short_type_steps))]
+#[tactic(auto, using(crate::proofs::IntegerTypeRules::short_type_steps))]
 impl<'a> Parse<'a> for ShortType {
     ghost reading = { own SHORT_TYPE short_type_tree ⊥ };
 
@@ -84,7 +84,7 @@ pub enum IntegerType {
     Short(ShortType),
 }
 
-#[tactic(auto, using(crate::proofs::IntegerRules::integer_type_steps))]
+#[tactic(auto, using(crate::proofs::IntegerTypeRules::integer_type_steps))]
 impl<'a> Parse<'a> for IntegerType {
     ghost reading = { own INTEGER_TYPE integer_type_tree ⊥ };
 

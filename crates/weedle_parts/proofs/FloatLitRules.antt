@@ -14,7 +14,7 @@ use Rattle.weedle_base.specs.declared.term.capitalized_keywords.NegInfinity.{Neg
 use Rattle.weedle_base.specs.Own.{own}
 use Rattle.weedle_base.specs.Reading.{Reading, Got, Faults}
 use Rattle.weedle_base.specs.Rules.{IsRule}
-use Rattle.weedle_base.proofs.Choice.{choice_reading, choice_tree, choose_left, choose_right, end_left, end_right, first_last, first_more, first_rule}
+use Rattle.weedle_base.proofs.Choice.{choice_reading, choice_tree, first_last, first_more, first_rule, choice_steps}
 use Rattle.weedle_base.proofs.RuleFacts.{own_rule, got_rule, fault_rule}
 use Rattle.weedle_parts.specs.declared.literal.float.FloatValueLit.{FloatValueLit}
 use Rattle.weedle_parts.specs.declared.literal.float.FloatLit.TheVariants.{Value, NegInfinity as IsNegInfinity, Infinity as IsInfinity, NaN as IsNaN}
@@ -44,4 +44,4 @@ module _ {s : List ℕ} where
     float_got_3 h = got_rule float_rule float_tree _ h refl
 
 -- what the search for a proof of its `parse` is to use
-pub ruleset float_steps = (choose_left, choose_right, end_left, end_right, float_fault, float_got_0, float_got_1, float_got_2, float_got_3)
+pub ruleset float_steps = (choice_steps, float_fault, float_got_0, float_got_1, float_got_2, float_got_3)
