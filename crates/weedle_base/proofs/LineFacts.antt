@@ -11,7 +11,7 @@ use Rattle.weedle_rules.specs.Meaning.{Yields, ReadsRow, by_seq, many_end, many_
 use Rattle.weedle_rules.specs.Table.{webidl, Reads}
 use Rattle.weedle_rules.specs.Table.Trivia.{RUN_BLANK, PAST_LF}
 use Rattle.weedle_rules.specs.Table.Leaves.{BYTES_THREE_SLASHES, DOC_LINE, MANY_DOC_LINE, DOCSTRING}
-use Rattle.weedle_rules.proofs.Suffix.{then_on, then_fails_on, fails, nothing, no_node}
+use Rattle.weedle_rules.proofs.Suffix.{then_on, fails, nothing, no_node}
 use Rattle.weedle_rules.proofs.Checked.{rank, ranked}
 use Rattle.weedle_rules.proofs.Takes.{takes}
 use Rattle.weedle_rules.proofs.Exists.{advances}
@@ -23,7 +23,9 @@ use Rattle.weedle_base.specs.Own.{own}
 use Rattle.weedle_base.proofs.RuleFacts.{of_row}
 use Rattle.weedle_base.proofs.RunRules.{row_forth}
 use Rattle.weedle_base.proofs.Steps.{rest_add}
-use Rattle.weedle_base.proofs.LeafFacts.{reads_past, cut, found_byte, nowhere_byte}
+use Rattle.weedle_base.proofs.LeafFacts.{reads_past, cut, found_byte}
+use Rattle.weedle_base.proofs.FindFacts.{byte_lacks}
+use Rattle.weedle_base.proofs.SilentRules.{lost}
 use Rattle.weedle_base.proofs.TriviaFacts.{slice_front, given}
 use Rattle.weedle_base.specs.Trivia.{Took}
 
@@ -35,11 +37,11 @@ line_bytes after i fits =
 
 module _ {s line : List ℕ} (a : Took RUN_BLANK s [] line) where
   pub no_slashes : Reads line BYTES_THREE_SLASHES 0 Fails → Reads s DOC_LINE 0 Fails
-  no_slashes d = no_node refl (then_fails_on a.reads a.rest_is (fails d))
+  no_slashes d = no_node refl (lost a (fails d))
 
   module _ {after : List ℕ} (b : Took BYTES_THREE_SLASHES line [] after) where
     pub open_line : IsFirstByte (is_byte 10) after None → Reads s DOC_LINE 0 Fails
-    open_line p = no_node refl (then_fails_on a.reads a.rest_is (then_fails_on b.reads b.rest_is (fails (given (reads_past {r = PAST_LF} refl refl) (nowhere_byte 10 after p)))))
+    open_line p = no_node refl (lost a (lost b (fails (byte_lacks PAST_LF refl refl p))))
 
     pub whole_line : (i : ℕ) → IsFirstByte (is_byte 10) after (Some i) → {text rest : List ℕ} → text ≡ slice_range after 0 i → rest ≡ drop (i + 1) after → Took DOC_LINE s (Lines text ∷ []) rest
     whole_line i p {text} {rest} t r =

@@ -3,14 +3,19 @@ use Rattle.std.specs.Prelude.{◌≡◌, ℕ, ◌+◌, List, [], ◌∷◌, drop
 use Rattle.std.specs.Borrow.{Bor}
 use Rattle.std.proofs.Common.{refl, sym, subst}
 use Rattle.weedle_rules.specs.Rows.{Seq, First, Opt}
-use Rattle.weedle_rules.specs.Trees.{Fails}
-use Rattle.weedle_rules.specs.Meaning.{Silent, ReadsSeq, by_first, by_opt, first_here, first_next, first_none}
+use Rattle.weedle_rules.specs.Trees.{Tree, Mark, Fails, Gives}
+use Rattle.weedle_rules.specs.Meaning.{Silent, Marked, ReadsSeq, by_seq, by_first, by_opt, first_here, first_next, first_none}
 use Rattle.weedle_rules.specs.Table.{webidl, row_of, shape_of, Reads}
 use Rattle.weedle_rules.proofs.Suffix.{then_fails_on}
 use Rattle.weedle_base.proofs.RuleFacts.{of_row, Parts, parts_none, parts_on}
 use Rattle.weedle_base.proofs.Steps.{rest_add}
 use Rattle.weedle_base.specs.Trivia.{Took, Trial}
-use Rattle.weedle_base.proofs.TriviaFacts.{silent_node}
+
+silent_node : {s rs : List ℕ} {ts : List Tree} {k r : ℕ} → row_of r ≡ Seq rs → shape_of r ≡ Silent → Parts s rs ts k → Reads s r 0 (Gives [] k)
+silent_node row shape m = of_row row (by_seq m.reads refl) (rw (shape, m.end) refl)
+
+marked_node : {s rs : List ℕ} {ts : List Tree} {k r : ℕ} → row_of r ≡ Seq rs → shape_of r ≡ Marked → Parts s rs ts k → Reads s r 0 (Gives (Mark ∷ []) k)
+marked_node row shape m = of_row row (by_seq m.reads refl) (rw (shape, m.end) refl)
 
 -- silent rules one after another lead from s to rest
 pub record Along (rs s rest : List ℕ) : Type 0 where
@@ -38,6 +43,10 @@ module _ {r : ℕ} {s t : List ℕ} (h : Took r s [] t) where
 module _ {r : ℕ} {s : List ℕ} where
   pub took_seq : {rs rest : List ℕ} → row_of r ≡ Seq rs → shape_of r ≡ Silent → Along rs s rest → Took r s [] rest
   took_seq row shape m = record { place = m.place; reads = silent_node row shape m.parts; rest_is = m.rest_is }
+
+  -- a rule of silent rules that gives a mark
+  pub marked_seq : {rs rest : List ℕ} → row_of r ≡ Seq rs → shape_of r ≡ Marked → Along rs s rest → Took r s (Mark ∷ []) rest
+  marked_seq row shape m = record { place = m.place; reads = marked_node row shape m.parts; rest_is = m.rest_is }
 
   module _ {x y : ℕ} (row : row_of r ≡ First (x ∷ y ∷ [])) (shape : shape_of r ≡ Silent) where
     pub took_first : {rest : List ℕ} → Took x s [] rest → Took r s [] rest
