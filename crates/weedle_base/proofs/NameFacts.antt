@@ -15,10 +15,13 @@ use Rattle.weedle_rules.specs.Trees.{Text, Fails, Gives}
 -- An identifier: trivia, an underscore where there is one, the text that is kept, trivia.
 module _ {s start : List ℕ} (a : Took TRIVIA s [] start) where
   module _ {body : List ℕ} (u : Took OPT_BYTES_UNDERSCORE start [] body) where
+    -- no identifier without a letter or a digit
     pub no_identifier : Reads body IDENTIFIER_TEXT 0 Fails → Reads s IDENTIFIER 0 Fails
     no_identifier d = no_node refl (lost a (lost u (fails d)))
 
-    pub identifier_reads : {text rest end : List ℕ} → TookText IDENTIFIER_TEXT body text rest → Took TRIVIA rest [] end → Took IDENTIFIER s (Text text ∷ []) end
+    -- an identifier, its text kept without the underscore
+    pub identifier_reads : {text rest end : List ℕ} → TookText IDENTIFIER_TEXT body text rest → Took TRIVIA rest [] end
+        → Took IDENTIFIER s (Text text ∷ []) end
     identifier_reads {text} {rest} {end} t z =
         let here : body ≡ drop (a.place + u.place) s = rest_add s start body a.place u.place a.rest_is u.rest_is in
         let there : rest ≡ drop ((a.place + u.place) + t.place) s = rest_add s body rest (a.place + u.place) t.place here t.rest_is in

@@ -25,7 +25,9 @@ use Rattle.weedle_rules.specs.Trees.{Tree, Mark, Fails, Gives}
 use Rattle.weedle_rules.specs.declared.class.Class.TheVariants.{Name}
 
 module _ {V : Type 0} {r : ℕ} (tree : V → Tree) (grows : Type 0) {s : List ℕ} where
-  pub got_own : {ts : List Tree} (v : V) {rest : List ℕ} → Took r s ts rest → ts ≡ tree v ∷ [] → IsUtf8 s → IsUtf8 rest → Got (own r tree grows) s v rest
+  -- what the rule took is what the type with the rule reads
+  pub got_own : {ts : List Tree} (v : V) {rest : List ℕ} → Took r s ts rest → ts ≡ tree v ∷ [] → IsUtf8 s → IsUtf8 rest
+      → Got (own r tree grows) s v rest
   unfolding own
   got_own v h e u t = record {
     place = h.place;
@@ -35,16 +37,21 @@ module _ {V : Type 0} {r : ℕ} (tree : V → Tree) (grows : Type 0) {s : List �
     text = t;
   }
 
-  pub fault_own : {e : Error (Bor (List ℕ))} → Reads s r 0 Fails → IsUtf8 s → e.code ≡ Mismatch → e.input.now ≡ s → Faults (own r tree grows) s (Recoverable e)
+  -- where the rule fails, a mismatch at the start of the text
+  pub fault_own : {e : Error (Bor (List ℕ))} → Reads s r 0 Fails → IsUtf8 s → e.code ≡ Mismatch → e.input.now ≡ s
+      → Faults (own r tree grows) s (Recoverable e)
   unfolding own
   fault_own {e} d u c i = record { says = (d, c, (rw i u, 0, i)) }
 
 -- A symbol: trivia, its bytes, trivia.
 module _ {r : ℕ} {b s start : List ℕ} (a : Took TRIVIA s [] start) (is : IsSymbol r b) where
+  -- without its bytes behind the trivia there is no symbol
   pub symbol_lacks : LacksTextAt b start 0 → Reads s r 0 Fails
   symbol_lacks n = no_node is.0 (lost a (fails (word_lacks (core r) (is.2, is.3) n)))
 
-  pub symbol_reads : {after rest : List ℕ} → StripsPrefix (FindsTextPrefix b) start after → Took TRIVIA after [] rest → Took r s (Mark ∷ []) rest
+  -- with them there is
+  pub symbol_reads : {after rest : List ℕ} → StripsPrefix (FindsTextPrefix b) start after → Took TRIVIA after [] rest
+      → Took r s (Mark ∷ []) rest
   symbol_reads h z = marked_seq is.0 is.1 (along a (along (word_took (core r) (is.2, is.3) h) (last z)))
 
 -- A keyword: trivia, its bytes with no name character behind them, trivia.
@@ -53,8 +60,10 @@ module _ {r : ℕ} {b s start : List ℕ} (a : Took TRIVIA s [] start) (is : IsK
   no_bytes e = no_node is.0 (lost a (fails (given {n = None} (reads_bytes is.2 is.3) (rw e refl))))
 
   name_goes_on : (after : List ℕ) → start ≡ b ++ after → is_next Name after ≡ true → Reads s r 0 Fails
-  name_goes_on after split e = no_node is.0 (lost a (lost (word_split (core r) (is.2, is.3) split) (fails (look_fails NOT_NEXT_NAME refl refl e))))
+  name_goes_on after split e =
+      no_node is.0 (lost a (lost (word_split (core r) (is.2, is.3) split) (fails (look_fails NOT_NEXT_NAME refl refl e))))
 
+  -- without its bytes behind the trivia, or with a name character behind them, there is no keyword
   pub keyword_lacks : LacksTag b start → Reads s r 0 Fails
   keyword_lacks lacks = go (begins b start) refl
     where
@@ -66,6 +75,7 @@ module _ {r : ℕ} {b s start : List ℕ} (a : Took TRIVIA s [] start) (is : IsK
       go true e = let m = begins_with b start e in no_tag m.0 m.1 (is_next Name m.0) refl
       go false e = no_bytes e
 
+  -- with them, and none, there is
   pub keyword_reads : {after rest : List ℕ} → IsTagged b start after → Took TRIVIA after [] rest → Took r s (Mark ∷ []) rest
   keyword_reads tagged z =
       marked_seq is.0 is.1

@@ -11,7 +11,8 @@ pub returns-in_err-after : goal.returns-in_err-after
 returns-in_err-after c = exit LINE_COMMENT c.from_residual.ensures (no_node refl (fails c.in_err-after.ensures))
 
 pub returns-then-next_is : goal.returns-then-next_is
-returns-then-next_is c = no_node refl (lost c.in_ok-after.ensures (fails (look_fails NOT_NEXT_SLASH refl refl (sym c.next_is.ensures ∙ c.if-next_is.true))))
+returns-then-next_is c =
+    no_node refl (lost c.in_ok-after.ensures (fails (look_fails NOT_NEXT_SLASH refl refl (sym c.next_is.ensures ∙ c.if-next_is.true))))
 
 pub returns-in_err-end : goal.returns-in_err-end
 returns-in_err-end c =
