@@ -82,7 +82,8 @@ module _ {V : Type 0} {R : Reading V} {r : ℕ} {tree : V → Tree} {grows : Typ
     stops = rule.stops;
   }
 
-module _ {V W : Type 0} {R : Reading V} {S : Reading W} {r : ℕ} {rs : List ℕ} {tree : V → Tree} {ts : W → Tree} {grows : Type 0} (i : ℕ) (rule : IsRule R r tree grows) (others : IsFirst S rs (suc i) ts grows) where
+module _ {V W : Type 0} {R : Reading V} {S : Reading W} {r : ℕ} {rs : List ℕ} {tree : V → Tree} {ts : W → Tree} {grows : Type 0}
+    (i : ℕ) (rule : IsRule R r tree grows) (others : IsFirst S rs (suc i) ts grows) where
   next_gives : (s : List ℕ) (x : V ⊎ W) (k : ℕ) → choice_gives R S s x k
       → ReadsFirst webidl s (r ∷ rs) i 0 (Gives (choice_tree (λ v. Alt i (tree v)) ts x ∷ []) k)
   next_gives s (inl v) k h = first_here (rule.gives s v k h) refl

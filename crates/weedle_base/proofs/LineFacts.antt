@@ -121,7 +121,8 @@ lined_more {s} {text} {rest} {line} {new} {next} h t e = record {
   place = h.place + t.place;
   rest_is = t.rest_is ∙ ap (λ (x : List ℕ). drop t.place x) h.rest_is ∙ drop-drop t.place h.place h.behind;
   on = λ ts k d.
-      let there : ReadsRow webidl (drop t.place rest) (Many DOC_LINE) 0 (Yields ts [] k) = subst (λ (x : List ℕ). ReadsRow webidl x (Many DOC_LINE) 0 (Yields ts [] k)) t.rest_is d in
+      let there : ReadsRow webidl (drop t.place rest) (Many DOC_LINE) 0 (Yields ts [] k) =
+      subst (λ (x : List ℕ). ReadsRow webidl x (Many DOC_LINE) 0 (Yields ts [] k)) t.rest_is d in
       let far : t.place ≢ 0 = λ z. (let p = line_takes t.reads in omega (arith, p, z)) in
       let all = h.on (Lines line ∷ ts) (t.place + k) (many_more t.reads far (row_forth rest t.place there) refl) in
       let size : h.place + (t.place + k) ≡ (h.place + t.place) + k = omega arith in
@@ -137,7 +138,8 @@ lined_more {s} {text} {rest} {line} {new} {next} h t e = record {
 pub lined_all : {s text rest : List ℕ} → Lined s text rest → Reads rest DOC_LINE 0 Fails → Took DOCSTRING s (Lines text ∷ []) rest
 lined_all {s} {text} {rest} h d =
     let lines : ReadsRow webidl h.behind (Many DOC_LINE) 0 (Yields (map Lines h.more) [] (h.place + 0))
-    = subst (λ (us : List Tree). ReadsRow webidl h.behind (Many DOC_LINE) 0 (Yields us [] (h.place + 0))) (append-nil (map Lines h.more)) (h.on [] 0 (many_end d refl)) in
+    = subst (λ (us : List Tree). ReadsRow webidl h.behind (Many DOC_LINE) 0 (Yields us [] (h.place + 0)))
+    (append-nil (map Lines h.more)) (h.on [] 0 (many_end d refl)) in
     let many : Reads h.behind MANY_DOC_LINE 0 (Gives (Items (trees (map Lines h.more)) ∷ []) (h.place + 0)) = of_row refl lines refl in
     record {
       place = h.head.place + (h.place + 0);

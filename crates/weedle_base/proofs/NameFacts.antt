@@ -25,13 +25,15 @@ module _ {s start : List ℕ} (a : Took TRIVIA s [] start) where
     identifier_reads {text} {rest} {end} t z =
         let here : body ≡ drop (a.place + u.place) s = rest_add s start body a.place u.place a.rest_is u.rest_is in
         let there : rest ≡ drop ((a.place + u.place) + t.place) s = rest_add s body rest (a.place + u.place) t.place here t.rest_is in
-        let after : end ≡ drop (((a.place + u.place) + t.place) + z.place) s = rest_add s rest end ((a.place + u.place) + t.place) z.place there z.rest_is in
+        let after : end ≡ drop (((a.place + u.place) + t.place) + z.place) s =
+        rest_add s rest end ((a.place + u.place) + t.place) z.place there z.rest_is in
         let size : t.place ≡ (a.place + (u.place + t.place)) - (a.place + u.place) = omega arith in
         let kept_is : text ≡ take ((a.place + (u.place + t.place)) - (a.place + u.place)) (drop (a.place + u.place) s) =
         t.text_is ∙ ap (λ (x : List ℕ). take t.place x) here ∙ ap (λ (n : ℕ). take n (drop (a.place + u.place) s)) size in
         record {
           place = a.place + (u.place + (t.place + z.place));
-          reads = of_row refl (by_seq (then_on a.reads a.rest_is (then_on u.reads u.rest_is (then_on t.reads t.rest_is (then_on z.reads z.rest_is nothing)))) refl)
+          reads = of_row refl
+              (by_seq (then_on a.reads a.rest_is (then_on u.reads u.rest_is (then_on t.reads t.rest_is (then_on z.reads z.rest_is nothing)))) refl)
               (ap (λ (x : List ℕ). Gives (Text x ∷ []) (a.place + (u.place + (t.place + z.place)))) kept_is);
           rest_is = after ∙ ap (λ (n : ℕ). drop n s) (omega arith);
         }

@@ -105,7 +105,8 @@ parts_then : {s rs : List ℕ} {r i j : ℕ} {t : Tree} {ts : List Tree} → Rea
     → Parts s (r ∷ rs) (t ∷ ts) (i + j)
 parts_then d m = parts_on d refl m
 
-module _ {V W : Type 0} {R : Reading V} {S : Reading W} {r : ℕ} {rs : List ℕ} {tree : V → Tree} {ts : W → List Tree} {grows : Type 0} (rule : IsRule R r tree grows) (others : IsSeq S rs ts grows) where
+module _ {V W : Type 0} {R : Reading V} {S : Reading W} {r : ℕ} {rs : List ℕ} {tree : V → Tree} {ts : W → List Tree} {grows : Type 0}
+    (rule : IsRule R r tree grows) (others : IsSeq S rs ts grows) where
   next_gives : (s : List ℕ) (x : V × W) (k : ℕ) → (pair_reading R S).gives s x k → Parts s (r ∷ rs) (tree x.0 ∷ ts x.1) k
   unfolding pair_reading
   next_gives s x k h = rw h.4 (parts_then (rule.gives s x.0 h.0 h.2) (others.gives (drop h.0 s) x.1 h.1 h.3))
@@ -130,7 +131,8 @@ parts_node : {s rs : List ℕ} {ts : List Tree} {k : ℕ} (r : ℕ) → row_of r
 parts_node r row shape m = of_row row (by_seq m.reads refl) (rw (shape, m.given, m.end) refl)
 
 -- a rule whose row is a sequence
-module _ {V : Type 0} {R : Reading V} {rs : List ℕ} {ts : V → List Tree} {grows : Type 0} (all : IsSeq R rs ts grows) (r : ℕ) (row : row_of r ≡ Seq rs) where
+module _ {V : Type 0} {R : Reading V} {rs : List ℕ} {ts : V → List Tree} {grows : Type 0}
+    (all : IsSeq R rs ts grows) (r : ℕ) (row : row_of r ≡ Seq rs) where
   -- where the parts refuse, the rule fails
   pub no_seq : (s : List ℕ) → R.refuses s → Reads s r 0 Fails
   no_seq s h = of_row row (by_seq (all.refuses s h) refl) refl
@@ -163,8 +165,10 @@ module _ {V X : Type 0} {R : Reading V} {r : ℕ} {tree : V → Tree} {grows : T
   fault_rule {s} {e} h = record { says = says_rule s e h.says }
 
 -- three parts one after another
-pub triple_rule : {T U V : Type 0} {P : Reading T} {Q : Reading U} {R : Reading V} {x y z : ℕ} {f : T → Tree} {g : U → Tree} {h : V → Tree} {grows : Type 0}
-    → {X : Type 0} (view : X → T × (U × V)) → IsRule P x f grows → IsRule Q y g grows → IsRule R z h grows → (r : ℕ) → row_of r ≡ Seq (x ∷ y ∷ z ∷ []) → shape_of r ≡ Plain
+pub triple_rule : {T U V : Type 0} {P : Reading T} {Q : Reading U} {R : Reading V} {x y z : ℕ}
+    {f : T → Tree} {g : U → Tree} {h : V → Tree} {grows : Type 0}
+    → {X : Type 0} (view : X → T × (U × V)) → IsRule P x f grows → IsRule Q y g grows → IsRule R z h grows
+    → (r : ℕ) → row_of r ≡ Seq (x ∷ y ∷ z ∷ []) → shape_of r ≡ Plain
     → IsRule (seen_reading view (pair_reading P (pair_reading Q R))) r (λ t. Node (trees (f (view t).0 ∷ g (view t).1.0 ∷ h (view t).1.1 ∷ []))) grows
 triple_rule view a b c r row shape = seen_rule view (seq_rule (seq_next a (seq_next b (seq_last c))) r row shape)
 

@@ -30,4 +30,5 @@ pair_law R S x y r f g first second row shape = pair_rule (wider_rule inl first)
 pub triple_law : {T U V : Type 0} (P : Reading T) (Q : Reading U) (R : Reading V) → TripleLaw P Q R
 unfolding pair_reading seen_reading
 triple_law {T} {U} {V} P Q R x y z r f g h first second third row shape =
-    triple_rule (λ (t : T × U × V). (t.0, (t.1, t.2))) (wider_rule inl first) (wider_rule (λ grows. inr (inl grows)) second) (wider_rule (λ grows. inr (inr grows)) third) r row shape
+    triple_rule (λ (t : T × U × V). (t.0, (t.1, t.2)))
+    (wider_rule inl first) (wider_rule (λ grows. inr (inl grows)) second) (wider_rule (λ grows. inr (inr grows)) third) r row shape

@@ -63,7 +63,11 @@ module _ {r : ℕ} {s : List ℕ} where
 
     -- where the first fails, it takes what the second takes
     pub took_second : Reads s x 0 Fails → {rest : List ℕ} → Took y s [] rest → Took r s [] rest
-    took_second d m = record { place = m.place; reads = of_row row (by_first (first_next d (first_here m.reads refl)) refl) (rw shape refl); rest_is = m.rest_is }
+    took_second d m = record {
+      place = m.place;
+      reads = of_row row (by_first (first_next d (first_here m.reads refl)) refl) (rw shape refl);
+      rest_is = m.rest_is;
+    }
 
     -- where both fail, it fails
     pub no_first : Reads s x 0 Fails → Reads s y 0 Fails → Reads s r 0 Fails

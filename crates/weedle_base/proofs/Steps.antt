@@ -70,7 +70,8 @@ module _ {V W : Type 0} (R : Reading V) (S : Reading W) where
       (λ r code t. inr (v, a.place, a.gives, subst (λ (x : List ℕ). S.stops x r code) a.rest_is t)) h
 
 -- the exit of a `?`
-pub exit_answers : {V : Type 0} {R : Reading V} {s : List ℕ} (r : Result (Bor (List ℕ) × V) (Fault (Error (Bor (List ℕ))))) {e : Fault (Error (Bor (List ℕ)))}
+pub exit_answers : {V : Type 0} {R : Reading V} {s : List ℕ} (r : Result (Bor (List ℕ) × V) (Fault (Error (Bor (List ℕ)))))
+    {e : Fault (Error (Bor (List ℕ)))}
     → Faults R s e → IsErrAnd r (λ d. d ≡ e) → Answers R s r
 exit_answers (Ok x) f h = absurd h
 exit_answers (Err d) f h = rw h f

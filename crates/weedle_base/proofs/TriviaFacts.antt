@@ -48,7 +48,11 @@ piece_blanks a h =
 pub piece_block : (s : List ℕ) (o : Option (Bor (List ℕ))) → Reads s LINE_COMMENT 0 Fails → Reads s BLANKS 0 Fails
     → Trial BLOCK_COMMENT s o → Trial PIECE s o
 piece_block s None a b h = of_row refl (by_first (first_next a (first_next b (first_next h (first_none refl)))) refl) refl
-piece_block s (Some rest) a b h = record { place = h.place; reads = of_row refl (by_first (first_next a (first_next b (first_here h.reads refl))) refl) refl; rest_is = h.rest_is }
+piece_block s (Some rest) a b h = record {
+  place = h.place;
+  reads = of_row refl (by_first (first_next a (first_next b (first_here h.reads refl))) refl) refl;
+  rest_is = h.rest_is;
+}
 
 piece_takes : {s : List ℕ} {k : ℕ} {ts : List Tree} → Reads s PIECE 0 (Gives ts k) → 0 < k
 piece_takes {s} d = advances webidl s rank takes ranked d refl
@@ -69,7 +73,8 @@ behind_more {s} {rest} {next} h t = record {
   place = h.place + t.place;
   rest_is = t.rest_is ∙ ap (λ (x : List ℕ). drop t.place x) h.rest_is ∙ drop-drop t.place h.place s;
   on = λ k d.
-      let there : ReadsRow webidl (drop t.place rest) (Many PIECE) 0 (Yields [] [] k) = subst (λ (x : List ℕ). ReadsRow webidl x (Many PIECE) 0 (Yields [] [] k)) t.rest_is d in
+      let there : ReadsRow webidl (drop t.place rest) (Many PIECE) 0 (Yields [] [] k) =
+      subst (λ (x : List ℕ). ReadsRow webidl x (Many PIECE) 0 (Yields [] [] k)) t.rest_is d in
       let far : t.place ≢ 0 = λ e. (let p = piece_takes t.reads in omega (arith, p, e)) in
       let all = h.on (t.place + k) (many_more t.reads far (row_forth rest t.place there) refl) in
       let e : h.place + (t.place + k) ≡ (h.place + t.place) + k = omega arith in

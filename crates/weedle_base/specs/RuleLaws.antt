@@ -22,7 +22,8 @@ BoxLaw {V} R = (r : ℕ) (tree : V → Tree) → HasRule R r tree → HasRule (b
 
 -- a `Vec` reads what a rule reads that repeats the items' rule
 abbrev pub VecLaw : {V : Type 0} → Reading V → Type 0
-VecLaw {V} R = (x r : ℕ) (tree : V → Tree) → HasRule R x tree → row_of r ≡ Many x → shape_of r ≡ Plain → HasRule (run_reading (λ (v : Vec V). v.items) (vec_step R)) r (λ v. items_tree tree v.items)
+VecLaw {V} R = (x r : ℕ) (tree : V → Tree) → HasRule R x tree → row_of r ≡ Many x → shape_of r ≡ Plain
+    → HasRule (run_reading (λ (v : Vec V). v.items) (vec_step R)) r (λ v. items_tree tree v.items)
 
 -- a pair reads what a rule reads that is two rules one after the other
 abbrev pub PairLaw : {V W : Type 0} → Reading V → Reading W → Type 0
@@ -32,5 +33,6 @@ PairLaw {V} {W} R S =
 
 -- a triple reads what a rule reads that is three rules one after another
 abbrev pub TripleLaw : {T U V : Type 0} → Reading T → Reading U → Reading V → Type 0
-TripleLaw {T} {U} {V} P Q R = (x y z r : ℕ) (f : T → Tree) (g : U → Tree) (h : V → Tree) → HasRule P x f → HasRule Q y g → HasRule R z h → row_of r ≡ Seq (x ∷ y ∷ z ∷ []) → shape_of r ≡ Plain
+TripleLaw {T} {U} {V} P Q R = (x y z r : ℕ) (f : T → Tree) (g : U → Tree) (h : V → Tree)
+    → HasRule P x f → HasRule Q y g → HasRule R z h → row_of r ≡ Seq (x ∷ y ∷ z ∷ []) → shape_of r ≡ Plain
     → HasRule (seen_reading {X = T × U × V} (λ t. (t.0, (t.1, t.2))) (pair_reading P (pair_reading Q R))) r (λ t. Node (trees (f t.0 ∷ g t.1 ∷ h t.2 ∷ [])))

@@ -46,7 +46,8 @@ module _ {V : Type 0} (S : Step V) (lawful : IsLawfulStep S) where
         let p = lawful.one s v w h.0 m.0 u h.2 m.2 in
         let items : Items S.takes (drop h.0 s) ws m.1 = subst (λ (n : ℕ). Items S.takes (drop n s) ws m.1) (sym p.1) m.3 in
         let end_a : A (drop h.1 (drop h.0 s)) = subst A (ap (λ (n : ℕ). drop n s) h.4 ∙ sym (drop-drop h.1 h.0 s)) a in
-        let end_b : B (drop m.1 (drop h.0 s)) = subst B (ap (λ (n : ℕ). drop n s) (m.4 ∙ ap (λ (n : ℕ). n + m.1) (sym p.1)) ∙ sym (drop-drop m.1 h.0 s)) b in
+        let end_b : B (drop m.1 (drop h.0 s)) =
+        subst B (ap (λ (n : ℕ). drop n s) (m.4 ∙ ap (λ (n : ℕ). n + m.1) (sym p.1)) ∙ sym (drop-drop m.1 h.0 s)) b in
         let q = Items-same (drop h.0 s) vs ws h.1 m.1 (utf8_rest s h.0 u bound) h.3 end_a items end_b in
         ((p.0, q.0), h.4 ∙ ap (λ (n : ℕ). n + h.1) p.1 ∙ ap (λ (n : ℕ). m.0 + n) q.1 ∙ sym m.4)
 

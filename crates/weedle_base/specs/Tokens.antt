@@ -22,4 +22,5 @@ IsSymbol r b =
 
 -- the rule is a keyword's: trivia, these bytes with no name character next, and trivia
 abbrev pub IsKeyword : ℕ → List ℕ → Type 0
-IsKeyword r b = (row_of r ≡ Seq (TRIVIA ∷ core r ∷ NOT_NEXT_NAME ∷ TRIVIA ∷ [])) × (shape_of r ≡ Marked) × (row_of (core r) ≡ Bytes b) × (shape_of (core r) ≡ Silent)
+IsKeyword r b =
+    (row_of r ≡ Seq (TRIVIA ∷ core r ∷ NOT_NEXT_NAME ∷ TRIVIA ∷ [])) × (shape_of r ≡ Marked) × (row_of (core r) ≡ Bytes b) × (shape_of (core r) ≡ Silent)

@@ -9,4 +9,5 @@ returns-in-None-clause-outcome g c =
 
 pub returns-in-Some-clause-outcome : goal.returns-in-Some-clause-outcome
 returns-in-Some-clause-outcome g c =
-    got_own (λ v. Mark) ⊥ _ (keyword_reads c.skip_trivia-start.ensures c.requires c.in-Some.ensures.0 c.skip_trivia.ensures) refl c.utf8.input c.skip_trivia.utf8
+    got_own (λ v. Mark) ⊥ _ (keyword_reads c.skip_trivia-start.ensures c.requires c.in-Some.ensures.0 c.skip_trivia.ensures)
+    refl c.utf8.input c.skip_trivia.utf8
