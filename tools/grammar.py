@@ -393,7 +393,7 @@ def spec_table():
     joined = SECTIONS[-1].module
     for s in reversed(SECTIONS[:-1]):
         joined = f"{s.module} ++ {joined}" if s is SECTIONS[-2] else f"{s.module} ++ ({joined})"
-    out += ["abbrev pub table : List Entry", f"table = {joined}", "",
+    out += ["-- all rules, in the order of their numbers", "abbrev pub table : List Entry", f"table = {joined}", "",
             "-- the row of a rule", "abbrev pub row_of : ℕ → Row", "row_of r = (entry_at table r).row", "",
             "-- its shape", "abbrev pub shape_of : ℕ → Shape", "shape_of r = (entry_at table r).shape", "",
             "-- the grammar", "abbrev pub webidl : Grammar", "webidl = record { row = row_of; shape = shape_of }", "",
@@ -509,7 +509,8 @@ def code_names():
 def spec_bound():
     write("specs/Bound.antt", "\n".join([
         f"-- How many rules there are. {HEAD[0].upper() + HEAD[1:]}.",
-        "use Rattle.std.specs.Prelude.{ℕ}", "", "abbrev pub rule_count : ℕ", f"rule_count = {len(RULES)}"]) + "\n")
+        "use Rattle.std.specs.Prelude.{ℕ}", "",
+        "-- one more than the greatest number", "abbrev pub rule_count : ℕ", f"rule_count = {len(RULES)}"]) + "\n")
     path = CRATE / "src/lib.rt"
     if path.exists():
         path.write_text(re.sub(r"pub const RULES: usize = \d+;", f"pub const RULES: usize = {len(RULES)};", path.read_text()))
@@ -517,10 +518,11 @@ def spec_bound():
 
 def proof_takes():
     for s in SECTIONS:
-        out = [f"-- Which rules of this section always take a byte. {HEAD[0].upper() + HEAD[1:]}.",
-               "use Rattle.std.proofs.Common.{List, [], ◌∷◌, Bool, true, false}", "",
-               f"abbrev pub {s.module} : List Bool", f"{s.module} ="]
         flags = [("true" if TAKES[r.name] else "false") for r in s.rules]
+        used = ", ".join(flag for flag in ("true", "false") if flag in flags)
+        out = [f"-- Which rules of this section always take a byte. {HEAD[0].upper() + HEAD[1:]}.",
+               f"use Rattle.std.proofs.Common.{{List, [], ◌∷◌, Bool, {used}}}", "",
+               f"abbrev pub {s.module} : List Bool", f"{s.module} ="]
         for i in range(0, len(flags), 12):
             out.append("    " + " ∷ ".join(flags[i:i + 12]) + " ∷")
         out.append("    []")
@@ -533,7 +535,8 @@ def proof_takes():
     out += [f"use Rattle.weedle_rules.proofs.Takes.{s.name}.{{{s.module}}}" for s in SECTIONS]
     out.append("")
     out += [f"pub mod {s.name}" for s in SECTIONS]
-    out += ["", "abbrev pub flags : List Bool", f"flags = {joined}", "",
+    out += ["", "-- whether each rule does, in the order of their numbers", "abbrev pub flags : List Bool", f"flags = {joined}", "",
+            "-- the flag at a place; past the end none is set",
             "abbrev pub flag_at : List Bool → ℕ → Bool", "flag_at [] r = false", "flag_at (b ∷ bs) zero = b",
             "flag_at (b ∷ bs) (suc r) = flag_at bs r", "", "-- the rule takes a byte wherever it doesn't fail",
             "abbrev pub takes : ℕ → Bool", "takes r = flag_at flags r"]

@@ -18,16 +18,19 @@ use Rattle.weedle_rules.specs.Table.{webidl, row_of, shape_of}
 use Rattle.weedle_rules.specs.Trees.{Tree, Alt, Fails, Gives}
 
 module _ {V W : Type 0} (R : Reading V) (S : Reading W) where
+  -- the first type's value, or the second's where the first refuses
   abbrev pub choice_gives : List ℕ → V ⊎ W → ℕ → Type 0
   choice_gives s (inl v) k = R.gives s v k
   choice_gives s (inr w) k = R.refuses s × S.gives s w k
 
+  -- values of the same type that are alike
   abbrev pub choice_alike : V ⊎ W → V ⊎ W → Type 0
   choice_alike (inl v) (inl x) = R.alike v x
   choice_alike (inl v) (inr x) = ⊥
   choice_alike (inr w) (inl x) = ⊥
   choice_alike (inr w) (inr x) = S.alike w x
 
+  -- the first of two types that fits
   unfoldable pub choice_reading : Reading (V ⊎ W)
   choice_reading = record {
     gives = choice_gives;
@@ -37,32 +40,41 @@ module _ {V W : Type 0} (R : Reading V) (S : Reading W) where
     alike = choice_alike;
   }
 
+  -- the first type fitted
   pub got_left : {s rest : List ℕ} {v : V} → Got R s v rest → Got choice_reading s (inl v) rest
   unfolding choice_reading
   got_left h = record { place = h.place; gives = h.gives; within = h.within; rest_is = h.rest_is; text = h.text }
 
-  pub got_right : {s rest : List ℕ} {w : W} {e : Error (Bor (List ℕ))} → Faults R s (Recoverable e) → Got S s w rest → Got choice_reading s (inr w) rest
+  -- the first refused, and the second fitted
+  pub got_right : {s rest : List ℕ} {w : W} {e : Error (Bor (List ℕ))} → Faults R s (Recoverable e) → Got S s w rest
+      → Got choice_reading s (inr w) rest
   unfolding choice_reading
   got_right f h = record { place = h.place; gives = (f.says.0, h.gives); within = h.within; rest_is = h.rest_is; text = h.text }
 
+  -- a failure of the first is a failure of both
   pub fault_left : {s : List ℕ} {e : Error (Bor (List ℕ))} → Faults R s (Failure e) → Faults choice_reading s (Failure e)
   unfolding choice_reading
   fault_left h = record { says = inl h.says }
 
-  pub fault_right : {s : List ℕ} {e : Error (Bor (List ℕ))} {f : Fault (Error (Bor (List ℕ)))} → Faults R s (Recoverable e) → Faults S s f → Faults choice_reading s f
+  -- where the first refuses, a fault of the second is a fault of both
+  pub fault_right : {s : List ℕ} {e : Error (Bor (List ℕ))} {f : Fault (Error (Bor (List ℕ)))} → Faults R s (Recoverable e)
+      → Faults S s f → Faults choice_reading s f
   unfolding choice_reading
   fault_right a h = fault_along S S choice_reading 0 refl (λ x. (a.says.0, x)) (λ r code x. inr (a.says.0, x)) h
 
+-- the reading is that of rules of which the first that fits is taken, counted from i
 pub record IsFirst {V : Type 0} (R : Reading V) (rs : List ℕ) (i : ℕ) (tree : V → Tree) (grows : Type 0) : Type 0 where
   pub gives : (s : List ℕ) (v : V) (k : ℕ) → R.gives s v k → ReadsFirst webidl s rs i 0 (Gives (tree v ∷ []) k)
   pub refuses : (s : List ℕ) → R.refuses s → ReadsFirst webidl s rs i 0 Fails
   pub stops : (s x : List ℕ) (code : ErrorKind) → R.stops s x code → stops_for_memory grows s x code
 
+-- the tree of a value of either type
 abbrev pub choice_tree : {V W : Type 0} → (V → Tree) → (W → Tree) → V ⊎ W → Tree
 choice_tree f g (inl v) = f v
 choice_tree f g (inr w) = g w
 
 module _ {V : Type 0} {R : Reading V} {r : ℕ} {tree : V → Tree} {grows : Type 0} (i : ℕ) (rule : IsRule R r tree grows) where
+  -- the last alternative
   pub first_last : IsFirst R (r ∷ []) i (λ v. Alt i (tree v)) grows
   first_last = record {
     gives = λ s v k h. first_here (rule.gives s v k h) refl;
@@ -70,8 +82,10 @@ module _ {V : Type 0} {R : Reading V} {r : ℕ} {tree : V → Tree} {grows : Typ
     stops = rule.stops;
   }
 
-module _ {V W : Type 0} {R : Reading V} {S : Reading W} {r : ℕ} {rs : List ℕ} {tree : V → Tree} {ts : W → Tree} {grows : Type 0} (i : ℕ) (rule : IsRule R r tree grows) (others : IsFirst S rs (suc i) ts grows) where
-  next_gives : (s : List ℕ) (x : V ⊎ W) (k : ℕ) → choice_gives R S s x k → ReadsFirst webidl s (r ∷ rs) i 0 (Gives (choice_tree (λ v. Alt i (tree v)) ts x ∷ []) k)
+module _ {V W : Type 0} {R : Reading V} {S : Reading W} {r : ℕ} {rs : List ℕ} {tree : V → Tree} {ts : W → Tree} {grows : Type 0}
+    (i : ℕ) (rule : IsRule R r tree grows) (others : IsFirst S rs (suc i) ts grows) where
+  next_gives : (s : List ℕ) (x : V ⊎ W) (k : ℕ) → choice_gives R S s x k
+      → ReadsFirst webidl s (r ∷ rs) i 0 (Gives (choice_tree (λ v. Alt i (tree v)) ts x ∷ []) k)
   next_gives s (inl v) k h = first_here (rule.gives s v k h) refl
   next_gives s (inr w) k h = first_next (rule.refuses s h.0) (others.gives s w k h.1)
 
@@ -80,11 +94,13 @@ module _ {V W : Type 0} {R : Reading V} {S : Reading W} {r : ℕ} {rs : List ℕ
   next_stops s x code (inl h) = rule.stops s x code h
   next_stops s x code (inr h) = others.stops s x code h.1
 
+  -- an alternative before others
   pub first_more : IsFirst (choice_reading R S) (r ∷ rs) i (choice_tree (λ v. Alt i (tree v)) ts) grows
   unfolding choice_reading
   first_more = record { gives = next_gives; refuses = λ s h. first_next (rule.refuses s h.0) (others.refuses s h.1); stops = next_stops }
 
 module _ {V : Type 0} {R : Reading V} {rs : List ℕ} {tree : V → Tree} {grows : Type 0} (all : IsFirst R rs 0 tree grows) where
+  -- alternatives read what a rule reads whose row is the first of their rules that fits
   pub first_rule : (r : ℕ) → row_of r ≡ First rs → shape_of r ≡ Plain → IsRule R r tree grows
   first_rule r row shape = record {
     gives = λ s v k h. of_row row (by_first (all.gives s v k h) refl) (rw shape refl);
@@ -94,11 +110,14 @@ module _ {V : Type 0} {R : Reading V} {rs : List ℕ} {tree : V → Tree} {grows
 
 -- Where a variant is tried as an option.
 module _ {V W : Type 0} (R : Reading V) (S : Reading W) where
+  -- the first type fitted
   pub choose_left : {s rest : List ℕ} {v : V} → Got (option_reading R) s (Some v) rest → Got (choice_reading R S) s (inl v) rest
   unfolding choice_reading option_reading
   choose_left h = record { place = h.place; gives = h.gives; within = h.within; rest_is = h.rest_is; text = h.text }
 
-  pub choose_right : {s rest end : List ℕ} {w : W} → Got (option_reading R) s None rest → Got S s w end → Got (choice_reading R S) s (inr w) end
+  -- the first was absent, and the second fitted
+  pub choose_right : {s rest end : List ℕ} {w : W} → Got (option_reading R) s None rest → Got S s w end
+      → Got (choice_reading R S) s (inr w) end
   unfolding choice_reading option_reading
   choose_right f h = record { place = h.place; gives = (f.gives.0, h.gives); within = h.within; rest_is = h.rest_is; text = h.text }
 
@@ -107,21 +126,27 @@ module _ {V W : Type 0} (R : Reading V) (S : Reading W) where
   option_fault s (Recoverable e) h = absurd h.0
   option_fault s (Failure e) h = inl h
 
+  -- a fault of the first is a fault of both
   pub end_left : {s : List ℕ} {e : Fault (Error (Bor (List ℕ)))} → Faults (option_reading R) s e → Faults (choice_reading R S) s e
   end_left {s} {e} h = record { says = option_fault s e h.says }
 
-  pub end_right : {s rest : List ℕ} {e : Fault (Error (Bor (List ℕ)))} → Got (option_reading R) s None rest → Faults S s e → Faults (choice_reading R S) s e
+  -- where the first was absent, a fault of the second is a fault of both
+  pub end_right : {s rest : List ℕ} {e : Fault (Error (Bor (List ℕ)))} → Got (option_reading R) s None rest → Faults S s e
+      → Faults (choice_reading R S) s e
   unfolding choice_reading option_reading
   end_right f h = fault_along S S (choice_reading R S) 0 refl (λ x. (f.gives.0, x)) (λ r code x. inr (f.gives.0, x)) h
 
   -- the same at what was answered
   module _ {s rest : List ℕ} {o : Option V} (h : Got (option_reading R) s o rest) where
+    -- the first type fitted
     pub this : {v : V} → o ≡ Some v → Got (choice_reading R S) s (inl v) rest
     this {v} e = choose_left (subst (λ (x : Option V). Got (option_reading R) s x rest) e h)
 
+    -- the first was absent, and the second fitted
     pub later : o ≡ None → {end : List ℕ} {w : W} → Got S s w end → Got (choice_reading R S) s (inr w) end
     later e g = choose_right (subst (λ (x : Option V). Got (option_reading R) s x rest) e h) g
 
+    -- the first was absent, and the second ended with a fault
     pub fails_later : o ≡ None → {f : Fault (Error (Bor (List ℕ)))} → Faults S s f → Faults (choice_reading R S) s f
     fails_later e g = end_right (subst (λ (x : Option V). Got (option_reading R) s x rest) e h) g
 

@@ -3,12 +3,13 @@ use Rattle.std.proofs.Common.{refl, sym, ap, ◌∙◌, arith}
 use Rattle.std.proofs.lemmas.Bool.{eqb-true, eq-eqb}
 use Rattle.std.proofs.lemmas.List.{get_or-drop, length-drop}
 use Rattle.std.proofs.lemmas.Str.{IsCharBoundary-start}
-use Rattle.std.specs.Prelude.{◌≡◌, ℕ, zero, suc, ◌+◌, ◌<◌, ◌≤◌, List, [], ◌∷◌, ◌++◌, drop, Bool, true, false, length, ◌&&◌, ◌==◌, get_or, Option, Some, None, option_map}
+use Rattle.std.specs.Prelude.{◌≡◌, ℕ, zero, suc, ◌+◌, ◌<◌, ◌≤◌, List, [], ◌∷◌, ◌++◌, drop, Bool, true, false, length, ◌==◌, get_or, Option, Some, None, option_map}
 use Rattle.std.specs.Str.{IsCharBoundary, IsUtf8}
 use Rattle.std.specs.Str.Pattern.{LacksTextAt}
 use Rattle.memchr.specs.Find.{IsFirstByte, FindsNeedle, is_byte, OccursAt, Passes}
 use Rattle.weedle_base.proofs.RuleFacts.{of_row}
 use Rattle.weedle_rules.proofs.Grammar.{at_boundary}
+use Rattle.weedle_rules.proofs.Leaves.{both}
 use Rattle.weedle_rules.specs.Meaning.{Silent, leaf, ReadsRow, by_bytes, by_one, by_not_next, by_run, by_past}
 use Rattle.weedle_rules.specs.Rows.{Row, Bytes, OneOf, NotNext, Run, Past, begins, take_bytes, take_one, take_not_next, take_past, run_length}
 use Rattle.weedle_rules.specs.Table.{webidl, row_of, shape_of, Reads}
@@ -21,22 +22,28 @@ silent None = Fails
 silent (Some k) = Gives [] k
 
 module _ {s : List ℕ} {r : ℕ} where
-  silent_leaf : {row : Row} (o : Option ℕ) → row_of r ≡ row → shape_of r ≡ Silent → ReadsRow webidl s row 0 (leaf 0 o) → Reads s r 0 (silent o)
+  silent_leaf : {row : Row} (o : Option ℕ) → row_of r ≡ row → shape_of r ≡ Silent → ReadsRow webidl s row 0 (leaf 0 o)
+      → Reads s r 0 (silent o)
   silent_leaf None row shape d = of_row row d refl
   silent_leaf (Some k) row shape d = of_row row d (rw shape (ap (λ (n : ℕ). Gives [] n) (omega arith)))
 
+  -- a silent rule of these bytes
   pub reads_bytes : {b : List ℕ} → row_of r ≡ Bytes b → shape_of r ≡ Silent → Reads s r 0 (silent (take_bytes b s))
   reads_bytes row shape = silent_leaf _ row shape (by_bytes refl)
 
+  -- a silent rule of one byte of a class
   pub reads_one : {c : Class} → row_of r ≡ OneOf c → shape_of r ≡ Silent → Reads s r 0 (silent (take_one c s))
   reads_one row shape = silent_leaf _ row shape (by_one refl)
 
+  -- a silent rule that no byte of a class is next
   pub reads_not_next : {c : Class} → row_of r ≡ NotNext c → shape_of r ≡ Silent → Reads s r 0 (silent (take_not_next c s))
   reads_not_next row shape = silent_leaf _ row shape (by_not_next refl)
 
+  -- a silent rule of all bytes of a class
   pub reads_run : {c : Class} → row_of r ≡ Run c → shape_of r ≡ Silent → Reads s r 0 (silent (Some (run_length c s)))
   reads_run {c} row shape = silent_leaf (Some (run_length c s)) row shape (by_run refl)
 
+  -- a silent rule of everything past these bytes
   pub reads_past : {b : List ℕ} → row_of r ≡ Past b → shape_of r ≡ Silent → Reads s r 0 (silent (take_past b s))
   reads_past row shape = silent_leaf _ row shape (by_past refl)
 
@@ -49,10 +56,7 @@ pub begins_yes : (b rest : List ℕ) → begins b (b ++ rest) ≡ true
 begins_yes [] rest = refl
 begins_yes (c ∷ b) rest = rw (eq-eqb c c refl) (begins_yes b rest)
 
-pub both : (a b : Bool) → a && b ≡ true → (a ≡ true) × (b ≡ true)
-both true b h = (refl, h)
-both false b h = cc
-
+-- what begins with b is b and a rest
 pub begins_with : (b s : List ℕ) → begins b s ≡ true → (rest : List ℕ) × (s ≡ b ++ rest)
 begins_with [] s h = (s, refl)
 begins_with (c ∷ b) [] h = cc
@@ -66,17 +70,21 @@ not_true : (b : Bool) → (b ≡ true → ⊥) → b ≡ false
 not_true true h = absurd (h refl)
 not_true false h = refl
 
+-- a text that lacks b doesn't begin with b
 pub begins_no : (b s : List ℕ) → LacksTextAt b s 0 → begins b s ≡ false
 begins_no b s n = not_true (begins b s) (λ h. let m = begins_with b s h in n m.0 m.1)
 
+-- where the text lacks b, b isn't taken
 pub takes_none : (b s : List ℕ) → LacksTextAt b s 0 → take_bytes b s ≡ None
 takes_none b s n = rw (begins_no b s n) refl
 
+-- where the text is b and a rest, b is taken
 pub takes_some : (b s rest : List ℕ) → s ≡ b ++ rest → take_bytes b s ≡ Some (length b)
 takes_some b s rest e = let h : begins b s ≡ true = ap (λ (t : List ℕ). begins b t) e ∙ begins_yes b rest in rw h refl
 
 -- The first place where bytes stand.
-past_at : (b s : List ℕ) (i : ℕ) → i ≤ length s → begins b (drop i s) ≡ true → ((j : ℕ) → j < i → begins b (drop j s) ≡ false) → take_past b s ≡ Some (i + length b)
+past_at : (b s : List ℕ) (i : ℕ) → i ≤ length s → begins b (drop i s) ≡ true → ((j : ℕ) → j < i → begins b (drop j s) ≡ false)
+    → take_past b s ≡ Some (i + length b)
 past_at b [] zero h y n = rw y (ap Some (omega arith))
 past_at b [] (suc i) h y n = absurd (omega (arith, h))
 past_at b (t ∷ s) zero h y n = rw y (ap Some (omega arith))
@@ -109,7 +117,8 @@ front_same (c ∷ b) (d ∷ s) h =
     let e = eqb-true c d p.0 in
     (omega (arith, m.0), go m.1 e)
   where
-    go : ((j : ℕ) → j < length b → get_or s j 0 ≡ get_or b j 0) → c ≡ d → (j : ℕ) → j < suc (length b) → get_or (d ∷ s) j 0 ≡ get_or (c ∷ b) j 0
+    go : ((j : ℕ) → j < length b → get_or s j 0 ≡ get_or b j 0) → c ≡ d → (j : ℕ) → j < suc (length b)
+        → get_or (d ∷ s) j 0 ≡ get_or (c ∷ b) j 0
     go m e zero l = sym e
     go m e (suc j) l = m j (omega (arith, l))
 
@@ -117,15 +126,20 @@ occurs_begins : (s b : List ℕ) (k : ℕ) → OccursAt s b k → begins b (drop
 occurs_begins s b k h = same_front b (drop k s) (omega (arith, length-drop k s, h.fits)) (λ j l. get_or-drop k s j 0 ∙ h.reads j l)
 
 begins_occurs : (s b : List ℕ) (k : ℕ) → k ≤ length s → begins b (drop k s) ≡ true → OccursAt s b k
-begins_occurs s b k h e = let m = front_same b (drop k s) e in record { fits = omega (arith, length-drop k s, m.0, h); reads = λ j l. sym (get_or-drop k s j 0) ∙ m.1 j l }
+begins_occurs s b k h e =
+    let m = front_same b (drop k s) e in
+    record { fits = omega (arith, length-drop k s, m.0, h); reads = λ j l. sym (get_or-drop k s j 0) ∙ m.1 j l }
 
+-- where b was found at place i, everything past it is taken
 pub found_past : (b s : List ℕ) (i : ℕ) → FindsNeedle s b 0 (Some i) → take_past b s ≡ Some (i + length b)
 found_past b s i h =
     past_at b s i (omega (arith, h.0.high)) (occurs_begins s b i h.1)
     (λ j l. not_true (begins b (drop j s)) (λ e. h.0.before j (omega arith) l (begins_occurs s b j (omega (arith, l, h.0.high)) e)))
 
+-- where b is nowhere, nothing is taken
 pub nowhere_past : (b s : List ℕ) → FindsNeedle s b 0 None → take_past b s ≡ None
-nowhere_past b s h = past_nowhere b s (λ j l. not_true (begins b (drop j s)) (λ e. h j (omega arith) (omega (arith, l)) (begins_occurs s b j l e)))
+nowhere_past b s h =
+    past_nowhere b s (λ j l. not_true (begins b (drop j s)) (λ e. h j (omega arith) (omega (arith, l)) (begins_occurs s b j l e)))
 
 -- the same of one byte
 byte_begins : (c : ℕ) (s : List ℕ) (k : ℕ) → k < length s → Passes (is_byte c) s k → begins (c ∷ []) (drop k s) ≡ true
@@ -143,10 +157,13 @@ begins_byte c s k e =
     let there : get_or s k 0 ≡ c = ap (λ (n : ℕ). get_or s n 0) (sym f) ∙ sym (get_or-drop k s 0 0) ∙ here in
     (omega (arith, length-drop k s, m.0), eq-eqb (get_or s k 0) c there)
 
+-- where the byte was found at place i, everything past it is taken
 pub found_byte : (c : ℕ) (s : List ℕ) (i : ℕ) → IsFirstByte (is_byte c) s (Some i) → take_past (c ∷ []) s ≡ Some (i + 1)
 found_byte c s i h =
     past_at (c ∷ []) s i (omega (arith, h.0.high)) (byte_begins c s i h.0.high h.1)
     (λ j l. not_true (begins (c ∷ []) (drop j s)) (λ e. h.0.before j (omega arith) l (begins_byte c s j e).1))
 
+-- where the byte is nowhere, nothing is taken
 pub nowhere_byte : (c : ℕ) (s : List ℕ) → IsFirstByte (is_byte c) s None → take_past (c ∷ []) s ≡ None
-nowhere_byte c s h = past_nowhere (c ∷ []) s (λ j l. not_true (begins (c ∷ []) (drop j s)) (λ e. let m = begins_byte c s j e in h j (omega arith) m.0 m.1))
+nowhere_byte c s h =
+    past_nowhere (c ∷ []) s (λ j l. not_true (begins (c ∷ []) (drop j s)) (λ e. let m = begins_byte c s j e in h j (omega arith) m.0 m.1))

@@ -11,7 +11,7 @@ use Rattle.weedle_rules.specs.Meaning.{Yields, ReadsRow, by_seq, many_end, many_
 use Rattle.weedle_rules.specs.Table.{webidl, Reads}
 use Rattle.weedle_rules.specs.Table.Trivia.{RUN_BLANK, PAST_LF}
 use Rattle.weedle_rules.specs.Table.Leaves.{BYTES_THREE_SLASHES, DOC_LINE, MANY_DOC_LINE, DOCSTRING}
-use Rattle.weedle_rules.proofs.Suffix.{then_on, then_fails_on, fails, nothing, no_node}
+use Rattle.weedle_rules.proofs.Suffix.{then_on, fails, nothing, no_node}
 use Rattle.weedle_rules.proofs.Checked.{rank, ranked}
 use Rattle.weedle_rules.proofs.Takes.{takes}
 use Rattle.weedle_rules.proofs.Exists.{advances}
@@ -23,7 +23,9 @@ use Rattle.weedle_base.specs.Own.{own}
 use Rattle.weedle_base.proofs.RuleFacts.{of_row}
 use Rattle.weedle_base.proofs.RunRules.{row_forth}
 use Rattle.weedle_base.proofs.Steps.{rest_add}
-use Rattle.weedle_base.proofs.LeafFacts.{reads_past, cut, found_byte, nowhere_byte}
+use Rattle.weedle_base.proofs.LeafFacts.{reads_past, cut, found_byte}
+use Rattle.weedle_base.proofs.FindFacts.{byte_lacks}
+use Rattle.weedle_base.proofs.SilentRules.{lost}
 use Rattle.weedle_base.proofs.TriviaFacts.{slice_front, given}
 use Rattle.weedle_base.specs.Trivia.{Took}
 
@@ -34,14 +36,18 @@ line_bytes after i fits =
     ap (λ (n : ℕ). take n (take (i + 1) after)) e ∙ take-take i (i + 1) after (omega arith)
 
 module _ {s line : List ℕ} (a : Took RUN_BLANK s [] line) where
+  -- no line without `///`
   pub no_slashes : Reads line BYTES_THREE_SLASHES 0 Fails → Reads s DOC_LINE 0 Fails
-  no_slashes d = no_node refl (then_fails_on a.reads a.rest_is (fails d))
+  no_slashes d = no_node refl (lost a (fails d))
 
   module _ {after : List ℕ} (b : Took BYTES_THREE_SLASHES line [] after) where
+    -- no line without an LF
     pub open_line : IsFirstByte (is_byte 10) after None → Reads s DOC_LINE 0 Fails
-    open_line p = no_node refl (then_fails_on a.reads a.rest_is (then_fails_on b.reads b.rest_is (fails (given (reads_past {r = PAST_LF} refl refl) (nowhere_byte 10 after p)))))
+    open_line p = no_node refl (lost a (lost b (fails (byte_lacks PAST_LF refl refl p))))
 
-    pub whole_line : (i : ℕ) → IsFirstByte (is_byte 10) after (Some i) → {text rest : List ℕ} → text ≡ slice_range after 0 i → rest ≡ drop (i + 1) after → Took DOC_LINE s (Lines text ∷ []) rest
+    -- a whole line, its text kept
+    pub whole_line : (i : ℕ) → IsFirstByte (is_byte 10) after (Some i) → {text rest : List ℕ} → text ≡ slice_range after 0 i
+        → rest ≡ drop (i + 1) after → Took DOC_LINE s (Lines text ∷ []) rest
     whole_line i p {text} {rest} t r =
         let feed = given (reads_past {s = after} {r = PAST_LF} refl refl) (found_byte 10 after i p) in
         let here : after ≡ drop (a.place + b.place) s = rest_add s line after a.place b.place a.rest_is b.rest_is in
@@ -60,19 +66,24 @@ module _ {s line : List ℕ} (a : Took RUN_BLANK s [] line) where
 line_takes : {s : List ℕ} {k : ℕ} {ts : List Tree} → Reads s DOC_LINE 0 (Gives ts k) → 0 < k
 line_takes {s} d = advances webidl s rank takes ranked d refl
 
+-- a line takes a byte or more
 pub line_shorter : {rest next : List ℕ} {ts : List Tree} → IsUtf8 rest → Took DOC_LINE rest ts next → length next < length rest
 line_shorter {rest} {next} u t =
     let p = line_takes t.reads in
     let b = (cut u t.reads).0 in
     omega (arith, ap length t.rest_is, length-drop t.place rest, p, b)
 
-more_trees : (more : List (List ℕ)) (text : List ℕ) (ts : List Tree) → map Lines more ++ (Lines text ∷ ts) ≡ map Lines (more ++ (text ∷ [])) ++ ts
+more_trees : (more : List (List ℕ)) (text : List ℕ) (ts : List Tree)
+    → map Lines more ++ (Lines text ∷ ts) ≡ map Lines (more ++ (text ∷ [])) ++ ts
 more_trees [] text ts = refl
 more_trees (line ∷ more) text ts = ap (λ (us : List Tree). Lines line ∷ us) (more_trees more text ts)
 
-more_text : (more : List (List ℕ)) (text : List ℕ) → more_lines (trees (map Lines (more ++ (text ∷ [])))) ≡ more_lines (trees (map Lines more)) ++ (10 ∷ text)
+more_text : (more : List (List ℕ)) (text : List ℕ)
+    → more_lines (trees (map Lines (more ++ (text ∷ [])))) ≡ more_lines (trees (map Lines more)) ++ (10 ∷ text)
 more_text [] text = ap (λ (t : List ℕ). 10 ∷ t) (append-nil text)
-more_text (line ∷ more) text = ap (λ (t : List ℕ). 10 ∷ line ++ t) (more_text more text) ∙ sym (append_assoc (10 ∷ line) (more_lines (trees (map Lines more))) (10 ∷ text))
+more_text (line ∷ more) text =
+    ap (λ (t : List ℕ). 10 ∷ line ++ t) (more_text more text)
+    ∙ sym (append_assoc (10 ∷ line) (more_lines (trees (map Lines more))) (10 ∷ text))
 
 -- the text holds the lines at the front of s, and rest follows them
 pub record Lined (s text rest : List ℕ) : Type 0 where
@@ -82,9 +93,11 @@ pub record Lined (s text rest : List ℕ) : Type 0 where
   pub more : List (List ℕ)
   pub place : ℕ
   pub rest_is : rest ≡ drop place behind
-  pub on : (ts : List Tree) (k : ℕ) → ReadsRow webidl rest (Many DOC_LINE) 0 (Yields ts [] k) → ReadsRow webidl behind (Many DOC_LINE) 0 (Yields (map Lines more ++ ts) [] (place + k))
+  pub on : (ts : List Tree) (k : ℕ) → ReadsRow webidl rest (Many DOC_LINE) 0 (Yields ts [] k)
+      → ReadsRow webidl behind (Many DOC_LINE) 0 (Yields (map Lines more ++ ts) [] (place + k))
   pub text_is : text ≡ first ++ more_lines (trees (map Lines more))
 
+-- the first line
 pub lined_first : {s first text rest : List ℕ} → Took DOC_LINE s (Lines first ∷ []) rest → text ≡ first → Lined s text rest
 lined_first {s} {first} {text} {rest} h e = record {
   first = first;
@@ -97,7 +110,9 @@ lined_first {s} {first} {text} {rest} h e = record {
   text_is = e ∙ sym (append-nil first);
 }
 
-pub lined_more : {s text rest line new next : List ℕ} → Lined s text rest → Took DOC_LINE rest (Lines line ∷ []) next → new ≡ (text ++ (10 ∷ [])) ++ line → Lined s new next
+-- one more line, behind an LF
+pub lined_more : {s text rest line new next : List ℕ} → Lined s text rest → Took DOC_LINE rest (Lines line ∷ []) next
+    → new ≡ (text ++ (10 ∷ [])) ++ line → Lined s new next
 lined_more {s} {text} {rest} {line} {new} {next} h t e = record {
   first = h.first;
   behind = h.behind;
@@ -106,7 +121,8 @@ lined_more {s} {text} {rest} {line} {new} {next} h t e = record {
   place = h.place + t.place;
   rest_is = t.rest_is ∙ ap (λ (x : List ℕ). drop t.place x) h.rest_is ∙ drop-drop t.place h.place h.behind;
   on = λ ts k d.
-      let there : ReadsRow webidl (drop t.place rest) (Many DOC_LINE) 0 (Yields ts [] k) = subst (λ (x : List ℕ). ReadsRow webidl x (Many DOC_LINE) 0 (Yields ts [] k)) t.rest_is d in
+      let there : ReadsRow webidl (drop t.place rest) (Many DOC_LINE) 0 (Yields ts [] k) =
+      subst (λ (x : List ℕ). ReadsRow webidl x (Many DOC_LINE) 0 (Yields ts [] k)) t.rest_is d in
       let far : t.place ≢ 0 = λ z. (let p = line_takes t.reads in omega (arith, p, z)) in
       let all = h.on (Lines line ∷ ts) (t.place + k) (many_more t.reads far (row_forth rest t.place there) refl) in
       let size : h.place + (t.place + k) ≡ (h.place + t.place) + k = omega arith in
@@ -118,10 +134,12 @@ lined_more {s} {text} {rest} {line} {new} {next} h t e = record {
       ∙ ap (λ (x : List ℕ). h.first ++ x) (sym (more_text h.more line));
 }
 
+-- where no more line follows, the lines are a docstring
 pub lined_all : {s text rest : List ℕ} → Lined s text rest → Reads rest DOC_LINE 0 Fails → Took DOCSTRING s (Lines text ∷ []) rest
 lined_all {s} {text} {rest} h d =
     let lines : ReadsRow webidl h.behind (Many DOC_LINE) 0 (Yields (map Lines h.more) [] (h.place + 0))
-    = subst (λ (us : List Tree). ReadsRow webidl h.behind (Many DOC_LINE) 0 (Yields us [] (h.place + 0))) (append-nil (map Lines h.more)) (h.on [] 0 (many_end d refl)) in
+    = subst (λ (us : List Tree). ReadsRow webidl h.behind (Many DOC_LINE) 0 (Yields us [] (h.place + 0)))
+    (append-nil (map Lines h.more)) (h.on [] 0 (many_end d refl)) in
     let many : Reads h.behind MANY_DOC_LINE 0 (Gives (Items (trees (map Lines h.more)) ∷ []) (h.place + 0)) = of_row refl lines refl in
     record {
       place = h.head.place + (h.place + 0);
@@ -131,7 +149,8 @@ lined_all {s} {text} {rest} h d =
     }
 
 -- a request for memory was refused
-pub fault_full : {V : Type 0} (r : ℕ) (tree : V → Tree) {s : List ℕ} {e : Error (Bor (List ℕ))} → IsUtf8 s → e.code ≡ Memory → e.input.now ≡ s → Faults (own r tree (Unit {0})) s (Failure e)
+pub fault_full : {V : Type 0} (r : ℕ) (tree : V → Tree) {s : List ℕ} {e : Error (Bor (List ℕ))} → IsUtf8 s → e.code ≡ Memory
+    → e.input.now ≡ s → Faults (own r tree (Unit {0})) s (Failure e)
 unfolding own
 fault_full r tree {s} {e} u c i = record { says = (tt, c, (rw i u, 0, i)) }
 

@@ -7,6 +7,7 @@ use Rattle.std.specs.Prelude.{◌≡◌, ℕ, ◌+◌, List, drop, length}
 use Rattle.std.specs.Str.{IsCharBoundary, IsUtf8}
 use Rattle.weedle_base.specs.Places.{IsSuffix}
 
+-- a text is a suffix of itself
 pub suffix_self : (s : List ℕ) → IsUtf8 s → IsSuffix s s
 suffix_self s u = (u, 0, refl)
 
@@ -21,11 +22,14 @@ suffix_boundary s r h = elim (cases_lt (length s) h.1) [
   | inr within ↦ (h.1, IsCharBoundary-from_drop s h.1 within (subst IsUtf8 h.2 h.0), h.2)
 ]
 
+-- what left a text of another length took a byte
 pub took_some : (s r : List ℕ) (k : ℕ) → r ≡ drop k s → (length r ≡ length s → ⊥) → 0 < k
 took_some s r zero e n = absurd (n (ap length e))
 took_some s r (suc k) e n = omega arith
 
-pub shorter : (s after next : List ℕ) (h i : ℕ) → after ≡ drop h s → next ≡ drop i after → (length after ≡ length s → ⊥) → length next < length s
+-- what follows is shorter than s, where the first step took a byte
+pub shorter : (s after next : List ℕ) (h i : ℕ) → after ≡ drop h s → next ≡ drop i after → (length after ≡ length s → ⊥)
+    → length next < length s
 shorter s after next h i e f n =
     let a : length after ≡ length s - h = ap length e ∙ length-drop h s in
     let b : length next ≡ length after - i = ap length f ∙ length-drop i after in

@@ -1,4 +1,4 @@
--- A list that is being read: these items stand at the start of s, and rest follows them.
+-- A list that is being read: the items so far stand at the start of the text.
 use Rattle.std.proofs.Common.{refl, ap, subst, arith}
 use Rattle.std.proofs.lemmas.List.{length-drop}
 use Rattle.std.specs.Prelude.{◌≡◌, ℕ, ◌+◌, ◌≤◌, List, [], ◌∷◌, ◌++◌, drop, length}
@@ -11,6 +11,7 @@ use Rattle.weedle_base.specs.Reading.{Reading, Got}
 use Rattle.weedle_base.specs.Runs.{Step, Items, run_reading, vec_step}
 use Rattle.weedle_base.specs.declared.fault.ErrorKind.{ErrorKind}
 
+-- the items were read from s, and rest is left
 pub record Reached {V : Type 0} (S : Step V) (s : List ℕ) (vs : List V) (rest : List ℕ) : Type 0 where
   pub place : ℕ
   pub items : Items S.takes s vs place
@@ -19,23 +20,33 @@ pub record Reached {V : Type 0} (S : Step V) (s : List ℕ) (vs : List V) (rest 
   pub text : IsUtf8 rest
 
 module _ {V : Type 0} (S : Step V) where
+  -- at the start no item was read
   pub reached_none : (s : List ℕ) → IsUtf8 s → Reached S s [] s
   reached_none s u = record { place = 0; items = refl; within = omega arith; rest_is = refl; text = u }
 
-  pub reached_ends : {L : Type 0} (view : L → List V) (s rest : List ℕ) (l : L) → Reached S s (view l) rest → S.ends rest → Got (run_reading view S) s l rest
-  reached_ends view s rest l h e = record { place = h.place; gives = (h.items, subst S.ends h.rest_is e); within = h.within; rest_is = h.rest_is; text = h.text }
+  -- where the list ends, the items are what was read
+  pub reached_ends : {L : Type 0} (view : L → List V) (s rest : List ℕ) (l : L) → Reached S s (view l) rest → S.ends rest
+      → Got (run_reading view S) s l rest
+  reached_ends view s rest l h e =
+      record { place = h.place; gives = (h.items, subst S.ends h.rest_is e); within = h.within; rest_is = h.rest_is; text = h.text }
 
   module _ {s : List ℕ} {vs : List V} {rest : List ℕ} (h : Reached S s vs rest) where
+    -- where the step refuses, the whole is refused
     pub reached_refuses : S.refuses rest → (vs : List V) × (k : ℕ) × Items S.takes s vs k × S.refuses (drop k s)
     reached_refuses e = (vs, h.place, h.items, subst S.refuses h.rest_is e)
 
-    pub reached_stops : (r : List ℕ) (code : ErrorKind) → S.stops rest r code → (vs : List V) × (k : ℕ) × Items S.takes s vs k × S.stops (drop k s) r code
+    -- where the step stops, the call stops
+    pub reached_stops : (r : List ℕ) (code : ErrorKind) → S.stops rest r code
+        → (vs : List V) × (k : ℕ) × Items S.takes s vs k × S.stops (drop k s) r code
     reached_stops r code e = (vs, h.place, h.items, subst (λ (t : List ℕ). S.stops t r code) h.rest_is e)
 
+    -- a suffix of what is left is a suffix of the text
     pub reached_suffix : (r : List ℕ) → IsSuffix rest r → IsSuffix s r
     reached_suffix r e = suffix_along s rest r h.place h.rest_is e
 
-    pub reached_push : (v : V) (i : ℕ) (after : List ℕ) → S.takes rest v i → i ≤ length rest → after ≡ drop i rest → IsUtf8 after → Reached S s (vs ++ (v ∷ [])) after
+    -- one more item
+    pub reached_push : (v : V) (i : ℕ) (after : List ℕ) → S.takes rest v i → i ≤ length rest → after ≡ drop i rest
+        → IsUtf8 after → Reached S s (vs ++ (v ∷ [])) after
     reached_push v i after t b e u =
         let here : S.takes (drop h.place s) v i = subst (λ (r : List ℕ). S.takes r v i) h.rest_is t in
         record {
@@ -48,8 +59,10 @@ module _ {V : Type 0} (S : Step V) where
 
 module _ {V : Type 0} (R : Reading V) where
   -- an item that took a byte or more
-  pub reached_item : {s : List ℕ} {vs : List V} {rest after : List ℕ} {v : V} → Reached (vec_step R) s vs rest → Got R rest v after → (length after ≡ length rest → ⊥) → Reached (vec_step R) s (vs ++ (v ∷ [])) after
-  reached_item {s} {vs} {rest} {after} {v} h g n = reached_push (vec_step R) h v g.place after (g.gives, took_some rest after g.place g.rest_is n) g.within g.rest_is g.text
+  pub reached_item : {s : List ℕ} {vs : List V} {rest after : List ℕ} {v : V} → Reached (vec_step R) s vs rest
+      → Got R rest v after → (length after ≡ length rest → ⊥) → Reached (vec_step R) s (vs ++ (v ∷ [])) after
+  reached_item {s} {vs} {rest} {after} {v} h g n =
+      reached_push (vec_step R) h v g.place after (g.gives, took_some rest after g.place g.rest_is n) g.within g.rest_is g.text
 
   -- one that took nothing
   pub stuck_item : {rest after : List ℕ} {v : V} → Got R rest v after → length after ≡ length rest → (w : V) × R.gives rest w 0

@@ -32,6 +32,7 @@ pub record IsSeq {V : Type 0} (R : Reading V) (rs : List ℕ) (ts : V → List T
   pub stops : (s x : List ℕ) (code : ErrorKind) → R.stops s x code → stops_for_memory grows s x code
 
 module _ {V : Type 0} (r : ℕ) (tree : V → Tree) (grows : Type 0) where
+  -- the reading of a rule is that of the rule
   pub own_rule : IsRule (own r tree grows) r tree grows
   unfolding own
   own_rule = record { gives = λ s v k h. h; refuses = λ s h. h; stops = λ s x code h. h }
@@ -45,7 +46,9 @@ module _ {V : Type 0} {R : Reading V} {r : ℕ} {tree : V → Tree} {grows more 
   pub wider_rule : (grows → more) → IsRule R r tree grows → IsRule R r tree more
   wider_rule f h = record { gives = h.gives; refuses = h.refuses; stops = λ s x code m. let a = h.stops s x code m in (f a.0, a.1, a.2) }
 
-  pub boxed_rule : {B : Type 0} (inside : B → V) → more → (grows → more) → IsRule R r tree grows → IsRule (boxed_reading inside R) r (λ b. tree (inside b)) more
+  -- a value that holds another is read by the other's rule
+  pub boxed_rule : {B : Type 0} (inside : B → V) → more → (grows → more) → IsRule R r tree grows
+      → IsRule (boxed_reading inside R) r (λ b. tree (inside b)) more
   unfolding boxed_reading
   boxed_rule inside m f h = record {
     gives = λ s b k g. h.gives s (inside b) k g;
@@ -54,13 +57,16 @@ module _ {V : Type 0} {R : Reading V} {r : ℕ} {tree : V → Tree} {grows more 
   }
 
 module _ {V : Type 0} {R : Reading V} {r : ℕ} {tree : V → Tree} {grows : Type 0} where
+  -- a value that is seen as another is read by the other's rule
   pub seen_rule : {X : Type 0} (view : X → V) → IsRule R r tree grows → IsRule (seen_reading view R) r (λ x. tree (view x)) grows
   unfolding seen_reading
   seen_rule view h = record { gives = λ s x k g. h.gives s (view x) k g; refuses = h.refuses; stops = h.stops }
 
 -- what a rule has as its outcome, from its row's
-pub of_row : {s : List ℕ} {r p : ℕ} {row : Row} {w : Raw} {o : Outcome} → row_of r ≡ row → ReadsRow webidl s row p w → o ≡ shaped s row (shape_of r) p w → Reads s r p o
-of_row {s} {r} {p} {row} {w} {o} e d f = by_row (subst (λ (x : Row). ReadsRow webidl s x p w) (sym e) d) (f ∙ ap (λ (x : Row). shaped s x (shape_of r) p w) (sym e))
+pub of_row : {s : List ℕ} {r p : ℕ} {row : Row} {w : Raw} {o : Outcome} → row_of r ≡ row → ReadsRow webidl s row p w
+    → o ≡ shaped s row (shape_of r) p w → Reads s r p o
+of_row {s} {r} {p} {row} {w} {o} e d f =
+    by_row (subst (λ (x : Row). ReadsRow webidl s x p w) (sym e) d) (f ∙ ap (λ (x : Row). shaped s x (shape_of r) p w) (sym e))
 
 module _ {V : Type 0} {R : Reading V} {x : ℕ} {tree : V → Tree} {grows : Type 0} (rule : IsRule R x tree grows) where
   module _ (r : ℕ) (row : row_of r ≡ Opt x) (shape : shape_of r ≡ Plain) where
@@ -68,10 +74,12 @@ module _ {V : Type 0} {R : Reading V} {x : ℕ} {tree : V → Tree} {grows : Typ
     option_rule_gives s (Some v) k h = of_row row (by_opt (rule.gives s v k h) refl) (rw shape refl)
     option_rule_gives s None k h = of_row row (by_opt (rule.refuses s h.0) refl) (rw (shape, h.1) refl)
 
+    -- an option is read by a rule that may be absent
     pub option_rule : IsRule (option_reading R) r (option_tree tree) grows
     unfolding option_reading
     option_rule = record { gives = option_rule_gives; refuses = λ s h. absurd h; stops = rule.stops }
 
+  -- the last part of a sequence
   pub seq_last : IsSeq R (x ∷ []) (λ v. tree v ∷ []) grows
   seq_last = record {
     gives = λ s v k h. record { pieces = _; reads = then (rule.gives s v k h) nothing; given = refl; end = refl };
@@ -83,7 +91,9 @@ module _ {V : Type 0} {R : Reading V} {x : ℕ} {tree : V → Tree} {grows : Typ
 pub parts_none : {s : List ℕ} → Parts s [] [] 0
 parts_none = record { pieces = []; reads = nothing; given = refl; end = refl }
 
-pub parts_on : {s rest rs : List ℕ} {r i j : ℕ} {us ts : List Tree} → Reads s r 0 (Gives us i) → rest ≡ drop i s → Parts rest rs ts j → Parts s (r ∷ rs) (us ++ ts) (i + j)
+-- a part, and the parts that follow it
+pub parts_on : {s rest rs : List ℕ} {r i j : ℕ} {us ts : List Tree} → Reads s r 0 (Gives us i) → rest ≡ drop i s
+    → Parts rest rs ts j → Parts s (r ∷ rs) (us ++ ts) (i + j)
 parts_on {i = i} {us = us} d e m = record {
   pieces = _;
   reads = then_on d e m.reads;
@@ -91,10 +101,12 @@ parts_on {i = i} {us = us} d e m = record {
   end = (let a = last_moved i 0 m.pieces in let b = m.end in let c : i + 0 ≡ i = omega arith in cc);
 }
 
-parts_then : {s rs : List ℕ} {r i j : ℕ} {t : Tree} {ts : List Tree} → Reads s r 0 (Gives (t ∷ []) i) → Parts (drop i s) rs ts j → Parts s (r ∷ rs) (t ∷ ts) (i + j)
+parts_then : {s rs : List ℕ} {r i j : ℕ} {t : Tree} {ts : List Tree} → Reads s r 0 (Gives (t ∷ []) i) → Parts (drop i s) rs ts j
+    → Parts s (r ∷ rs) (t ∷ ts) (i + j)
 parts_then d m = parts_on d refl m
 
-module _ {V W : Type 0} {R : Reading V} {S : Reading W} {r : ℕ} {rs : List ℕ} {tree : V → Tree} {ts : W → List Tree} {grows : Type 0} (rule : IsRule R r tree grows) (others : IsSeq S rs ts grows) where
+module _ {V W : Type 0} {R : Reading V} {S : Reading W} {r : ℕ} {rs : List ℕ} {tree : V → Tree} {ts : W → List Tree} {grows : Type 0}
+    (rule : IsRule R r tree grows) (others : IsSeq S rs ts grows) where
   next_gives : (s : List ℕ) (x : V × W) (k : ℕ) → (pair_reading R S).gives s x k → Parts s (r ∷ rs) (tree x.0 ∷ ts x.1) k
   unfolding pair_reading
   next_gives s x k h = rw h.4 (parts_then (rule.gives s x.0 h.0 h.2) (others.gives (drop h.0 s) x.1 h.1 h.3))
@@ -109,23 +121,29 @@ module _ {V W : Type 0} {R : Reading V} {S : Reading W} {r : ℕ} {rs : List ℕ
   next_stops s x code (inl h) = rule.stops s x code h
   next_stops s x code (inr h) = let m = others.stops (drop h.1 s) x code h.3 in (m.0, m.1, suffix_along s (drop h.1 s) x h.1 refl m.2)
 
+  -- a part before others
   pub seq_next : IsSeq (pair_reading R S) (r ∷ rs) (λ x. tree x.0 ∷ ts x.1) grows
   unfolding pair_reading
   seq_next = record { gives = next_gives; refuses = next_refuses; stops = next_stops }
 
-parts_node : {s rs : List ℕ} {ts : List Tree} {k : ℕ} (r : ℕ) → row_of r ≡ Seq rs → shape_of r ≡ Plain → Parts s rs ts k → Reads s r 0 (Gives (Node (trees ts) ∷ []) k)
+parts_node : {s rs : List ℕ} {ts : List Tree} {k : ℕ} (r : ℕ) → row_of r ≡ Seq rs → shape_of r ≡ Plain → Parts s rs ts k
+    → Reads s r 0 (Gives (Node (trees ts) ∷ []) k)
 parts_node r row shape m = of_row row (by_seq m.reads refl) (rw (shape, m.given, m.end) refl)
 
 -- a rule whose row is a sequence
-module _ {V : Type 0} {R : Reading V} {rs : List ℕ} {ts : V → List Tree} {grows : Type 0} (all : IsSeq R rs ts grows) (r : ℕ) (row : row_of r ≡ Seq rs) where
+module _ {V : Type 0} {R : Reading V} {rs : List ℕ} {ts : V → List Tree} {grows : Type 0}
+    (all : IsSeq R rs ts grows) (r : ℕ) (row : row_of r ≡ Seq rs) where
+  -- where the parts refuse, the rule fails
   pub no_seq : (s : List ℕ) → R.refuses s → Reads s r 0 Fails
   no_seq s h = of_row row (by_seq (all.refuses s h) refl) refl
 
+  -- parts one after another are read by the rule whose row is the sequence of their rules
   pub seq_rule : shape_of r ≡ Plain → IsRule R r (λ v. Node (trees (ts v))) grows
   seq_rule shape = record { gives = λ s v k h. parts_node r row shape (all.gives s v k h); refuses = no_seq; stops = all.stops }
 
 -- From an answer of R to one of a type with R's rule.
 module _ {V X : Type 0} {R : Reading V} {r : ℕ} {tree : V → Tree} {grows : Type 0} (rule : IsRule R r tree grows) (of : X → Tree) where
+  -- what a reading gave that is the rule's, the rule gave
   pub got_rule : {s rest : List ℕ} {v : V} (x : X) → Got R s v rest → tree v ≡ of x → Got (own r of grows) s x rest
   unfolding own
   got_rule {s} {rest} {v} x h e = record {
@@ -141,16 +159,20 @@ module _ {V X : Type 0} {R : Reading V} {r : ℕ} {tree : V → Tree} {grows : T
   says_rule s (Recoverable e) h = (rule.refuses s h.0, h.1, h.2)
   says_rule s (Failure e) h = rule.stops s e.input.now e.code h
 
+  -- where such a reading ended with a fault, so does the type with the rule
   pub fault_rule : {s : List ℕ} {e : Fault (Error (Bor (List ℕ)))} → Faults R s e → Faults (own r of grows) s e
   unfolding own
   fault_rule {s} {e} h = record { says = says_rule s e h.says }
 
 -- three parts one after another
-pub triple_rule : {T U V : Type 0} {P : Reading T} {Q : Reading U} {R : Reading V} {x y z : ℕ} {f : T → Tree} {g : U → Tree} {h : V → Tree} {grows : Type 0}
-    → {X : Type 0} (view : X → T × (U × V)) → IsRule P x f grows → IsRule Q y g grows → IsRule R z h grows → (r : ℕ) → row_of r ≡ Seq (x ∷ y ∷ z ∷ []) → shape_of r ≡ Plain
+pub triple_rule : {T U V : Type 0} {P : Reading T} {Q : Reading U} {R : Reading V} {x y z : ℕ}
+    {f : T → Tree} {g : U → Tree} {h : V → Tree} {grows : Type 0}
+    → {X : Type 0} (view : X → T × (U × V)) → IsRule P x f grows → IsRule Q y g grows → IsRule R z h grows
+    → (r : ℕ) → row_of r ≡ Seq (x ∷ y ∷ z ∷ []) → shape_of r ≡ Plain
     → IsRule (seen_reading view (pair_reading P (pair_reading Q R))) r (λ t. Node (trees (f (view t).0 ∷ g (view t).1.0 ∷ h (view t).1.1 ∷ []))) grows
 triple_rule view a b c r row shape = seen_rule view (seq_rule (seq_next a (seq_next b (seq_last c))) r row shape)
 
+-- two parts one after the other
 pub pair_rule : {T U : Type 0} {P : Reading T} {Q : Reading U} {x y : ℕ} {f : T → Tree} {g : U → Tree} {grows : Type 0}
     → IsRule P x f grows → IsRule Q y g grows → (r : ℕ) → row_of r ≡ Seq (x ∷ y ∷ []) → shape_of r ≡ Plain
     → IsRule (pair_reading P Q) r (λ t. Node (trees (f t.0 ∷ g t.1 ∷ []))) grows

@@ -5,7 +5,8 @@ use Rattle.std.specs.Prelude.{ℕ, ◌+◌, List, [], ◌∷◌, ◌++◌, drop}
 use Rattle.weedle_base.specs.Runs.{Items}
 
 -- one more item
-pub Items-push : {V : Type 0} (takes : List ℕ → V → ℕ → Type 0) (s : List ℕ) (vs : List V) (v : V) (k i : ℕ) → Items takes s vs k → takes (drop k s) v i → Items takes s (vs ++ (v ∷ [])) (k + i)
+pub Items-push : {V : Type 0} (takes : List ℕ → V → ℕ → Type 0) (s : List ℕ) (vs : List V) (v : V) (k i : ℕ)
+    → Items takes s vs k → takes (drop k s) v i → Items takes s (vs ++ (v ∷ [])) (k + i)
 Items-push takes s [] v k i h t =
     let here : takes s v i = subst (λ (n : ℕ). takes (drop n s) v i) h t in
     (i, 0, here, refl, omega (arith, h))

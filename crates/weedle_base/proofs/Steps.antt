@@ -1,4 +1,4 @@
--- How answers follow from those of the parts.
+-- How the answers of a call follow from those of the calls for its parts.
 use Rattle.std.proofs.Common.{refl, ap, ◌∙◌, subst, inl, inr, arith}
 use Rattle.std.proofs.lemmas.List.{drop-drop, length-drop}
 use Rattle.std.specs.Borrow.{Bor}
@@ -15,6 +15,7 @@ use Rattle.weedle_base.specs.declared.fault.Error.{Error}
 use Rattle.weedle_base.specs.declared.fault.ErrorKind.{ErrorKind}
 use Rattle.weedle_base.specs.declared.fault.ErrorKind.TheVariants.{Memory}
 
+-- no byte is within every text
 pub took_nothing : (s : List ℕ) → 0 ≤ length s
 took_nothing s = omega arith
 
@@ -22,24 +23,29 @@ took_nothing s = omega arith
 pub within_add : (s rest : List ℕ) (i j : ℕ) → rest ≡ drop i s → i ≤ length s → j ≤ length rest → i + j ≤ length s
 within_add s rest i j e a b = omega (arith, ap length e, length-drop i s)
 
+-- what follows a step and then another follows both together
 pub rest_add : (s rest end : List ℕ) (i j : ℕ) → rest ≡ drop i s → end ≡ drop j rest → end ≡ drop (i + j) s
 rest_add s rest end i j e f = f ∙ ap (λ (t : List ℕ). drop j t) e ∙ drop-drop j i s
 
 module _ {V W X : Type 0} (R : Reading V) (S : Reading W) (Q : Reading X) where
+  -- what gives a value gives another, where each reading of the one is a reading of the other
   pub got_along : (s : List ℕ) (v : V) (x : X) (rest : List ℕ) → ((k : ℕ) → R.gives s v k → Q.gives s x k) → Got R s v rest → Got Q s x rest
   got_along s v x rest f h = record { place = h.place; gives = f h.place h.gives; within = h.within; rest_is = h.rest_is; text = h.text }
 
-  says_along : (s rest : List ℕ) → (i : ℕ) → rest ≡ drop i s → (R.refuses rest → Q.refuses s) → ((r : List ℕ) (code : ErrorKind) → R.stops rest r code → Q.stops s r code)
+  says_along : (s rest : List ℕ) → (i : ℕ) → rest ≡ drop i s → (R.refuses rest → Q.refuses s)
+      → ((r : List ℕ) (code : ErrorKind) → R.stops rest r code → Q.stops s r code)
       → (e : Fault (Error (Bor (List ℕ)))) → FaultSays R rest e → FaultSays Q s e
   says_along s rest i b refused stopped (Recoverable e) h = (refused h.0, h.1, suffix_along s rest e.input.now i b h.2)
   says_along s rest i b refused stopped (Failure e) h = stopped e.input.now e.code h
 
   -- a fault of a part that begins at rest is a fault of the whole
-  pub fault_along : {s rest : List ℕ} → (i : ℕ) → rest ≡ drop i s → (R.refuses rest → Q.refuses s) → ((r : List ℕ) (code : ErrorKind) → R.stops rest r code → Q.stops s r code)
+  pub fault_along : {s rest : List ℕ} → (i : ℕ) → rest ≡ drop i s → (R.refuses rest → Q.refuses s)
+      → ((r : List ℕ) (code : ErrorKind) → R.stops rest r code → Q.stops s r code)
       → {e : Fault (Error (Bor (List ℕ)))} → Faults R rest e → Faults Q s e
   fault_along {s} {rest} i b refused stopped {e} h = record { says = says_along s rest i b refused stopped e h.says }
 
 module _ {V W : Type 0} (R : Reading V) (S : Reading W) where
+  -- a pair, from its two values
   pub got_pair : {s rest end : List ℕ} {v : V} {w : W} → Got R s v rest → Got S rest w end → Got (pair_reading R S) s (v, w) end
   unfolding pair_reading
   got_pair {s} {rest} {end} {v} {w} a b = record {
@@ -50,52 +56,68 @@ module _ {V W : Type 0} (R : Reading V) (S : Reading W) where
     text = b.text;
   }
 
+  -- a fault of the first is a fault of the pair
   pub fault_first : {s : List ℕ} {e : Fault (Error (Bor (List ℕ)))} → Faults R s e → Faults (pair_reading R S) s e
   unfolding pair_reading
   fault_first {s} {e} h = fault_along R S (pair_reading R S) {s = s} {rest = s} 0 refl inl (λ r code t. inl t) h
 
-  pub fault_second : {s rest : List ℕ} {v : V} → Got R s v rest → {e : Fault (Error (Bor (List ℕ)))} → Faults S rest e → Faults (pair_reading R S) s e
+  -- where the first was read, a fault of the second is a fault of the pair
+  pub fault_second : {s rest : List ℕ} {v : V} → Got R s v rest → {e : Fault (Error (Bor (List ℕ)))} → Faults S rest e
+      → Faults (pair_reading R S) s e
   unfolding pair_reading
   fault_second {s} {rest} {v} a {e} h = fault_along S R (pair_reading R S) {s = s} {rest = rest} a.place a.rest_is
       (λ r. inr (v, a.place, a.gives, subst S.refuses a.rest_is r))
       (λ r code t. inr (v, a.place, a.gives, subst (λ (x : List ℕ). S.stops x r code) a.rest_is t)) h
 
 -- the exit of a `?`
-pub exit_answers : {V : Type 0} {R : Reading V} {s : List ℕ} (r : Result (Bor (List ℕ) × V) (Fault (Error (Bor (List ℕ))))) {e : Fault (Error (Bor (List ℕ)))} → Faults R s e → IsErrAnd r (λ d. d ≡ e) → Answers R s r
+pub exit_answers : {V : Type 0} {R : Reading V} {s : List ℕ} (r : Result (Bor (List ℕ) × V) (Fault (Error (Bor (List ℕ)))))
+    {e : Fault (Error (Bor (List ℕ)))}
+    → Faults R s e → IsErrAnd r (λ d. d ≡ e) → Answers R s r
 exit_answers (Ok x) f h = absurd h
 exit_answers (Err d) f h = rw h f
 
-pub got_seen : {V X : Type 0} (view : X → V) (R : Reading V) {s rest : List ℕ} (x : X) → Got R s (view x) rest → Got (seen_reading view R) s x rest
+-- a value, from what it is seen as
+pub got_seen : {V X : Type 0} (view : X → V) (R : Reading V) {s rest : List ℕ} (x : X) → Got R s (view x) rest
+    → Got (seen_reading view R) s x rest
 unfolding seen_reading
 got_seen view R x h = record { place = h.place; gives = h.gives; within = h.within; rest_is = h.rest_is; text = h.text }
 
-pub fault_seen : {V X : Type 0} (view : X → V) (R : Reading V) {s : List ℕ} {e : Fault (Error (Bor (List ℕ)))} → Faults R s e → Faults (seen_reading view R) s e
+-- a fault, from that of what the value is seen as
+pub fault_seen : {V X : Type 0} (view : X → V) (R : Reading V) {s : List ℕ} {e : Fault (Error (Bor (List ℕ)))} → Faults R s e
+    → Faults (seen_reading view R) s e
 unfolding seen_reading
 fault_seen view R h = fault_along R R (seen_reading view R) 0 refl (λ x. x) (λ r code x. x) h
 
 module _ {V : Type 0} (R : Reading V) where
+  -- an option that is there
   pub got_some : {s rest : List ℕ} {v : V} → Got R s v rest → Got (option_reading R) s (Some v) rest
   unfolding option_reading
   got_some h = record { place = h.place; gives = h.gives; within = h.within; rest_is = h.rest_is; text = h.text }
 
+  -- where the type refuses, None
   pub got_none : {s : List ℕ} {e : Error (Bor (List ℕ))} → Faults R s (Recoverable e) → IsUtf8 s → Got (option_reading R) s None s
   unfolding option_reading
   got_none h u = record { place = 0; gives = (h.says.0, refl); within = omega arith; rest_is = refl; text = u }
 
+  -- a failure of the type is one of its option
   pub fault_option : {s : List ℕ} {e : Error (Bor (List ℕ))} → Faults R s (Failure e) → Faults (option_reading R) s (Failure e)
   unfolding option_reading
   fault_option h = record { says = h.says }
 
   module _ {B : Type 0} (inside : B → V) where
+    -- a value that holds another, from the other
     pub got_boxed : {s rest : List ℕ} (b : B) → Got R s (inside b) rest → Got (boxed_reading inside R) s b rest
     unfolding boxed_reading
     got_boxed b h = record { place = h.place; gives = h.gives; within = h.within; rest_is = h.rest_is; text = h.text }
 
+    -- a fault of what it would hold
     pub fault_boxed : {s : List ℕ} {e : Fault (Error (Bor (List ℕ)))} → Faults R s e → Faults (boxed_reading inside R) s e
     unfolding boxed_reading
     fault_boxed h = fault_along R R (boxed_reading inside R) 0 refl (λ x. x) (λ r code x. inr x) h
 
-    pub fault_memory : (s : List ℕ) (e : Error (Bor (List ℕ))) → e.code ≡ Memory → IsSuffix s e.input.now → Faults (boxed_reading inside R) s (Failure e)
+    -- a request for memory was refused
+    pub fault_memory : (s : List ℕ) (e : Error (Bor (List ℕ))) → e.code ≡ Memory → IsSuffix s e.input.now
+        → Faults (boxed_reading inside R) s (Failure e)
     unfolding boxed_reading
     fault_memory s e c h = record { says = inl (c, h) }
 

@@ -1,10 +1,13 @@
 -- When values are alike.
 use Rattle.std.specs.Prelude.{List, [], ◌∷◌, Option, Some, None}
 
--- each value is alike itself, either way round, and along a third
+-- being alike is an equivalence
 pub record IsEquivalence {V : Type 0} (alike : V → V → Type 0) : Type 0 where
+  -- each value is alike itself
   pub same : (v : V) → alike v v
+  -- two values are alike either way round
   pub back : (v w : V) → alike v w → alike w v
+  -- values that are alike a third are alike each other
   pub along : (u v w : V) → alike u v → alike v w → alike u w
 
 -- options are alike where both are absent, or both hold values that are alike

@@ -8,20 +8,24 @@ pub equal_equivalence : {V : Type 0} → IsEquivalence {V = V} (λ v w. v ≡ w)
 equal_equivalence = record { same = λ v. refl; back = λ v w e. sym e; along = λ u v w e f. e ∙ f }
 
 -- values that are seen as others
-pub seen_equivalence : {V X : Type 0} {alike : V → V → Type 0} (view : X → V) → IsEquivalence alike → IsEquivalence (λ (x y : X). alike (view x) (view y))
+pub seen_equivalence : {V X : Type 0} {alike : V → V → Type 0} (view : X → V) → IsEquivalence alike
+    → IsEquivalence (λ (x y : X). alike (view x) (view y))
 seen_equivalence view e = record {
   same = λ x. e.same (view x);
   back = λ x y h. e.back (view x) (view y) h;
   along = λ x y z h l. e.along (view x) (view y) (view z) h l;
 }
 
-pub pair_equivalence : {V W : Type 0} {alike : V → V → Type 0} {also : W → W → Type 0} → IsEquivalence alike → IsEquivalence also → IsEquivalence (λ (x y : V × W). alike x.0 y.0 × also x.1 y.1)
+-- pairs
+pub pair_equivalence : {V W : Type 0} {alike : V → V → Type 0} {also : W → W → Type 0} → IsEquivalence alike
+    → IsEquivalence also → IsEquivalence (λ (x y : V × W). alike x.0 y.0 × also x.1 y.1)
 pair_equivalence first second = record {
   same = λ x. (first.same x.0, second.same x.1);
   back = λ x y h. (first.back x.0 y.0 h.0, second.back x.1 y.1 h.1);
   along = λ x y z h l. (first.along x.0 y.0 z.0 h.0 l.0, second.along x.1 y.1 z.1 h.1 l.1);
 }
 
+-- options and lists
 module _ {V : Type 0} {alike : V → V → Type 0} (e : IsEquivalence alike) where
   option_same : (v : Option V) → option_alike alike v v
   option_same (Some v) = e.same v

@@ -4,11 +4,14 @@ use Rattle.weedle_base.specs.Reading.{Reading}
 use Rattle.weedle_base.specs.Runs.{for_memory}
 use Rattle.weedle_base.specs.Alike.{option_alike}
 
+-- an option
 module _ {V : Type 0} (R : Reading V) where
+  -- it gives what the type gives, or None and no byte where the type refuses
   abbrev pub option_gives : List ℕ → Option V → ℕ → Type 0
   option_gives s (Some v) k = R.gives s v k
   option_gives s None k = R.refuses s × (k ≡ 0)
 
+  -- it never refuses
   unfoldable pub option_reading : Reading (Option V)
   option_reading = record {
     gives = option_gives;
@@ -18,7 +21,9 @@ module _ {V : Type 0} (R : Reading V) where
     alike = option_alike R.alike;
   }
 
+-- a pair
 module _ {V W : Type 0} (R : Reading V) (S : Reading W) where
+  -- the first value and, from where it ends, the second; where either refuses or stops, so does the pair
   unfoldable pub pair_reading : Reading (V × W)
   pair_reading = record {
     gives = λ s x k. (i : ℕ) × (j : ℕ) × R.gives s x.0 i × S.gives (drop i s) x.1 j × (k ≡ i + j);
@@ -30,6 +35,7 @@ module _ {V W : Type 0} (R : Reading V) (S : Reading W) where
 
 -- a value that holds another, for which memory was asked
 module _ {V B : Type 0} (inside : B → V) (R : Reading V) where
+  -- it gives and refuses what the type inside does, and may stop for want of memory
   unfoldable pub boxed_reading : Reading B
   boxed_reading = record {
     gives = λ s b k. R.gives s (inside b) k;
@@ -41,6 +47,7 @@ module _ {V B : Type 0} (inside : B → V) (R : Reading V) where
 
 -- a value seen as another, as a struct as the pairs of its fields
 module _ {V X : Type 0} (view : X → V) (R : Reading V) where
+  -- it reads what the type that it is seen as reads
   unfoldable pub seen_reading : Reading X
   seen_reading = record {
     gives = λ s x k. R.gives s (view x) k;

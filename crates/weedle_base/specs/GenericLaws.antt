@@ -1,4 +1,4 @@
--- The generic parts are lawful where their parameters are.
+-- The generic parts are lawful where their parameters are: lemmas that the laws of `Parse` need.
 use Rattle.std.proofs.Common.{sym, ap, ◌∙◌, subst, inl, inr}
 use Rattle.std.proofs.lemmas.Str.{IsCharBoundary-start}
 use Rattle.std.specs.Prelude.{◌≡◌, ℕ, ◌+◌, List, drop, Option, Some, None}
@@ -10,12 +10,14 @@ use Rattle.weedle_base.specs.declared.fault.ErrorKind.{ErrorKind}
 use Rattle.weedle_base.specs.Alike.{option_alike}
 use Rattle.weedle_base.specs.AlikeLaws.{option_equivalence, pair_equivalence, seen_equivalence}
 
+-- an option
 module _ {V : Type 0} (R : Reading V) (lawful : IsLawful R) where
   option_within : (s : List ℕ) (v : Option V) (k : ℕ) → IsUtf8 s → option_gives R s v k → IsCharBoundary s k
   option_within s (Some v) k u h = lawful.within s v k u h
   option_within s None k u h = rw h.1 (IsCharBoundary-start s u)
 
-  option_one : (s : List ℕ) (v w : Option V) (k l : ℕ) → IsUtf8 s → option_gives R s v k → option_gives R s w l → option_alike R.alike v w × (k ≡ l)
+  option_one : (s : List ℕ) (v w : Option V) (k l : ℕ) → IsUtf8 s → option_gives R s v k → option_gives R s w l
+      → option_alike R.alike v w × (k ≡ l)
   option_one s (Some v) (Some w) k l u a b = lawful.one s v w k l u a b
   option_one s (Some v) None k l u a b = absurd (lawful.apart s v k u a b.0)
   option_one s None (Some w) k l u a b = absurd (lawful.apart s w l u b a.0)
@@ -31,6 +33,7 @@ module _ {V : Type 0} (R : Reading V) (lawful : IsLawful R) where
     growing = lawful.growing;
   }
 
+-- a pair
 module _ {V W : Type 0} (R : Reading V) (S : Reading W) (first : IsLawful R) (second : IsLawful S) where
   pair_within : (s : List ℕ) (x : V × W) (k : ℕ) → IsUtf8 s → (pair_reading R S).gives s x k → IsCharBoundary s k
   unfolding pair_reading
@@ -38,7 +41,8 @@ module _ {V W : Type 0} (R : Reading V) (S : Reading W) (first : IsLawful R) (se
       let b = first.within s x.0 h.0 u h.2 in
       rw h.4 (boundary_add s h.0 h.1 b (second.within (drop h.0 s) x.1 h.1 (utf8_rest s h.0 u b) h.3))
 
-  pair_one : (s : List ℕ) (x y : V × W) (k l : ℕ) → IsUtf8 s → (pair_reading R S).gives s x k → (pair_reading R S).gives s y l → (pair_reading R S).alike x y × (k ≡ l)
+  pair_one : (s : List ℕ) (x y : V × W) (k l : ℕ) → IsUtf8 s → (pair_reading R S).gives s x k → (pair_reading R S).gives s y l
+      → (pair_reading R S).alike x y × (k ≡ l)
   unfolding pair_reading
   pair_one s x y k l u a b =
       let bound = first.within s x.0 a.0 u a.2 in
@@ -70,6 +74,7 @@ module _ {V W : Type 0} (R : Reading V) (S : Reading W) (first : IsLawful R) (se
     growing = pair_growing;
   }
 
+-- a value that holds another
 module _ {V B : Type 0} (inside : B → V) (R : Reading V) (lawful : IsLawful R) where
   pub boxed_lawful : IsLawful (boxed_reading inside R)
   unfolding boxed_reading
@@ -81,6 +86,7 @@ module _ {V B : Type 0} (inside : B → V) (R : Reading V) (lawful : IsLawful R)
     growing = λ s r code h. tt;
   }
 
+-- a value seen as another
 module _ {V X : Type 0} (view : X → V) (R : Reading V) (lawful : IsLawful R) where
   pub seen_lawful : IsLawful (seen_reading view R)
   unfolding seen_reading

@@ -3,9 +3,11 @@ use Rattle.std.specs.Prelude.{◌≡◌, ℕ, List, ◌++◌, false}
 use Rattle.weedle_rules.specs.declared.class.Class.TheVariants.{Name}
 use Rattle.weedle_base.specs.Trivia.{is_next}
 
--- the text is the tag and this rest, which no name character begins
+-- the text begins with the tag as a whole word, and this rest follows
 pub record IsTagged (tag text rest : List ℕ) : Type 0 where
+  -- the text is the tag and the rest
   pub split : text ≡ tag ++ rest
+  -- the rest begins with no name character
   pub ends : is_next Name rest ≡ false
 
 -- the tag doesn't stand at the front of the text, or a name character follows it

@@ -11,7 +11,8 @@ use Rattle.weedle_rules.specs.Trees.{Tree, Fails, Gives}
 abbrev pub stops_for_memory : Type 0 → List ℕ → List ℕ → ErrorKind → Type 0
 stops_for_memory grows s x code = grows × (code ≡ Memory) × IsSuffix s x
 
--- The reading of a type with a rule: what the rule gives at the front of the text.
+-- the reading of a type with a rule: it gives what the rule gives at the front of the text, refuses where the rule fails,
+-- and stops for want of memory alone
 unfoldable pub own : {V : Type 0} → ℕ → (V → Tree) → Type 0 → Reading V
 own r tree grows = record {
   gives = λ s v k. Reads s r 0 (Gives (tree v ∷ []) k);

@@ -9,13 +9,16 @@ use Rattle.weedle_rules.proofs.Grammar.{at_boundary}
 use Rattle.weedle_rules.proofs.Unique.{one_outcome}
 use Rattle.weedle_rules.specs.Trees.{Tree, Fails, Gives}
 
+-- a rule that gives two trees gives one
 gave_same : {t u : Tree} {k l : ℕ} → Gives (t ∷ []) k ≡ Gives (u ∷ []) l → (t ≡ u) × (k ≡ l)
 gave_same e = (cc, cc)
 
+-- what a rule gives isn't its failure
 gave_fails : {t : Tree} {k : ℕ} → Gives (t ∷ []) k ≡ Fails → ⊥
 gave_fails e = cc
 
 module _ {V : Type 0} (r : ℕ) (tree : V → Tree) (grows : Type 0) where
+  -- the laws follow from the rule's one outcome, and from its ends at boundaries
   pub own_lawful : IsLawful (own r tree grows)
   unfolding own
   own_lawful = record {

@@ -6,10 +6,13 @@ use Rattle.weedle_base.specs.declared.fault.ErrorKind.{ErrorKind}
 use Rattle.weedle_rules.specs.Table.{Reads}
 use Rattle.weedle_rules.specs.Trees.{Tree, Absent, Present, trees, Fails, Gives, Items as Listed}
 
--- What R gives, the rule gives, with the tree of the value; where R refuses, the rule fails; and R stops only for want of memory, if it grows.
+-- the reading is that of the rule, with this tree of a value
 pub record IsRule {V : Type 0} (R : Reading V) (r : ℕ) (tree : V → Tree) (grows : Type 0) : Type 0 where
+  -- what the reading gives, the rule gives, with the tree of the value
   pub gives : (s : List ℕ) (v : V) (k : ℕ) → R.gives s v k → Reads s r 0 (Gives (tree v ∷ []) k)
+  -- where the reading refuses, the rule fails
   pub refuses : (s : List ℕ) → R.refuses s → Reads s r 0 Fails
+  -- the reading stops for want of memory alone, and only if it grows
   pub stops : (s x : List ℕ) (code : ErrorKind) → R.stops s x code → stops_for_memory grows s x code
 
 -- the tree of an option

@@ -10,15 +10,22 @@ use Rattle.weedle_base.specs.Runs.{Step, Items, run_reading, vec_step}
 use Rattle.weedle_base.specs.Alike.{IsEquivalence, all_alike}
 use Rattle.weedle_base.specs.AlikeLaws.{all_equivalence, seen_equivalence}
 
+-- the laws of a step
 pub record IsLawfulStep {V : Type 0} (S : Step V) : Type 0 where
+  -- an item ends where a character begins
   pub within : (s : List ℕ) (v : V) (k : ℕ) → IsUtf8 s → S.takes s v k → IsCharBoundary s k
+  -- at most one item and end belong to a text
   pub one : (s : List ℕ) (v w : V) (k l : ℕ) → IsUtf8 s → S.takes s v k → S.takes s w l → S.alike v w × (k ≡ l)
+  -- at most one of the three happens at a place: an item is taken, the list ends, the whole is refused
   pub takes_ends : (s : List ℕ) (v : V) (k : ℕ) → IsUtf8 s → S.takes s v k → S.ends s → ⊥
   pub takes_refuses : (s : List ℕ) (v : V) (k : ℕ) → IsUtf8 s → S.takes s v k → S.refuses s → ⊥
   pub ends_refuses : (s : List ℕ) → IsUtf8 s → S.ends s → S.refuses s → ⊥
+  -- being alike is an equivalence
   pub equivalence : IsEquivalence S.alike
 
+-- items one after another
 module _ {V : Type 0} (S : Step V) (lawful : IsLawfulStep S) where
+  -- they end where a character begins
   pub Items-within : (s : List ℕ) (vs : List V) (k : ℕ) → IsUtf8 s → Items S.takes s vs k → IsCharBoundary s k
   Items-within s [] k u h = rw h (IsCharBoundary-start s u)
   Items-within s (v ∷ vs) k u h =
@@ -29,7 +36,8 @@ module _ {V : Type 0} (S : Step V) (lawful : IsLawfulStep S) where
   module _ (A B : List ℕ → Type 0)
       (not_a : (s : List ℕ) (v : V) (k : ℕ) → IsUtf8 s → S.takes s v k → A s → ⊥)
       (not_b : (s : List ℕ) (v : V) (k : ℕ) → IsUtf8 s → S.takes s v k → B s → ⊥) where
-    pub Items-same : (s : List ℕ) (vs ws : List V) (k l : ℕ) → IsUtf8 s → Items S.takes s vs k → A (drop k s) → Items S.takes s ws l → B (drop l s) → all_alike S.alike vs ws × (k ≡ l)
+    pub Items-same : (s : List ℕ) (vs ws : List V) (k l : ℕ) → IsUtf8 s → Items S.takes s vs k → A (drop k s)
+        → Items S.takes s ws l → B (drop l s) → all_alike S.alike vs ws × (k ≡ l)
     Items-same s [] [] k l u h a m b = (tt, h ∙ sym m)
     Items-same s [] (w ∷ ws) k l u h a m b = absurd (not_a s w m.0 u m.2 (subst (λ (n : ℕ). A (drop n s)) h a))
     Items-same s (v ∷ vs) [] k l u h a m b = absurd (not_b s v h.0 u h.2 (subst (λ (n : ℕ). B (drop n s)) m b))
@@ -38,10 +46,12 @@ module _ {V : Type 0} (S : Step V) (lawful : IsLawfulStep S) where
         let p = lawful.one s v w h.0 m.0 u h.2 m.2 in
         let items : Items S.takes (drop h.0 s) ws m.1 = subst (λ (n : ℕ). Items S.takes (drop n s) ws m.1) (sym p.1) m.3 in
         let end_a : A (drop h.1 (drop h.0 s)) = subst A (ap (λ (n : ℕ). drop n s) h.4 ∙ sym (drop-drop h.1 h.0 s)) a in
-        let end_b : B (drop m.1 (drop h.0 s)) = subst B (ap (λ (n : ℕ). drop n s) (m.4 ∙ ap (λ (n : ℕ). n + m.1) (sym p.1)) ∙ sym (drop-drop m.1 h.0 s)) b in
+        let end_b : B (drop m.1 (drop h.0 s)) =
+        subst B (ap (λ (n : ℕ). drop n s) (m.4 ∙ ap (λ (n : ℕ). n + m.1) (sym p.1)) ∙ sym (drop-drop m.1 h.0 s)) b in
         let q = Items-same (drop h.0 s) vs ws h.1 m.1 (utf8_rest s h.0 u bound) h.3 end_a items end_b in
         ((p.0, q.0), h.4 ∙ ap (λ (n : ℕ). n + h.1) p.1 ∙ ap (λ (n : ℕ). m.0 + n) q.1 ∙ sym m.4)
 
+-- a run of items
 module _ {V L : Type 0} (view : L → List V) (S : Step V) (lawful : IsLawfulStep S) where
   pub run_lawful : IsLawful (run_reading view S)
   run_lawful = record {
@@ -55,6 +65,7 @@ module _ {V L : Type 0} (view : L → List V) (S : Step V) (lawful : IsLawfulSte
     growing = λ s r code h. tt;
   }
 
+-- the step of `Vec`
 module _ {V : Type 0} (R : Reading V) (lawful : IsLawful R) where
   pub vec_step_lawful : IsLawfulStep (vec_step R)
   vec_step_lawful = record {

@@ -12,19 +12,24 @@ module _ {V : Type 0} (takes : List ℕ → V → ℕ → Type 0) where
   Items s [] k = k ≡ 0
   Items s (v ∷ vs) k = (i : ℕ) × (j : ℕ) × takes s v i × Items (drop i s) vs j × (k ≡ i + j)
 
--- How a list goes on at a place: an item is taken, or the list ends there, or the whole is refused.
+-- how a list goes on at a place
 pub record Step (V : Type 0) : Type 1 where
+  -- the next item is this value, and it takes so many bytes
   pub takes : List ℕ → V → ℕ → Type 0
+  -- the list ends here
   pub ends : List ℕ → Type 0
+  -- the whole list is refused
   pub refuses : List ℕ → Type 0
+  -- the call may end here with a failure of this input and code
   pub stops : List ℕ → List ℕ → ErrorKind → Type 0
+  -- when items are equal, capacities aside
   pub alike : V → V → Type 0
 
--- a request for memory was refused
+-- a request for memory was refused, at a suffix of the text
 abbrev pub for_memory : List ℕ → List ℕ → ErrorKind → Type 0
 for_memory s r code = (code ≡ Memory) × IsSuffix s r
 
--- Items until the list ends. The list is what `view` sees of a value.
+-- items until the list ends, where a value is seen as the list of its items
 module _ {V L : Type 0} (view : L → List V) (S : Step V) where
   abbrev pub run_reading : Reading L
   run_reading = record {

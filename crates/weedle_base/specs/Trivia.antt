@@ -6,22 +6,24 @@ use Rattle.weedle_rules.specs.Table.{Reads}
 use Rattle.weedle_rules.specs.Trees.{Tree, Fails, Gives}
 use Rattle.weedle_rules.specs.declared.class.Class.{Class}
 
--- a rule gave these trees from the front of s, and rest follows what it took
+-- the rule gave these trees at the front of s, and rest follows what it took
 pub record Took (r : ℕ) (s : List ℕ) (ts : List Tree) (rest : List ℕ) : Type 0 where
+  -- how many bytes it took
   pub place : ℕ
   pub reads : Reads s r 0 (Gives ts place)
   pub rest_is : rest ≡ drop place s
 
--- the next byte is in the class
+-- there is a next byte, and it is in the class
 abbrev pub is_next : Class → List ℕ → Bool
 is_next c s = nat_lt 0 (length s) && is_in c (slice_index s 0)
 
--- Pieces.
+-- the silent rule was tried at the front of s: None where it fails, else what follows what it took
 abbrev pub Trial : ℕ → List ℕ → Option (Bor (List ℕ)) → Type 0
 Trial r s o = MatchOption o (Reads s r 0 Fails) (λ rest. Took r s [] rest.now)
 
--- a silent rule takes the text from the front of s, and rest follows
+-- the silent rule took this text at the front of s, and rest follows
 pub record TookText (r : ℕ) (s text rest : List ℕ) : Type 0 where
+  -- how many bytes it took
   pub place : ℕ
   pub reads : Reads s r 0 (Gives [] place)
   pub text_is : text ≡ take place s

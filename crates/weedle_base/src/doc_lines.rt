@@ -14,7 +14,7 @@ use memchr::memchr;
 use std::alloc::{AllocError, Global};
 use weedle_rules::{Class, Rule};
 
-/// The text of the line at the front, and what follows the line.
+/// The text of the line at the front, and what follows it: blanks, `///`, the text and an LF.
 fn doc_line(input: &str) -> Option<(&str, &str)>
     ensures { MatchOption result (Reads input.now DOC_LINE 0 Fails) (λ x. Took DOC_LINE input.now (Lines x.0.now ∷ []) x.1.now) }
 {
@@ -24,6 +24,7 @@ fn doc_line(input: &str) -> Option<(&str, &str)>
     Some((&after[..end], &after[end + 1..]))
 }
 
+/// Puts an LF and the line at the end of the text.
 fn push_line(text: &mut String, line: &str) -> Result<(), AllocError>
     ensures { OnOk result (string_bytes text.new ≡ (string_bytes text.old ++ (10 ∷ [])) ++ line.now) }
 {

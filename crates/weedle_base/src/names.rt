@@ -9,9 +9,9 @@ ghost use Rattle.weedle_rules.specs.Trees.{Text, Fails};
 ghost use Rattle.weedle_base.specs.Names.{IsTagged, LacksTag};
 ghost use Rattle.weedle_base.specs.Trivia.{Took, TookText};
 
-use crate::scan::{next_is, run};
+use crate::scan::{after_one, after_run, after_word, next_is, taken};
 use crate::trivia::skip_trivia;
-use weedle_rules::Class;
+use weedle_rules::{Class, Rule};
 
 /// Whether the character may stand in a name: an ASCII letter or digit, `_` or `-`. It takes no
 /// memory.
@@ -28,15 +28,11 @@ pub fn is_alphanum_underscore_dash(token: char) -> bool
 pub fn ident_tag<'a>(tag: &'static str, input: &'a str) -> Option<(&'a str, &'a str)>
     ensures { MatchOption result (LacksTag tag.now input.now) (λ x. IsTagged tag.now input.now x.0.now × (x.1.now ≡ tag.now)) }
 {
-    match input.strip_prefix(tag) {
-        Some(rest) => {
-            if next_is(Class::Name, rest) {
-                return None;
-            }
-            Some((rest, tag))
-        }
-        None => None,
+    let rest = input.strip_prefix(tag)?;
+    if next_is(Class::Name, rest) {
+        return None;
     }
+    Some((rest, tag))
 }
 
 /// Reads an identifier: trivia, an underscore that is dropped, a letter or a digit and the name
@@ -49,29 +45,22 @@ pub fn identifier(input: &str) -> Option<(&str, &str)>
 {
     let start = skip_trivia(input);
     let name = skip_underscore(start);
-    match name_text(name) {
-        Some((rest, text)) => Some((skip_trivia(rest), text)),
-        None => None,
-    }
+    let (rest, text) = name_text(name)?;
+    Some((skip_trivia(rest), text))
 }
 
 /// What follows an underscore at the front of the text, or the text itself.
 fn skip_underscore(input: &str) -> &str
     ensures { Took OPT_BYTES_UNDERSCORE input.now [] result.now }
 {
-    match input.strip_prefix("_") {
-        Some(after) => after,
-        None => input,
-    }
+    after_word(Rule::BYTES_UNDERSCORE, "_", input).unwrap_or(input)
 }
 
-/// What follows the name at the front of the text, and the name.
+/// What follows a letter or a digit and the name characters behind it, and the text of all of them.
 fn name_text(input: &str) -> Option<(&str, &str)>
     ensures { MatchOption result (Reads input.now IDENTIFIER_TEXT 0 Fails) (λ x. TookText IDENTIFIER_TEXT input.now x.1.now x.0.now) }
 {
-    if !next_is(Class::Alnum, input) {
-        return None;
-    }
-    let end = run(Class::Name, input.as_bytes());
-    Some((&input[end..], &input[..end]))
+    let first = after_one(Rule::ONE_OF_ALNUM, Class::Alnum, input)?;
+    let rest = after_run(Rule::RUN_NAME, Class::Name, first);
+    Some((rest, taken(Rule::IDENTIFIER_TEXT, input, rest)))
 }

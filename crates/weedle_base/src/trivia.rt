@@ -4,49 +4,40 @@ ghost use Rattle.std.specs.Prelude.{[]};
 ghost use Rattle.weedle_rules.specs.Table.Trivia.{LINE_COMMENT, BLANKS, BLOCK_COMMENT, PIECE, TRIVIA};
 ghost use Rattle.weedle_base.specs.Trivia.{Trial, Took, TookText};
 
-use crate::scan::{next_is, run, taken};
+use crate::scan::{after_one, after_run, after_word, next_is, taken};
 use memchr::{memchr, memmem};
 use weedle_rules::{Class, Rule};
 
+/// What follows a line comment: `//`, no third `/`, and everything up to an LF and past it.
 fn line_comment(input: &str) -> Option<&str>
     ensures { Trial LINE_COMMENT input.now result }
 {
-    match input.strip_prefix("//") {
-        Some(after) => {
-            if next_is(Class::Slash, after) {
-                return None;
-            }
-            match memchr(b'\n', after.as_bytes()) {
-                Some(i) => Some(&after[i + 1..]),
-                None => None,
-            }
-        }
-        None => None,
+    let after = after_word(Rule::BYTES_SLASH_SLASH, "//", input)?;
+    if next_is(Class::Slash, after) {
+        return None;
     }
+    let end = memchr(b'\n', after.as_bytes())?;
+    Some(&after[end + 1..])
 }
 
+/// What follows spaces, tabs, CRs and LFs, one at least.
 fn blanks(input: &str) -> Option<&str>
     ensures { Trial BLANKS input.now result }
 {
-    let end = run(Class::Blank, input.as_bytes());
-    if end == 0 {
-        return None;
-    }
-    Some(&input[end..])
+    let first = after_one(Rule::ONE_OF_BLANK, Class::Blank, input)?;
+    Some(after_run(Rule::RUN_BLANK, Class::Blank, first))
 }
 
+/// What follows a block comment: `/*` and everything past the first `*/` behind it.
 fn block_comment(input: &str) -> Option<&str>
     ensures { Trial BLOCK_COMMENT input.now result }
 {
-    match input.strip_prefix("/*") {
-        Some(after) => match memmem::find(after.as_bytes(), b"*/") {
-            Some(i) => Some(&after[i + 2..]),
-            None => None,
-        },
-        None => None,
-    }
+    let after = after_word(Rule::BYTES_SLASH_STAR, "/*", input)?;
+    let end = memmem::find(after.as_bytes(), b"*/")?;
+    Some(&after[end + 2..])
 }
 
+/// What follows one comment, or blanks.
 #[tactic(auto, using(crate::proofs::TriviaFacts::piece_line, crate::proofs::TriviaFacts::piece_blanks, crate::proofs::TriviaFacts::piece_block))]
 fn piece(input: &str) -> Option<&str>
     ensures { Trial PIECE input.now result }

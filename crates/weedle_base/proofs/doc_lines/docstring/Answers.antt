@@ -24,8 +24,10 @@ loop-line-smaller c = line_shorter c.loop-line.invariant.0 c.in-Some-doc_line.en
 
 pub loop-line-preserved : goal.loop-line-preserved
 loop-line-preserved c =
-    let pushed : string_bytes c.push_line.new.text ≡ (string_bytes c.loop-line.text ++ (10 ∷ [])) ++ c.in-Some-doc_line.line.now = when_ok c.push_line.result c.if-is_err.ensures.negation c.push_line.ensures in
+    let pushed : string_bytes c.push_line.new.text ≡ (string_bytes c.loop-line.text ++ (10 ∷ [])) ++ c.in-Some-doc_line.line.now =
+    when_ok c.push_line.result c.if-is_err.ensures.negation c.push_line.ensures in
     (rest_utf8 c.loop-line.invariant.0 c.in-Some-doc_line.ensures, lined_more c.loop-line.invariant.1 c.in-Some-doc_line.ensures pushed)
 
 pub returns : goal.returns
-returns c = got_own (λ s. Lines (string_bytes s)) (Unit {0}) _ (lined_all c.loop-line.invariant.1 c.in_default-doc_line.ensures) refl c.utf8.input c.loop-line.invariant.0
+returns c =
+    got_own (λ s. Lines (string_bytes s)) (Unit {0}) _ (lined_all c.loop-line.invariant.1 c.in_default-doc_line.ensures) refl c.utf8.input c.loop-line.invariant.0

@@ -1,8 +1,7 @@
-use Rattle.weedle_base.proofs.NameFacts.{underscore_here, underscore_not}
+use Rattle.std.proofs.Common.{refl}
+use Rattle.weedle_rules.specs.Table.Leaves.{OPT_BYTES_UNDERSCORE}
+use Rattle.weedle_base.proofs.SilentRules.{took_opt}
 use Rattle.weedle_base.proofs.names.skip_underscore.Goals as goal
 
-pub returns-in-Some : goal.returns-in-Some
-returns-in-Some c = let h = c.in-Some.ensures.cases in underscore_here c.args.input.now c.in-Some.after.now h.0 h.1.0 h.1.1 h.2
-
-pub returns-in-None : goal.returns-in-None
-returns-in-None c = underscore_not c.args.input.now c.in-None.ensures.cases
+pub returns : goal.returns
+returns c = rw c.unwrap_or.ensures (took_opt OPT_BYTES_UNDERSCORE refl refl c.args.input c.after_word.result c.after_word.ensures)

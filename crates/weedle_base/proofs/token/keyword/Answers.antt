@@ -4,8 +4,10 @@ use Rattle.weedle_base.proofs.TokenFacts.{keyword_lacks, keyword_reads, got_own,
 use Rattle.weedle_base.proofs.token.keyword.Goals as goal
 
 pub returns-in-None-clause-outcome : goal.returns-in-None-clause-outcome
-returns-in-None-clause-outcome g c = fault_own (λ v. Mark) ⊥ (keyword_lacks c.skip_trivia-start.ensures c.requires c.in-None.ensures) c.utf8.input refl refl
+returns-in-None-clause-outcome g c =
+    fault_own (λ v. Mark) ⊥ (keyword_lacks c.skip_trivia-start.ensures c.requires c.in-None.ensures) c.utf8.input refl refl
 
 pub returns-in-Some-clause-outcome : goal.returns-in-Some-clause-outcome
 returns-in-Some-clause-outcome g c =
-    got_own (λ v. Mark) ⊥ _ (keyword_reads c.skip_trivia-start.ensures c.requires c.in-Some.ensures.0 c.skip_trivia.ensures) refl c.utf8.input c.skip_trivia.utf8
+    got_own (λ v. Mark) ⊥ _ (keyword_reads c.skip_trivia-start.ensures c.requires c.in-Some.ensures.0 c.skip_trivia.ensures)
+    refl c.utf8.input c.skip_trivia.utf8

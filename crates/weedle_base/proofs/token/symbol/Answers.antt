@@ -4,7 +4,10 @@ use Rattle.weedle_base.proofs.TokenFacts.{symbol_lacks, symbol_reads, got_own, f
 use Rattle.weedle_base.proofs.token.symbol.Goals as goal
 
 pub returns-in-None-clause-outcome : goal.returns-in-None-clause-outcome
-returns-in-None-clause-outcome g c = fault_own (λ v. Mark) ⊥ (symbol_lacks c.skip_trivia-start.ensures c.requires c.in-None.ensures.cases) c.utf8.input refl refl
+returns-in-None-clause-outcome g c =
+    fault_own (λ v. Mark) ⊥ (symbol_lacks c.skip_trivia-start.ensures c.requires c.in-None.ensures.cases) c.utf8.input refl refl
 
 pub returns-in-Some-clause-outcome : goal.returns-in-Some-clause-outcome
-returns-in-Some-clause-outcome g c = let h = c.in-Some.ensures.cases in got_own (λ v. Mark) ⊥ _ (symbol_reads c.skip_trivia-start.ensures h.0 h.1.0 h.1.1 h.2 c.requires c.skip_trivia.ensures) refl c.utf8.input c.skip_trivia.utf8
+returns-in-Some-clause-outcome g c =
+    got_own (λ v. Mark) ⊥ _ (symbol_reads c.skip_trivia-start.ensures c.requires c.in-Some.ensures.cases c.skip_trivia.ensures)
+    refl c.utf8.input c.skip_trivia.utf8
