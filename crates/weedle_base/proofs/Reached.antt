@@ -1,15 +1,21 @@
 -- A list that is being read: the items so far stand at the start of the text.
-use Rattle.std.proofs.Common.{refl, ap, subst, arith}
+use Rattle.std.proofs.Common.{refl, ap, subst, inr, arith}
 use Rattle.std.proofs.lemmas.List.{length-drop}
 use Rattle.std.specs.Prelude.{◌≡◌, ℕ, ◌+◌, ◌≤◌, List, [], ◌∷◌, ◌++◌, drop, length}
 use Rattle.std.specs.Str.{IsUtf8}
-use Rattle.weedle_base.proofs.PlaceFacts.{suffix_along, took_some}
+use Rattle.weedle_base.proofs.PlaceFacts.{suffix_along, suffix_self, took_some}
 use Rattle.weedle_base.proofs.RunFacts.{Items-push}
-use Rattle.weedle_base.proofs.Steps.{within_add, rest_add}
+use Rattle.weedle_base.proofs.Steps.{within_add, rest_add, fault_along}
 use Rattle.weedle_base.specs.Places.{IsSuffix}
-use Rattle.weedle_base.specs.Reading.{Reading, Got}
+use Rattle.weedle_base.specs.Reading.{Reading, Got, Faults}
+use Rattle.weedle_base.specs.Generic.{option_reading}
 use Rattle.weedle_base.specs.Runs.{Step, Items, run_reading, vec_step}
+use Rattle.std.specs.Borrow.{Bor}
+use Rattle.weedle_base.specs.declared.fault.Err.{Err as Fault}
+use Rattle.weedle_base.specs.declared.fault.Err.TheVariants.{Error as Recoverable}
+use Rattle.weedle_base.specs.declared.fault.Error.{Error}
 use Rattle.weedle_base.specs.declared.fault.ErrorKind.{ErrorKind}
+use Rattle.weedle_base.specs.declared.fault.ErrorKind.TheVariants.{Mismatch}
 
 -- the items were read from s, and rest is left
 pub record Reached {V : Type 0} (S : Step V) (s : List ℕ) (vs : List V) (rest : List ℕ) : Type 0 where
@@ -69,3 +75,14 @@ module _ {V : Type 0} (R : Reading V) where
   stuck_item {rest} {after} {v} g n =
       let e : g.place ≡ 0 = omega (arith, g.within, ap length g.rest_is, length-drop g.place rest, n) in
       (v, subst (λ (k : ℕ). R.gives rest v k) e g.gives)
+
+module _ {V L : Type 0} (view : L → List V) (R : Reading V) {s rest : List ℕ} {vs : List V} (h : Reached (vec_step R) s vs rest) where
+  -- an item that took nothing refuses the whole
+  pub run_stuck : {after : List ℕ} {v : V} → Got R rest v after → length after ≡ length rest → {e : Error (Bor (List ℕ))} → e.code ≡ Mismatch → e.input.now ≡ rest
+      → Faults (run_reading view (vec_step R)) s (Recoverable e)
+  run_stuck g n {e} c i = record { says = (reached_refuses (vec_step R) h (stuck_item R g n), c, reached_suffix (vec_step R) h e.input.now (rw i (suffix_self rest h.text))) }
+
+  -- a failure of an item is a failure of the whole
+  pub run_fault : {e : Fault (Error (Bor (List ℕ)))} → Faults (option_reading R) rest e → Faults (run_reading view (vec_step R)) s e
+  unfolding option_reading
+  run_fault f = fault_along (option_reading R) R (run_reading view (vec_step R)) h.place h.rest_is (λ x. absurd x) (λ r code x. inr (reached_stops (vec_step R) h r code x)) f

@@ -2,7 +2,7 @@
 use Rattle.std.proofs.Common.{refl, ap, ◌∙◌, subst, inl, inr, arith}
 use Rattle.std.proofs.lemmas.List.{drop-drop, length-drop}
 use Rattle.std.specs.Borrow.{Bor}
-use Rattle.std.specs.Prelude.{◌≡◌, ℕ, ◌+◌, ◌≤◌, List, drop, length, Some, None, Result, Ok, Err}
+use Rattle.std.specs.Prelude.{◌≡◌, ℕ, ◌+◌, ◌≤◌, List, drop, length, Option, Some, None, Result, Ok, Err}
 use Rattle.std.specs.Result.{IsErrAnd}
 use Rattle.std.specs.Str.{IsUtf8}
 use Rattle.weedle_base.proofs.PlaceFacts.{suffix_along}
@@ -120,6 +120,23 @@ module _ {V : Type 0} (R : Reading V) where
         → Faults (boxed_reading inside R) s (Failure e)
     unfolding boxed_reading
     fault_memory s e c h = record { says = inl (c, h) }
+
+-- what an option's answer says of its value
+module _ {V : Type 0} (R : Reading V) {s rest : List ℕ} where
+  held : {v : V} → Got (option_reading R) s (Some v) rest → Got R s v rest
+  unfolding option_reading
+  held g = record { place = g.place; gives = g.gives; within = g.within; rest_is = g.rest_is; text = g.text }
+
+  lacking : Got (option_reading R) s None rest → R.refuses s
+  unfolding option_reading
+  lacking g = g.gives.0
+
+  module _ {o : Option V} (h : Got (option_reading R) s o rest) where
+    pub of_some : {v : V} → o ≡ Some v → Got R s v rest
+    of_some {v} e = held (subst (λ (x : Option V). Got (option_reading R) s x rest) e h)
+
+    pub of_none : o ≡ None → R.refuses s
+    of_none e = lacking (subst (λ (x : Option V). Got (option_reading R) s x rest) e h)
 
 -- what the search for the proof of a body with `?` uses: a part after another, and a fault of either
 pub ruleset part_steps = (fault_first, fault_second, got_pair)

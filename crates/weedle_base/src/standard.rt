@@ -62,25 +62,23 @@ impl<'a, T: Parse<'a>> Parse<'a> for Vec<T> {
         let mut list = Vec::new(alloc);
         let mut rest = input;
         loop {
-            match T::parse(alloc, rest) {
-                Ok((after, item)) => {
-                    if after.len() == rest.len() {
-                        return Err(Err::Error(Error {
-                            input: rest,
-                            code: ErrorKind::Mismatch,
-                        }));
-                    }
-                    if list.push(item).is_err() {
-                        return Err(Err::Failure(Error {
-                            input: rest,
-                            code: ErrorKind::Memory,
-                        }));
-                    }
-                    rest = after;
-                }
-                Err(Err::Error(_)) => return Ok((rest, list)),
-                Err(fault) => return Err(fault),
+            let (after, read) = Option::<T>::parse(alloc, rest)?;
+            let Some(item) = read else {
+                return Ok((rest, list));
+            };
+            if after.len() == rest.len() {
+                return Err(Err::Error(Error {
+                    input: rest,
+                    code: ErrorKind::Mismatch,
+                }));
             }
+            if list.push(item).is_err() {
+                return Err(Err::Failure(Error {
+                    input: rest,
+                    code: ErrorKind::Memory,
+                }));
+            }
+            rest = after;
         }
     }
 
