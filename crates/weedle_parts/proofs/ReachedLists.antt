@@ -1,12 +1,18 @@
 -- A list with separators that is being read.
-use Rattle.std.proofs.Common.{refl, subst, inr}
+use Rattle.std.proofs.Common.{refl, subst, inl, inr}
 use Rattle.std.specs.Prelude.{◌≡◌, ℕ, ◌+◌, ◌<◌, List, [], ◌∷◌, ◌++◌, drop, length}
-use Rattle.weedle_base.proofs.PlaceFacts.{took_some, shorter}
-use Rattle.weedle_base.proofs.Reached.{Reached, reached_push}
-use Rattle.weedle_base.proofs.Steps.{within_add, rest_add}
-use Rattle.weedle_base.specs.Reading.{Reading, Got}
+use Rattle.weedle_base.proofs.PlaceFacts.{suffix_self, took_some, shorter}
+use Rattle.weedle_base.proofs.Reached.{Reached, reached_push, reached_refuses, reached_stops, reached_suffix, stuck_item}
+use Rattle.weedle_base.proofs.Steps.{within_add, rest_add, fault_along}
+use Rattle.weedle_base.specs.Reading.{Reading, Got, Faults}
+use Rattle.weedle_base.specs.Generic.{option_reading}
+use Rattle.std.specs.Borrow.{Bor}
+use Rattle.weedle_base.specs.declared.fault.Err.{Err as Fault}
+use Rattle.weedle_base.specs.declared.fault.Err.TheVariants.{Error as Recoverable}
+use Rattle.weedle_base.specs.declared.fault.Error.{Error}
 use Rattle.weedle_base.specs.declared.fault.ErrorKind.{ErrorKind}
-use Rattle.weedle_parts.specs.Lists.{next_step}
+use Rattle.weedle_base.specs.declared.fault.ErrorKind.TheVariants.{Mismatch}
+use Rattle.weedle_parts.specs.Lists.{next_step, after_first}
 
 module _ {V W : Type 0} (R : Reading V) (S : Reading W) where
   -- a separator and an item
@@ -27,3 +33,25 @@ module _ {V W : Type 0} (R : Reading V) (S : Reading W) where
 
   pub shorter_next : {rest after next : List ℕ} {w : W} {v : V} → Got S rest w after → (length after ≡ length rest → ⊥) → Got R after v next → length next < length rest
   shorter_next {rest} {after} {next} a n b = shorter rest after next a.place b.place a.rest_is b.rest_is n
+
+module _ {V W L : Type 0} (R : Reading V) (S : Reading W) (view : L → List V) (first : V) {s rest : List ℕ} {vs : List V} (h : Reached (next_step R S) s vs rest) where
+  -- the list ends here
+  pub list_ends : (l : L) → view l ≡ first ∷ vs → (next_step R S).ends rest → Got (after_first R S view first) s l rest
+  list_ends l e x = record { place = h.place; gives = (vs, e, (h.items, subst (next_step R S).ends h.rest_is x)); within = h.within; rest_is = h.rest_is; text = h.text }
+
+  -- a separator that took nothing refuses the whole
+  pub list_stuck : {after : List ℕ} {w : W} → Got S rest w after → length after ≡ length rest → {e : Error (Bor (List ℕ))} → e.code ≡ Mismatch → e.input.now ≡ rest
+      → Faults (after_first R S view first) s (Recoverable e)
+  list_stuck g n {e} c i = record { says = (reached_refuses (next_step R S) h (stuck_item S g n), c, reached_suffix (next_step R S) h e.input.now (rw i (suffix_self rest h.text))) }
+
+  -- a failure of a separator is a failure of the whole
+  pub separator_fault : {e : Fault (Error (Bor (List ℕ)))} → Faults (option_reading S) rest e → Faults (after_first R S view first) s e
+  unfolding option_reading
+  separator_fault f = fault_along (option_reading S) S (after_first R S view first) h.place h.rest_is (λ x. absurd x) (λ r code x. inr (reached_stops (next_step R S) h r code (inl x))) f
+
+  -- a failure of an item is a failure of the whole
+  pub item_fault : {after : List ℕ} {w : W} → Got S rest w after → (length after ≡ length rest → ⊥) → {e : Fault (Error (Bor (List ℕ)))} → Faults (option_reading R) after e
+      → Faults (after_first R S view first) s e
+  unfolding option_reading
+  item_fault {after} a n f = fault_along (option_reading R) R (after_first R S view first) (h.place + a.place) (rest_add s rest after h.place a.place h.rest_is a.rest_is) (λ x. absurd x)
+      (λ r code x. inr (reached_stops (next_step R S) h r code (stops_behind R S a n r code x))) f

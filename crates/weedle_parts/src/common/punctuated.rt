@@ -102,30 +102,26 @@ fn following<'a, T: Parse<'a>, S: Parse<'a>>(
     }
     let mut rest = input;
     loop {
-        match S::parse(alloc, rest) {
-            Ok((after, _)) => {
-                if after.len() == rest.len() {
-                    return Err(Err::Error(Error {
-                        input: rest,
-                        code: ErrorKind::Mismatch,
-                    }));
-                }
-                match T::parse(alloc, after) {
-                    Ok((next, item)) => {
-                        if list.push(item).is_err() {
-                            return Err(Err::Failure(Error {
-                                input: rest,
-                                code: ErrorKind::Memory,
-                            }));
-                        }
-                        rest = next;
-                    }
-                    Err(Err::Error(_)) => return Ok((rest, list)),
-                    Err(fault) => return Err(fault),
-                }
-            }
-            Err(Err::Error(_)) => return Ok((rest, list)),
-            Err(fault) => return Err(fault),
+        let (after, separator) = Option::<S>::parse(alloc, rest)?;
+        let Some(_) = separator else {
+            return Ok((rest, list));
+        };
+        if after.len() == rest.len() {
+            return Err(Err::Error(Error {
+                input: rest,
+                code: ErrorKind::Mismatch,
+            }));
         }
+        let (next, read) = Option::<T>::parse(alloc, after)?;
+        let Some(item) = read else {
+            return Ok((rest, list));
+        };
+        if list.push(item).is_err() {
+            return Err(Err::Failure(Error {
+                input: rest,
+                code: ErrorKind::Memory,
+            }));
+        }
+        rest = next;
     }
 }
