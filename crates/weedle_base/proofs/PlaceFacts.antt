@@ -1,5 +1,5 @@
 -- Places in a text, and suffixes.
-use Rattle.std.proofs.Common.{◌-◌, inl, inr, zero, suc, ap, ◌<◌, refl, sym, ◌∙◌, subst, arith, length-drop}
+use Rattle.std.proofs.Common.{inl, inr, zero, suc, ap, ◌<◌, refl, sym, ◌∙◌, subst, arith}
 use Rattle.std.proofs.lemmas.Bool.{cases_lt}
 use Rattle.std.proofs.lemmas.List.{drop-drop, drop_all}
 use Rattle.std.proofs.lemmas.Str.{IsCharBoundary-end, IsCharBoundary-from_drop}
@@ -26,11 +26,3 @@ suffix_boundary s r h = elim (cases_lt (length s) h.1) [
 pub took_some : (s r : List ℕ) (k : ℕ) → r ≡ drop k s → (length r ≡ length s → ⊥) → 0 < k
 took_some s r zero e n = absurd (n (ap length e))
 took_some s r (suc k) e n = omega arith
-
--- what follows is shorter than s, where the first step took a byte
-pub shorter : (s after next : List ℕ) (h i : ℕ) → after ≡ drop h s → next ≡ drop i after → (length after ≡ length s → ⊥)
-    → length next < length s
-shorter s after next h i e f n =
-    let a : length after ≡ length s - h = ap length e ∙ length-drop h s in
-    let b : length next ≡ length after - i = ap length f ∙ length-drop i after in
-    omega (arith, n)

@@ -18,11 +18,11 @@ pub row_forth : (s : List ℕ) (k : ℕ) {row : Row} {w : Raw} → ReadsRow webi
 row_forth s k {row} {w} d =
     let e : k + 0 ≡ k = omega arith in subst (λ (z : ℕ). ReadsRow webidl s row z (raw_moved k w)) e (row_behind webidl s k d)
 
-not_zero : {i : ℕ} → 0 < i → i ≢ 0
+pub not_zero : {i : ℕ} → 0 < i → i ≢ 0
 not_zero h e = omega (arith, h, e)
 
 -- what follows the items
-onward : (s : List ℕ) (i j k : ℕ) → k ≡ i + j → drop k s ≡ drop j (drop i s)
+pub onward : (s : List ℕ) (i j k : ℕ) → k ≡ i + j → drop k s ≡ drop j (drop i s)
 onward s i j k e = ap (λ (n : ℕ). drop n s) e ∙ sym (drop-drop j i s)
 
 module _ {V : Type 0} {R : Reading V} {x : ℕ} {tree : V → Tree} {grows : Type 0} (rule : IsRule R x tree grows) where

@@ -1,10 +1,9 @@
 -- Lists, and the rows that say how they are read.
-use Rattle.std.proofs.Common.{refl, sym, ap, ◌∙◌, subst, inl, inr, arith}
-use Rattle.std.proofs.lemmas.List.{drop-drop}
-use Rattle.std.specs.Prelude.{◌≡◌, ◌≢◌, ◌<◌, ℕ, ◌+◌, List, [], ◌∷◌, drop, map}
+use Rattle.std.proofs.Common.{refl, sym, subst, inl, inr}
+use Rattle.std.specs.Prelude.{◌≡◌, ℕ, ◌+◌, List, [], ◌∷◌, drop, map}
 use Rattle.weedle_base.proofs.PlaceFacts.{suffix_along}
 use Rattle.weedle_base.proofs.RuleFacts.{of_row, option_rule, seq_last, seq_next, no_seq}
-use Rattle.weedle_base.proofs.RunRules.{row_forth}
+use Rattle.weedle_base.proofs.RunRules.{row_forth, not_zero, onward}
 use Rattle.weedle_base.specs.Generic.{pair_reading}
 use Rattle.weedle_base.specs.Own.{stops_for_memory}
 use Rattle.weedle_base.specs.Reading.{Reading}
@@ -17,13 +16,6 @@ use Rattle.weedle_rules.specs.Meaning.{Plain, Inner, Raw, Breaks, Yields, ReadsR
 use Rattle.weedle_rules.specs.Rows.{Seq, Opt, ListOf, List1, Tail}
 use Rattle.weedle_rules.specs.Table.{webidl, row_of, shape_of, Reads}
 use Rattle.weedle_rules.specs.Trees.{Tree, Fails, Gives}
-
-not_zero : {i : ℕ} → 0 < i → i ≢ 0
-not_zero h e = omega (arith, h, e)
-
--- what follows the items
-onward : (s : List ℕ) (i j k : ℕ) → k ≡ i + j → drop k s ≡ drop j (drop i s)
-onward s i j k e = ap (λ (n : ℕ). drop n s) e ∙ sym (drop-drop j i s)
 
 module _ {V W : Type 0} {R : Reading V} {S : Reading W} {x z : ℕ} {tree : V → Tree} {tree' : W → Tree} {grows : Type 0} (item : IsRule R x tree grows) (separator : IsRule S z tree' grows) where
   tail_ends : (s : List ℕ) → (next_step R S).ends s → ReadsRow webidl s (Tail x z) 0 (Yields [] [] 0)

@@ -1,7 +1,7 @@
 -- A list with separators that is being read.
 use Rattle.std.proofs.Common.{refl, subst, inl, inr}
-use Rattle.std.specs.Prelude.{◌≡◌, ℕ, ◌+◌, ◌<◌, List, [], ◌∷◌, ◌++◌, drop, length}
-use Rattle.weedle_base.proofs.PlaceFacts.{suffix_self, took_some, shorter}
+use Rattle.std.specs.Prelude.{◌≡◌, ℕ, ◌+◌, List, [], ◌∷◌, ◌++◌, drop, length}
+use Rattle.weedle_base.proofs.PlaceFacts.{suffix_self, took_some}
 use Rattle.weedle_base.proofs.Reached.{Reached, reached_push, reached_refuses, reached_stops, reached_suffix, stuck_item}
 use Rattle.weedle_base.proofs.Steps.{within_add, rest_add, fault_along}
 use Rattle.weedle_base.specs.Reading.{Reading, Got, Faults}
@@ -30,9 +30,6 @@ module _ {V W : Type 0} (R : Reading V) (S : Reading W) where
 
   pub stops_behind : {rest after : List ℕ} {w : W} → Got S rest w after → (length after ≡ length rest → ⊥) → (r : List ℕ) (code : ErrorKind) → R.stops after r code → (next_step R S).stops rest r code
   stops_behind {rest} {after} {w} a n r code b = inr (w, a.place, a.gives, took_some rest after a.place a.rest_is n, subst (λ (t : List ℕ). R.stops t r code) a.rest_is b)
-
-  pub shorter_next : {rest after next : List ℕ} {w : W} {v : V} → Got S rest w after → (length after ≡ length rest → ⊥) → Got R after v next → length next < length rest
-  shorter_next {rest} {after} {next} a n b = shorter rest after next a.place b.place a.rest_is b.rest_is n
 
 module _ {V W L : Type 0} (R : Reading V) (S : Reading W) (view : L → List V) (first : V) {s rest : List ℕ} {vs : List V} (h : Reached (next_step R S) s vs rest) where
   -- the list ends here
