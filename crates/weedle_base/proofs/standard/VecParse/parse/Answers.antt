@@ -9,13 +9,13 @@ loop-list-init g c = (c.utf8.input, rw c.new-list.ensures.items (reached_none (v
 
 pub loop-list-preserved : goal.loop-list-preserved
 loop-list-preserved g c =
-  let pushed : c.push.new.self.items ≡ c.loop-list.list.items ++ (c.in-Some.item ∷ []) = rw c.if-is_err.ensures.negation at c.push.ensures.items in
-  let next = reached_item g.T.Parse.reading c.loop-list.invariant.1 (of_some g.T.Parse.reading c.in_ok-after.ensures c.in-Some.is) c.if-after-rest.false in
-  (next.text, rw pushed next)
+    let pushed : c.push.new.self.items ≡ c.loop-list.list.items ++ (c.in-Some.item ∷ []) = rw c.if-is_err.ensures.negation at c.push.ensures.items in
+    let next = reached_item g.T.Parse.reading c.loop-list.invariant.1 (of_some g.T.Parse.reading c.in_ok-after.ensures c.in-Some.is) c.if-after-rest.false in
+    (next.text, rw pushed next)
 
 pub returns-in_default : goal.returns-in_default
 returns-in_default g c =
-  reached_ends (vec_step g.T.Parse.reading) (λ v. v.items) c.args.input.now c.loop-list.rest.now c.loop-list.list c.loop-list.invariant.1 (of_none g.T.Parse.reading c.in_ok-after.ensures c.in_default.is)
+    reached_ends (vec_step g.T.Parse.reading) (λ v. v.items) c.args.input.now c.loop-list.rest.now c.loop-list.list c.loop-list.invariant.1 (of_none g.T.Parse.reading c.in_ok-after.ensures c.in_default.is)
 
 pub returns-then-after-rest : goal.returns-then-after-rest
 returns-then-after-rest g c = run_stuck (λ v. v.items) g.T.Parse.reading c.loop-list.invariant.1 (of_some g.T.Parse.reading c.in_ok-after.ensures c.in-Some.is) c.if-after-rest.true refl refl
