@@ -14,6 +14,8 @@ mod program;
 #[cfg(test)]
 mod readme;
 #[cfg(test)]
+mod rules;
+#[cfg(test)]
 mod scanners;
 #[cfg(test)]
 mod standard;

@@ -20,8 +20,6 @@ mod row;
 mod rows;
 mod rule;
 mod rule_names;
-#[cfg(test)]
-mod tests;
 
 pub use class::{Class, holds};
 pub use row::{Parts, Row};
