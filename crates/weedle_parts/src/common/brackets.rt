@@ -10,7 +10,8 @@ use weedle_base::term::{
 };
 use weedle_base::{IResult, Parse, TryClone};
 
-/// `(` body `)`.
+/// A body in parentheses, as `(a, b)`: `(`, what the body reads, `)`. Where one of the three isn't there it
+/// is a mismatch. It takes the memory that the body takes.
 #[derive(Clone, Copy, Debug, Default, Drop, PartialEq, Eq, PartialOrd, Ord, Hash)]
 pub struct Parenthesized<T> {
     pub open_paren: OpenParen,
@@ -54,7 +55,7 @@ impl<T: TryClone> TryClone for Parenthesized<T> {
     ghost equivalence = { seen_equivalence (λ v. v.body) T.equivalence };
 }
 
-/// `[` body `]`.
+/// A body in square brackets, as `[Exposed]`.
 #[derive(Clone, Copy, Debug, Default, Drop, PartialEq, Eq, PartialOrd, Ord, Hash)]
 pub struct Bracketed<T> {
     pub open_bracket: OpenBracket,
@@ -98,7 +99,7 @@ impl<T: TryClone> TryClone for Bracketed<T> {
     ghost equivalence = { seen_equivalence (λ v. v.body) T.equivalence };
 }
 
-/// `{` body `}`.
+/// A body in braces, as `{ .. }`.
 #[derive(Clone, Copy, Debug, Default, Drop, PartialEq, Eq, PartialOrd, Ord, Hash)]
 pub struct Braced<T> {
     pub open_brace: OpenBrace,
@@ -142,7 +143,7 @@ impl<T: TryClone> TryClone for Braced<T> {
     ghost equivalence = { seen_equivalence (λ v. v.body) T.equivalence };
 }
 
-/// `<` body `>`.
+/// A body in angle brackets, as `<long>`.
 #[derive(Clone, Copy, Debug, Default, Drop, PartialEq, Eq, PartialOrd, Ord, Hash)]
 pub struct Generics<T> {
     pub open_angle: LessThan,

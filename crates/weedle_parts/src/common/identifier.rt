@@ -11,7 +11,8 @@ use std::alloc::{AllocError, Global};
 use weedle_base::scan::identifier;
 use weedle_base::{Err, Error, ErrorKind, IResult, Parse, TryClone};
 
-/// A name, without the underscore that may stand before it.
+/// A name, as `Window`, kept without the underscore that may stand before it, as in `_interface`. Any other
+/// text, as `__x`, is a mismatch. It takes no memory and never gives a failure.
 #[derive(Clone, Copy, Debug, PartialEq, Eq, PartialOrd, Ord, Hash)]
 pub struct Identifier<'a>(pub &'a str);
 

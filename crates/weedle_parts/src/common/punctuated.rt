@@ -9,7 +9,8 @@ ghost use Rattle.weedle_parts.specs.ListLaws.{punctuated_lawful, punctuated_non_
 use std::alloc::{AllocError, Global};
 use weedle_base::{Err, Error, ErrorKind, IResult, Parse, TryClone};
 
-/// item separator item separator .. item; or nothing.
+/// Items with a separator between each two, as `a, b`; none included. `separator` is the default, not what
+/// was read.
 #[derive(Debug, Drop, PartialEq, Eq, PartialOrd, Ord, Hash)]
 pub struct Punctuated<T, S> {
     pub list: Vec<T>,
@@ -51,7 +52,8 @@ impl<T: TryClone, S: TryClone> TryClone for Punctuated<T, S> {
     ghost equivalence = { seen_equivalence (λ p. (p.list.items, p.separator)) (pair_equivalence (all_equivalence T.equivalence) S.equivalence) };
 }
 
-/// item separator item separator .. item, and one separator more where it stands.
+/// Items with a separator between each two, one item at least, and one separator more where it stands, as
+/// `a, b,`. `separator` is the default, not what was read.
 #[derive(Debug, Drop, PartialEq, Eq, PartialOrd, Ord, Hash)]
 pub struct PunctuatedNonEmpty<T, S> {
     pub list: Vec<T>,

@@ -14,7 +14,8 @@ use std::alloc::Global;
 use weedle_base::term::{Boolean, Byte, Octet};
 use weedle_base::{IResult, Parse};
 
-/// The type of a constant: of numbers, `boolean`, `byte`, `octet`, or one that goes by a name.
+/// The type of a constant, as `long?`: a type of numbers, `boolean`, `byte`, `octet` or a name, and `?` where
+/// it may be null. It takes no memory.
 #[derive(Clone, Copy, Debug, PartialEq, Eq, PartialOrd, Ord, Hash)]
 pub enum ConstType<'a> {
     Integer(MayBeNull<IntegerType>),

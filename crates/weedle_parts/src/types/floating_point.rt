@@ -10,7 +10,7 @@ use std::alloc::Global;
 use weedle_base::term::{Double, Float, Unrestricted};
 use weedle_base::{IResult, Parse};
 
-/// `unrestricted`, where it stands, and `float`.
+/// `float` or `unrestricted float`.
 #[derive(Clone, Copy, Debug, PartialEq, Eq, PartialOrd, Ord, Hash)]
 pub struct FloatType {
     pub unrestricted: Option<Unrestricted>,
@@ -36,7 +36,7 @@ impl<'a> Parse<'a> for FloatType {
     ghost lawful = { own_lawful FLOAT_TYPE float_type_tree ⊥ };
 }
 
-/// `unrestricted`, where it stands, and `double`.
+/// `double` or `unrestricted double`.
 #[derive(Clone, Copy, Debug, PartialEq, Eq, PartialOrd, Ord, Hash)]
 pub struct DoubleType {
     pub unrestricted: Option<Unrestricted>,
@@ -62,7 +62,7 @@ impl<'a> Parse<'a> for DoubleType {
     ghost lawful = { own_lawful DOUBLE_TYPE double_type_tree ⊥ };
 }
 
-/// A type of floating-point numbers.
+/// A type of floating point numbers, as `unrestricted double`. It takes no memory.
 #[derive(Clone, Copy, Debug, PartialEq, Eq, PartialOrd, Ord, Hash)]
 pub enum FloatingPointType {
     Float(FloatType),

@@ -10,7 +10,7 @@ use std::alloc::Global;
 use weedle_base::term::{Long, Short, Unsigned};
 use weedle_base::{IResult, Parse};
 
-/// `unsigned`, where it stands, `long` and `long`.
+/// `long long` or `unsigned long long`.
 #[derive(Clone, Copy, Debug, PartialEq, Eq, PartialOrd, Ord, Hash)]
 pub struct LongLongType {
     pub unsigned: Option<Unsigned>,
@@ -36,7 +36,7 @@ impl<'a> Parse<'a> for LongLongType {
     ghost lawful = { own_lawful LONG_LONG_TYPE long_long_type_tree ⊥ };
 }
 
-/// `unsigned`, where it stands, and `long`.
+/// `long` or `unsigned long`.
 #[derive(Clone, Copy, Debug, PartialEq, Eq, PartialOrd, Ord, Hash)]
 pub struct LongType {
     pub unsigned: Option<Unsigned>,
@@ -56,7 +56,7 @@ impl<'a> Parse<'a> for LongType {
     ghost lawful = { own_lawful LONG_TYPE long_type_tree ⊥ };
 }
 
-/// `unsigned`, where it stands, and `short`.
+/// `short` or `unsigned short`.
 #[derive(Clone, Copy, Debug, PartialEq, Eq, PartialOrd, Ord, Hash)]
 pub struct ShortType {
     pub unsigned: Option<Unsigned>,
@@ -76,7 +76,8 @@ impl<'a> Parse<'a> for ShortType {
     ghost lawful = { own_lawful SHORT_TYPE short_type_tree ⊥ };
 }
 
-/// A type of integers.
+/// A type of integers, as `unsigned long`: the first of its variants that fits, so `long longx` is `long` and
+/// leaves `longx`. Anything else, as `unsigned x`, is a mismatch. It takes no memory.
 #[derive(Clone, Copy, Debug, PartialEq, Eq, PartialOrd, Ord, Hash)]
 pub enum IntegerType {
     LongLong(LongLongType),

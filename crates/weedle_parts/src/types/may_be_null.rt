@@ -8,7 +8,7 @@ use std::alloc::{AllocError, Global};
 use weedle_base::term::QMark;
 use weedle_base::{IResult, Parse, TryClone};
 
-/// A type, and `?` where it may be null.
+/// A type, and `?` where it may be null, as `long?`.
 #[derive(Clone, Copy, Debug, Drop, PartialEq, Eq, PartialOrd, Ord, Hash)]
 pub struct MayBeNull<T> {
     pub type_: T,
