@@ -1,7 +1,7 @@
 -- The first that fits.
-use Rattle.std.proofs.Common.{refl, subst, inl, inr}
+use Rattle.std.proofs.Common.{refl, inl, inr}
 use Rattle.std.specs.Borrow.{Bor}
-use Rattle.std.specs.Prelude.{◌≡◌, ℕ, suc, List, [], ◌∷◌, ◌⊎◌, Option, Some, None}
+use Rattle.std.specs.Prelude.{◌≡◌, ℕ, suc, List, [], ◌∷◌, ◌⊎◌, Some, None}
 use Rattle.weedle_base.proofs.RuleFacts.{of_row}
 use Rattle.weedle_base.proofs.Steps.{fault_along}
 use Rattle.weedle_base.specs.Generic.{option_reading}
@@ -39,28 +39,6 @@ module _ {V W : Type 0} (R : Reading V) (S : Reading W) where
     grows = R.grows ⊎ S.grows;
     alike = choice_alike;
   }
-
-  -- the first type fitted
-  pub got_left : {s rest : List ℕ} {v : V} → Got R s v rest → Got choice_reading s (inl v) rest
-  unfolding choice_reading
-  got_left h = record { place = h.place; gives = h.gives; within = h.within; rest_is = h.rest_is; text = h.text }
-
-  -- the first refused, and the second fitted
-  pub got_right : {s rest : List ℕ} {w : W} {e : Error (Bor (List ℕ))} → Faults R s (Recoverable e) → Got S s w rest
-      → Got choice_reading s (inr w) rest
-  unfolding choice_reading
-  got_right f h = record { place = h.place; gives = (f.says.0, h.gives); within = h.within; rest_is = h.rest_is; text = h.text }
-
-  -- a failure of the first is a failure of both
-  pub fault_left : {s : List ℕ} {e : Error (Bor (List ℕ))} → Faults R s (Failure e) → Faults choice_reading s (Failure e)
-  unfolding choice_reading
-  fault_left h = record { says = inl h.says }
-
-  -- where the first refuses, a fault of the second is a fault of both
-  pub fault_right : {s : List ℕ} {e : Error (Bor (List ℕ))} {f : Fault (Error (Bor (List ℕ)))} → Faults R s (Recoverable e)
-      → Faults S s f → Faults choice_reading s f
-  unfolding choice_reading
-  fault_right a h = fault_along S S choice_reading 0 refl (λ x. (a.says.0, x)) (λ r code x. inr (a.says.0, x)) h
 
 -- the reading is that of rules of which the first that fits is taken, counted from i
 pub record IsFirst {V : Type 0} (R : Reading V) (rs : List ℕ) (i : ℕ) (tree : V → Tree) (grows : Type 0) : Type 0 where
@@ -134,21 +112,7 @@ module _ {V W : Type 0} (R : Reading V) (S : Reading W) where
   pub end_right : {s rest : List ℕ} {e : Fault (Error (Bor (List ℕ)))} → Got (option_reading R) s None rest → Faults S s e
       → Faults (choice_reading R S) s e
   unfolding choice_reading option_reading
-  end_right f h = fault_along S S (choice_reading R S) 0 refl (λ x. (f.gives.0, x)) (λ r code x. inr (f.gives.0, x)) h
-
-  -- the same at what was answered
-  module _ {s rest : List ℕ} {o : Option V} (h : Got (option_reading R) s o rest) where
-    -- the first type fitted
-    pub this : {v : V} → o ≡ Some v → Got (choice_reading R S) s (inl v) rest
-    this {v} e = choose_left (subst (λ (x : Option V). Got (option_reading R) s x rest) e h)
-
-    -- the first was absent, and the second fitted
-    pub later : o ≡ None → {end : List ℕ} {w : W} → Got S s w end → Got (choice_reading R S) s (inr w) end
-    later e g = choose_right (subst (λ (x : Option V). Got (option_reading R) s x rest) e h) g
-
-    -- the first was absent, and the second ended with a fault
-    pub fails_later : o ≡ None → {f : Fault (Error (Bor (List ℕ)))} → Faults S s f → Faults (choice_reading R S) s f
-    fails_later e g = end_right (subst (λ (x : Option V). Got (option_reading R) s x rest) e h) g
+  end_right f h = fault_along S (choice_reading R S) 0 refl (λ x. (f.gives.0, x)) (λ r code x. inr (f.gives.0, x)) h
 
 -- what the search for the proof of a choice uses: an alternative that fits, those after it, and a fault of either
 pub ruleset choice_steps = (choose_left, choose_right, end_left, end_right)

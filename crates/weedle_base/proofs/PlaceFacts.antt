@@ -1,10 +1,8 @@
 -- Places in a text, and suffixes.
-use Rattle.std.proofs.Common.{inl, inr, zero, suc, ap, ◌<◌, refl, sym, ◌∙◌, subst, arith}
-use Rattle.std.proofs.lemmas.Bool.{cases_lt}
-use Rattle.std.proofs.lemmas.List.{drop-drop, drop_all}
-use Rattle.std.proofs.lemmas.Str.{IsCharBoundary-end, IsCharBoundary-from_drop}
+use Rattle.std.proofs.Common.{zero, suc, ap, ◌<◌, refl, ◌∙◌, arith}
+use Rattle.std.proofs.lemmas.List.{drop-drop}
 use Rattle.std.specs.Prelude.{◌≡◌, ℕ, ◌+◌, List, drop, length}
-use Rattle.std.specs.Str.{IsCharBoundary, IsUtf8}
+use Rattle.std.specs.Str.{IsUtf8}
 use Rattle.weedle_base.specs.Places.{IsSuffix}
 
 -- a text is a suffix of itself
@@ -14,13 +12,6 @@ suffix_self s u = (u, 0, refl)
 -- a suffix of a suffix is a suffix
 pub suffix_along : (s rest r : List ℕ) (i : ℕ) → rest ≡ drop i s → IsSuffix rest r → IsSuffix s r
 suffix_along s rest r i e h = (h.0, i + h.1, h.2 ∙ ap (λ (t : List ℕ). drop h.1 t) e ∙ drop-drop h.1 i s)
-
--- where the text is cut, it may be cut
-pub suffix_boundary : (s r : List ℕ) → IsSuffix s r → (j : ℕ) × IsCharBoundary s j × (r ≡ drop j s)
-suffix_boundary s r h = elim (cases_lt (length s) h.1) [
-  | inl past ↦ (length s, IsCharBoundary-end s, h.2 ∙ drop_all h.1 s (omega (arith, past)) ∙ sym (drop_all (length s) s (omega arith)))
-  | inr within ↦ (h.1, IsCharBoundary-from_drop s h.1 within (subst IsUtf8 h.2 h.0), h.2)
-]
 
 -- what left a text of another length took a byte
 pub took_some : (s r : List ℕ) (k : ℕ) → r ≡ drop k s → (length r ≡ length s → ⊥) → 0 < k

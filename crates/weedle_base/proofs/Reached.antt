@@ -85,4 +85,4 @@ module _ {V L : Type 0} (view : L → List V) (R : Reading V) {s rest : List ℕ
   -- a failure of an item is a failure of the whole
   pub run_fault : {e : Fault (Error (Bor (List ℕ)))} → Faults (option_reading R) rest e → Faults (run_reading view (vec_step R)) s e
   unfolding option_reading
-  run_fault f = fault_along (option_reading R) R (run_reading view (vec_step R)) h.place h.rest_is (λ x. absurd x) (λ r code x. inr (reached_stops (vec_step R) h r code x)) f
+  run_fault f = fault_along (option_reading R) (run_reading view (vec_step R)) h.place h.rest_is (λ x. absurd x) (λ r code x. inr (reached_stops (vec_step R) h r code x)) f

@@ -4,16 +4,13 @@ use Rattle.std.proofs.lemmas.List.{drop-drop, length-drop}
 use Rattle.std.specs.Borrow.{Bor}
 use Rattle.std.specs.Prelude.{◌≡◌, ℕ, ◌+◌, ◌≤◌, List, drop, length, Option, Some, None, Result, Ok, Err}
 use Rattle.std.specs.Result.{IsErrAnd}
-use Rattle.std.specs.Str.{IsUtf8}
 use Rattle.weedle_base.proofs.PlaceFacts.{suffix_along}
-use Rattle.weedle_base.specs.Generic.{pair_reading, option_reading, seen_reading, boxed_reading}
-use Rattle.weedle_base.specs.Places.{IsSuffix}
+use Rattle.weedle_base.specs.Generic.{pair_reading, option_reading, seen_reading}
 use Rattle.weedle_base.specs.Reading.{Reading, Got, Faults, FaultSays, Answers}
 use Rattle.weedle_base.specs.declared.fault.Err.{Err as Fault}
 use Rattle.weedle_base.specs.declared.fault.Err.TheVariants.{Error as Recoverable, Failure}
 use Rattle.weedle_base.specs.declared.fault.Error.{Error}
 use Rattle.weedle_base.specs.declared.fault.ErrorKind.{ErrorKind}
-use Rattle.weedle_base.specs.declared.fault.ErrorKind.TheVariants.{Memory}
 
 -- no byte is within every text
 pub took_nothing : (s : List ℕ) → 0 ≤ length s
@@ -27,11 +24,7 @@ within_add s rest i j e a b = omega (arith, ap length e, length-drop i s)
 pub rest_add : (s rest end : List ℕ) (i j : ℕ) → rest ≡ drop i s → end ≡ drop j rest → end ≡ drop (i + j) s
 rest_add s rest end i j e f = f ∙ ap (λ (t : List ℕ). drop j t) e ∙ drop-drop j i s
 
-module _ {V W X : Type 0} (R : Reading V) (S : Reading W) (Q : Reading X) where
-  -- what gives a value gives another, where each reading of the one is a reading of the other
-  pub got_along : (s : List ℕ) (v : V) (x : X) (rest : List ℕ) → ((k : ℕ) → R.gives s v k → Q.gives s x k) → Got R s v rest → Got Q s x rest
-  got_along s v x rest f h = record { place = h.place; gives = f h.place h.gives; within = h.within; rest_is = h.rest_is; text = h.text }
-
+module _ {V X : Type 0} (R : Reading V) (Q : Reading X) where
   says_along : (s rest : List ℕ) → (i : ℕ) → rest ≡ drop i s → (R.refuses rest → Q.refuses s)
       → ((r : List ℕ) (code : ErrorKind) → R.stops rest r code → Q.stops s r code)
       → (e : Fault (Error (Bor (List ℕ)))) → FaultSays R rest e → FaultSays Q s e
@@ -59,13 +52,13 @@ module _ {V W : Type 0} (R : Reading V) (S : Reading W) where
   -- a fault of the first is a fault of the pair
   pub fault_first : {s : List ℕ} {e : Fault (Error (Bor (List ℕ)))} → Faults R s e → Faults (pair_reading R S) s e
   unfolding pair_reading
-  fault_first {s} {e} h = fault_along R S (pair_reading R S) {s = s} {rest = s} 0 refl inl (λ r code t. inl t) h
+  fault_first {s} {e} h = fault_along R (pair_reading R S) {s = s} {rest = s} 0 refl inl (λ r code t. inl t) h
 
   -- where the first was read, a fault of the second is a fault of the pair
   pub fault_second : {s rest : List ℕ} {v : V} → Got R s v rest → {e : Fault (Error (Bor (List ℕ)))} → Faults S rest e
       → Faults (pair_reading R S) s e
   unfolding pair_reading
-  fault_second {s} {rest} {v} a {e} h = fault_along S R (pair_reading R S) {s = s} {rest = rest} a.place a.rest_is
+  fault_second {s} {rest} {v} a {e} h = fault_along S (pair_reading R S) {s = s} {rest = rest} a.place a.rest_is
       (λ r. inr (v, a.place, a.gives, subst S.refuses a.rest_is r))
       (λ r code t. inr (v, a.place, a.gives, subst (λ (x : List ℕ). S.stops x r code) a.rest_is t)) h
 
@@ -86,40 +79,7 @@ got_seen view R x h = record { place = h.place; gives = h.gives; within = h.with
 pub fault_seen : {V X : Type 0} (view : X → V) (R : Reading V) {s : List ℕ} {e : Fault (Error (Bor (List ℕ)))} → Faults R s e
     → Faults (seen_reading view R) s e
 unfolding seen_reading
-fault_seen view R h = fault_along R R (seen_reading view R) 0 refl (λ x. x) (λ r code x. x) h
-
-module _ {V : Type 0} (R : Reading V) where
-  -- an option that is there
-  pub got_some : {s rest : List ℕ} {v : V} → Got R s v rest → Got (option_reading R) s (Some v) rest
-  unfolding option_reading
-  got_some h = record { place = h.place; gives = h.gives; within = h.within; rest_is = h.rest_is; text = h.text }
-
-  -- where the type refuses, None
-  pub got_none : {s : List ℕ} {e : Error (Bor (List ℕ))} → Faults R s (Recoverable e) → IsUtf8 s → Got (option_reading R) s None s
-  unfolding option_reading
-  got_none h u = record { place = 0; gives = (h.says.0, refl); within = omega arith; rest_is = refl; text = u }
-
-  -- a failure of the type is one of its option
-  pub fault_option : {s : List ℕ} {e : Error (Bor (List ℕ))} → Faults R s (Failure e) → Faults (option_reading R) s (Failure e)
-  unfolding option_reading
-  fault_option h = record { says = h.says }
-
-  module _ {B : Type 0} (inside : B → V) where
-    -- a value that holds another, from the other
-    pub got_boxed : {s rest : List ℕ} (b : B) → Got R s (inside b) rest → Got (boxed_reading inside R) s b rest
-    unfolding boxed_reading
-    got_boxed b h = record { place = h.place; gives = h.gives; within = h.within; rest_is = h.rest_is; text = h.text }
-
-    -- a fault of what it would hold
-    pub fault_boxed : {s : List ℕ} {e : Fault (Error (Bor (List ℕ)))} → Faults R s e → Faults (boxed_reading inside R) s e
-    unfolding boxed_reading
-    fault_boxed h = fault_along R R (boxed_reading inside R) 0 refl (λ x. x) (λ r code x. inr x) h
-
-    -- a request for memory was refused
-    pub fault_memory : (s : List ℕ) (e : Error (Bor (List ℕ))) → e.code ≡ Memory → IsSuffix s e.input.now
-        → Faults (boxed_reading inside R) s (Failure e)
-    unfolding boxed_reading
-    fault_memory s e c h = record { says = inl (c, h) }
+fault_seen view R h = fault_along R (seen_reading view R) 0 refl (λ x. x) (λ r code x. x) h
 
 -- what an option's answer says of its value
 module _ {V : Type 0} (R : Reading V) {s rest : List ℕ} where

@@ -38,7 +38,7 @@ module _ {V W : Type 0} (R : Reading V) (S : Reading W) where
 
     pub fault_some : {s rest : List ℕ} {v : V} → Got R s v rest → {e : Fault (Error (Bor (List ℕ)))} → Faults (after_first R S inner v) rest e → Faults (punctuated_reading R S view known) s e
     unfolding pair_reading punctuated_reading
-    fault_some {s} {rest} {v} a {e} h = fault_along (after_first R S inner v) R (punctuated_reading R S view known) {s = s} {rest = rest} a.place a.rest_is
+    fault_some {s} {rest} {v} a {e} h = fault_along (after_first R S inner v) (punctuated_reading R S view known) {s = s} {rest = rest} a.place a.rest_is
         (λ r. (v, a.place, a.gives, subst (tail_reading R S).refuses a.rest_is r))
         (λ r code t. inr (v, a.place, a.gives, subst (λ (x : List ℕ). (tail_reading R S).stops x r code) a.rest_is t)) h
 
@@ -65,6 +65,6 @@ module _ {V W : Type 0} (R : Reading V) (S : Reading W) where
 
     pub fault_non_empty : {s rest : List ℕ} {v : V} → Got R s v rest → {e : Fault (Error (Bor (List ℕ)))} → Faults (after_first R S inner v) rest e → Faults (punctuated_non_empty_reading R S view known) s e
     unfolding pair_reading punctuated_non_empty_reading
-    fault_non_empty {s} {rest} {v} a {e} h = fault_along (after_first R S inner v) R (punctuated_non_empty_reading R S view known) {s = s} {rest = rest} a.place a.rest_is
+    fault_non_empty {s} {rest} {v} a {e} h = fault_along (after_first R S inner v) (punctuated_non_empty_reading R S view known) {s = s} {rest = rest} a.place a.rest_is
         (λ r. inl (inr (v, a.place, a.gives, subst (tail_reading R S).refuses a.rest_is r)))
         (λ r code t. inl (inr (v, a.place, a.gives, subst (λ (x : List ℕ). (tail_reading R S).stops x r code) a.rest_is t))) h

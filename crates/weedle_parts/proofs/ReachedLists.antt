@@ -44,11 +44,11 @@ module _ {V W L : Type 0} (R : Reading V) (S : Reading W) (view : L → List V) 
   -- a failure of a separator is a failure of the whole
   pub separator_fault : {e : Fault (Error (Bor (List ℕ)))} → Faults (option_reading S) rest e → Faults (after_first R S view first) s e
   unfolding option_reading
-  separator_fault f = fault_along (option_reading S) S (after_first R S view first) h.place h.rest_is (λ x. absurd x) (λ r code x. inr (reached_stops (next_step R S) h r code (inl x))) f
+  separator_fault f = fault_along (option_reading S) (after_first R S view first) h.place h.rest_is (λ x. absurd x) (λ r code x. inr (reached_stops (next_step R S) h r code (inl x))) f
 
   -- a failure of an item is a failure of the whole
   pub item_fault : {after : List ℕ} {w : W} → Got S rest w after → (length after ≡ length rest → ⊥) → {e : Fault (Error (Bor (List ℕ)))} → Faults (option_reading R) after e
       → Faults (after_first R S view first) s e
   unfolding option_reading
-  item_fault {after} a n f = fault_along (option_reading R) R (after_first R S view first) (h.place + a.place) (rest_add s rest after h.place a.place h.rest_is a.rest_is) (λ x. absurd x)
+  item_fault {after} a n f = fault_along (option_reading R) (after_first R S view first) (h.place + a.place) (rest_add s rest after h.place a.place h.rest_is a.rest_is) (λ x. absurd x)
       (λ r code x. inr (reached_stops (next_step R S) h r code (stops_behind R S a n r code x))) f
