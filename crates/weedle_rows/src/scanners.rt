@@ -91,4 +91,5 @@ fn every_prefix_is_read_in_every_way(rt: HostRuntime) {
             None => assert!(rt; false, "{place} is no boundary"),
         }
     }
+    assert!(rt; splits(rt.alloc(), text));
 }
