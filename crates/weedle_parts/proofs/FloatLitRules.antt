@@ -17,31 +17,42 @@ use Rattle.weedle_base.specs.Rules.{IsRule}
 use Rattle.weedle_base.proofs.Choice.{choice_reading, choice_tree, first_last, first_more, first_rule, choice_steps}
 use Rattle.weedle_base.proofs.RuleFacts.{own_rule, got_rule, fault_rule}
 use Rattle.weedle_parts.specs.declared.literal.float.FloatValueLit.{FloatValueLit}
+use Rattle.weedle_parts.specs.declared.literal.float.FloatLit.{FloatLit}
 use Rattle.weedle_parts.specs.declared.literal.float.FloatLit.TheVariants.{Value, NegInfinity as IsNegInfinity, Infinity as IsInfinity, NaN as IsNaN}
 use Rattle.weedle_parts.specs.LiteralTrees.{float_value_tree, float_tree}
 
 abbrev pub float_parts : Reading (FloatValueLit ⊎ (NegInfinity ⊎ (Infinity ⊎ NaN)))
-float_parts = choice_reading (own FLOAT_VALUE_LIT float_value_tree ⊥) (choice_reading (own NEG_INFINITY (λ v. Mark) ⊥) (choice_reading (own INFINITY (λ v. Mark) ⊥) (own NAN (λ v. Mark) ⊥)))
+float_parts =
+    choice_reading (own FLOAT_VALUE_LIT float_value_tree ⊥)
+    (choice_reading (own NEG_INFINITY (λ v. Mark) ⊥)
+    (choice_reading (own INFINITY (λ v. Mark) ⊥) (own NAN (λ v. Mark) ⊥)))
 
-float_rule : IsRule float_parts FLOAT_LIT (choice_tree (λ v. Alt 0 (float_value_tree v)) (choice_tree (λ v. Alt 1 Mark) (choice_tree (λ v. Alt 2 Mark) (λ v. Alt 3 Mark)))) ⊥
-float_rule = first_rule (first_more 0 (own_rule FLOAT_VALUE_LIT float_value_tree ⊥) (first_more 1 (own_rule NEG_INFINITY (λ v. Mark) ⊥) (first_more 2 (own_rule INFINITY (λ v. Mark) ⊥) (first_last 3 (own_rule NAN (λ v. Mark) ⊥))))) FLOAT_LIT refl refl
+float_rule : IsRule float_parts FLOAT_LIT
+    (choice_tree (λ v. Alt 0 (float_value_tree v))
+    (choice_tree (λ v. Alt 1 Mark)
+    (choice_tree (λ v. Alt 2 Mark) (λ v. Alt 3 Mark)))) ⊥
+float_rule =
+    first_rule
+    (first_more 0 (own_rule FLOAT_VALUE_LIT float_value_tree ⊥)
+    (first_more 1 (own_rule NEG_INFINITY (λ v. Mark) ⊥)
+    (first_more 2 (own_rule INFINITY (λ v. Mark) ⊥)
+    (first_last 3 (own_rule NAN (λ v. Mark) ⊥)))))
+    FLOAT_LIT refl refl
 
-module _ {s : List ℕ} where
-  pub float_fault : {e : Fault (Error (Bor (List ℕ)))} → Faults float_parts s e → Faults (own FLOAT_LIT float_tree ⊥) s e
-  float_fault h = fault_rule float_rule float_tree h
+abbrev float_view : FloatLit → FloatValueLit ⊎ (NegInfinity ⊎ (Infinity ⊎ NaN))
+float_view (Value v) = inl v
+float_view (IsNegInfinity v) = inr (inl v)
+float_view (IsInfinity v) = inr (inr (inl v))
+float_view (IsNaN v) = inr (inr (inr v))
 
-  module _ {rest : List ℕ} where
-    pub float_got_0 : {v : FloatValueLit} → Got float_parts s (inl v) rest → Got (own FLOAT_LIT float_tree ⊥) s (Value v) rest
-    float_got_0 h = got_rule float_rule float_tree _ h refl
+pub float_got : {s rest : List ℕ} (x : FloatLit) → Got float_parts s (float_view x) rest → Got (own FLOAT_LIT float_tree ⊥) s x rest
+float_got (Value v) h = got_rule float_rule float_tree _ h refl
+float_got (IsNegInfinity v) h = got_rule float_rule float_tree _ h refl
+float_got (IsInfinity v) h = got_rule float_rule float_tree _ h refl
+float_got (IsNaN v) h = got_rule float_rule float_tree _ h refl
 
-    pub float_got_1 : {v : NegInfinity} → Got float_parts s (inr (inl v)) rest → Got (own FLOAT_LIT float_tree ⊥) s (IsNegInfinity v) rest
-    float_got_1 h = got_rule float_rule float_tree _ h refl
+pub float_fault : {s : List ℕ} {e : Fault (Error (Bor (List ℕ)))} → Faults float_parts s e → Faults (own FLOAT_LIT float_tree ⊥) s e
+float_fault h = fault_rule float_rule float_tree h
 
-    pub float_got_2 : {v : Infinity} → Got float_parts s (inr (inr (inl v))) rest → Got (own FLOAT_LIT float_tree ⊥) s (IsInfinity v) rest
-    float_got_2 h = got_rule float_rule float_tree _ h refl
-
-    pub float_got_3 : {v : NaN} → Got float_parts s (inr (inr (inr v))) rest → Got (own FLOAT_LIT float_tree ⊥) s (IsNaN v) rest
-    float_got_3 h = got_rule float_rule float_tree _ h refl
-
--- what the search for a proof of its `parse` is to use
-pub ruleset float_steps = (choice_steps, float_fault, float_got_0, float_got_1, float_got_2, float_got_3)
+-- what the search for the proof of its `parse` uses
+pub ruleset float_steps = (choice_steps, float_got, float_fault)

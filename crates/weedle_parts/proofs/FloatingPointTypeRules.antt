@@ -64,8 +64,13 @@ abbrev floating_point_type_view : FloatingPointType → FloatType ⊎ DoubleType
 floating_point_type_view (IsFloat v) = inl v
 floating_point_type_view (IsDouble v) = inr v
 
-floating_point_type_rule : IsRule floating_point_type_parts FLOATING_POINT_TYPE (choice_tree (λ v. Alt 0 (float_type_tree v)) (λ v. Alt 1 (double_type_tree v))) ⊥
-floating_point_type_rule = first_rule (first_more 0 (own_rule FLOAT_TYPE float_type_tree ⊥) (first_last 1 (own_rule DOUBLE_TYPE double_type_tree ⊥))) FLOATING_POINT_TYPE refl refl
+floating_point_type_rule : IsRule floating_point_type_parts FLOATING_POINT_TYPE
+    (choice_tree (λ v. Alt 0 (float_type_tree v)) (λ v. Alt 1 (double_type_tree v))) ⊥
+floating_point_type_rule =
+    first_rule
+    (first_more 0 (own_rule FLOAT_TYPE float_type_tree ⊥)
+    (first_last 1 (own_rule DOUBLE_TYPE double_type_tree ⊥)))
+    FLOATING_POINT_TYPE refl refl
 
 pub floating_point_type_got : {s rest : List ℕ} (x : FloatingPointType) → Got floating_point_type_parts s (floating_point_type_view x) rest → Got (own FLOATING_POINT_TYPE floating_point_type_tree ⊥) s x rest
 floating_point_type_got (IsFloat v) h = got_rule floating_point_type_rule floating_point_type_tree _ h refl

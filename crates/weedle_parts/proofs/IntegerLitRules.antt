@@ -15,28 +15,35 @@ use Rattle.weedle_base.proofs.RuleFacts.{own_rule, got_rule, fault_rule}
 use Rattle.weedle_parts.specs.declared.literal.integer.DecLit.{DecLit}
 use Rattle.weedle_parts.specs.declared.literal.integer.HexLit.{HexLit}
 use Rattle.weedle_parts.specs.declared.literal.integer.OctLit.{OctLit}
+use Rattle.weedle_parts.specs.declared.literal.integer.IntegerLit.{IntegerLit}
 use Rattle.weedle_parts.specs.declared.literal.integer.IntegerLit.TheVariants.{Dec, Hex, Oct}
 use Rattle.weedle_parts.specs.LiteralTrees.{dec_tree, hex_tree, oct_tree, integer_tree}
 
 abbrev pub integer_parts : Reading (DecLit ⊎ (HexLit ⊎ OctLit))
 integer_parts = choice_reading (own DEC_LIT dec_tree ⊥) (choice_reading (own HEX_LIT hex_tree ⊥) (own OCT_LIT oct_tree ⊥))
 
-integer_rule : IsRule integer_parts INTEGER_LIT (choice_tree (λ v. Alt 0 (dec_tree v)) (choice_tree (λ v. Alt 1 (hex_tree v)) (λ v. Alt 2 (oct_tree v)))) ⊥
-integer_rule = first_rule (first_more 0 (own_rule DEC_LIT dec_tree ⊥) (first_more 1 (own_rule HEX_LIT hex_tree ⊥) (first_last 2 (own_rule OCT_LIT oct_tree ⊥)))) INTEGER_LIT refl refl
+integer_rule : IsRule integer_parts INTEGER_LIT
+    (choice_tree (λ v. Alt 0 (dec_tree v))
+    (choice_tree (λ v. Alt 1 (hex_tree v)) (λ v. Alt 2 (oct_tree v)))) ⊥
+integer_rule =
+    first_rule
+    (first_more 0 (own_rule DEC_LIT dec_tree ⊥)
+    (first_more 1 (own_rule HEX_LIT hex_tree ⊥)
+    (first_last 2 (own_rule OCT_LIT oct_tree ⊥))))
+    INTEGER_LIT refl refl
 
-module _ {s : List ℕ} where
-  pub integer_fault : {e : Fault (Error (Bor (List ℕ)))} → Faults integer_parts s e → Faults (own INTEGER_LIT integer_tree ⊥) s e
-  integer_fault h = fault_rule integer_rule integer_tree h
+abbrev integer_view : IntegerLit → DecLit ⊎ (HexLit ⊎ OctLit)
+integer_view (Dec v) = inl v
+integer_view (Hex v) = inr (inl v)
+integer_view (Oct v) = inr (inr v)
 
-  module _ {rest : List ℕ} where
-    pub integer_got_0 : {v : DecLit} → Got integer_parts s (inl v) rest → Got (own INTEGER_LIT integer_tree ⊥) s (Dec v) rest
-    integer_got_0 h = got_rule integer_rule integer_tree _ h refl
+pub integer_got : {s rest : List ℕ} (x : IntegerLit) → Got integer_parts s (integer_view x) rest → Got (own INTEGER_LIT integer_tree ⊥) s x rest
+integer_got (Dec v) h = got_rule integer_rule integer_tree _ h refl
+integer_got (Hex v) h = got_rule integer_rule integer_tree _ h refl
+integer_got (Oct v) h = got_rule integer_rule integer_tree _ h refl
 
-    pub integer_got_1 : {v : HexLit} → Got integer_parts s (inr (inl v)) rest → Got (own INTEGER_LIT integer_tree ⊥) s (Hex v) rest
-    integer_got_1 h = got_rule integer_rule integer_tree _ h refl
+pub integer_fault : {s : List ℕ} {e : Fault (Error (Bor (List ℕ)))} → Faults integer_parts s e → Faults (own INTEGER_LIT integer_tree ⊥) s e
+integer_fault h = fault_rule integer_rule integer_tree h
 
-    pub integer_got_2 : {v : OctLit} → Got integer_parts s (inr (inr v)) rest → Got (own INTEGER_LIT integer_tree ⊥) s (Oct v) rest
-    integer_got_2 h = got_rule integer_rule integer_tree _ h refl
-
--- what the search for a proof of its `parse` is to use
-pub ruleset integer_steps = (choice_steps, integer_fault, integer_got_0, integer_got_1, integer_got_2)
+-- what the search for the proof of its `parse` uses
+pub ruleset integer_steps = (choice_steps, integer_got, integer_fault)

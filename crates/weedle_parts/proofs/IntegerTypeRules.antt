@@ -72,14 +72,18 @@ short_type_fault h = fault_rule short_type_rule short_type_tree h
 
 -- any of them
 abbrev integer_type_parts : Reading (LongLongType ⊎ (LongType ⊎ ShortType))
-integer_type_parts = choice_reading (own LONG_LONG_TYPE long_long_type_tree ⊥) (choice_reading (own LONG_TYPE long_type_tree ⊥) (own SHORT_TYPE short_type_tree ⊥))
+integer_type_parts =
+    choice_reading (own LONG_LONG_TYPE long_long_type_tree ⊥)
+    (choice_reading (own LONG_TYPE long_type_tree ⊥) (own SHORT_TYPE short_type_tree ⊥))
 
 abbrev integer_type_view : IntegerType → LongLongType ⊎ (LongType ⊎ ShortType)
 integer_type_view (LongLong v) = inl v
 integer_type_view (IsLong v) = inr (inl v)
 integer_type_view (IsShort v) = inr (inr v)
 
-integer_type_rule : IsRule integer_type_parts INTEGER_TYPE (choice_tree (λ v. Alt 0 (long_long_type_tree v)) (choice_tree (λ v. Alt 1 (long_type_tree v)) (λ v. Alt 2 (short_type_tree v)))) ⊥
+integer_type_rule : IsRule integer_type_parts INTEGER_TYPE
+    (choice_tree (λ v. Alt 0 (long_long_type_tree v))
+    (choice_tree (λ v. Alt 1 (long_type_tree v)) (λ v. Alt 2 (short_type_tree v)))) ⊥
 integer_type_rule =
     first_rule
     (first_more 0 (own_rule LONG_LONG_TYPE long_long_type_tree ⊥)
