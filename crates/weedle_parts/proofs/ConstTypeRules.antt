@@ -36,6 +36,7 @@ const_type_parts =
     (choice_reading (may_be_null_reading (mark OCTET))
     (may_be_null_reading (own IDENTIFIER identifier_tree ⊥))))))
 
+-- which of the alternatives a value is
 abbrev const_type_view : ConstType → MayBeNull IntegerType ⊎ (MayBeNull FloatingPointType ⊎ (MayBeNull Boolean ⊎ (MayBeNull Byte ⊎ (MayBeNull Octet ⊎ MayBeNull Identifier))))
 const_type_view (Integer v) = inl v
 const_type_view (FloatingPoint v) = inr (inl v)
@@ -64,6 +65,7 @@ const_type_rule =
     (first_last 5 (may_be_null_rule (own_rule IDENTIFIER identifier_tree ⊥) MAY_BE_NULL_IDENTIFIER refl refl)))))))
     CONST_TYPE refl refl
 
+-- the parts give what the rule gives
 pub const_type_got : {s rest : List ℕ} (x : ConstType) → Got const_type_parts s (const_type_view x) rest → Got (own CONST_TYPE const_type_tree ⊥) s x rest
 const_type_got (Integer v) h = got_rule const_type_rule const_type_tree _ h refl
 const_type_got (FloatingPoint v) h = got_rule const_type_rule const_type_tree _ h refl
@@ -72,6 +74,7 @@ const_type_got (IsByte v) h = got_rule const_type_rule const_type_tree _ h refl
 const_type_got (IsOctet v) h = got_rule const_type_rule const_type_tree _ h refl
 const_type_got (IsIdentifier v) h = got_rule const_type_rule const_type_tree _ h refl
 
+-- a fault of the parts is one of the rule
 pub const_type_fault : {s : List ℕ} {e : Fault (Error (Bor (List ℕ)))} → Faults const_type_parts s e → Faults (own CONST_TYPE const_type_tree ⊥) s e
 const_type_fault h = fault_rule const_type_rule const_type_tree h
 

@@ -39,18 +39,21 @@ float_rule =
     (first_last 3 (own_rule NAN (λ v. Mark) ⊥)))))
     FLOAT_LIT refl refl
 
+-- which of the alternatives a value is
 abbrev float_view : FloatLit → FloatValueLit ⊎ (NegInfinity ⊎ (Infinity ⊎ NaN))
 float_view (Value v) = inl v
 float_view (IsNegInfinity v) = inr (inl v)
 float_view (IsInfinity v) = inr (inr (inl v))
 float_view (IsNaN v) = inr (inr (inr v))
 
+-- the parts give what the rule gives
 pub float_got : {s rest : List ℕ} (x : FloatLit) → Got float_parts s (float_view x) rest → Got (own FLOAT_LIT float_tree ⊥) s x rest
 float_got (Value v) h = got_rule float_rule float_tree _ h refl
 float_got (IsNegInfinity v) h = got_rule float_rule float_tree _ h refl
 float_got (IsInfinity v) h = got_rule float_rule float_tree _ h refl
 float_got (IsNaN v) h = got_rule float_rule float_tree _ h refl
 
+-- a fault of the parts is one of the rule
 pub float_fault : {s : List ℕ} {e : Fault (Error (Bor (List ℕ)))} → Faults float_parts s e → Faults (own FLOAT_LIT float_tree ⊥) s e
 float_fault h = fault_rule float_rule float_tree h
 

@@ -37,9 +37,11 @@ float_type_parts = pair_reading unrestricted_reading (mark FLOAT)
 float_type_rule : IsRule float_type_parts FLOAT_TYPE (λ x. Node (trees (option_tree mark_tree x.0 ∷ Mark ∷ []))) ⊥
 float_type_rule = pair_rule unrestricted_rule (mark_rule FLOAT) FLOAT_TYPE refl refl
 
+-- the parts give what the rule gives
 pub float_type_got : {s rest : List ℕ} (x : FloatType) → Got float_type_parts s (x.unrestricted, x.float) rest → Got (own FLOAT_TYPE float_type_tree ⊥) s x rest
 float_type_got x h = got_rule float_type_rule float_type_tree x h refl
 
+-- a fault of the parts is one of the rule
 pub float_type_fault : {s : List ℕ} {e : Fault (Error (Bor (List ℕ)))} → Faults float_type_parts s e → Faults (own FLOAT_TYPE float_type_tree ⊥) s e
 float_type_fault h = fault_rule float_type_rule float_type_tree h
 
@@ -50,9 +52,11 @@ double_type_parts = pair_reading unrestricted_reading (mark DOUBLE)
 double_type_rule : IsRule double_type_parts DOUBLE_TYPE (λ x. Node (trees (option_tree mark_tree x.0 ∷ Mark ∷ []))) ⊥
 double_type_rule = pair_rule unrestricted_rule (mark_rule DOUBLE) DOUBLE_TYPE refl refl
 
+-- the parts give what the rule gives
 pub double_type_got : {s rest : List ℕ} (x : DoubleType) → Got double_type_parts s (x.unrestricted, x.double) rest → Got (own DOUBLE_TYPE double_type_tree ⊥) s x rest
 double_type_got x h = got_rule double_type_rule double_type_tree x h refl
 
+-- a fault of the parts is one of the rule
 pub double_type_fault : {s : List ℕ} {e : Fault (Error (Bor (List ℕ)))} → Faults double_type_parts s e → Faults (own DOUBLE_TYPE double_type_tree ⊥) s e
 double_type_fault h = fault_rule double_type_rule double_type_tree h
 
@@ -60,6 +64,7 @@ double_type_fault h = fault_rule double_type_rule double_type_tree h
 abbrev floating_point_type_parts : Reading (FloatType ⊎ DoubleType)
 floating_point_type_parts = choice_reading (own FLOAT_TYPE float_type_tree ⊥) (own DOUBLE_TYPE double_type_tree ⊥)
 
+-- which of the alternatives a value is
 abbrev floating_point_type_view : FloatingPointType → FloatType ⊎ DoubleType
 floating_point_type_view (IsFloat v) = inl v
 floating_point_type_view (IsDouble v) = inr v
@@ -72,10 +77,12 @@ floating_point_type_rule =
     (first_last 1 (own_rule DOUBLE_TYPE double_type_tree ⊥)))
     FLOATING_POINT_TYPE refl refl
 
+-- the parts give what the rule gives
 pub floating_point_type_got : {s rest : List ℕ} (x : FloatingPointType) → Got floating_point_type_parts s (floating_point_type_view x) rest → Got (own FLOATING_POINT_TYPE floating_point_type_tree ⊥) s x rest
 floating_point_type_got (IsFloat v) h = got_rule floating_point_type_rule floating_point_type_tree _ h refl
 floating_point_type_got (IsDouble v) h = got_rule floating_point_type_rule floating_point_type_tree _ h refl
 
+-- a fault of the parts is one of the rule
 pub floating_point_type_fault : {s : List ℕ} {e : Fault (Error (Bor (List ℕ)))} → Faults floating_point_type_parts s e → Faults (own FLOATING_POINT_TYPE floating_point_type_tree ⊥) s e
 floating_point_type_fault h = fault_rule floating_point_type_rule floating_point_type_tree h
 

@@ -32,16 +32,19 @@ integer_rule =
     (first_last 2 (own_rule OCT_LIT oct_tree ⊥))))
     INTEGER_LIT refl refl
 
+-- which of the alternatives a value is
 abbrev integer_view : IntegerLit → DecLit ⊎ (HexLit ⊎ OctLit)
 integer_view (Dec v) = inl v
 integer_view (Hex v) = inr (inl v)
 integer_view (Oct v) = inr (inr v)
 
+-- the parts give what the rule gives
 pub integer_got : {s rest : List ℕ} (x : IntegerLit) → Got integer_parts s (integer_view x) rest → Got (own INTEGER_LIT integer_tree ⊥) s x rest
 integer_got (Dec v) h = got_rule integer_rule integer_tree _ h refl
 integer_got (Hex v) h = got_rule integer_rule integer_tree _ h refl
 integer_got (Oct v) h = got_rule integer_rule integer_tree _ h refl
 
+-- a fault of the parts is one of the rule
 pub integer_fault : {s : List ℕ} {e : Fault (Error (Bor (List ℕ)))} → Faults integer_parts s e → Faults (own INTEGER_LIT integer_tree ⊥) s e
 integer_fault h = fault_rule integer_rule integer_tree h
 

@@ -38,9 +38,11 @@ long_long_type_parts = pair_reading unsigned_reading (pair_reading (mark LONG) (
 long_long_type_rule : IsRule long_long_type_parts LONG_LONG_TYPE (λ x. Node (trees (option_tree mark_tree x.0 ∷ Node (trees (Mark ∷ Mark ∷ [])) ∷ []))) ⊥
 long_long_type_rule = pair_rule unsigned_rule (pair_rule (mark_rule LONG) (mark_rule LONG) LONG_LONG refl refl) LONG_LONG_TYPE refl refl
 
+-- the parts give what the rule gives
 pub long_long_type_got : {s rest : List ℕ} (x : LongLongType) → Got long_long_type_parts s (x.unsigned, x.long_long) rest → Got (own LONG_LONG_TYPE long_long_type_tree ⊥) s x rest
 long_long_type_got x h = got_rule long_long_type_rule long_long_type_tree x h refl
 
+-- a fault of the parts is one of the rule
 pub long_long_type_fault : {s : List ℕ} {e : Fault (Error (Bor (List ℕ)))} → Faults long_long_type_parts s e → Faults (own LONG_LONG_TYPE long_long_type_tree ⊥) s e
 long_long_type_fault h = fault_rule long_long_type_rule long_long_type_tree h
 
@@ -51,9 +53,11 @@ long_type_parts = pair_reading unsigned_reading (mark LONG)
 long_type_rule : IsRule long_type_parts LONG_TYPE (λ x. Node (trees (option_tree mark_tree x.0 ∷ Mark ∷ []))) ⊥
 long_type_rule = pair_rule unsigned_rule (mark_rule LONG) LONG_TYPE refl refl
 
+-- the parts give what the rule gives
 pub long_type_got : {s rest : List ℕ} (x : LongType) → Got long_type_parts s (x.unsigned, x.long) rest → Got (own LONG_TYPE long_type_tree ⊥) s x rest
 long_type_got x h = got_rule long_type_rule long_type_tree x h refl
 
+-- a fault of the parts is one of the rule
 pub long_type_fault : {s : List ℕ} {e : Fault (Error (Bor (List ℕ)))} → Faults long_type_parts s e → Faults (own LONG_TYPE long_type_tree ⊥) s e
 long_type_fault h = fault_rule long_type_rule long_type_tree h
 
@@ -64,9 +68,11 @@ short_type_parts = pair_reading unsigned_reading (mark SHORT)
 short_type_rule : IsRule short_type_parts SHORT_TYPE (λ x. Node (trees (option_tree mark_tree x.0 ∷ Mark ∷ []))) ⊥
 short_type_rule = pair_rule unsigned_rule (mark_rule SHORT) SHORT_TYPE refl refl
 
+-- the parts give what the rule gives
 pub short_type_got : {s rest : List ℕ} (x : ShortType) → Got short_type_parts s (x.unsigned, x.short) rest → Got (own SHORT_TYPE short_type_tree ⊥) s x rest
 short_type_got x h = got_rule short_type_rule short_type_tree x h refl
 
+-- a fault of the parts is one of the rule
 pub short_type_fault : {s : List ℕ} {e : Fault (Error (Bor (List ℕ)))} → Faults short_type_parts s e → Faults (own SHORT_TYPE short_type_tree ⊥) s e
 short_type_fault h = fault_rule short_type_rule short_type_tree h
 
@@ -76,6 +82,7 @@ integer_type_parts =
     choice_reading (own LONG_LONG_TYPE long_long_type_tree ⊥)
     (choice_reading (own LONG_TYPE long_type_tree ⊥) (own SHORT_TYPE short_type_tree ⊥))
 
+-- which of the alternatives a value is
 abbrev integer_type_view : IntegerType → LongLongType ⊎ (LongType ⊎ ShortType)
 integer_type_view (LongLong v) = inl v
 integer_type_view (IsLong v) = inr (inl v)
@@ -91,11 +98,13 @@ integer_type_rule =
     (first_last 2 (own_rule SHORT_TYPE short_type_tree ⊥))))
     INTEGER_TYPE refl refl
 
+-- the parts give what the rule gives
 pub integer_type_got : {s rest : List ℕ} (x : IntegerType) → Got integer_type_parts s (integer_type_view x) rest → Got (own INTEGER_TYPE integer_type_tree ⊥) s x rest
 integer_type_got (LongLong v) h = got_rule integer_type_rule integer_type_tree _ h refl
 integer_type_got (IsLong v) h = got_rule integer_type_rule integer_type_tree _ h refl
 integer_type_got (IsShort v) h = got_rule integer_type_rule integer_type_tree _ h refl
 
+-- a fault of the parts is one of the rule
 pub integer_type_fault : {s : List ℕ} {e : Fault (Error (Bor (List ℕ)))} → Faults integer_type_parts s e → Faults (own INTEGER_TYPE integer_type_tree ⊥) s e
 integer_type_fault h = fault_rule integer_type_rule integer_type_tree h
 

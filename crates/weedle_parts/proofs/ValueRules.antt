@@ -54,6 +54,7 @@ default_value_rule =
     (first_last 6 (own_rule STRING_LIT string_tree ⊥))))))))
     DEFAULT_VALUE refl refl
 
+-- which of the alternatives a value is
 abbrev default_value_view : DefaultValue → BooleanLit ⊎ (EmptyArrayLit ⊎ (EmptyDictionaryLit ⊎ (FloatLit ⊎ (IntegerLit ⊎ (Null ⊎ StringLit)))))
 default_value_view (DefaultBoolean v) = inl v
 default_value_view (EmptyArray v) = inr (inl v)
@@ -63,6 +64,7 @@ default_value_view (DefaultInteger v) = inr (inr (inr (inr (inl v))))
 default_value_view (DefaultNull v) = inr (inr (inr (inr (inr (inl v)))))
 default_value_view (DefaultString v) = inr (inr (inr (inr (inr (inr v)))))
 
+-- the parts give what the rule gives
 pub default_value_got : {s rest : List ℕ} (x : DefaultValue) → Got default_value_parts s (default_value_view x) rest → Got (own DEFAULT_VALUE default_value_tree ⊥) s x rest
 default_value_got (DefaultBoolean v) h = got_rule default_value_rule default_value_tree _ h refl
 default_value_got (EmptyArray v) h = got_rule default_value_rule default_value_tree _ h refl
@@ -72,6 +74,7 @@ default_value_got (DefaultInteger v) h = got_rule default_value_rule default_val
 default_value_got (DefaultNull v) h = got_rule default_value_rule default_value_tree _ h refl
 default_value_got (DefaultString v) h = got_rule default_value_rule default_value_tree _ h refl
 
+-- a fault of the parts is one of the rule
 pub default_value_fault : {s : List ℕ} {e : Fault (Error (Bor (List ℕ)))} → Faults default_value_parts s e → Faults (own DEFAULT_VALUE default_value_tree ⊥) s e
 default_value_fault h = fault_rule default_value_rule default_value_tree h
 
@@ -97,18 +100,21 @@ const_value_rule =
     (first_last 3 (own_rule NULL (λ v. Mark) ⊥)))))
     CONST_VALUE refl refl
 
+-- which of the alternatives a value is
 abbrev const_value_view : ConstValue → BooleanLit ⊎ (FloatLit ⊎ (IntegerLit ⊎ Null))
 const_value_view (ConstBoolean v) = inl v
 const_value_view (ConstFloat v) = inr (inl v)
 const_value_view (ConstInteger v) = inr (inr (inl v))
 const_value_view (ConstNull v) = inr (inr (inr v))
 
+-- the parts give what the rule gives
 pub const_value_got : {s rest : List ℕ} (x : ConstValue) → Got const_value_parts s (const_value_view x) rest → Got (own CONST_VALUE const_value_tree ⊥) s x rest
 const_value_got (ConstBoolean v) h = got_rule const_value_rule const_value_tree _ h refl
 const_value_got (ConstFloat v) h = got_rule const_value_rule const_value_tree _ h refl
 const_value_got (ConstInteger v) h = got_rule const_value_rule const_value_tree _ h refl
 const_value_got (ConstNull v) h = got_rule const_value_rule const_value_tree _ h refl
 
+-- a fault of the parts is one of the rule
 pub const_value_fault : {s : List ℕ} {e : Fault (Error (Bor (List ℕ)))} → Faults const_value_parts s e → Faults (own CONST_VALUE const_value_tree ⊥) s e
 const_value_fault h = fault_rule const_value_rule const_value_tree h
 

@@ -6,7 +6,7 @@ use Rattle.weedle_base.specs.Reading.{Reading}
 use Rattle.weedle_base.specs.Runs.{Step, run_reading}
 
 module _ {V W : Type 0} (R : Reading V) (S : Reading W) where
-  -- A separator that takes a byte or more, and an item. Where no item follows it, the separator is given back.
+  -- how a list goes on behind an item: a separator that takes a byte or more, and an item. Where no item follows it, the separator is given back; one that takes nothing refuses the list
   abbrev pub next_step : Step V
   next_step = record {
     takes = λ s v k. (w : W) × (h : ℕ) × (i : ℕ) × S.gives s w h × (0 < h) × R.gives (drop h s) v i × (k ≡ h + i);
@@ -30,6 +30,7 @@ module _ {V W : Type 0} (R : Reading V) (S : Reading W) where
   list_gives s [] k = R.refuses s × (k ≡ 0)
   list_gives s (v ∷ vs) k = (pair_reading R tail_reading).gives s (v, vs) k
 
+  -- the reading of `List1`
   abbrev pub list1_reading : Reading (List V)
   list1_reading = record {
     gives = list1_gives;
@@ -39,6 +40,7 @@ module _ {V W : Type 0} (R : Reading V) (S : Reading W) where
     alike = all_alike R.alike;
   }
 
+  -- the reading of `List`
   abbrev pub list_reading : Reading (List V)
   list_reading = record {
     gives = list_gives;
@@ -48,7 +50,7 @@ module _ {V W : Type 0} (R : Reading V) (S : Reading W) where
     alike = all_alike R.alike;
   }
 
-  -- What follows the first item, as a list with it.
+  -- what follows the first item, as a list with it
   abbrev pub after_first : {L : Type 0} → (L → List V) → V → Reading L
   after_first view first = record {
     gives = λ s l k. (vs : List V) × (view l ≡ first ∷ vs) × tail_reading.gives s vs k;
@@ -58,7 +60,9 @@ module _ {V W : Type 0} (R : Reading V) (S : Reading W) where
     alike = λ l m. all_alike R.alike (view l) (view m);
   }
 
+  -- `view` sees a value's items, and `known` says of it what is known without reading: that its separator is the default.
   module _ {L : Type 0} (view : L → List V) (known : L → Type 0) where
+    -- `Punctuated`: a `List`
     unfoldable pub punctuated_reading : Reading L
     punctuated_reading = record {
       gives = λ s l k. list_gives s (view l) k × known l;
@@ -68,6 +72,7 @@ module _ {V W : Type 0} (R : Reading V) (S : Reading W) where
       alike = λ l m. all_alike R.alike (view l) (view m);
     }
 
+    -- `PunctuatedNonEmpty`: a `List1`, and then a separator or nothing
     unfoldable pub punctuated_non_empty_reading : Reading L
     punctuated_non_empty_reading = record {
       gives = λ s l k. ((o : Option W) × (pair_reading list1_reading (option_reading S)).gives s (view l, o) k) × known l;

@@ -2,7 +2,8 @@
 
 ghost use Rattle.std.specs.Prelude.{◌≡◌};
 ghost use Rattle.weedle_base.specs.AlikeLaws.{equal_equivalence, seen_equivalence, pair_equivalence};
-ghost use Rattle.weedle_parts.specs.MayBeNull.{may_be_null_reading, may_be_null_lawful};
+ghost use Rattle.weedle_parts.specs.MayBeNull.{may_be_null_reading};
+ghost use Rattle.weedle_parts.specs.PartLaws.{may_be_null_lawful};
 
 use std::alloc::{AllocError, Global};
 use weedle_base::term::QMark;
