@@ -80,7 +80,7 @@ pub fn run<R: Read, W: Write>(
     Ok(status)
 }
 
-// A refused growth is told apart from a reader that fails.
+/// Tells a refused growth apart from a reader that fails.
 fn input_fault(error: io::Error) -> RunFault
     ensures memory { error_kind error ≡ ErrorKind.OutOfMemory → result ≡ RunFault.Memory }
     ensures input { error_kind error ≢ ErrorKind.OutOfMemory → result ≡ RunFault.Input }
@@ -92,7 +92,7 @@ fn input_fault(error: io::Error) -> RunFault
     }
 }
 
-// The report of a text, and whether the text was read whole.
+/// The report of a text, and whether the text was read whole.
 fn report_of(alloc: Global, text: &str) -> Result<(String, Status), RunFault>
     ensures ok { IfOk result (λ r. IsReport text.now (string_bytes r.0) r.1) }
     ensures err { IfErr result (λ fault. fault ≡ RunFault.Memory) }
@@ -107,7 +107,7 @@ fn report_of(alloc: Global, text: &str) -> Result<(String, Status), RunFault>
     }
 }
 
-// A line for each definition, and their count.
+/// A line for each definition, and their count.
 fn whole_report(alloc: Global, definitions: &[Definition<'_>]) -> Result<String, AllocError>
     ensures { IfOk result (λ report. string_bytes report ≡ whole_report definitions.now) }
 {
@@ -120,6 +120,7 @@ fn whole_report(alloc: Global, definitions: &[Definition<'_>]) -> Result<String,
     Ok(report)
 }
 
+/// Adds the line of a definition.
 fn push_definition(report: &mut String, definition: &Definition<'_>) -> Result<(), AllocError>
     ensures { OnOk result (string_bytes report.new ≡ string_bytes report.old ++ definition_line definition.now) }
 {
@@ -128,7 +129,7 @@ fn push_definition(report: &mut String, definition: &Definition<'_>) -> Result<(
     writeln!(report, "{kind} {name}")
 }
 
-// Writes all the bytes, in as many writes as the writer needs.
+/// Writes all the bytes, in as many writes as the writer needs.
 fn write_through<W: Write>(writer: &mut W, bytes: &[u8]) -> Result<(), RunFault>
     ensures ok { OnOk result (Appends (W.contents writer.old) (W.contents writer.new) bytes.now) }
     ensures part { OnErr result (AppendsPart (W.contents writer.old) (W.contents writer.new) bytes.now) }

@@ -23,7 +23,7 @@ fn main(rt: HostRuntime) -> ExitCode {
     end(&rt, &outcome)
 }
 
-// Says on standard error what the fault was, if there was one.
+/// Says on standard error what the fault was, if there was one.
 fn end(rt: &impl Eprint, outcome: &Result<Status, RunFault>) -> ExitCode {
     if let Err(fault) = outcome {
         complain(rt, fault_line(fault));
@@ -31,11 +31,12 @@ fn end(rt: &impl Eprint, outcome: &Result<Status, RunFault>) -> ExitCode {
     ExitCode::from(status_of(outcome))
 }
 
-// The status stays what it is where standard error takes no line.
+/// Prints the line on standard error. A fault there changes nothing.
 fn complain(rt: &impl Eprint, line: &str) {
     let _ = rt.eprintln(line);
 }
 
+/// The exit status of a run.
 fn status_of(outcome: &Result<Status, RunFault>) -> u8 {
     match outcome {
         Ok(Status::Read) => 0,
@@ -46,6 +47,7 @@ fn status_of(outcome: &Result<Status, RunFault>) -> u8 {
     }
 }
 
+/// The line that says what the fault was, without its LF.
 fn fault_line(fault: &RunFault) -> &'static str {
     match fault {
         RunFault::NotUtf8 => "input is not UTF-8",

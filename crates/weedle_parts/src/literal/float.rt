@@ -124,12 +124,14 @@ fn after_digits(input: &str) -> Option<&str>
     Some(after_run(Rule::RUN_DIGIT, Class::Digit, first))
 }
 
+/// What follows a `+` or a `-`, or the input where there is none.
 fn skip_sign(input: &str) -> &str
     ensures { Took OPT_ONE_OF_SIGN input.now [] result.now }
 {
     after_one(Rule::ONE_OF_SIGN, Class::Sign, input).unwrap_or(input)
 }
 
+/// What follows an exponent, as `e+3`.
 fn after_exponent(input: &str) -> Option<&str>
     ensures { Trial EXPONENT input.now result }
 {
@@ -138,6 +140,7 @@ fn after_exponent(input: &str) -> Option<&str>
     after_digits(unsigned)
 }
 
+/// What follows an exponent, or the input where there is none.
 fn skip_exponent(input: &str) -> &str
     ensures { Took OPT_EXPONENT input.now [] result.now }
 {
@@ -162,6 +165,7 @@ fn after_point_digits(input: &str) -> Option<&str>
     after_digits(point)
 }
 
+/// What follows a number with a point.
 fn after_point(input: &str) -> Option<&str>
     ensures { Trial POINT input.now result }
 {
@@ -171,6 +175,7 @@ fn after_point(input: &str) -> Option<&str>
     after_point_digits(input)
 }
 
+/// What follows a number with a point, and an exponent that may be absent.
 fn after_float_point(input: &str) -> Option<&str>
     ensures { Trial POINT_FORM input.now result }
 {
@@ -178,6 +183,7 @@ fn after_float_point(input: &str) -> Option<&str>
     Some(skip_exponent(number))
 }
 
+/// What follows digits and an exponent.
 fn after_float_whole(input: &str) -> Option<&str>
     ensures { Trial EXPONENT_FORM input.now result }
 {
@@ -185,6 +191,7 @@ fn after_float_whole(input: &str) -> Option<&str>
     after_exponent(whole)
 }
 
+/// What follows the first of the two forms that fits.
 fn after_float_form(input: &str) -> Option<&str>
     ensures { Trial FLOAT_FORM input.now result }
 {
