@@ -11,13 +11,12 @@ same part (the same row and the same shape) share one rule.
 
 It writes, for each section S of the grammar,
     specs/Table/S.antt      the numbers of its rules, and their rows and shapes
-    src/rows/s.rt           the same rows for the program
+    src/grammar/s.rt        the same for the program: numbers, constants of `Rule`, rows
     proofs/Takes/S.antt     which of its rules always take a byte
-    src/number/s.rt         their numbers for the program
-    src/rule_names/s.rt     the constants of `Rule`
-and over all sections specs/Table.antt, specs/Bound.antt, src/number.rt,
-src/rows.rt, src/rule_names.rt, proofs/Takes.antt and the number of rules in
-src/lib.rt.
+and over all sections specs/Table.antt, specs/Bound.antt, src/grammar.rt,
+proofs/Takes.antt and the number of rules in src/lib.rt.
+
+A rule has a constant of `Rule` where it has a doc line, or where a scanner names it.
 """
 
 import re
@@ -111,13 +110,20 @@ def many(name, x, shape="Plain", doc=None):
     return rule(name, ("Many", x), shape, doc)
 
 
-def punctuated(x, s):
+def punctuated(x, s, name=None, doc=None):
     tail = rule(f"TAIL_{x}_{s}", ("Tail", x, s))
-    return rule(f"LIST_{x}_{s}", ("List", x, tail))
+    return rule(name or f"LIST_{x}_{s}", ("List", x, tail), doc=doc)
 
 
-def bracketed(kind, opening, x, closing):
-    return seq(f"{kind}_{x}", opening, x, closing)
+BRACKETS = {
+    "PARENTHESIZED": ("OPEN_PAREN", "CLOSE_PAREN"), "BRACKETED": ("OPEN_BRACKET", "CLOSE_BRACKET"),
+    "BRACED": ("OPEN_BRACE", "CLOSE_BRACE"), "GENERICS": ("LESS_THAN", "GREATER_THAN"),
+}
+
+
+def bracketed(kind, x, name=None, doc=None):
+    opening, closing = BRACKETS[kind]
+    return seq(name or f"{kind}_{x}", opening, x, closing, doc=doc)
 
 
 def may_be_null(x):
@@ -126,7 +132,9 @@ def may_be_null(x):
 
 # Trivia.
 section("Trivia", "Trivia: line comments, blanks and block comments.")
-seq("LINE_COMMENT", text_bytes("//"), not_next("Slash"), past("\n"), shape="Silent", doc="A line comment, as `// c` with its LF.")
+first("LINE_END", text_bytes("\n"), not_next("Any"), shape="Silent", doc="An LF, or the end of the text.")
+seq("LINE_COMMENT", text_bytes("//"), not_next("Slash"), run("NotLineFeed"), "LINE_END", shape="Silent",
+    doc="A line comment, as `// c`, with its LF where the text doesn't end before it.")
 seq("BLANKS", one_of("Blank"), run("Blank"), shape="Silent", doc="Spaces, tabs, CRs and LFs, one at least.")
 seq("BLOCK_COMMENT", text_bytes("/*"), past("*/"), shape="Silent", doc="A block comment, as `/* c */`.")
 first("PIECE", "LINE_COMMENT", "BLANKS", "BLOCK_COMMENT", shape="Silent", doc="A comment or blanks.")
@@ -172,14 +180,14 @@ keyword("NegInfinity", "-Infinity")
 # Leaves.
 section("Leaves", "Leaves: names, numbers, strings and docstrings.")
 seq("IDENTIFIER", "TRIVIA", opt(text_bytes("_"), "Silent"),
-    seq("IDENTIFIER_TEXT", one_of("Alnum"), run("Name"), shape="Silent"), "TRIVIA", shape="Kept 2",
+    seq("IDENTIFIER_TEXT", one_of("Letter"), run("Name"), shape="Silent"), "TRIVIA", shape="Kept 2",
     doc="A name, as `_interface`, whose underscore is dropped.")
 opt("BYTES_MINUS", "Silent")
 seq("DEC_LIT", "TRIVIA", seq("DEC_LIT_TEXT", "OPT_BYTES_MINUS", one_of("OneToNine"), run("Digit"), shape="Silent"), "TRIVIA",
     shape="Kept 1", doc="A decimal integer, as `-12`.")
 seq("HEX_LIT", "TRIVIA",
-    seq("HEX_LIT_TEXT", "OPT_BYTES_MINUS", text_bytes("0"), one_of("XLetter"), run("Hex"), shape="Silent"), "TRIVIA",
-    shape="Kept 1", doc="A hexadecimal integer, as `0x1F`.")
+    seq("HEX_LIT_TEXT", "OPT_BYTES_MINUS", text_bytes("0"), one_of("XLetter"), one_of("Hex"), run("Hex"), shape="Silent"),
+    "TRIVIA", shape="Kept 1", doc="A hexadecimal integer, as `0x1F`.")
 seq("OCT_LIT", "TRIVIA", seq("OCT_LIT_TEXT", "OPT_BYTES_MINUS", "BYTES_ZERO", run("Octal"), shape="Silent"), "TRIVIA",
     shape="Kept 1", doc="An octal integer, as `017`.")
 seq("DIGITS", one_of("Digit"), run("Digit"), shape="Silent", doc="Digits, one at least.")
@@ -194,7 +202,7 @@ seq("FLOAT_VALUE_LIT", "TRIVIA",
     "TRIVIA", shape="Kept 1", doc="A number with a point or an exponent, as `-1.5e3`.")
 seq("STRING_LIT", "TRIVIA", text_bytes('"'), run("NotQuote"), "BYTES_QUOTE", "TRIVIA", shape="Kept 2",
     doc="A string, as `\"a\"`, kept without its quotes.")
-seq("DOC_LINE", run("Blank"), text_bytes("///"), "PAST_LF", shape="Line", doc="A docstring's line, as `/// c` with its LF.")
+seq("DOC_LINE", run("Blank"), text_bytes("///"), past("\n"), shape="Line", doc="A docstring's line, as `/// c` with its LF.")
 seq("DOCSTRING", "DOC_LINE", many("MANY_DOC_LINE", "DOC_LINE"), shape="Joined", doc="A docstring: such lines, one at least.")
 
 # Literals.
@@ -222,20 +230,177 @@ seq("DOUBLE_TYPE", "OPT_UNRESTRICTED", "DOUBLE", doc="`double`, or `unrestricted
 first("FLOATING_POINT_TYPE", "FLOAT_TYPE", "DOUBLE_TYPE", doc="A floating point type.")
 first("CONST_TYPE", *[may_be_null(x) for x in ("INTEGER_TYPE", "FLOATING_POINT_TYPE", "BOOLEAN", "BYTE", "OCTET", "IDENTIFIER")],
       doc="A constant's type, as `long?`.")
-punctuated("IDENTIFIER", "COMMA")
-bracketed("PARENTHESIZED", "OPEN_PAREN", "LIST_IDENTIFIER_COMMA", "CLOSE_PAREN")
+punctuated("IDENTIFIER", "COMMA", "IDENTIFIER_LIST", "Names, as `Window, Worker`, none included.")
+bracketed("PARENTHESIZED", "IDENTIFIER_LIST")
+
+# Types that hold types, attributes and arguments read one another, so they are one section.
+section("Types", "Types that hold types, attributes and arguments, which read one another.")
+TERMINAL_TYPES = (
+    "BOOLEAN BYTE OCTET BYTE_STRING DOM_STRING USV_STRING SEQUENCE_TYPE OBJECT SYMBOL ERROR ARRAY_BUFFER DATA_VIEW INT8_ARRAY "
+    "INT16_ARRAY INT32_ARRAY UINT8_ARRAY UINT16_ARRAY UINT32_ARRAY UINT8_CLAMPED_ARRAY FLOAT32_ARRAY FLOAT64_ARRAY "
+    "ARRAY_BUFFER_VIEW BUFFER_SOURCE"
+).split()
+bracketed("GENERICS", "TYPE")
+seq("SEQUENCE_TYPE", "SEQUENCE", "GENERICS_TYPE", doc="A sequence, as `sequence<long>`.")
+seq("FROZEN_ARRAY_TYPE", "FROZEN_ARRAY", "GENERICS_TYPE", doc="A frozen array, as `FrozenArray<long>`.")
+bracketed("GENERICS", "RETURN_TYPE")
+seq("PROMISE_TYPE", "PROMISE", "GENERICS_RETURN_TYPE", doc="A promise, as `Promise<long>`.")
+bracketed("GENERICS", "RECORD_TYPES")
+seq("RECORD_TYPE", "RECORD", "GENERICS_RECORD_TYPES", doc="A record, as `record<DOMString, long>`.")
+bracketed("PARENTHESIZED", "LIST_UNION_MEMBER_TYPE_OR", "UNION_TYPE", "A union, as `(long or DOMString)`.")
+may_be_null("UNION_TYPE")
+first("NON_ANY_TYPE", "PROMISE_TYPE",
+      *[may_be_null(x) for x in ["INTEGER_TYPE", "FLOATING_POINT_TYPE"] + TERMINAL_TYPES + ["FROZEN_ARRAY_TYPE", "RECORD_TYPE", "IDENTIFIER"]],
+      doc="A type that is neither `any` nor a union, as `long?`.")
+first("RECORD_KEY_TYPE", "BYTE_STRING", "DOM_STRING", "USV_STRING", "NON_ANY_TYPE", doc="The type of a record's keys.")
+seq("RECORD_TYPES", "RECORD_KEY_TYPE", "COMMA", "TYPE", doc="A record's two types, as `DOMString, long`.")
+first("SINGLE_TYPE", "ANY", "NON_ANY_TYPE", doc="A type that is no union.")
+first("TYPE", "SINGLE_TYPE", "MAY_BE_NULL_UNION_TYPE", doc="A type.")
+first("RETURN_TYPE", "UNDEFINED", "TYPE", doc="What an operation returns: `undefined`, or a type.")
+bracketed("BRACKETED", "LIST_EXTENDED_ATTRIBUTE_COMMA", "EXTENDED_ATTRIBUTE_LIST", "Attributes, as `[Clamp, Exposed=Window]`.")
+opt("EXTENDED_ATTRIBUTE_LIST")
+seq("ATTRIBUTED_TYPE", "OPT_EXTENDED_ATTRIBUTE_LIST", "TYPE", doc="A type with attributes, as `[Clamp] long`.")
+seq("ATTRIBUTED_NON_ANY_TYPE", "OPT_EXTENDED_ATTRIBUTE_LIST", "NON_ANY_TYPE", doc="The same where the type is neither `any` nor a union.")
+first("UNION_MEMBER_TYPE", "ATTRIBUTED_NON_ANY_TYPE", "MAY_BE_NULL_UNION_TYPE", doc="A member of a union.")
+punctuated("UNION_MEMBER_TYPE", "OR")
+opt("OPTIONAL")
+opt("DEFAULT")
+rule("SINGLE_ARGUMENT", ("If", ("OPT_EXTENDED_ATTRIBUTE_LIST", "OPT_OPTIONAL", "ATTRIBUTED_TYPE", "IDENTIFIER"), 1, "OPT_DEFAULT"),
+     doc="An argument, as `optional long x = 5`; a default is read only behind `optional`.")
+seq("VARIADIC_ARGUMENT", "OPT_EXTENDED_ATTRIBUTE_LIST", "TYPE", "ELLIPSIS", "IDENTIFIER", doc="Any number of arguments, as `long... x`.")
+first("ARGUMENT", "SINGLE_ARGUMENT", "VARIADIC_ARGUMENT", doc="An argument.")
+punctuated("ARGUMENT", "COMMA", "ARGUMENT_LIST", "Arguments, as `long x, long y`, none included.")
+bracketed("PARENTHESIZED", "ARGUMENT_LIST")
+seq("EXTENDED_ATTRIBUTE_ARG_LIST", "IDENTIFIER", "PARENTHESIZED_ARGUMENT_LIST", doc="An attribute with arguments, as `Constructor(long x)`.")
+seq("EXTENDED_ATTRIBUTE_NAMED_ARG_LIST", "IDENTIFIER", "ASSIGN", "IDENTIFIER", "PARENTHESIZED_ARGUMENT_LIST",
+    doc="An attribute with a name and arguments, as `NamedConstructor=Image(long x)`.")
+seq("EXTENDED_ATTRIBUTE_IDENT_LIST", "IDENTIFIER", "ASSIGN", "PARENTHESIZED_IDENTIFIER_LIST",
+    doc="An attribute with names, as `Exposed=(Window, Worker)`.")
+first("IDENTIFIER_OR_STRING", "IDENTIFIER", "STRING_LIT", doc="A name or a string.")
+seq("EXTENDED_ATTRIBUTE_IDENT", "IDENTIFIER", "ASSIGN", "IDENTIFIER_OR_STRING", doc="An attribute with a name or a string, as `PutForwards=name`.")
+seq("EXTENDED_ATTRIBUTE_NO_ARGS", "IDENTIFIER", doc="An attribute alone, as `Replaceable`.")
+first("EXTENDED_ATTRIBUTE", "EXTENDED_ATTRIBUTE_ARG_LIST", "EXTENDED_ATTRIBUTE_NAMED_ARG_LIST", "EXTENDED_ATTRIBUTE_IDENT_LIST",
+      "EXTENDED_ATTRIBUTE_IDENT", "EXTENDED_ATTRIBUTE_NO_ARGS", doc="An attribute.")
+punctuated("EXTENDED_ATTRIBUTE", "COMMA")
+
+# Members.
+ATTRS, ARGS, DOC = "OPT_EXTENDED_ATTRIBUTE_LIST", "PARENTHESIZED_ARGUMENT_LIST", "OPT_DOCSTRING"
+section("InterfaceMembers", "Members of interfaces.")
+opt("DOCSTRING")
+opt("IDENTIFIER")
+opt("READ_ONLY")
+seq("KEY_AND_VALUE_TYPES", "ATTRIBUTED_TYPE", "COMMA", "ATTRIBUTED_TYPE")
+bracketed("GENERICS", "ATTRIBUTED_TYPE")
+bracketed("GENERICS", "KEY_AND_VALUE_TYPES")
+seq("INHERITANCE", "COLON", "IDENTIFIER", doc="What an interface or a dictionary inherits from, as `: Node`.")
+opt("INHERITANCE")
+first("SPECIAL", "GETTER", "SETTER", "DELETER", "LEGACY_CALLER", doc="`getter`, `setter`, `deleter` or `legacycaller`.")
+opt("SPECIAL")
+first("STRINGIFIER_OR_INHERIT_OR_STATIC", "STRINGIFIER", "INHERIT", "STATIC", doc="`stringifier`, `inherit` or `static`.")
+opt("STRINGIFIER_OR_INHERIT_OR_STATIC")
+first("STRINGIFIER_OR_STATIC", "STRINGIFIER", "STATIC", doc="`stringifier` or `static`.")
+opt("STRINGIFIER_OR_STATIC")
+seq("CONST_MEMBER", ATTRS, "CONST", "CONST_TYPE", "IDENTIFIER", "ASSIGN", "CONST_VALUE", "SEMI_COLON", doc="A constant, as `const long X = 5;`.")
+seq("ATTRIBUTE_INTERFACE_MEMBER", ATTRS, "OPT_STRINGIFIER_OR_INHERIT_OR_STATIC", "OPT_READ_ONLY", "ATTRIBUTE", "ATTRIBUTED_TYPE",
+    "IDENTIFIER", "SEMI_COLON", doc="An attribute of an interface, as `readonly attribute long x;`.")
+seq("CONSTRUCTOR_INTERFACE_MEMBER", DOC, ATTRS, "CONSTRUCTOR", ARGS, "SEMI_COLON", doc="A constructor, as `constructor(long x);`.")
+seq("OPERATION_INTERFACE_MEMBER", DOC, ATTRS, "OPT_STRINGIFIER_OR_STATIC", "OPT_SPECIAL", "RETURN_TYPE", "OPT_IDENTIFIER", ARGS, "SEMI_COLON",
+    doc="An operation of an interface, as `undefined f(long x);`.")
+seq("SINGLE_TYPED_ITERABLE", ATTRS, "ITERABLE", "GENERICS_ATTRIBUTED_TYPE", "SEMI_COLON", doc="`iterable<long>;`.")
+seq("DOUBLE_TYPED_ITERABLE", ATTRS, "ITERABLE", "GENERICS_KEY_AND_VALUE_TYPES", "SEMI_COLON", doc="`iterable<DOMString, long>;`.")
+first("ITERABLE_INTERFACE_MEMBER", "SINGLE_TYPED_ITERABLE", "DOUBLE_TYPED_ITERABLE", doc="An iteration, over one type or two.")
+seq("ASYNC_ITERABLE", "ASYNC", "ITERABLE")
+opt(ARGS)
+seq("SINGLE_TYPED_ASYNC_ITERABLE", ATTRS, "ASYNC_ITERABLE", "GENERICS_ATTRIBUTED_TYPE", "OPT_PARENTHESIZED_ARGUMENT_LIST", "SEMI_COLON",
+    doc="`async iterable<long>;`.")
+seq("DOUBLE_TYPED_ASYNC_ITERABLE", ATTRS, "ASYNC_ITERABLE", "GENERICS_KEY_AND_VALUE_TYPES", "OPT_PARENTHESIZED_ARGUMENT_LIST", "SEMI_COLON",
+    doc="`async iterable<DOMString, long>;`.")
+first("ASYNC_ITERABLE_INTERFACE_MEMBER", "SINGLE_TYPED_ASYNC_ITERABLE", "DOUBLE_TYPED_ASYNC_ITERABLE",
+      doc="An asynchronous iteration, over one type or two.")
+seq("MAPLIKE_INTERFACE_MEMBER", ATTRS, "OPT_READ_ONLY", "MAPLIKE", "GENERICS_KEY_AND_VALUE_TYPES", "SEMI_COLON", doc="`maplike<DOMString, long>;`.")
+seq("SETLIKE_INTERFACE_MEMBER", ATTRS, "OPT_READ_ONLY", "SETLIKE", "GENERICS_ATTRIBUTED_TYPE", "SEMI_COLON", doc="`setlike<long>;`.")
+seq("STRINGIFIER_MEMBER", ATTRS, "STRINGIFIER", "SEMI_COLON", doc="`stringifier;`.")
+first("INTERFACE_MEMBER", "CONST_MEMBER", "ATTRIBUTE_INTERFACE_MEMBER", "CONSTRUCTOR_INTERFACE_MEMBER", "OPERATION_INTERFACE_MEMBER",
+      "ITERABLE_INTERFACE_MEMBER", "ASYNC_ITERABLE_INTERFACE_MEMBER", "MAPLIKE_INTERFACE_MEMBER", "SETLIKE_INTERFACE_MEMBER",
+      "STRINGIFIER_MEMBER", doc="A member of an interface.")
+many("INTERFACE_MEMBERS", "INTERFACE_MEMBER", doc="The members of an interface, none included.")
+bracketed("BRACED", "INTERFACE_MEMBERS")
+
+section("OtherMembers", "Members of mixins, namespaces and dictionaries, and the values of an enum.")
+opt("STRINGIFIER")
+seq("OPERATION_MIXIN_MEMBER", ATTRS, "OPT_STRINGIFIER", "RETURN_TYPE", "OPT_IDENTIFIER", ARGS, "SEMI_COLON",
+    doc="An operation of a mixin, as `undefined f(long x);`.")
+seq("ATTRIBUTE_MIXIN_MEMBER", ATTRS, "OPT_STRINGIFIER", "OPT_READ_ONLY", "ATTRIBUTE", "ATTRIBUTED_TYPE", "IDENTIFIER", "SEMI_COLON",
+    doc="An attribute of a mixin, as `readonly attribute long x;`.")
+first("MIXIN_MEMBER", "CONST_MEMBER", "OPERATION_MIXIN_MEMBER", "ATTRIBUTE_MIXIN_MEMBER", "STRINGIFIER_MEMBER", doc="A member of a mixin.")
+many("MIXIN_MEMBERS", "MIXIN_MEMBER", doc="The members of a mixin, none included.")
+bracketed("BRACED", "MIXIN_MEMBERS")
+seq("OPERATION_NAMESPACE_MEMBER", DOC, ATTRS, "RETURN_TYPE", "OPT_IDENTIFIER", ARGS, "SEMI_COLON",
+    doc="An operation of a namespace, as `undefined f(long x);`.")
+seq("ATTRIBUTE_NAMESPACE_MEMBER", DOC, ATTRS, "READ_ONLY", "ATTRIBUTE", "ATTRIBUTED_TYPE", "IDENTIFIER", "SEMI_COLON",
+    doc="An attribute of a namespace, as `readonly attribute long x;`.")
+first("NAMESPACE_MEMBER", "OPERATION_NAMESPACE_MEMBER", "ATTRIBUTE_NAMESPACE_MEMBER", doc="A member of a namespace.")
+many("NAMESPACE_MEMBERS", "NAMESPACE_MEMBER", doc="The members of a namespace, none included.")
+bracketed("BRACED", "NAMESPACE_MEMBERS")
+opt("REQUIRED")
+seq("DICTIONARY_MEMBER", DOC, ATTRS, "OPT_REQUIRED", "TYPE", "IDENTIFIER", "OPT_DEFAULT", "SEMI_COLON",
+    doc="A member of a dictionary, as `required long x;`.")
+many("DICTIONARY_MEMBERS", "DICTIONARY_MEMBER", doc="The members of a dictionary, none included.")
+bracketed("BRACED", "DICTIONARY_MEMBERS")
+seq("ENUM_VARIANT", DOC, "STRING_LIT", doc="A value of an enum, as `\"a\"`.")
+rule("TAIL_ENUM_VARIANT_COMMA", ("Tail", "ENUM_VARIANT", "COMMA"))
+rule("LIST1_ENUM_VARIANT_COMMA", ("List1", "ENUM_VARIANT", "TAIL_ENUM_VARIANT_COMMA"))
+opt("COMMA")
+seq("ENUM_VALUE_LIST", "LIST1_ENUM_VARIANT_COMMA", "OPT_COMMA", shape="Inner", doc="The values of an enum, one at least, as `\"a\", \"b\",`.")
+bracketed("BRACED", "ENUM_VALUE_LIST")
 
 # Definitions.
-section("Definitions", "Definitions and their members.")
-opt("READ_ONLY")
-seq("ATTRIBUTE_INTERFACE_MEMBER", "OPT_READ_ONLY", "ATTRIBUTE", "IDENTIFIER", "IDENTIFIER", "SEMI_COLON",
-    doc="An attribute, as `readonly attribute long x;`.")
-first("INTERFACE_MEMBER", "ATTRIBUTE_INTERFACE_MEMBER", doc="A member of an interface.")
-many("INTERFACE_MEMBERS", "INTERFACE_MEMBER", doc="The members of an interface, none included.")
-seq("MEMBERS", "OPEN_BRACE", "INTERFACE_MEMBERS", "CLOSE_BRACE", doc="The members between braces.")
-seq("INTERFACE_DEFINITION", "INTERFACE", "IDENTIFIER", "MEMBERS", "SEMI_COLON", doc="An interface, as `interface A {};`.")
-first("DEFINITION", "INTERFACE_DEFINITION", doc="A definition.")
+section("Definitions", "Definitions.")
+seq("CALLBACK_DEFINITION", ATTRS, "CALLBACK", "IDENTIFIER", "ASSIGN", "RETURN_TYPE", ARGS, "SEMI_COLON",
+    doc="A callback, as `callback F = undefined (long x);`.")
+seq("CALLBACK_INTERFACE_DEFINITION", DOC, ATTRS, "CALLBACK", "INTERFACE", "IDENTIFIER", "OPT_INHERITANCE", "BRACED_INTERFACE_MEMBERS",
+    "SEMI_COLON", doc="A callback interface, as `callback interface A {};`.")
+seq("INTERFACE_DEFINITION", DOC, ATTRS, "INTERFACE", "IDENTIFIER", "OPT_INHERITANCE", "BRACED_INTERFACE_MEMBERS", "SEMI_COLON",
+    doc="An interface, as `interface A : B {};`.")
+seq("INTERFACE_MIXIN_DEFINITION", ATTRS, "INTERFACE", "MIXIN", "IDENTIFIER", "BRACED_MIXIN_MEMBERS", "SEMI_COLON",
+    doc="A mixin, as `interface mixin A {};`.")
+seq("NAMESPACE_DEFINITION", DOC, ATTRS, "NAMESPACE", "IDENTIFIER", "BRACED_NAMESPACE_MEMBERS", "SEMI_COLON", doc="A namespace, as `namespace A {};`.")
+seq("DICTIONARY_DEFINITION", DOC, ATTRS, "DICTIONARY", "IDENTIFIER", "OPT_INHERITANCE", "BRACED_DICTIONARY_MEMBERS", "SEMI_COLON",
+    doc="A dictionary, as `dictionary A : B {};`.")
+seq("PARTIAL_INTERFACE_DEFINITION", ATTRS, "PARTIAL", "INTERFACE", "IDENTIFIER", "BRACED_INTERFACE_MEMBERS", "SEMI_COLON",
+    doc="A part of an interface, as `partial interface A {};`.")
+seq("PARTIAL_INTERFACE_MIXIN_DEFINITION", ATTRS, "PARTIAL", "INTERFACE", "MIXIN", "IDENTIFIER", "BRACED_MIXIN_MEMBERS", "SEMI_COLON",
+    doc="A part of a mixin, as `partial interface mixin A {};`.")
+seq("PARTIAL_DICTIONARY_DEFINITION", ATTRS, "PARTIAL", "DICTIONARY", "IDENTIFIER", "BRACED_DICTIONARY_MEMBERS", "SEMI_COLON",
+    doc="A part of a dictionary, as `partial dictionary A {};`.")
+seq("PARTIAL_NAMESPACE_DEFINITION", ATTRS, "PARTIAL", "NAMESPACE", "IDENTIFIER", "BRACED_NAMESPACE_MEMBERS", "SEMI_COLON",
+    doc="A part of a namespace, as `partial namespace A {};`.")
+seq("ENUM_DEFINITION", DOC, ATTRS, "ENUM", "IDENTIFIER", "BRACED_ENUM_VALUE_LIST", "SEMI_COLON", doc="An enum, as `enum A {\"a\"};`.")
+seq("TYPEDEF_DEFINITION", ATTRS, "TYPEDEF", "ATTRIBUTED_TYPE", "IDENTIFIER", "SEMI_COLON", doc="A name for a type, as `typedef long A;`.")
+seq("INCLUDES_STATEMENT_DEFINITION", ATTRS, "IDENTIFIER", "INCLUDES", "IDENTIFIER", "SEMI_COLON", doc="The use of a mixin, as `A includes B;`.")
+seq("IMPLEMENTS_DEFINITION", ATTRS, "IDENTIFIER", "IMPLEMENTS", "IDENTIFIER", "SEMI_COLON", doc="The older form of it, as `A implements B;`.")
+first("DEFINITION", "CALLBACK_DEFINITION", "CALLBACK_INTERFACE_DEFINITION", "INTERFACE_DEFINITION", "INTERFACE_MIXIN_DEFINITION",
+      "NAMESPACE_DEFINITION", "DICTIONARY_DEFINITION", "PARTIAL_INTERFACE_DEFINITION", "PARTIAL_INTERFACE_MIXIN_DEFINITION",
+      "PARTIAL_DICTIONARY_DEFINITION", "PARTIAL_NAMESPACE_DEFINITION", "ENUM_DEFINITION", "TYPEDEF_DEFINITION",
+      "INCLUDES_STATEMENT_DEFINITION", "IMPLEMENTS_DEFINITION", doc="A definition.")
 many("DEFINITIONS", "DEFINITION", doc="Definitions, none included: the whole of a text.")
+
+# The first path.
+section("FirstPath", "A first path: interfaces with attributes whose types are names.")
+seq("FIRST_ATTRIBUTE", "OPT_READ_ONLY", "ATTRIBUTE", "IDENTIFIER", "IDENTIFIER", "SEMI_COLON", doc="An attribute, as `readonly attribute Node x;`.")
+first("FIRST_MEMBER", "FIRST_ATTRIBUTE", doc="A member of an interface.")
+many("FIRST_MEMBERS", "FIRST_MEMBER", doc="The members of an interface, none included.")
+bracketed("BRACED", "FIRST_MEMBERS", doc="The members between braces.")
+seq("FIRST_INTERFACE", "INTERFACE", "IDENTIFIER", "BRACED_FIRST_MEMBERS", "SEMI_COLON", doc="An interface, as `interface A {};`.")
+first("FIRST_DEFINITION", "FIRST_INTERFACE", doc="A definition.")
+many("FIRST_DEFINITIONS", "FIRST_DEFINITION", doc="Definitions, none included: the whole of a text.")
+
+# The parts that the scanners of weedle_base and weedle_parts name.
+SCANNED = (
+    "BYTES_SLASH_SLASH BYTES_SLASH_STAR ONE_OF_BLANK RUN_BLANK BYTES_THREE_SLASHES BYTES_UNDERSCORE ONE_OF_LETTER RUN_NAME "
+    "IDENTIFIER_TEXT BYTES_MINUS BYTES_DOT BYTES_ZERO BYTES_QUOTE ONE_OF_DIGIT ONE_OF_ONE_TO_NINE ONE_OF_E_LETTER ONE_OF_HEX "
+    "ONE_OF_SIGN ONE_OF_X_LETTER RUN_DIGIT RUN_HEX RUN_OCTAL DEC_LIT_TEXT HEX_LIT_TEXT OCT_LIT_TEXT FLOAT_VALUE_LIT_TEXT"
+).split()
 
 RULES = [r for s in SECTIONS for r in s.rules]
 NUMBER = {r.name: i for i, r in enumerate(RULES)}
@@ -429,8 +594,13 @@ def code_row(row):
     if kind in ("Seq", "First"):
         return f"Row::{kind}(parts_of(&[{', '.join(row[1])}]))"
     if kind == "If":
-        return f"Row::If(parts_of(&[{', '.join(row[1])}]), {row[2]}, Rule::{row[3]})"
-    return f"Row::{kind}({', '.join(f'Rule::{x}' for x in row[1:])})"
+        return f"Row::If(parts_of(&[{', '.join(row[1])}]), {row[2]}, Rule({row[3]}))"
+    return f"Row::{kind}({', '.join(f'Rule({x})' for x in row[1:])})"
+
+
+def doc_of(r):
+    """The doc line of a rule's constant, or None where it has no constant."""
+    return r.doc or (f"A part: {plain_text(r.row)}." if r.name in SCANNED else None)
 
 
 def code_section(s):
@@ -443,10 +613,16 @@ def code_section(s):
     if "Class::" in text:
         out.append("use crate::class::Class;")
     own = {r.name for r in s.rules}
-    out += uses_of_numbers(own | {x for r in s.rules if r.row[0] in ("Seq", "First", "If") for x in r.row[1]})
+    read = {x for r in s.rules for x in parts_of(r.row)} - own
+    for home in SECTIONS:
+        names = sorted((r.name for r in home.rules if r.name in read))
+        if names:
+            out.append(f"use crate::grammar::{home.module}::{{{', '.join(names)}}};")
     out.append("use crate::row::{" + ("Row, parts_of" if "parts_of(" in text else "Row") + "};")
-    if "Rule" in text:
-        out.append("use crate::rule::Rule;")
+    out += ["use crate::rule::Rule;", ""]
+    out += [f"pub(super) const {r.name}: u16 = {NUMBER[r.name]};" for r in s.rules]
+    constants = [(r.name, doc_of(r)) for r in s.rules if doc_of(r)]
+    out += ["", "impl Rule {"] + [line for name, doc in constants for line in (f"    /// {doc}", f"    pub const {name}: Rule = Rule({name});")] + ["}"]
     requires = [f"    requires low {{ {low} ≤ number }}", f"    requires high {{ number < {high} }}"]
     out += ["", f"/// The row of a rule from {low} to {high - 1}.", "pub(super) fn row(number: u16) -> Row"]
     out += requires if low else [requires[1].replace("requires high", "requires")]
@@ -455,11 +631,12 @@ def code_section(s):
         pattern = r.name if i + 1 < len(s.rules) else "_"
         out.append(f"        {pattern} => {code_row(r.row)},")
     out += ["    }", "}"]
-    write(f"src/rows/{s.module}.rt", "\n".join(out) + "\n")
+    write(f"src/grammar/{s.module}.rt", "\n".join(out) + "\n")
 
 
-def code_rows():
-    out = ["//! The rows of the rules, section by section.", "//!", f"//! {HEAD[0].upper() + HEAD[1:]}.", "",
+def code_grammar():
+    out = ["//! The grammar: the number, the name and the row of each rule, section by section.", "//!",
+           f"//! {HEAD[0].upper() + HEAD[1:]}.", "",
            "ghost use Rattle.std.specs.Prelude.{◌≡◌};",
            "ghost use Rattle.weedle_rules.specs.Table.{row_of as row_of_lem};",
            "ghost use Rattle.weedle_rules.specs.View.{row_view};", "",
@@ -473,37 +650,7 @@ def code_rows():
         out.append(f"{lead} number < {high} {{" if i + 1 < len(SECTIONS) else "    } else {")
         out.append(f"        {s.module}::row(number)")
     out += ["    }", "}"]
-    write("src/rows.rt", "\n".join(out) + "\n")
-
-
-def code_numbers():
-    out = ["//! The number of each rule, section by section.", "//!", f"//! {HEAD[0].upper() + HEAD[1:]}.", ""]
-    out += [f"pub(crate) mod {s.module};" for s in SECTIONS]
-    write("src/number.rt", "\n".join(out) + "\n")
-    for s in SECTIONS:
-        out = [f"//! {s.about}", "//!", f"//! {HEAD[0].upper() + HEAD[1:]}.", ""]
-        out += [f"pub(crate) const {r.name}: u16 = {NUMBER[r.name]};" for r in s.rules]
-        write(f"src/number/{s.module}.rt", "\n".join(out) + "\n")
-
-
-def uses_of_numbers(names):
-    """The lines that bring the numbers of these rules into scope."""
-    homes = [s for s in SECTIONS if any(r.name in names for r in s.rules)]
-    return [f"use crate::number::{s.module}::*;" for s in homes]
-
-
-def code_names():
-    out = ["//! The rules by name, section by section.", "//!", f"//! {HEAD[0].upper() + HEAD[1:]}.", ""]
-    out += [f"mod {s.module};" for s in SECTIONS]
-    write("src/rule_names.rt", "\n".join(out) + "\n")
-    for s in SECTIONS:
-        out = [f"//! {s.about}", "//!", f"//! {HEAD[0].upper() + HEAD[1:]}.", "",
-               f"use crate::number::{s.module};", "use crate::rule::Rule;", "", "impl Rule {"]
-        for r in s.rules:
-            doc = r.doc or f"A part: {plain_text(r.row)}."
-            out += [f"    /// {doc}", f"    pub const {r.name}: Rule = Rule({s.module}::{r.name});"]
-        out.append("}")
-        write(f"src/rule_names/{s.module}.rt", "\n".join(out) + "\n")
+    write("src/grammar.rt", "\n".join(out) + "\n")
 
 
 def spec_bound():
@@ -549,9 +696,7 @@ def main():
         code_section(s)
     spec_table()
     spec_bound()
-    code_rows()
-    code_numbers()
-    code_names()
+    code_grammar()
     proof_takes()
     print(f"{len(RULES)} rules in {len(SECTIONS)} sections: " + ", ".join(f"{s.module} {len(s.rules)}" for s in SECTIONS))
 

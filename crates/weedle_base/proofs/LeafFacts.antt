@@ -8,7 +8,7 @@ use Rattle.std.specs.Str.{IsCharBoundary, IsUtf8}
 use Rattle.std.specs.Str.Pattern.{LacksTextAt}
 use Rattle.memchr.specs.Find.{IsFirstByte, FindsNeedle, is_byte, OccursAt, Passes}
 use Rattle.weedle_base.proofs.RuleFacts.{of_row}
-use Rattle.weedle_rules.proofs.Grammar.{at_boundary}
+use Rattle.weedle_rules.proofs.GrammarFacts.{at_boundary}
 use Rattle.weedle_rules.proofs.Leaves.{both}
 use Rattle.weedle_rules.specs.Meaning.{Silent, leaf, ReadsRow, by_bytes, by_one, by_not_next, by_run, by_past}
 use Rattle.weedle_rules.specs.Rows.{Row, Bytes, OneOf, NotNext, Run, Past, begins, take_bytes, take_one, take_not_next, take_past, run_length}

@@ -5,7 +5,7 @@ use Rattle.std.specs.Prelude.{◌≡◌, ℕ, [], ◌∷◌}
 use Rattle.weedle_base.specs.AlikeLaws.{equal_equivalence, seen_equivalence}
 use Rattle.weedle_base.specs.Own.{own}
 use Rattle.weedle_base.specs.Reading.{IsLawful}
-use Rattle.weedle_rules.proofs.Grammar.{at_boundary}
+use Rattle.weedle_rules.proofs.GrammarFacts.{at_boundary}
 use Rattle.weedle_rules.proofs.Unique.{one_outcome}
 use Rattle.weedle_rules.specs.Trees.{Tree, Fails, Gives}
 

@@ -11,7 +11,7 @@ use Rattle.weedle_base.specs.Rules.{IsRule, items_tree}
 use Rattle.weedle_base.specs.Runs.{Items}
 use Rattle.weedle_base.specs.declared.fault.ErrorKind.{ErrorKind}
 use Rattle.weedle_parts.specs.Lists.{next_step, tail_reading, list_gives, list1_gives, list_reading, list1_reading, punctuated_reading, punctuated_non_empty_reading}
-use Rattle.weedle_rules.proofs.Grammar.{forth}
+use Rattle.weedle_rules.proofs.GrammarFacts.{forth}
 use Rattle.weedle_rules.specs.Meaning.{Plain, Inner, Raw, Breaks, Yields, ReadsRow, before, by_seq, list_none, list_more, list1_fails, list1_more, tail_end, tail_stuck, tail_back, tail_more}
 use Rattle.weedle_rules.specs.Rows.{Seq, Opt, ListOf, List1, Tail}
 use Rattle.weedle_rules.specs.Table.{webidl, row_of, shape_of, Reads}

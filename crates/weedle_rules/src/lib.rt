@@ -14,17 +14,15 @@
 #![tactic(auto)]
 
 mod class;
+mod grammar;
 pub mod laws;
-mod number;
 mod row;
-mod rows;
 mod rule;
-mod rule_names;
 
 pub use class::{Class, holds};
+pub use grammar::row_of;
 pub use row::{Parts, Row};
-pub use rows::row_of;
 pub use rule::Rule;
 
 /// How many rules there are.
-pub const RULES: usize = 259;
+pub const RULES: usize = 393;

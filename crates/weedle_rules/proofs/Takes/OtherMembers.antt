@@ -1,0 +1,8 @@
+-- Which rules of this section always take a byte. Written by tools/grammar.py.
+use Rattle.std.proofs.Common.{List, [], ◌∷◌, Bool, true, false}
+
+abbrev pub other_members : List Bool
+other_members =
+    false ∷ true ∷ true ∷ true ∷ false ∷ true ∷ true ∷ true ∷ true ∷ false ∷ true ∷ false ∷
+    true ∷ false ∷ true ∷ true ∷ false ∷ true ∷ false ∷ true ∷ true ∷
+    []
