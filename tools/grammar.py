@@ -725,7 +725,7 @@ def code_fill_place():
            "use crate::cell::Cell;", "use crate::reader::Reader;", ""]
     out += [f"mod {s.module};" for s in SECTIONS]
     out += ["", "/// Works out the cells of all rules at a place, where all behind it are known.",
-            "pub(super) fn fill_place<C: Cell>(reader: &mut Reader<'_, C>, place: usize)",
+            "#[inline(always)]", "pub(super) fn fill_place<C: Cell>(reader: &mut Reader<'_, C>, place: usize)",
             "    requires within { place ≤ length reader.old.text }",
             "    requires next { IsFilled reader.old reader.old.text ((length reader.old.text - place) * rule_count) }",
             "    ensures { IsFilled reader.new reader.old.text ((length reader.old.text - place) * rule_count + rule_count) }",

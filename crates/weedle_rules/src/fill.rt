@@ -26,12 +26,12 @@ fn fill_cell<C: Cell>(reader: &mut Reader<'_, C>, rule: Rule, place: usize)
 }
 
 /// Works out all cells.
+#[inline(always)]
 pub(crate) fn fill<C: Cell>(reader: &mut Reader<'_, C>)
     requires { IsUnfilled reader.old reader.old.text }
     ensures { IsFilled reader.new reader.old.text ((length reader.old.text + 1) * rule_count) }
 {
-    let mut place = reader.text_len();
-    fill_place(reader, place);
+    let mut place = reader.places();
     while place > 0 {
         place -= 1;
         fill_place(reader, place);

@@ -77,6 +77,7 @@ fn in_row<C: Cell>(row: &[C; RULES], rule: Rule) -> C
 
 impl<'a, C: Cell> Reader<'a, C> {
     /// A reader over the text with room for all cells, none of them known.
+    #[inline(always)]
     pub(crate) fn new(alloc: Global, text: &'a [u8]) -> Result<Reader<'a, C>, AllocError>
         requires { length text.now ≤ C.greatest }
         ensures { IfOk result (λ reader. IsUnfilled reader text.entry.now) }
@@ -119,6 +120,7 @@ impl<'a, C: Cell> Reader<'a, C> {
     }
 
     /// What always holds of the cells that are known and of the counts. It does nothing.
+    #[inline(always)]
     pub(crate) fn recall(&self)
         ensures right { AllRight self.now.text self.now.known }
         ensures counted { IsCounted READS self.now.known self.now.workings self.now.reads self.now.most }
@@ -132,6 +134,14 @@ impl<'a, C: Cell> Reader<'a, C> {
         ensures { result ≡ length self.now.text }
     {
         self.text.len()
+    }
+
+    /// How many places it has: before each byte, and the end.
+    #[inline(always)]
+    pub(crate) fn places(&self) -> usize
+        ensures { result ≡ length self.now.text + 1 }
+    {
+        self.text.len() + 1
     }
 
     /// A look at a byte; None at the end of the text.

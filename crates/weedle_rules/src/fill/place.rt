@@ -23,6 +23,7 @@ mod trivia;
 mod types;
 
 /// Works out the cells of all rules at a place, where all behind it are known.
+#[inline(always)]
 pub(super) fn fill_place<C: Cell>(reader: &mut Reader<'_, C>, place: usize)
     requires within { place ≤ length reader.old.text }
     requires next { IsFilled reader.old reader.old.text ((length reader.old.text - place) * rule_count) }
