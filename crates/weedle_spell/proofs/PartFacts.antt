@@ -1,8 +1,8 @@
 -- What the generic parts take, by what their parameters take.
 use Rattle.std.proofs.Common.{◌≡◌, ℕ, List, [], ◌∷◌, Option, codes, true, refl}
-use Rattle.weedle_base.specs.Rules.{option_tree}
+use Rattle.weedle_base.specs.Rules.{mark_tree, option_tree}
 use Rattle.weedle_base.specs.declared.term.symbols.QMark.{QMark}
-use Rattle.weedle_parts.specs.ValueTrees.{mark_tree, bracket_tree, punctuated_tree, punctuated_non_empty_tree}
+use Rattle.weedle_parts.specs.ValueTrees.{bracket_tree, punctuated_tree, punctuated_non_empty_tree}
 use Rattle.weedle_parts.specs.declared.common.punctuated.Punctuated.{Punctuated}
 use Rattle.weedle_parts.specs.declared.common.punctuated.PunctuatedNonEmpty.{PunctuatedNonEmpty}
 use Rattle.weedle_rules.proofs.OneTree.{is_single}
