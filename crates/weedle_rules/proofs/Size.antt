@@ -1,13 +1,14 @@
 -- How many nodes what a rule gives has, at the grammar's table.
 use Rattle.std.proofs.Common.{◌≡◌, inl, inr, ℕ, zero, suc, ◌+◌, ◌*◌, ◌<◌, ◌≤◌, List, [], ◌∷◌, ◌++◌, length, Bool, true, false, refl, subst, arith}
-use Rattle.std.specs.Prelude.{◌&&◌, ◌||◌, if◌then◌else◌}
+use Rattle.std.specs.Prelude.{◌&&◌, ◌||◌, not}
 use Rattle.std.proofs.lemmas.Bool.{cases_lt}
+use Rattle.std.proofs.lemmas.List.Filters.{length-filter_both}
 use Rattle.weedle_rules.specs.Rows.{Row, Bytes, OneOf, NotNext, Run, Past, Seq, First, Opt, Many, ListOf, List1, Tail, If}
 use Rattle.weedle_rules.specs.Trees.{Tree, Outcome, Fails, Gives}
 use Rattle.weedle_rules.specs.Meaning.{Shape, ReadsBy, ReadsFirst, raw_of, shaped, first_none}
 use Rattle.weedle_rules.specs.Entry.{Entry, entry_at}
-use Rattle.weedle_rules.specs.Table.{table, webidl, row_of, shape_of}
-use Rattle.weedle_rules.specs.Size.{total_size, is_silent, sequence_parts, giving, IsSmallWhereEmpty, HasFewParts, IsBounded}
+use Rattle.weedle_rules.specs.Table.{table, webidl, row_of}
+use Rattle.weedle_rules.specs.Size.{total_size, in_turn, gives, giving, IsSmallWhereEmpty, HasFewParts, IsBounded}
 use Rattle.weedle_rules.proofs.Inversion.{choice_of}
 use Rattle.weedle_rules.proofs.Leaves.{both}
 use Rattle.weedle_rules.proofs.Takes.{takes}
@@ -77,19 +78,14 @@ small_where_empty text r p ts d = let a : total_size ts ≤ 1 = thin webidl text
 pub bounded : (text : List ℕ) (r p : ℕ) → IsBounded text r p
 bounded text r p ts e d = out_costs webidl text takes ranked slim (few text) r p (Gives ts e) d (weighs webidl text takes ranked slim (few text) d)
 
-giving_step : (b : Bool) (r : ℕ) (rs : List ℕ) (n : ℕ) → length rs ≤ n → length (if b then rs else r ∷ rs) ≤ suc n
-giving_step true r rs n h = omega arith
-giving_step false r rs n h = omega arith
-
 giving_le : (rs : List ℕ) → length (giving rs) ≤ length rs
-giving_le [] = omega arith
-giving_le (r ∷ rs) = giving_step (is_silent (shape_of r)) r (giving rs) (length rs) (giving_le rs)
+giving_le rs = omega (arith, length-filter_both gives (λ r. not (gives r)) (λ r. refl) rs)
 
 length_last : (rs : List ℕ) (y : ℕ) → length (rs ++ y ∷ []) ≡ suc (length rs)
 length_last [] y = refl
 length_last (r ∷ rs) y = let h = length_last rs y in omega arith
 
-few_of : (row : Row) → is_short row_of row ≡ true → length (giving (sequence_parts row)) ≤ 8
+few_of : (row : Row) → is_short row_of row ≡ true → length (giving (in_turn row)) ≤ 8
 few_of (Seq parts) h = let a = at_most (length parts) 8 h in omega (arith, giving_le parts)
 few_of (If parts k y) h = let a = at_most (length parts) 7 h in omega (arith, giving_le (parts ++ y ∷ []), length_last parts y)
 few_of (Bytes b) h = omega arith

@@ -3,7 +3,7 @@ use Rattle.std.specs.Prelude.{◌≡◌, ◌<◌, ◌≤◌, ◌⊎◌, ℕ, Lis
 use Rattle.std.specs.List.{All, Contains, filter}
 use Rattle.weedle_rules.specs.Rows.{Row}
 use Rattle.weedle_rules.specs.Trees.{Tree, Outcome, Fails, Gives}
-use Rattle.weedle_rules.specs.Meaning.{Grammar, Piece, Raw, ReadsBy, ReadsRow, ReadsSeq, ReadsFirst, by_row, by_bytes, by_one, by_not_next, by_run, by_past, by_seq, by_first, by_opt, many_end, many_stuck, many_more, list_none, list_more, list1_fails, list1_more, tail_end, tail_stuck, tail_back, tail_more, if_fails, if_absent, if_present, seq_end, seq_fails, seq_more, first_none, first_here, first_next}
+use Rattle.weedle_rules.specs.Meaning.{Grammar, Piece, Raw, ReadsBy, ReadsRow, ReadsSeq, ReadsFirst, by_row, by_seq, by_first, by_opt, many_more, list_more, list1_more, tail_more, if_absent, if_present, seq_end, seq_fails, seq_more, first_none, first_here, first_next}
 use Rattle.weedle_rules.specs.Table.{webidl, Reads}
 
 -- a rule that gives something: its number, where it begins and ends, what it gives, and how that is derived
