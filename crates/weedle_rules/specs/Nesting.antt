@@ -1,4 +1,4 @@
--- The parts that a rule's reading is made of, and how they are nested.
+-- The parts that a rule's reading is made of, and how they are nested. A rule makes at most one node of what its parts give: that node begins and ends where the rule does.
 use Rattle.std.specs.Prelude.{◌≡◌, ◌<◌, ◌≤◌, ◌⊎◌, ℕ, List, [], ◌∷◌, ◌++◌, length, Bool, ◌&&◌, ◌==◌, nat_lt, Option}
 use Rattle.std.specs.List.{All, Contains, filter}
 use Rattle.weedle_rules.specs.Rows.{Row}
