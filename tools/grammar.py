@@ -688,7 +688,7 @@ def spec_bound():
         path.write_text(text)
 
 
-FILL_GHOSTS = ["ghost use Rattle.std.specs.Prelude.{◌≤◌, length};", "ghost use Rattle.weedle_rules.specs.Work.{IsFilling};", ""]
+FILL_GHOSTS = ["ghost use Rattle.std.specs.Prelude.{◌≤◌, length};", "ghost use Rattle.weedle_rules.specs.Filling.{IsFilling};", ""]
 EIGHT = 8
 
 
@@ -721,7 +721,7 @@ def code_fill_place():
     out = ["//! Works out the cells of one place, section by section.", "//!", f"//! {HEAD[0].upper() + HEAD[1:]}.", "",
            "ghost use Rattle.std.specs.Prelude.{◌≤◌, ◌+◌, ◌-◌, ◌*◌, length};",
            "ghost use Rattle.weedle_rules.specs.Bound.{rule_count};",
-           "ghost use Rattle.weedle_rules.specs.Work.{IsFilled};", "",
+           "ghost use Rattle.weedle_rules.specs.Filling.{IsFilled};", "",
            "use crate::cell::Cell;", "use crate::reader::Reader;", ""]
     out += [f"mod {s.module};" for s in SECTIONS]
     out += ["", "/// Works out the cells of all rules at a place, where all behind it are known.",

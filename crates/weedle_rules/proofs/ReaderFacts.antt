@@ -9,9 +9,10 @@ use Rattle.std.proofs.lemmas.Bool.{cases_lt}
 use Rattle.weedle_rules.specs.Bound.{rule_count, most_reads}
 use Rattle.weedle_rules.specs.Trees.{Outcome, Fails, Gives}
 use Rattle.weedle_rules.specs.Table.{webidl, Reads}
-use Rattle.weedle_rules.specs.Cells.{end_of, HasEnd, cell_number, cell_of, AllRight, IsCounted}
+use Rattle.weedle_rules.specs.Cells.{end_of, HasEnd, cell_number, cell_of, AllRight}
+use Rattle.weedle_rules.specs.TableOfEnds.{IsCounted}
 use Rattle.weedle_rules.specs.ReaderView.{cells_of, known_of, AreRows, IsReader}
-use Rattle.weedle_rules.proofs.RowFacts.{cells_length, cells_get, cells_set, set_even, push_even, cells_push}
+use Rattle.weedle_rules.proofs.CellRows.{cells_length, cells_get, cells_set, set_even, push_even, cells_push}
 use Rattle.weedle_rules.proofs.Exists.{stays_inside}
 
 outcome_within : (text : List ℕ) (r p : ℕ) (o : Outcome) → Reads text r p o → p ≤ length text → (g : ℕ) → length text ≤ g → IfSome (end_of o) (λ q. q ≤ g)

@@ -1,7 +1,7 @@
--- The cells of the table of ends: when one is right, and in which order they are worked out.
-use Rattle.std.specs.Prelude.{◌≡◌, ◌≤◌, ◌<◌, ◌+◌, ◌-◌, ◌*◌, ℕ, Bool, List, length, Option, Some, None}
+-- The cells of a table of ends: when one is right, and in which order they are worked out.
+use Rattle.std.specs.Prelude.{◌≡◌, ◌≤◌, ◌<◌, ◌+◌, ◌-◌, ◌*◌, ℕ, List, length, Option, Some, None}
 use Rattle.std.proofs.Common.{get_or}
-use Rattle.weedle_rules.specs.Bound.{rule_count, most_reads}
+use Rattle.weedle_rules.specs.Bound.{rule_count}
 use Rattle.weedle_rules.specs.Trees.{Outcome, Fails, Gives}
 use Rattle.weedle_rules.specs.Meaning.{Grammar, ReadsBy}
 use Rattle.weedle_rules.specs.Table.{webidl}
@@ -34,49 +34,3 @@ cell_of text known r p = get_or known (cell_number (length text) r p) None
 abbrev pub AllRight : List ℕ → List (Option ℕ) → Type 0
 AllRight text known = (r p : ℕ) → r < rule_count → p ≤ length text → cell_number (length text) r p < length known
     → HasEnd text r p (cell_of text known r p)
-
--- a filling as contracts see it
-pub record Filling : Type 0 where
-  -- the text, and the cells that are known, in the order of the filling
-  pub text : List ℕ
-  pub known : List (Option ℕ)
-  -- for how many cells places are laid out
-  pub laid : ℕ
-  -- how many cells were worked out
-  pub workings : ℕ
-  -- how many reads all closed workings-out took, and at most one of them
-  pub reads : ℕ
-  pub most : ℕ
-  -- whether a working-out is open
-  pub is_open : Bool
-
--- an open working-out as contracts see it: of which rule, at which place, and how many reads it took so far
-pub record Open : Type 0 where
-  pub rule : ℕ
-  pub place : ℕ
-  pub count : ℕ
-
--- a table of ends as contracts see it: its text, its cells in the order of their numbers, and its counts
-pub record Table : Type 0 where
-  pub text : List ℕ
-  pub known : List (Option ℕ)
-  pub workings : ℕ
-  pub reads : ℕ
-  pub most : ℕ
-  -- whether its cells are narrow
-  pub narrow : Bool
-
--- what always holds of the counts, where a working-out may take k reads
-pub record IsCounted (k : ℕ) (known : List (Option ℕ)) (workings reads most : ℕ) : Type 0 where
-  pub each : workings ≡ length known
-  pub looked : workings ≤ reads
-  pub bounded : reads ≤ k * workings
-  pub most_bounded : most ≤ k
-
--- the whole table of a text
-pub record IsTable (t : Table) (text : List ℕ) : Type 0 where
-  pub text_is : t.text ≡ text
-  -- a cell for each rule at each place
-  pub full : length t.known ≡ (length text + 1) * rule_count
-  pub right : AllRight text t.known
-  pub counted : IsCounted most_reads t.known t.workings t.reads t.most

@@ -2,7 +2,7 @@
 
 ghost use Rattle.std.specs.Prelude.{◌≡◌, ◌≤◌, ◌+◌, ◌-◌, ◌*◌, length};
 ghost use Rattle.weedle_rules.specs.Bound.{rule_count};
-ghost use Rattle.weedle_rules.specs.Work.{IsUnfilled, IsFilled, IsFilling};
+ghost use Rattle.weedle_rules.specs.Filling.{IsUnfilled, IsFilled, IsFilling};
 
 use crate::cell::Cell;
 use crate::reader::Reader;

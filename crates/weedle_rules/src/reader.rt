@@ -2,8 +2,9 @@
 
 ghost use Rattle.std.specs.Prelude.{◌≡◌, ◌≤◌, ◌<◌, ◌+◌, ◌*◌, ◌∷◌, ◌++◌, [], ℕ, true, false, length, max, slice_get, slice_index_or, Option, Some, None, IfSome, IfOk};
 ghost use Rattle.weedle_rules.specs.Bound.{rule_count};
-ghost use Rattle.weedle_rules.specs.Cells.{Filling, HasEnd, cell_number, cell_of, AllRight, IsCounted};
-ghost use Rattle.weedle_rules.specs.Work.{IsUnfilled, IsFilled};
+ghost use Rattle.weedle_rules.specs.Cells.{HasEnd, cell_number, cell_of, AllRight};
+ghost use Rattle.weedle_rules.specs.Filling.{Filling, IsUnfilled, IsFilled};
+ghost use Rattle.weedle_rules.specs.TableOfEnds.{IsCounted};
 
 use crate::cell::Cell;
 use crate::rule::Rule;
@@ -27,8 +28,8 @@ pub(crate) struct Reader<'a, C: Cell> {
 
 impl<'a, C: Cell> Model for Reader<'a, C> {
     ghost use Rattle.std.specs.Prelude.{◌+◌, ◌*◌, length, vec_capacity};
-    ghost use Rattle.weedle_rules.specs.Bound.{rule_count};
-    ghost use Rattle.weedle_rules.specs.Cells.{Filling};
+    ghost use Rattle.weedle_rules.specs.Bound.{rule_count, most_reads};
+    ghost use Rattle.weedle_rules.specs.Filling.{Filling, Open};
 
     ghost Value = { Filling };
 
@@ -57,8 +58,6 @@ pub(crate) struct Working {
 
 impl Model for Working {
     ghost use Rattle.std.specs.Prelude.{◌≤◌};
-    ghost use Rattle.weedle_rules.specs.Bound.{most_reads};
-    ghost use Rattle.weedle_rules.specs.Cells.{Open};
 
     ghost Value = { Open };
 

@@ -2,7 +2,7 @@
 //!
 //! These functions have no text: they look at bytes and cells through the reader, which counts.
 
-ghost use Rattle.weedle_rules.specs.Work.{IsBegun, IsWorked};
+ghost use Rattle.weedle_rules.specs.Filling.{IsBegun, IsWorked};
 
 use crate::cell::Cell;
 use crate::grammar::row_of;

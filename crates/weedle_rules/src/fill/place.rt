@@ -4,7 +4,7 @@
 
 ghost use Rattle.std.specs.Prelude.{◌≤◌, ◌+◌, ◌-◌, ◌*◌, length};
 ghost use Rattle.weedle_rules.specs.Bound.{rule_count};
-ghost use Rattle.weedle_rules.specs.Work.{IsFilled};
+ghost use Rattle.weedle_rules.specs.Filling.{IsFilled};
 
 use crate::cell::Cell;
 use crate::reader::Reader;

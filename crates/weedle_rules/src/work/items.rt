@@ -3,7 +3,7 @@
 ghost use Rattle.std.specs.Prelude.{◌≡◌};
 ghost use Rattle.weedle_rules.specs.Rows.{Opt, Many, ListOf, List1, Tail};
 ghost use Rattle.weedle_rules.specs.Table.{row_of as row_of_lem};
-ghost use Rattle.weedle_rules.specs.Work.{IsBegun, IsWorked};
+ghost use Rattle.weedle_rules.specs.Filling.{IsBegun, IsWorked};
 
 use crate::cell::Cell;
 use crate::reader::{Reader, Working};

@@ -3,7 +3,7 @@
 ghost use Rattle.std.specs.Prelude.{◌≡◌, if◌then◌else◌};
 ghost use Rattle.weedle_rules.specs.Rows.{Seq, First, If};
 ghost use Rattle.weedle_rules.specs.Table.{row_of as row_of_lem};
-ghost use Rattle.weedle_rules.specs.Work.{IsBegun, IsWorked};
+ghost use Rattle.weedle_rules.specs.Filling.{IsBegun, IsWorked};
 
 use crate::cell::Cell;
 use crate::reader::{Reader, Working};

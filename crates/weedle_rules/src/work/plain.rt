@@ -3,7 +3,7 @@
 ghost use Rattle.std.specs.Prelude.{◌≡◌, ◌≤◌, ◌<◌, true, length, drop};
 ghost use Rattle.weedle_rules.specs.Rows.{begins as begins_lem, Bytes, OneOf, NotNext, Run, Past};
 ghost use Rattle.weedle_rules.specs.Table.{row_of as row_of_lem};
-ghost use Rattle.weedle_rules.specs.Work.{IsBegun, IsWorked};
+ghost use Rattle.weedle_rules.specs.Filling.{IsBegun, IsWorked};
 
 use crate::READS;
 use crate::cell::Cell;

@@ -3,7 +3,7 @@
 //! Written by tools/grammar.py.
 
 ghost use Rattle.std.specs.Prelude.{◌≤◌, length};
-ghost use Rattle.weedle_rules.specs.Work.{IsFilling};
+ghost use Rattle.weedle_rules.specs.Filling.{IsFilling};
 
 use crate::cell::Cell;
 use crate::fill::fill_cell;

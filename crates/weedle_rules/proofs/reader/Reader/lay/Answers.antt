@@ -1,6 +1,6 @@
 use Rattle.std.proofs.Common.{arith, ◌≡◌, ◌+◌, ◌∙◌, length, replicate, ap, ◌∷◌, [], ◌*◌}
 use Rattle.std.proofs.lemmas.List.{length-append, length-replicate}
-use Rattle.weedle_rules.proofs.RowFacts.{cells_length}
+use Rattle.weedle_rules.proofs.CellRows.{cells_length}
 use Rattle.weedle_rules.proofs.ReaderFacts.{reader_lays, lays_known}
 use Rattle.weedle_rules.specs.ReaderView.{known_of}
 use Rattle.weedle_rules.specs.Bound.{rule_count}

@@ -2,8 +2,9 @@ use Rattle.std.proofs.Common.{arith, rules}
 use Rattle.weedle_rules.specs.Table.{webidl}
 use Rattle.weedle_rules.proofs.Takes.{takes}
 use Rattle.weedle_rules.proofs.Checked.{ranked}
-use Rattle.weedle_rules.proofs.EndFacts.{row_ends, many_low, many_ends, many_fails, many_goes}
-use Rattle.weedle_rules.proofs.WorkFacts.{looked, on, worked, known_here, known_behind, end_inside}
+use Rattle.weedle_rules.proofs.RowEnds.{row_ends, many_ends, many_fails, many_goes}
+use Rattle.weedle_rules.proofs.PartEnds.{many_low}
+use Rattle.weedle_rules.proofs.Looks.{looked, on, worked, known_here, known_behind, end_inside}
 use Rattle.weedle_rules.proofs.work.items.many.Goals as goal
 
 pub cell-requires-clause-known : goal.cell-requires-clause-known

@@ -2,8 +2,9 @@ use Rattle.std.proofs.Common.{arith, rules}
 use Rattle.weedle_rules.specs.Table.{webidl}
 use Rattle.weedle_rules.proofs.Takes.{takes}
 use Rattle.weedle_rules.proofs.Checked.{ranked}
-use Rattle.weedle_rules.proofs.EndFacts.{opt_low, opt_present, opt_absent}
-use Rattle.weedle_rules.proofs.WorkFacts.{looked, worked, known_here}
+use Rattle.weedle_rules.proofs.PartEnds.{opt_low}
+use Rattle.weedle_rules.proofs.RowEnds.{opt_present, opt_absent}
+use Rattle.weedle_rules.proofs.Looks.{looked, worked, known_here}
 use Rattle.weedle_rules.proofs.work.items.opt.Goals as goal
 
 pub cell-requires-clause-known : goal.cell-requires-clause-known

@@ -5,9 +5,10 @@ use Rattle.weedle_rules.specs.Meaning.{is_present, ReadsBy}
 use Rattle.weedle_rules.proofs.Takes.{takes}
 use Rattle.weedle_rules.proofs.Checked.{ranked}
 use Rattle.weedle_rules.proofs.Numbers.{low_at}
-use Rattle.weedle_rules.proofs.EndFacts.{if_start, if_known, if_step, if_along_fails, if_along_ends, if_ends_none, if_ends_absent, if_ends_present, if_next_low, present}
-use Rattle.weedle_rules.proofs.Small.{if_switch}
-use Rattle.weedle_rules.proofs.WorkFacts.{its_count, counted_on, note_more, note_high, note_low, chosen_here, chosen_other, parts_from, no_parts_from, none_yet, on, worked, known_if, known_from}
+use Rattle.weedle_rules.proofs.ConditionEnds.{if_start, if_known, if_step, if_along_fails, if_along_ends, if_ends_none, if_ends_absent, if_ends_present, if_next_low, present, note_more, note_high, note_low, chosen_here, chosen_other}
+use Rattle.weedle_rules.proofs.FewReads.{if_switch}
+use Rattle.weedle_rules.proofs.Looks.{its_count, counted_on, none_yet, on, worked, known_if, known_from}
+use Rattle.weedle_rules.proofs.ListFrom.{parts_from, no_parts_from}
 use Rattle.weedle_rules.proofs.work.parts.conditional.Goals as goal
 
 pub loop-i-init : goal.loop-i-init

@@ -1,8 +1,8 @@
 use Rattle.std.proofs.Common.{drop}
 use Rattle.weedle_rules.specs.Table.{webidl}
 use Rattle.weedle_rules.proofs.Takes.{takes}
-use Rattle.weedle_rules.proofs.EndFacts.{AlongIf}
-use Rattle.weedle_rules.proofs.WorkFacts.{Looked, note_at}
+use Rattle.weedle_rules.proofs.ConditionEnds.{AlongIf, note_at}
+use Rattle.weedle_rules.proofs.Looks.{Looked}
 use Rattle.weedle_rules.proofs.work.parts.conditional.Given as goal
 
 abbrev pub invariant-loop-i : goal.invariant-loop-i

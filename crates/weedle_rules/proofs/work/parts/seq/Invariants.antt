@@ -1,8 +1,8 @@
 use Rattle.std.proofs.Common.{drop}
 use Rattle.weedle_rules.specs.Table.{webidl}
 use Rattle.weedle_rules.proofs.Takes.{takes}
-use Rattle.weedle_rules.proofs.EndFacts.{Along}
-use Rattle.weedle_rules.proofs.WorkFacts.{Looked}
+use Rattle.weedle_rules.proofs.PartEnds.{Along}
+use Rattle.weedle_rules.proofs.Looks.{Looked}
 use Rattle.weedle_rules.proofs.work.parts.seq.Given as goal
 
 abbrev pub invariant-loop-part : goal.invariant-loop-part

@@ -1,6 +1,7 @@
 use Rattle.std.proofs.Common.{arith}
-use Rattle.weedle_rules.proofs.Small.{bytes_few}
-use Rattle.weedle_rules.proofs.WorkFacts.{looked, worked, stand_within, bytes_fit, bytes_other}
+use Rattle.weedle_rules.proofs.FewReads.{bytes_few}
+use Rattle.weedle_rules.proofs.Looks.{looked, worked}
+use Rattle.weedle_rules.proofs.ByteEnds.{stand_within, bytes_fit, bytes_other}
 use Rattle.weedle_rules.proofs.work.plain.bytes.Goals as goal
 
 pub stand_at-requires-clause-some : goal.stand_at-requires-clause-some

@@ -1,5 +1,6 @@
 use Rattle.std.proofs.Common.{arith, sym, ◌∙◌}
-use Rattle.weedle_rules.proofs.WorkFacts.{looked, worked, not_next_fits, not_next_other, not_next_at_end}
+use Rattle.weedle_rules.proofs.Looks.{looked, worked}
+use Rattle.weedle_rules.proofs.ByteEnds.{not_next_fits, not_next_other, not_next_at_end}
 use Rattle.weedle_rules.proofs.work.plain.not_next.Goals as goal
 
 pub returns-then-holds : goal.returns-then-holds

@@ -1,5 +1,6 @@
 use Rattle.std.proofs.Common.{arith, sym, ◌∙◌}
-use Rattle.weedle_rules.proofs.WorkFacts.{more_than, looked, worked, one_fits, one_other, one_at_end}
+use Rattle.weedle_rules.proofs.ByteEnds.{more_than, one_fits, one_other, one_at_end}
+use Rattle.weedle_rules.proofs.Looks.{looked, worked}
 use Rattle.weedle_rules.proofs.work.plain.one_of.Goals as goal
 
 pub overflow_add-result : goal.overflow_add-result

@@ -1,7 +1,8 @@
 use Rattle.std.proofs.Common.{arith}
-use Rattle.weedle_rules.proofs.EndFacts.{row_ends}
-use Rattle.weedle_rules.proofs.Small.{past_few}
-use Rattle.weedle_rules.proofs.WorkFacts.{looked, on, worked, stand_within, past_here, past_on, past_none}
+use Rattle.weedle_rules.proofs.RowEnds.{row_ends}
+use Rattle.weedle_rules.proofs.FewReads.{past_few}
+use Rattle.weedle_rules.proofs.Looks.{looked, on, worked}
+use Rattle.weedle_rules.proofs.ByteEnds.{stand_within, past_here, past_on, past_none}
 use Rattle.weedle_rules.proofs.work.plain.past.Goals as goal
 
 pub stand_at-requires-clause-some : goal.stand_at-requires-clause-some

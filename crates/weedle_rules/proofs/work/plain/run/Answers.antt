@@ -1,6 +1,7 @@
 use Rattle.std.proofs.Common.{arith, sym, ◌∙◌}
-use Rattle.weedle_rules.proofs.EndFacts.{row_ends}
-use Rattle.weedle_rules.proofs.WorkFacts.{more_than, known_after, looked, on, worked, run_on, run_stops, run_at_end}
+use Rattle.weedle_rules.proofs.RowEnds.{row_ends}
+use Rattle.weedle_rules.proofs.ByteEnds.{more_than, run_on, run_stops, run_at_end}
+use Rattle.weedle_rules.proofs.Looks.{known_after, looked, on, worked}
 use Rattle.weedle_rules.proofs.work.plain.run.Goals as goal
 
 pub overflow_add-place : goal.overflow_add-place

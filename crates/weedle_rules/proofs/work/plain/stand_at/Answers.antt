@@ -1,5 +1,6 @@
 use Rattle.std.proofs.Common.{arith, sym, ◌∙◌}
-use Rattle.weedle_rules.proofs.WorkFacts.{counted_on, begins_other, begins_on, begins_short, more_than}
+use Rattle.weedle_rules.proofs.Looks.{counted_on}
+use Rattle.weedle_rules.proofs.ByteEnds.{begins_other, begins_on, begins_short, more_than}
 use Rattle.weedle_rules.proofs.work.plain.stand_at.Goals as goal
 
 pub returns-then-here-byte-clause-value : goal.returns-then-here-byte-clause-value

@@ -1,6 +1,6 @@
 use Rattle.std.proofs.Common.{◌≡◌, ◌≤◌, ◌+◌, length, drop}
 use Rattle.weedle_rules.specs.Rows.{begins}
-use Rattle.weedle_rules.proofs.WorkFacts.{Looked}
+use Rattle.weedle_rules.proofs.Looks.{Looked}
 use Rattle.weedle_rules.proofs.work.plain.stand_at.Given as goal
 
 abbrev pub invariant-loop-i : goal.invariant-loop-i
