@@ -28,8 +28,8 @@ pub(crate) struct Reader<'a, C: Cell> {
 
 impl<'a, C: Cell> Model for Reader<'a, C> {
     ghost use Rattle.std.specs.Prelude.{◌+◌, ◌*◌, length, vec_capacity};
-    ghost use Rattle.weedle_rules.specs.Bound.{rule_count, most_reads};
-    ghost use Rattle.weedle_rules.specs.Filling.{Filling, Open};
+    ghost use Rattle.weedle_rules.specs.Bound.{rule_count};
+    ghost use Rattle.weedle_rules.specs.Filling.{Filling};
 
     ghost Value = { Filling };
 
@@ -58,6 +58,8 @@ pub(crate) struct Working {
 
 impl Model for Working {
     ghost use Rattle.std.specs.Prelude.{◌≤◌};
+    ghost use Rattle.weedle_rules.specs.Bound.{most_reads};
+    ghost use Rattle.weedle_rules.specs.Filling.{Open};
 
     ghost Value = { Open };
 
