@@ -1,9 +1,9 @@
--- The parts that a rule's reading is made of, and how they are nested.
+-- The parts that a rule's reading is made of, and how they are nested. A rule makes at most one node of what its parts give: that node begins and ends where the rule does.
 use Rattle.std.specs.Prelude.{◌≡◌, ◌<◌, ◌≤◌, ◌⊎◌, ℕ, List, [], ◌∷◌, ◌++◌, length, Bool, ◌&&◌, ◌==◌, nat_lt, Option}
 use Rattle.std.specs.List.{All, Contains, filter}
 use Rattle.weedle_rules.specs.Rows.{Row}
 use Rattle.weedle_rules.specs.Trees.{Tree, Outcome, Fails, Gives}
-use Rattle.weedle_rules.specs.Meaning.{Grammar, Piece, Raw, ReadsBy, ReadsRow, ReadsSeq, ReadsFirst, by_row, by_bytes, by_one, by_not_next, by_run, by_past, by_seq, by_first, by_opt, many_end, many_stuck, many_more, list_none, list_more, list1_fails, list1_more, tail_end, tail_stuck, tail_back, tail_more, if_fails, if_absent, if_present, seq_end, seq_fails, seq_more, first_none, first_here, first_next}
+use Rattle.weedle_rules.specs.Meaning.{Grammar, Piece, Raw, ReadsBy, ReadsRow, ReadsSeq, ReadsFirst, by_row, by_seq, by_first, by_opt, many_more, list_more, list1_more, tail_more, if_absent, if_present, seq_end, seq_fails, seq_more, first_none, first_here, first_next}
 use Rattle.weedle_rules.specs.Table.{webidl, Reads}
 
 -- a rule that gives something: its number, where it begins and ends, what it gives, and how that is derived

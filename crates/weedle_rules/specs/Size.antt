@@ -1,5 +1,6 @@
 -- How many nodes trees have, and what bounds it.
-use Rattle.std.specs.Prelude.{◌≤◌, ℕ, ◌+◌, ◌*◌, Bool, true, false, if◌then◌else◌, List, [], ◌∷◌, ◌++◌, length}
+use Rattle.std.specs.Prelude.{◌≤◌, ℕ, ◌+◌, ◌*◌, Bool, true, false, not, List, [], ◌∷◌, ◌++◌, length}
+use Rattle.std.specs.List.{filter}
 use Rattle.weedle_rules.specs.Rows.{Row, Seq, If}
 use Rattle.weedle_rules.specs.Trees.{Tree, Trees, Done, Then, Mark, Text, Node, Alt, Absent, Present, Items, Lines, Gives}
 use Rattle.weedle_rules.specs.Meaning.{Shape, Silent}
@@ -31,25 +32,28 @@ total_size (t ∷ ts) = size t + total_size ts
 abbrev pub IsSmallWhereEmpty : List ℕ → ℕ → ℕ → Type 0
 IsSmallWhereEmpty text r p = (ts : List Tree) → Reads text r p (Gives ts p) → total_size ts ≤ 2
 
--- the parts of a sequence, with the one that follows on a condition; none of other rows
-abbrev pub sequence_parts : Row → List ℕ
-sequence_parts (Seq parts) = parts
-sequence_parts (If parts k y) = parts ++ y ∷ []
-sequence_parts _ = []
+-- the rules that a row reads one after another, with the one that follows on a condition
+abbrev pub in_turn : Row → List ℕ
+in_turn (Seq parts) = parts
+in_turn (If parts k y) = parts ++ y ∷ []
+in_turn _ = []
 
 -- the shape gives no tree
 abbrev pub is_silent : Shape → Bool
 is_silent Silent = true
 is_silent _ = false
 
--- those of the rules that give trees
-abbrev pub giving : List ℕ → List ℕ
-giving [] = []
-giving (r ∷ rs) = if is_silent (shape_of r) then giving rs else r ∷ giving rs
+-- the rule gives trees
+abbrev pub gives : ℕ → Bool
+gives r = not (is_silent (shape_of r))
 
--- no more than eight parts of a sequence give trees
+-- those of the rules that do
+abbrev pub giving : List ℕ → List ℕ
+giving rs = filter gives rs
+
+-- no more than eight rules that give trees are read one after another
 abbrev pub HasFewParts : ℕ → Type 0
-HasFewParts r = length (giving (sequence_parts (row_of r))) ≤ 8
+HasFewParts r = length (giving (in_turn (row_of r))) ≤ 8
 
 -- what the rule gives has at most 10,000 nodes for each byte that it takes, and two
 abbrev pub IsBounded : List ℕ → ℕ → ℕ → Type 0

@@ -1,13 +1,13 @@
 -- Parts at any depth that begin at one place and take text lie in one another.
-use Rattle.std.proofs.Common.{◌≡◌, ◌⊎◌, inl, inr, ℕ, zero, suc, ◌<◌, ◌≤◌, List, [], ◌∷◌, length, Bool, true, false, refl, sym, subst, ap, ◌∙◌, arith}
-use Rattle.std.specs.Prelude.{cond, nat_lt, ◌==◌, ◌&&◌}
-use Rattle.std.specs.List.{All, Contains, filter}
+use Rattle.std.proofs.Common.{◌≡◌, ◌⊎◌, inl, inr, ℕ, zero, suc, ◌<◌, ◌≤◌, List, [], ◌∷◌, Bool, true, false, sym, subst, ap, ◌∙◌, arith}
+use Rattle.std.specs.Prelude.{cond, nat_lt, ◌&&◌}
+use Rattle.std.specs.List.{Contains, filter}
 use Rattle.std.proofs.lemmas.Bool.{cond-true, eq-eqb, lt-ltb}
 use Rattle.weedle_rules.specs.Meaning.{Grammar}
 use Rattle.weedle_rules.specs.Nesting.{Part, parts, takes_at, IsIn, itself, deeper, IsBelow}
 use Rattle.weedle_rules.proofs.Ranked.{is_ranked}
 use Rattle.weedle_rules.proofs.Lower.{by_number}
-use Rattle.weedle_rules.proofs.Nesting.Order.{InOrder, part_grows, order_le, order}
+use Rattle.weedle_rules.proofs.Nesting.Order.{InOrder, order_le, order}
 use Rattle.weedle_rules.proofs.Nesting.Start.{IsOne, OneAt, one}
 
 module _ {G : Grammar} {text : List ℕ} where

@@ -1,5 +1,5 @@
 -- The parts of a reading follow one another.
-use Rattle.std.proofs.Common.{refl, ◌≡◌, ℕ, ◌+◌, ◌<◌, ◌≤◌, List, [], ◌∷◌, ◌++◌, Option, Some, None, sym, subst, arith}
+use Rattle.std.proofs.Common.{refl, ◌≡◌, ℕ, ◌≤◌, List, [], ◌∷◌, ◌++◌, Option, Some, None, sym, subst, arith}
 use Rattle.weedle_rules.specs.Rows.{Row}
 use Rattle.weedle_rules.specs.Trees.{Tree, Outcome, Fails, Gives}
 use Rattle.weedle_rules.specs.Meaning.{Grammar, Shape, Piece, piece, Raw, Breaks, Yields, together, raw_of, opted, shaped, before, with_piece, given_of, last_end, ReadsBy, ReadsRow, ReadsSeq, ReadsFirst, by_row, by_bytes, by_one, by_not_next, by_run, by_past, by_seq, by_first, by_opt, many_end, many_stuck, many_more, list_none, list_more, list1_fails, list1_more, tail_end, tail_stuck, tail_back, tail_more, if_fails, if_absent, if_present, seq_end, seq_fails, seq_more, first_none, first_here, first_next}

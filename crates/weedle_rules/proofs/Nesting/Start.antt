@@ -1,5 +1,5 @@
 -- Of the parts of a reading at most one begins where it begins and takes text, and its rule has a smaller number.
-use Rattle.std.proofs.Common.{◌≡◌, ◌⊎◌, inl, inr, ℕ, ◌+◌, ◌<◌, ◌≤◌, List, [], ◌∷◌, ◌++◌, length, Bool, true, false, ◌&&◌, ◌||◌, Option, Some, None, refl, sym, subst, ap, ◌∙◌, arith}
+use Rattle.std.proofs.Common.{◌≡◌, ◌⊎◌, inl, inr, ℕ, ◌<◌, ◌≤◌, List, [], ◌∷◌, ◌++◌, length, Bool, true, false, ◌&&◌, ◌||◌, Option, Some, None, refl, sym, subst, ap, ◌∙◌, arith}
 use Rattle.std.specs.Prelude.{cond, nat_lt, ◌==◌}
 use Rattle.std.specs.List.{All, filter}
 use Rattle.std.proofs.lemmas.Bool.{cases_lt, cond-false, ne_eqb, le-ltb}
@@ -11,9 +11,9 @@ use Rattle.weedle_rules.specs.Meaning.{Grammar, Shape, Piece, piece, Raw, Breaks
 use Rattle.weedle_rules.specs.Nesting.{Part, part, part_unless_fails, sequence_parts, choice_parts, row_parts, parts, takes_at}
 use Rattle.weedle_rules.proofs.Leaves.{both, one_of}
 use Rattle.weedle_rules.proofs.Ranked.{some_takes, low_parts, all_low, is_low, is_ranked}
-use Rattle.weedle_rules.proofs.Exists.{grows, seq_grows, advances, seq_advances}
+use Rattle.weedle_rules.proofs.Exists.{grows, advances, seq_advances}
 use Rattle.weedle_rules.proofs.Lower.{by_number, below, low, next_low}
-use Rattle.weedle_rules.proofs.Nesting.Order.{InOrder, RawOrder, SeqOrder, part_grows, order_le, out_order, seq_order, row_order}
+use Rattle.weedle_rules.proofs.Nesting.Order.{InOrder, RawOrder, SeqOrder, order_le, out_order, seq_order, row_order}
 
 module _ {G : Grammar} {text : List ℕ} where
   -- none, or one whose rule is below k

@@ -1,4 +1,5 @@
 -- How many nodes a rule gives, by how many bytes it takes.
+-- Of the parts that begin where the rule begins only the last takes text, and its rule has a smaller number; those before it give a node each at most. So 25 nodes for each number up to the rule's pay for the first byte: with fewer than 400 rules no more than 10,000. Each later byte pays 10,000.
 use Rattle.std.proofs.Common.{◌≡◌, inl, inr, ℕ, suc, ◌+◌, ◌*◌, ◌<◌, ◌≤◌, List, [], ◌∷◌, drop, length, Bool, true, ◌&&◌, ◌||◌, Option, Some, refl, sym, subst, arith}
 use Rattle.std.specs.Prelude.{nat_lt}
 use Rattle.std.proofs.lemmas.Bool.{cases_lt}
@@ -9,26 +10,27 @@ use Rattle.weedle_rules.specs.Size.{total_size}
 use Rattle.weedle_rules.proofs.Leaves.{both, one_of}
 use Rattle.weedle_rules.proofs.Ranked.{some_takes, low_parts, all_low, is_low, is_ranked}
 use Rattle.weedle_rules.proofs.Exists.{grows, seq_grows, advances, seq_advances}
+use Rattle.weedle_rules.proofs.Lower.{by_number, below, low, next_low}
 use Rattle.weedle_rules.proofs.Size.Lists.{size_append, size_alt}
-use Rattle.weedle_rules.proofs.Size.Slim.{by_number, all_flat, is_short, is_slim}
+use Rattle.weedle_rules.proofs.Size.Slim.{all_flat, is_short, is_slim}
 use Rattle.weedle_rules.proofs.Size.Single.{single}
 use Rattle.weedle_rules.proofs.Size.Empty.{thin, row_grows}
-use Rattle.weedle_rules.proofs.Size.Sums.{OutWeighs, RawWeighs, SeqWeighs, SeqCosts, OutCosts, RawNone, wider, onward, at_once, behind_none, run_costs, raw_costs, raw_weighs, seq_behind, seq_at_once, seq_wider, seq_more_costs, seq_costs_wider, leaf_weighs, together_weighs, opted_weighs, out_wider, shaped_weighs, at_most, below}
+use Rattle.weedle_rules.proofs.Size.Sums.{OutWeighs, RawWeighs, SeqWeighs, SeqCosts, OutCosts, RawNone, wider, onward, at_once, behind_none, run_costs, raw_costs, raw_weighs, seq_behind, seq_at_once, seq_wider, seq_more_costs, seq_costs_wider, leaf_weighs, together_weighs, opted_weighs, out_wider, shaped_weighs, at_most}
 
 module _ (G : Grammar) (text : List ℕ) (takes : ℕ → Bool) (ranked : (r : ℕ) → is_ranked by_number takes r (G.row r) ≡ true)
     (slim : (r : ℕ) → is_slim G.row takes r (G.shape r) (G.row r) ≡ true) (few : (r p e : ℕ) (ts : List Tree) → ReadsBy G text r p (Gives ts e) → r < 400) where
+  -- each row is short
   short : (r : ℕ) → is_short G.row (G.row r) ≡ true
   short r = (both _ _ (slim r)).1
 
-  low : (r : ℕ) → is_low by_number takes r (G.row r) ≡ true
-  low r = (both _ _ (ranked r)).0
-
+  -- what a rule gives costs two nodes, and 10,000 for each byte
   pub out_costs : (r p : ℕ) (o : Outcome) → ReadsBy G text r p o → OutWeighs (25 * suc r) p o → OutCosts 2 p o
   out_costs r p Fails d h = tt
   out_costs r p (Gives ts e) d h =
       let a = few r p e ts d in let b : p ≤ e = grows G text d in
       elim (cases_lt p e) [ inl l ↦ (let c = h l in omega arith) | inr l ↦ (let c : total_size ts ≤ 1 = thin G text takes ranked slim d (omega arith) in omega arith) ]
 
+  -- items that take nothing are none
   many_none : {x p : ℕ} {w : Raw} → ReadsRow G text (Many x) p w → RawNone p w
   many_none {x} {p} (many_end d e) = subst (RawNone p) (sym e) (λ q. refl)
   many_none {x} {p} (many_stuck d s e) = subst (RawNone p) (sym e) tt
@@ -43,17 +45,10 @@ module _ (G : Grammar) (text : List ℕ) (takes : ℕ → Bool) (ranked : (r : �
       let a : p ≤ q = grows G text d in let b : q ≤ z = grows G text m in
       subst (RawNone p) (sym e) (behind_none p z us w (omega arith) (row_grows G text t))
 
+  -- what yields something is a rule of the grammar
   small_rule : (extra r p : ℕ) (w : Raw) → ReadsRow G text (G.row r) p w → (r < 400 → RawWeighs extra p w) → RawWeighs extra p w
   small_rule extra r p Breaks d f = tt
   small_rule extra r p (Yields ts ends e) d f = f (few r p e _ (by_row d refl))
-
-  -- the rules that a sequence reads until one takes a byte are low; those that follow one that took none too
-  next_low : (k r p q : ℕ) (rs : List ℕ) (ts : List Tree) → ReadsBy G text r p (Gives ts q) → q ≡ p → low_parts by_number takes k (r ∷ rs) ≡ true
-      → low_parts by_number takes k rs ≡ true
-  next_low k r p q rs ts d s h = elim (one_of (takes r) _ (both _ _ h).1) [
-    | inl t ↦ absurd (let a : p < q = advances G text by_number takes ranked d t in omega arith)
-    | inr l ↦ l
-  ]
 
   -- an item, and what follows it
   pair_weighs : (k x t p q : ℕ) (ts : List Tree) (o : Outcome) → ReadsBy G text x p (Gives ts q) → ReadsBy G text t q o
@@ -99,8 +94,9 @@ module _ (G : Grammar) (text : List ℕ) (takes : ℕ → Bool) (ranked : (r : �
     weighs {r} {p} (by_row {w = w} d e) =
         subst (OutWeighs (25 * suc r) p) (sym e)
         (out_wider (25 * r + 18 + 1) (25 * suc r) p (shaped text (G.row r) (G.shape r) p w) (omega arith)
-        (shaped_weighs text (25 * r + 18) (G.row r) (G.shape r) p w (small_rule (25 * r + 18) r p w d (λ b. row_weighs d r b (low r) (short r)))))
+        (shaped_weighs text (25 * r + 18) (G.row r) (G.shape r) p w (small_rule (25 * r + 18) r p w d (λ b. row_weighs d r b (low G text takes ranked r) (short r)))))
 
+    -- so does a row, where 18 are for its parts and those that take nothing
     row_weighs : {row : Row} {p : ℕ} {w : Raw} → ReadsRow G text row p w → (k : ℕ) → k < 400 → is_low by_number takes k row ≡ true
         → is_short G.row row ≡ true → RawWeighs (25 * k + 18) p w
     row_weighs {p = p} (by_bytes e) k b l h = subst (RawWeighs (25 * k + 18) p) (sym e) (leaf_weighs _ p _)
@@ -150,6 +146,7 @@ module _ (G : Grammar) (text : List ℕ) (takes : ℕ → Bool) (ranked : (r : �
     row_weighs {p = p} (if_present {parts = parts} {y = y} {o = o} {pieces = pieces} d g m e) k b l h =
         subst (RawWeighs (25 * k + 18) p) (sym e) (if_weighs k y p parts pieces o d m (seq_weighs d k (both _ _ l).0) (seq_costs d) (weighs m) (both _ _ l).1 (at_most (length parts) 7 h))
 
+    -- two for each part of a sequence
     seq_weighs : {rs : List ℕ} {p : ℕ} {o : Option (List Piece)} → ReadsSeq G text rs p o → (k : ℕ) → low_parts by_number takes k rs ≡ true
         → SeqWeighs (25 * k + 2 * length rs) p o
     seq_weighs {p = p} (seq_end e) k l = subst (SeqWeighs (25 * k + 0) p) (sym e) (λ m. absurd (omega arith))
@@ -164,9 +161,10 @@ module _ (G : Grammar) (text : List ℕ) (takes : ℕ → Bool) (ranked : (r : �
           | inr n ↦ (let s : q ≡ p = omega arith in
               let t : total_size ts ≤ 1 = thin G text takes ranked slim d s in
               seq_wider (25 * k + 2 * length rs + 2) (25 * k + 2 * suc (length rs)) p (with_piece (piece ts q) o) (omega arith)
-              (seq_at_once (25 * k + 2 * length rs) 2 p q ts o (omega arith) s (seq_weighs m k (next_low k r p q rs ts d s l))))
+              (seq_at_once (25 * k + 2 * length rs) 2 p q ts o (omega arith) s (seq_weighs m k (next_low G text takes ranked k r p q rs ts d s l))))
         ])
 
+    -- wherever the sequence ends
     seq_costs : {rs : List ℕ} {p : ℕ} {o : Option (List Piece)} → ReadsSeq G text rs p o → SeqCosts (2 * length rs) p o
     seq_costs {p = p} (seq_end e) = subst (SeqCosts 0 p) (sym e) (omega arith)
     seq_costs {p = p} (seq_fails {rs = rs} d e) = subst (SeqCosts (2 * suc (length rs)) p) (sym e) tt
@@ -175,6 +173,7 @@ module _ (G : Grammar) (text : List ℕ) (takes : ℕ → Bool) (ranked : (r : �
         (seq_costs_wider (2 + 2 * length rs) (2 * suc (length rs)) p (with_piece (piece ts q) o) (omega arith)
         (seq_more_costs (2 * length rs) p q ts o (out_costs r p (Gives ts q) d (weighs d)) (seq_costs m)))
 
+    -- the alternative that fits
     first_weighs : {rs : List ℕ} {i p : ℕ} {o : Outcome} → ReadsFirst G text rs i p o → (k : ℕ) → all_low by_number takes k rs ≡ true
         → all_flat G.row rs ≡ true → OutWeighs (25 * k + 1) p o
     first_weighs {p = p} (first_none e) k l h = subst (OutWeighs (25 * k + 1) p) (sym e) tt

@@ -8,8 +8,9 @@ use Rattle.weedle_rules.proofs.Leaves.{both, one_of}
 use Rattle.weedle_rules.proofs.Moves.{OutLands, RawLands, row_moves}
 use Rattle.weedle_rules.proofs.Ranked.{is_ranked}
 use Rattle.weedle_rules.proofs.Exists.{le, lt, grows, advances}
+use Rattle.weedle_rules.proofs.Lower.{by_number}
 use Rattle.weedle_rules.proofs.Size.Lists.{size_first, added, plain_size}
-use Rattle.weedle_rules.proofs.Size.Slim.{by_number, is_thin, is_slim}
+use Rattle.weedle_rules.proofs.Size.Slim.{is_thin, is_slim}
 
 -- where a row ends at p, its trees have at most one node, with the node that is made of them
 abbrev RawThin : Row → ℕ → Raw → Type 0
@@ -21,6 +22,7 @@ abbrev pub OutThin : ℕ → Outcome → Type 0
 OutThin p Fails = Unit {0}
 OutThin p (Gives ts e) = e ≡ p → total_size ts ≤ 1
 
+-- what a shape makes of the trees
 formed_thin : (text : List ℕ) (row : Row) (shape : Shape) (p : ℕ) (ts : List Tree) (ends : List ℕ) → total_size ts + added row ≤ 1 → total_size (formed text row shape p ts ends) ≤ 1
 formed_thin text row Silent p ts ends h = omega arith
 formed_thin text row Marked p ts ends h = omega arith
@@ -30,6 +32,7 @@ formed_thin text row Joined p ts ends h = omega arith
 formed_thin text row Inner p ts ends h = omega (arith, size_first ts)
 formed_thin text row Plain p ts ends h = omega (arith, plain_size row ts)
 
+-- a rule with a thin row, a silent one, one that takes a byte
 shaped_thin : (text : List ℕ) (row : Row) (shape : Shape) (p : ℕ) (w : Raw) → RawThin row p w → OutThin p (shaped text row shape p w)
 shaped_thin text row shape p Breaks h = tt
 shaped_thin text row shape p (Yields ts ends e) h = λ q. formed_thin text row shape p ts ends (h q)
@@ -44,15 +47,17 @@ silent_thin text row Joined p (Yields ts ends e) h = λ q. cc
 silent_thin text row Inner p (Yields ts ends e) h = λ q. cc
 silent_thin text row Plain p (Yields ts ends e) h = λ q. cc
 
+-- an optional rule that takes a byte where it is there
 opted_thin : (x p : ℕ) (o : Outcome) → OutLands lt p o → RawThin (Opt x) p (opted p o)
 opted_thin x p Fails h = λ q. omega arith
 opted_thin x p (Gives ts e) h = λ q. absurd (omega arith)
 
--- what lies behind a part that took a byte is no thin outcome
+-- behind a part that took a byte nothing ends at p
 behind_thin : (row : Row) (p q : ℕ) (ts : List Tree) (w : Raw) → p < q → RawLands le q w → RawThin row p (before ts w)
 behind_thin row p q ts Breaks l h = tt
 behind_thin row p q ts (Yields us ends e) l h = λ z. absurd (omega arith)
 
+-- what passes on an outcome ends where that does
 raw_grows : (q : ℕ) (o : Outcome) → OutLands le q o → RawLands le q (raw_of o)
 raw_grows q Fails h = tt
 raw_grows q (Gives ts e) h = h
@@ -61,12 +66,13 @@ takes_thin : (p : ℕ) (o : Outcome) → OutLands lt p o → OutThin p o
 takes_thin p Fails h = tt
 takes_thin p (Gives ts e) h = λ q. absurd (omega arith)
 
--- from its place on a row ends
 module _ (G : Grammar) (text : List ℕ) where
+  -- a row ends no earlier than it begins
   pub row_grows : {row : Row} {p : ℕ} {w : Raw} → ReadsRow G text row p w → RawLands le p w
   row_grows d = row_moves le (λ p. omega arith) (λ p q e h k. omega arith) G text (λ row. Unit {0}) (λ r. tt) (λ row p k u h. omega arith) d tt
 
   module _ (takes : ℕ → Bool) (ranked : (r : ℕ) → is_ranked by_number takes r (G.row r) ≡ true) (slim : (r : ℕ) → is_slim G.row takes r (G.shape r) (G.row r) ≡ true) where
+    -- a thin row
     row_thin : {row : Row} {p : ℕ} {w : Raw} → ReadsRow G text row p w → is_thin takes row ≡ true → RawThin row p w
     row_thin (by_bytes e) h = cc
     row_thin (by_one e) h = cc

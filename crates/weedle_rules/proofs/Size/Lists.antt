@@ -5,28 +5,32 @@ use Rattle.weedle_rules.specs.Trees.{Tree, Alt, Present, trees}
 use Rattle.weedle_rules.specs.Meaning.{Shape, Silent, Marked, Kept, Line, Joined, Inner, Plain, plain, formed}
 use Rattle.weedle_rules.specs.Size.{sizes, total_size}
 
--- the trees of a node weigh what the list of them does
+-- trees have as many nodes as the list of them
 pub size_trees : (ts : List Tree) → sizes (trees ts) ≡ total_size ts
 size_trees [] = refl
 size_trees (t ∷ ts) = let h = size_trees ts in omega arith
 
+-- one list after another
 pub size_append : (ts us : List Tree) → total_size (ts ++ us) ≡ total_size ts + total_size us
 size_append [] us = omega arith
 size_append (t ∷ ts) us = let h = size_append ts us in omega arith
 
+-- each tree of an alternative is one node more
 pub size_alt : (i : ℕ) (ts : List Tree) → total_size (map (Alt i) ts) ≡ total_size ts + length ts
 size_alt i [] = omega arith
 size_alt i (t ∷ ts) = let h = size_alt i ts in omega arith
 
+-- each tree of an optional part is one node more
 pub size_present : (ts : List Tree) → total_size (map Present ts) ≡ total_size ts + length ts
 size_present [] = omega arith
 size_present (t ∷ ts) = let h = size_present ts in omega arith
 
+-- the first of the trees has no more nodes than all
 pub size_first : (ts : List Tree) → total_size (take 1 ts) ≤ total_size ts
 size_first [] = omega arith
 size_first (t ∷ ts) = omega arith
 
--- a row of a kind that thin rules have: at its own place it gives no more than one node
+-- how many nodes a plain rule with this row makes itself
 abbrev pub added : Row → ℕ
 added (Seq parts) = 1
 added (If parts k y) = 1
@@ -35,6 +39,7 @@ added (ListOf x t) = 1
 added (List1 x t) = 1
 added _ = 0
 
+-- what a plain rule gives
 pub plain_size : (row : Row) (ts : List Tree) → total_size (plain row ts) ≡ total_size ts + added row
 plain_size (Seq parts) ts = omega (arith, size_trees ts)
 plain_size (If parts k y) ts = omega (arith, size_trees ts)
@@ -65,7 +70,7 @@ added_le (NotNext c) = omega arith
 added_le (Run c) = omega arith
 added_le (Past b) = omega arith
 
--- what a shape makes of trees has one node more at most
+-- what a shape makes of trees has at most one node more
 pub formed_size : (text : List ℕ) (row : Row) (shape : Shape) (p : ℕ) (ts : List Tree) (ends : List ℕ) → total_size (formed text row shape p ts ends) ≤ 1 + total_size ts
 formed_size text row Silent p ts ends = omega arith
 formed_size text row Marked p ts ends = omega arith

@@ -5,10 +5,6 @@ use Rattle.weedle_rules.specs.Rows.{Row, Seq, First, Opt, Many, ListOf, Tail, If
 use Rattle.weedle_rules.specs.Meaning.{Shape}
 use Rattle.weedle_rules.specs.Size.{is_silent}
 
--- a rule's rank is its number
-abbrev pub by_number : ℕ → ℕ
-by_number r = r
-
 -- a rule with this row gives at most one tree
 abbrev pub is_flat : Row → Bool
 is_flat (Tail x s) = false
