@@ -31,8 +31,8 @@ pub(crate) struct Reader<'a, C: Cell> {
 
 impl<'a, C: Cell> Model for Reader<'a, C> {
     ghost use Rattle.std.specs.Prelude.{◌+◌, ◌*◌, length, vec_capacity};
-    ghost use Rattle.weedle_rules.specs.Bound.{rule_count, most_reads};
-    ghost use Rattle.weedle_rules.specs.Filling.{Filling, Open};
+    ghost use Rattle.weedle_rules.specs.Bound.{rule_count};
+    ghost use Rattle.weedle_rules.specs.Filling.{Filling};
 
     ghost Value = { Filling };
 
@@ -61,6 +61,8 @@ pub(crate) struct Working {
 
 impl Model for Working {
     ghost use Rattle.std.specs.Prelude.{◌≤◌};
+    ghost use Rattle.weedle_rules.specs.Bound.{most_reads};
+    ghost use Rattle.weedle_rules.specs.Filling.{Open};
 
     ghost Value = { Open };
 
@@ -170,7 +172,6 @@ impl<'a, C: Cell> Reader<'a, C> {
         ensures value { result ≡ cell_of self.now.text self.now.known rule place }
         ensures right { HasEnd self.now.text rule place result }
     {
-        C::rows_fit();
         in_row(&self.rows[self.text.len() - place], rule).unpack()
     }
 
