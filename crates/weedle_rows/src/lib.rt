@@ -6,6 +6,8 @@ mod answers;
 #[cfg(test)]
 mod definitions;
 #[cfg(test)]
+mod ends;
+#[cfg(test)]
 mod generic_parts;
 #[cfg(test)]
 mod leaves;
