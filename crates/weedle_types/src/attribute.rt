@@ -1,10 +1,16 @@
 //! Attributes, as `[Exposed=(Window, Worker), SecureContext]`.
 
 ghost use Rattle.std.specs.Prelude.{◌≡◌};
+ghost use Rattle.weedle_base.specs.Own.{own};
+ghost use Rattle.weedle_base.specs.OwnLaws.{own_lawful};
+ghost use Rattle.weedle_rules.specs.Table.Types.{EXTENDED_ATTRIBUTE_IDENT, EXTENDED_ATTRIBUTE_IDENT_LIST, EXTENDED_ATTRIBUTE_NO_ARGS, IDENTIFIER_OR_STRING};
+ghost use Rattle.weedle_types.specs.Trees.{extended_attribute_ident_list_tree, extended_attribute_ident_tree, extended_attribute_no_args_tree, identifier_or_string_tree};
 
 use crate::argument::Argument;
 use crate::formers;
+use std::alloc::Global;
 use weedle_base::term::{Assign, Comma};
+use weedle_base::{IResult, Parse};
 use weedle_parts::common::{Bracketed, Identifier, Parenthesized, Punctuated};
 use weedle_parts::literal::StringLit;
 
@@ -51,6 +57,75 @@ pub struct ExtendedAttributeNoArgs<'a>(pub Identifier<'a>);
 pub enum IdentifierOrString<'a> {
     Identifier(Identifier<'a>),
     String(StringLit<'a>),
+}
+
+#[tactic(auto, using(crate::proofs::PlainAttributeRules::extended_attribute_ident_list_steps))]
+impl<'a> Parse<'a> for ExtendedAttributeIdentList<'a> {
+    ghost reading = { own EXTENDED_ATTRIBUTE_IDENT_LIST extended_attribute_ident_list_tree (Unit {0}) };
+
+    fn parse(alloc: Global, input: &'a str) -> IResult<&'a str, Self> {
+        let (rest, identifier) = Parse::parse(alloc, input)?;
+        let (rest, assign) = Parse::parse(alloc, rest)?;
+        let (rest, list) = Parse::parse(alloc, rest)?;
+        Ok((
+            rest,
+            ExtendedAttributeIdentList {
+                identifier,
+                assign,
+                list,
+            },
+        ))
+    }
+
+    ghost lawful = { own_lawful EXTENDED_ATTRIBUTE_IDENT_LIST extended_attribute_ident_list_tree (Unit {0}) };
+}
+
+#[tactic(auto, using(crate::proofs::PlainAttributeRules::extended_attribute_ident_steps))]
+impl<'a> Parse<'a> for ExtendedAttributeIdent<'a> {
+    ghost reading = { own EXTENDED_ATTRIBUTE_IDENT extended_attribute_ident_tree ⊥ };
+
+    fn parse(alloc: Global, input: &'a str) -> IResult<&'a str, Self> {
+        let (rest, lhs_identifier) = Parse::parse(alloc, input)?;
+        let (rest, assign) = Parse::parse(alloc, rest)?;
+        let (rest, rhs) = Parse::parse(alloc, rest)?;
+        Ok((
+            rest,
+            ExtendedAttributeIdent {
+                lhs_identifier,
+                assign,
+                rhs,
+            },
+        ))
+    }
+
+    ghost lawful = { own_lawful EXTENDED_ATTRIBUTE_IDENT extended_attribute_ident_tree ⊥ };
+}
+
+#[tactic(auto, using(crate::proofs::PlainAttributeRules::extended_attribute_no_args_steps))]
+impl<'a> Parse<'a> for ExtendedAttributeNoArgs<'a> {
+    ghost reading = { own EXTENDED_ATTRIBUTE_NO_ARGS extended_attribute_no_args_tree ⊥ };
+
+    fn parse(alloc: Global, input: &'a str) -> IResult<&'a str, Self> {
+        let (rest, identifier) = Parse::parse(alloc, input)?;
+        Ok((rest, ExtendedAttributeNoArgs(identifier)))
+    }
+
+    ghost lawful = { own_lawful EXTENDED_ATTRIBUTE_NO_ARGS extended_attribute_no_args_tree ⊥ };
+}
+
+#[tactic(auto, using(crate::proofs::PlainAttributeRules::identifier_or_string_steps))]
+impl<'a> Parse<'a> for IdentifierOrString<'a> {
+    ghost reading = { own IDENTIFIER_OR_STRING identifier_or_string_tree ⊥ };
+
+    fn parse(alloc: Global, input: &'a str) -> IResult<&'a str, Self> {
+        if let (rest, Some(member)) = Option::parse(alloc, input)? {
+            return Ok((rest, IdentifierOrString::Identifier(member)));
+        }
+        let (rest, member) = Parse::parse(alloc, input)?;
+        Ok((rest, IdentifierOrString::String(member)))
+    }
+
+    ghost lawful = { own_lawful IDENTIFIER_OR_STRING identifier_or_string_tree ⊥ };
 }
 
 impl<'a> From<ExtendedAttributeArgList<'a>> for ExtendedAttribute<'a> {

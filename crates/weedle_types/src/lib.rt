@@ -4,5 +4,10 @@
 
 pub mod argument;
 pub mod attribute;
+mod clones;
 mod formers;
+pub mod laws;
+mod parse;
+mod reading;
+mod try_clone;
 pub mod types;
