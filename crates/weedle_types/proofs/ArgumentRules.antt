@@ -7,12 +7,12 @@ use Rattle.std.specs.Global.{Vec}
 use Rattle.std.specs.Prelude.{Bool, List, None, Option, Some, [], ℕ, ◌∷◌, ◌≡◌, ◌⊎◌}
 use Rattle.std.specs.Str.{IsUtf8}
 use Rattle.weedle_base.proofs.Choice.{choice_reading, choice_tree, first_last, first_more, first_rule}
-use Rattle.weedle_base.proofs.RuleFacts.{fault_rule, got_rule, option_rule, own_rule, seq_last, seq_next, seq_rule, still_rule}
+use Rattle.weedle_base.proofs.RuleFacts.{fault_rule, got_rule, mark, mark_rule, option_rule, own_rule, seq_last, seq_next, seq_rule, still_rule}
 use Rattle.weedle_base.proofs.Steps.{part_steps}
 use Rattle.weedle_base.specs.Generic.{option_reading, pair_reading}
 use Rattle.weedle_base.specs.Own.{own}
 use Rattle.weedle_base.specs.Reading.{Faults, Got, Reading}
-use Rattle.weedle_base.specs.Rules.{IsRule, option_tree}
+use Rattle.weedle_base.specs.Rules.{IsRule, mark_tree, option_tree}
 use Rattle.weedle_base.specs.declared.fault.Err.TheVariants.{Error as Recoverable, Failure}
 use Rattle.weedle_base.specs.declared.fault.Err.{Err as Fault}
 use Rattle.weedle_base.specs.declared.fault.Error.{Error}
@@ -23,10 +23,9 @@ use Rattle.weedle_base.specs.declared.term.symbols.OpenParen.{OpenParen}
 use Rattle.weedle_base.specs.declared.term.type_keywords.Optional.{Optional}
 use Rattle.weedle_parts.proofs.ListRules.{punctuated_rule}
 use Rattle.weedle_parts.proofs.ListSteps.{fault_some, got_none, got_some}
-use Rattle.weedle_parts.proofs.PartRules.{mark, mark_rule}
 use Rattle.weedle_parts.specs.Lists.{after_first, punctuated_reading}
 use Rattle.weedle_parts.specs.LiteralTrees.{default_tree}
-use Rattle.weedle_parts.specs.ValueTrees.{identifier_tree, mark_tree}
+use Rattle.weedle_parts.specs.ValueTrees.{identifier_tree}
 use Rattle.weedle_parts.specs.declared.common.brackets.Bracketed.{Bracketed}
 use Rattle.weedle_parts.specs.declared.common.brackets.Parenthesized.{Parenthesized}
 use Rattle.weedle_parts.specs.declared.common.default.Default.{Default}

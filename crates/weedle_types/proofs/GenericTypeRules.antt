@@ -5,7 +5,7 @@ use Rattle.std.proofs.Common.{refl}
 use Rattle.std.specs.Borrow.{Bor}
 use Rattle.std.specs.Global.{Box}
 use Rattle.std.specs.Prelude.{List, Option, ℕ, ◌≡◌}
-use Rattle.weedle_base.proofs.RuleFacts.{fault_rule, got_rule, option_rule, own_rule, seq_last, seq_next, seq_rule, still_rule}
+use Rattle.weedle_base.proofs.RuleFacts.{fault_rule, got_rule, mark, mark_rule, option_rule, own_rule, seq_last, seq_next, seq_rule, still_rule}
 use Rattle.weedle_base.proofs.Steps.{part_steps}
 use Rattle.weedle_base.specs.Generic.{option_reading, pair_reading}
 use Rattle.weedle_base.specs.Own.{own}
@@ -20,7 +20,6 @@ use Rattle.weedle_base.specs.declared.term.symbols.LessThan.{LessThan}
 use Rattle.weedle_base.specs.declared.term.symbols.QMark.{QMark}
 use Rattle.weedle_base.specs.declared.term.type_keywords.Record.{Record}
 use Rattle.weedle_base.specs.declared.term.type_keywords.Sequence.{Sequence}
-use Rattle.weedle_parts.proofs.PartRules.{mark, mark_rule}
 use Rattle.weedle_parts.specs.ValueTrees.{generics_tree, may_be_null_tree}
 use Rattle.weedle_parts.specs.declared.common.brackets.Generics.{Generics}
 use Rattle.weedle_parts.specs.declared.types.may_be_null.MayBeNull.{MayBeNull}

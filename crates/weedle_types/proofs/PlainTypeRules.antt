@@ -5,9 +5,10 @@ use Rattle.std.proofs.Common.{inl, inr, refl}
 use Rattle.std.specs.Borrow.{Bor}
 use Rattle.std.specs.Prelude.{List, ℕ, ◌⊎◌}
 use Rattle.weedle_base.proofs.Choice.{IsFirst, choice_reading, choice_tree, first_last, first_more}
-use Rattle.weedle_base.proofs.RuleFacts.{own_rule}
+use Rattle.weedle_base.proofs.RuleFacts.{mark, mark_rule, own_rule}
 use Rattle.weedle_base.specs.Own.{own}
 use Rattle.weedle_base.specs.Reading.{Faults, Got, Reading}
+use Rattle.weedle_base.specs.Rules.{mark_tree}
 use Rattle.weedle_base.specs.declared.fault.Err.{Err as Fault}
 use Rattle.weedle_base.specs.declared.fault.Error.{Error}
 use Rattle.weedle_base.specs.declared.term.capitalized_keywords.ArrayBuffer.{ArrayBuffer}
@@ -32,9 +33,9 @@ use Rattle.weedle_base.specs.declared.term.type_keywords.Byte.{Byte}
 use Rattle.weedle_base.specs.declared.term.type_keywords.Object.{Object}
 use Rattle.weedle_base.specs.declared.term.type_keywords.Octet.{Octet}
 use Rattle.weedle_base.specs.declared.term.type_keywords.Symbol.{Symbol}
-use Rattle.weedle_parts.proofs.PartRules.{mark, mark_rule, may_be_null_rule}
+use Rattle.weedle_parts.proofs.PartRules.{may_be_null_rule}
 use Rattle.weedle_parts.specs.MayBeNull.{may_be_null_reading}
-use Rattle.weedle_parts.specs.ValueTrees.{floating_point_type_tree, integer_type_tree, mark_tree, may_be_null_tree}
+use Rattle.weedle_parts.specs.ValueTrees.{floating_point_type_tree, integer_type_tree, may_be_null_tree}
 use Rattle.weedle_parts.specs.declared.types.floating_point.FloatingPointType.{FloatingPointType}
 use Rattle.weedle_parts.specs.declared.types.integer.IntegerType.{IntegerType}
 use Rattle.weedle_parts.specs.declared.types.may_be_null.MayBeNull.{MayBeNull}

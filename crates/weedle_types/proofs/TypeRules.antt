@@ -5,12 +5,12 @@ use Rattle.std.proofs.Common.{inl, inr, refl, sym}
 use Rattle.std.specs.Borrow.{Bor}
 use Rattle.std.specs.Prelude.{List, Option, ℕ, ◌⊎◌}
 use Rattle.weedle_base.proofs.Choice.{choice_reading, choice_tree, first_last, first_more, first_rule}
-use Rattle.weedle_base.proofs.RuleFacts.{fault_rule, got_rule, own_rule, seq_last, seq_next, seq_rule, still_rule}
+use Rattle.weedle_base.proofs.RuleFacts.{fault_rule, got_rule, mark, mark_rule, own_rule, seq_last, seq_next, seq_rule, still_rule}
 use Rattle.weedle_base.proofs.Steps.{part_steps}
 use Rattle.weedle_base.specs.Generic.{pair_reading}
 use Rattle.weedle_base.specs.Own.{own}
 use Rattle.weedle_base.specs.Reading.{Faults, Got, Reading}
-use Rattle.weedle_base.specs.Rules.{IsRule, option_tree}
+use Rattle.weedle_base.specs.Rules.{IsRule, mark_tree, option_tree}
 use Rattle.weedle_base.specs.declared.fault.Err.{Err as Fault}
 use Rattle.weedle_base.specs.declared.fault.Error.{Error}
 use Rattle.weedle_base.specs.declared.term.capitalized_keywords.ByteString.{ByteString}
@@ -20,9 +20,9 @@ use Rattle.weedle_base.specs.declared.term.symbols.Comma.{Comma}
 use Rattle.weedle_base.specs.declared.term.type_keywords.Any.{Any}
 use Rattle.weedle_base.specs.declared.term.type_keywords.Or.{Or}
 use Rattle.weedle_base.specs.declared.term.type_keywords.Undefined.{Undefined}
-use Rattle.weedle_parts.proofs.PartRules.{mark, mark_rule, may_be_null_rule}
+use Rattle.weedle_parts.proofs.PartRules.{may_be_null_rule}
 use Rattle.weedle_parts.specs.MayBeNull.{may_be_null_reading}
-use Rattle.weedle_parts.specs.ValueTrees.{identifier_tree, mark_tree, may_be_null_tree}
+use Rattle.weedle_parts.specs.ValueTrees.{identifier_tree, may_be_null_tree}
 use Rattle.weedle_parts.specs.declared.common.brackets.Bracketed.{Bracketed}
 use Rattle.weedle_parts.specs.declared.common.brackets.Parenthesized.{Parenthesized}
 use Rattle.weedle_parts.specs.declared.common.identifier.Identifier.{Identifier}

@@ -3,10 +3,10 @@
 -- Written by tools/types_proofs.py.
 use Rattle.std.specs.Prelude.{List, length, ◌*◌, ◌+◌, ◌∷◌, ◌≡◌, ◌≤◌}
 use Rattle.weedle_base.proofs.Reached.{Reached}
+use Rattle.weedle_base.proofs.RuleFacts.{mark}
 use Rattle.weedle_base.specs.Own.{own}
 use Rattle.weedle_base.specs.declared.term.symbols.Comma.{Comma}
 use Rattle.weedle_base.specs.declared.term.type_keywords.Or.{Or}
-use Rattle.weedle_parts.proofs.PartRules.{mark}
 use Rattle.weedle_parts.specs.Lists.{next_step}
 use Rattle.weedle_rules.specs.Bound.{rule_count}
 use Rattle.weedle_rules.specs.Table.Keywords.{OR}
