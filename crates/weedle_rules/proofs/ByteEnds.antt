@@ -1,5 +1,5 @@
 -- What a look at a byte says of the rows without parts.
-use Rattle.std.proofs.Common.{◌≡◌, ◌≢◌, inl, inr, ℕ, suc, ◌+◌, ◌-◌, ◌<◌, ◌≤◌, List, [], ◌∷◌, length, drop, true, false, Option, Some, None, refl, ap, sym, ◌∙◌, add-one, arith, get_or}
+use Rattle.std.proofs.Common.{◌≡◌, ◌≢◌, inl, inr, ℕ, suc, ◌+◌, ◌<◌, ◌≤◌, List, [], ◌∷◌, length, drop, true, false, Option, Some, None, refl, ap, sym, ◌∙◌, add-one, arith, get_or}
 use Rattle.std.specs.Prelude.{option_map, slice_get, ◌==◌}
 use Rattle.std.proofs.lemmas.Bool.Decides.{eqb_tells}
 use Rattle.std.proofs.lemmas.Bool.{cases_lt}

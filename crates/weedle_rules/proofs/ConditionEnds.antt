@@ -11,7 +11,7 @@ use Rattle.weedle_rules.proofs.Ranked.{is_ranked, low_parts}
 use Rattle.weedle_rules.proofs.Leaves.{both, one_of}
 use Rattle.weedle_rules.proofs.Inversion.{at_row, of_opt}
 use Rattle.weedle_rules.proofs.Exists.{grows, stays_inside, advances, seq_advances}
-use Rattle.std.proofs.lemmas.Bool.Decides.{eqb_tells, leb_tells}
+use Rattle.std.proofs.lemmas.Bool.Decides.{leb_tells}
 use Rattle.weedle_rules.proofs.RowEnds.{is_before, pieces_end, piece_end, before_end, raw_of_end, RowEnds, gave, failed}
 use Rattle.weedle_rules.proofs.PartEnds.{below, low_row}
 use Rattle.weedle_rules.proofs.ByteEnds.{differ, same}

@@ -1,6 +1,5 @@
 -- The looks of a working-out, its outcome, and the cells that it may look at.
-use Rattle.std.proofs.Common.{◌≡◌, ◌≢◌, ℕ, ◌+◌, ◌-◌, ◌<◌, ◌≤◌, length, Option, Some, ap, sym, subst, ◌∙◌, arith}
-use Rattle.std.specs.Prelude.{if◌then◌else◌}
+use Rattle.std.proofs.Common.{◌≡◌, ◌≢◌, ℕ, ◌+◌, ◌<◌, ◌≤◌, length, Option, Some, ap, sym, subst, ◌∙◌, arith}
 use Rattle.weedle_rules.specs.Bound.{rule_count}
 use Rattle.weedle_rules.specs.Rows.{Row}
 use Rattle.weedle_rules.specs.Cells.{cell_number, HasEnd}
