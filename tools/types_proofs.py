@@ -577,6 +577,9 @@ def list_answers(name):
     let pushed : c.push.new.self.items ≡ c.new-list.result.items ++ (c.args.first ∷ []) = rw c.if-is_err.ensures.negation at c.push.ensures.items in
     let one : c.push.new.self.items ≡ c.args.first ∷ [] = pushed ∙ ap (λ (l : List {item}). l ++ (c.args.first ∷ [])) c.new-list.ensures.items in
     (search rules, omega arith, ([], one, reached_none (next_step {one} {mark}) c.args.input.now (search rules)))""")
+    first = f"{one} {mark} (λ (l : Vec {item} Global). l.items) c.args.first (reached_none (next_step {one} {mark}) c.args.input.now (search rules))"
+    answer(more, "returns-then-is_err-clause-reads", f"list_full {first} c.out_of_memory.ensures")
+    answer(more, f"returns-then-is_err-2-clause-reads", f"list_full {so_far} c.out_of_memory-then-is_err-2.ensures")
     answer(more, "returns-in-Err-Error-clause-reads", f"list_ends {so_far} c.items.list {known}.2.1 (inl (refused_by _ c.in-Err-Error.ensures.reads c.in-Err-Error.field-0-is))")
     answer(more, "returns-in-Err-Failure-clause-reads", f"rw c.in-Err-Failure.field-0-is (separator_fault {so_far} (direct_stop _ c.in-Err-Failure.ensures.reads c.in-Err-Failure.field-0-is))")
     answer(more, f"returns-in-Err-Error-{call}-clause-reads", f"list_ends {so_far} c.items.list {known}.2.1 (ends_behind {one} {mark} c.in-Ok.ensures.reads {took} (refused_by _ {refused}.ensures.reads {refused}.field-0-is))")
