@@ -2,7 +2,7 @@
 
 use crate::answers::is_mismatch;
 use crate::values::{LONG, argument, flag, integer, list, named, single};
-use crate::whole::reads;
+use crate::whole::{reads, reads_up_to};
 use std::test::Fail;
 use weedle_base::Parse;
 use weedle_base::term::{Assign, Ellipsis, Optional};
@@ -22,12 +22,12 @@ fn an_argument_keeps_its_attributes_apart_from_its_types(rt: HostRuntime) -> Res
         },
         ..argument(single(integer(LONG)), "x")
     };
-    reads(&rt, alloc, "[A] [B] long x", "", Argument::Single(both))?;
+    reads(&rt, alloc, "[A] [B] long x", Argument::Single(both))?;
     let outer = SingleArgument {
         attributes: Some(flag(alloc, "A")?),
         ..argument(single(integer(LONG)), "x")
     };
-    reads(&rt, alloc, "[A] long x", "", Argument::Single(outer))?;
+    reads(&rt, alloc, "[A] long x", Argument::Single(outer))?;
     Ok(())
 }
 
@@ -35,28 +35,22 @@ fn an_argument_keeps_its_attributes_apart_from_its_types(rt: HostRuntime) -> Res
 fn a_default_stands_behind_an_optional_argument(rt: HostRuntime) -> Result<(), Fail> {
     let alloc = rt.alloc();
     let plain = Argument::Single(argument(single(integer(LONG)), "x"));
-    reads(&rt, alloc, "long x = 5", "= 5", plain)?;
+    reads_up_to(&rt, alloc, "long x = 5", "= 5", plain)?;
     let five = Default {
         assign: Assign,
         value: DefaultValue::Integer(IntegerLit::Dec(DecLit("5"))),
     };
-    let with_default = SingleArgument {
+    let with_default = Argument::Single(SingleArgument {
         optional: Some(Optional),
         default: Some(five),
         ..argument(single(integer(LONG)), "x")
-    };
-    reads(
-        &rt,
-        alloc,
-        "optional long x = 5",
-        "",
-        Argument::Single(with_default),
-    )?;
+    });
+    reads(&rt, alloc, "optional long x = 5", with_default)?;
     let without = SingleArgument {
         optional: Some(Optional),
         ..argument(single(integer(LONG)), "x")
     };
-    reads(&rt, alloc, "optional long x", "", without)?;
+    reads(&rt, alloc, "optional long x", without)?;
     assert!(rt; is_mismatch(&Argument::parse(alloc, "optional x")));
     Ok(())
 }
@@ -70,13 +64,7 @@ fn an_argument_may_stand_for_any_number(rt: HostRuntime) -> Result<(), Fail> {
         ellipsis: Ellipsis,
         identifier: Identifier("x"),
     };
-    reads(
-        &rt,
-        alloc,
-        "optional... x",
-        "",
-        Argument::Variadic(any_number),
-    )?;
+    reads(&rt, alloc, "optional... x", Argument::Variadic(any_number))?;
     Ok(())
 }
 
@@ -85,6 +73,6 @@ fn a_list_of_arguments_gives_back_a_separator(rt: HostRuntime) -> Result<(), Fai
     let alloc = rt.alloc();
     let one = Argument::Single(argument(single(integer(LONG)), "x"));
     let one: ArgumentList<'_> = list(vec![in alloc; one]?);
-    reads(&rt, alloc, "long x, long", ", long", one)?;
+    reads_up_to(&rt, alloc, "long x, long", ", long", one)?;
     Ok(())
 }

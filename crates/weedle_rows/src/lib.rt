@@ -37,3 +37,5 @@ mod users;
 mod values;
 #[cfg(test)]
 mod whole;
+#[cfg(test)]
+mod word_types;

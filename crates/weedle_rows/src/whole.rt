@@ -6,9 +6,19 @@ use std::process::Abort;
 use std::test::Fail;
 use weedle_base::{Parse, TryClone};
 
-/// Checks that the text is read as this value and rest, that a clone equals it, and that the clone is printed as
-/// the value is.
+/// Checks that the whole text is read as this value, that a clone equals it, and that the clone is printed as the
+/// value is.
 pub fn reads<'a, T: Parse<'a> + TryClone + PartialEq + Debug>(
+    rt: &impl Abort,
+    alloc: Global,
+    text: &'a str,
+    expected: T,
+) -> Result<(), Fail> {
+    reads_up_to(rt, alloc, text, "", expected)
+}
+
+/// The same where this rest is left.
+pub fn reads_up_to<'a, T: Parse<'a> + TryClone + PartialEq + Debug>(
     rt: &impl Abort,
     alloc: Global,
     text: &'a str,
