@@ -61,6 +61,9 @@ FAMILIES = {
     ARGUMENTS: "Arguments, and what follows from the answers of their parts.",
 }
 
+# the file of src/reading that has the functions of a family, by which the cycle's goals are named
+FILES = {TYPES: "types", GENERIC: "generic_types", UNIONS: "unions", ATTRIBUTES: "attributes", ARGUMENTS: "arguments"}
+
 # the public names of types that are made of others, in the logic's words
 ALIASES = {
     "Type": "«Type»",
@@ -519,6 +522,12 @@ def joined_rules(name):
 # Answers.
 
 
+def path(name):
+    """a function of the cycle, or the one for the items after the first, as the goals name it"""
+    entry = TABLE.get(name) or next(e for e in TABLE.values() if e.get("more") == name)
+    return f"{FILES[entry['family']]}::{name}"
+
+
 def labels(calls):
     """how the names of the steps of these calls end"""
     seen, found = {}, []
@@ -558,7 +567,8 @@ def list_answers(name):
     known, lines = "c.items.invariant", []
 
     def answer(function, goal, term):
-        lines.extend([f"pub {function}-{goal} : goal.{function}-{goal}", f"{function}-{goal} t c = {term}", ""])
+        at = f"{path(function)}-{goal}"
+        lines.extend([f"pub {at} : goal.{at}", f"{at} t c = {term}", ""])
 
     so_far = f"{one} {mark} (λ (l : Vec {item} Global). l.items) c.args.first {known}.2.2"
     took = "(λ e. omega (arith, e, c.in-Ok.ensures.shorter))"
@@ -567,6 +577,9 @@ def list_answers(name):
     let pushed : c.push.new.self.items ≡ c.new-list.result.items ++ (c.args.first ∷ []) = rw c.if-is_err.ensures.negation at c.push.ensures.items in
     let one : c.push.new.self.items ≡ c.args.first ∷ [] = pushed ∙ ap (λ (l : List {item}). l ++ (c.args.first ∷ [])) c.new-list.ensures.items in
     (search rules, omega arith, ([], one, reached_none (next_step {one} {mark}) c.args.input.now (search rules)))""")
+    first = f"{one} {mark} (λ (l : Vec {item} Global). l.items) c.args.first (reached_none (next_step {one} {mark}) c.args.input.now (search rules))"
+    answer(more, "returns-then-is_err-clause-reads", f"list_full {first} c.out_of_memory.ensures")
+    answer(more, f"returns-then-is_err-2-clause-reads", f"list_full {so_far} c.out_of_memory-then-is_err-2.ensures")
     answer(more, "returns-in-Err-Error-clause-reads", f"list_ends {so_far} c.items.list {known}.2.1 (inl (refused_by _ c.in-Err-Error.ensures.reads c.in-Err-Error.field-0-is))")
     answer(more, "returns-in-Err-Failure-clause-reads", f"rw c.in-Err-Failure.field-0-is (separator_fault {so_far} (direct_stop _ c.in-Err-Failure.ensures.reads c.in-Err-Failure.field-0-is))")
     answer(more, f"returns-in-Err-Error-{call}-clause-reads", f"list_ends {so_far} c.items.list {known}.2.1 (ends_behind {one} {mark} c.in-Ok.ensures.reads {took} (refused_by _ {refused}.ensures.reads {refused}.field-0-is))")
@@ -581,23 +594,23 @@ def list_answers(name):
 
 
 OPTION_ANSWERS = """\
-pub attributes-returns-in-Ok-clause-reads : goal.attributes-returns-in-Ok-clause-reads
-attributes-returns-in-Ok-clause-reads t c = attributes_some c.in-Ok.ensures.reads
+pub attributes::attributes-returns-in-Ok-clause-reads : goal.attributes::attributes-returns-in-Ok-clause-reads
+attributes::attributes-returns-in-Ok-clause-reads t c = attributes_some c.in-Ok.ensures.reads
 
-pub attributes-returns-in-Err-Error-clause-reads : goal.attributes-returns-in-Err-Error-clause-reads
-attributes-returns-in-Err-Error-clause-reads t c = attributes_none c.in-Err-Error.ensures.reads c.in-Err-Error.field-0-is (search rules)
+pub attributes::attributes-returns-in-Err-Error-clause-reads : goal.attributes::attributes-returns-in-Err-Error-clause-reads
+attributes::attributes-returns-in-Err-Error-clause-reads t c = attributes_none c.in-Err-Error.ensures.reads c.in-Err-Error.field-0-is (search rules)
 
-pub attributes-returns-in-Err-Failure-clause-reads : goal.attributes-returns-in-Err-Failure-clause-reads
-attributes-returns-in-Err-Failure-clause-reads t c = attributes_fault c.in-Err-Failure.ensures.reads c.in-Err-Failure.field-0-is
+pub attributes::attributes-returns-in-Err-Failure-clause-reads : goal.attributes::attributes-returns-in-Err-Failure-clause-reads
+attributes::attributes-returns-in-Err-Failure-clause-reads t c = attributes_fault c.in-Err-Failure.ensures.reads c.in-Err-Failure.field-0-is
 """
 
 IF_ANSWERS = """\
-pub single_argument-returns-in_ok-rest-in-Some-clause-reads : goal.single_argument-returns-in_ok-rest-in-Some-clause-reads
-single_argument-returns-in_ok-rest-in-Some-clause-reads t c =
+pub arguments::single_argument-returns-in_ok-rest-in-Some-clause-reads : goal.arguments::single_argument-returns-in_ok-rest-in-Some-clause-reads
+arguments::single_argument-returns-in_ok-rest-in-Some-clause-reads t c =
     single_argument_when _ (got_pair _ _ c.in_ok-rest.ensures.reads (got_pair _ _ (rw c.in-Some.is at c.in_ok-rest-2.ensures.reads) (got_pair _ _ c.in_ok-rest-3.ensures.reads c.in_ok-rest-4.ensures.reads))) refl c.in_ok-rest-in-Some.ensures.reads
 
-pub single_argument-returns-in_err-rest-in-Some-clause-reads : goal.single_argument-returns-in_err-rest-in-Some-clause-reads
-single_argument-returns-in_err-rest-in-Some-clause-reads t c =
+pub arguments::single_argument-returns-in_err-rest-in-Some-clause-reads : goal.arguments::single_argument-returns-in_err-rest-in-Some-clause-reads
+arguments::single_argument-returns-in_err-rest-in-Some-clause-reads t c =
     exit_answers c.from_residual-in_err-rest-in-Some.result
     (single_argument_fault_when (got_pair _ _ c.in_ok-rest.ensures.reads (got_pair _ _ (rw c.in-Some.is at c.in_ok-rest-2.ensures.reads) (got_pair _ _ c.in_ok-rest-3.ensures.reads c.in_ok-rest-4.ensures.reads))) c.in_err-rest-in-Some.ensures.reads)
     c.from_residual-in_err-rest-in-Some.ensures.1
@@ -612,7 +625,7 @@ def group_answers():
     lines = []
     for name, entry in TABLE.items():
         if entry["kind"] == "enum":
-            lines += choice_answers(name, [callee(p) for _, p in entry["arms"]], f"{name}-", "t ")
+            lines += choice_answers(name, [callee(p) for _, p in entry["arms"]], f"{path(name)}-", "t ")
         elif entry["kind"] == "list":
             lines += list_answers(name)
         elif entry["kind"] == "option":
@@ -626,11 +639,12 @@ def measures():
     ranked = [(n, e["rule"]) for n, e in TABLE.items()] + [(e["more"], e["tail"]) for e in TABLE.values() if e["kind"] == "list"]
     lines = []
     for name, number in ranked:
-        lines += [f"abbrev pub decreases-{name} : goal.decreases-{name}", f"decreases-{name} l = length l.input.now * rule_count + {number}", ""]
+        at = f"decreases-{path(name)}"
+        lines += [f"abbrev pub {at} : goal.{at}", f"{at} l = length l.input.now * rule_count + {number}", ""]
     for name, entry in TABLE.items():
         if entry["kind"] == "list":
             item, one, mark = item_of(name)
-            loop = f"{entry['more']}-items"
+            loop = f"{path(entry['more'])}-items"
             lines += [f"abbrev pub invariant-{loop} : goal.invariant-{loop}",
                       f"invariant-{loop} l = shadow (Utf8 l.rest) × (length l.rest ≤ length l.input) × ((vs : List {item}) × (l.list.items ≡ l.fn.first ∷ vs) × Reached (next_step {one} {mark}) l.input vs l.rest)", "",
                       f"abbrev pub decreases-{loop} : goal.decreases-{loop}", f"decreases-{loop} l = length l.rest", ""]

@@ -9,6 +9,7 @@ use Rattle.std.specs.Str.{IsUtf8}
 use Rattle.weedle_base.proofs.Choice.{choice_reading, choice_tree, first_last, first_more, first_rule}
 use Rattle.weedle_base.proofs.RuleFacts.{fault_rule, got_rule, mark, mark_rule, option_rule, own_rule, seq_last, seq_next, seq_rule, still_rule}
 use Rattle.weedle_base.proofs.Steps.{part_steps}
+use Rattle.weedle_base.proofs.TakesFacts.{own_takes}
 use Rattle.weedle_base.specs.Generic.{option_reading, pair_reading}
 use Rattle.weedle_base.specs.Own.{own}
 use Rattle.weedle_base.specs.Reading.{Faults, Got, Reading}
@@ -31,13 +32,14 @@ use Rattle.weedle_parts.specs.declared.common.brackets.Parenthesized.{Parenthesi
 use Rattle.weedle_parts.specs.declared.common.default.Default.{Default}
 use Rattle.weedle_parts.specs.declared.common.identifier.Identifier.{Identifier}
 use Rattle.weedle_parts.specs.declared.common.punctuated.Punctuated.{Punctuated}
+use Rattle.weedle_rules.proofs.FewReads.{x}
 use Rattle.weedle_rules.specs.Table.Keywords.{OPTIONAL}
 use Rattle.weedle_rules.specs.Table.Leaves.{IDENTIFIER}
 use Rattle.weedle_rules.specs.Table.Literals.{DEFAULT}
 use Rattle.weedle_rules.specs.Table.Symbols.{CLOSE_PAREN, COMMA, ELLIPSIS, OPEN_PAREN}
 use Rattle.weedle_rules.specs.Table.Types.{ARGUMENT, ARGUMENT_LIST, ATTRIBUTED_TYPE, OPT_DEFAULT, OPT_EXTENDED_ATTRIBUTE_LIST, OPT_OPTIONAL, PARENTHESIZED_ARGUMENT_LIST, SINGLE_ARGUMENT, TAIL_ARGUMENT_COMMA, TYPE, VARIADIC_ARGUMENT}
 use Rattle.weedle_rules.specs.Trees.{Alt, Node, trees}
-use Rattle.weedle_types.proofs.Direct.{direct_choice, list_stop, own_takes, pair_takes, refused_by, seen_takes}
+use Rattle.weedle_types.proofs.Direct.{direct_choice, list_stop, pair_takes, refused_by, seen_takes}
 use Rattle.weedle_types.proofs.IfRows.{asked_last, asked_next, fault_parts, fault_when, got_unless, got_when, if_reading, if_rule, is_some, present_some, some_at}
 use Rattle.weedle_types.proofs.TreeLaws.{argument_single_of, argument_variadic_of}
 use Rattle.weedle_types.specs.Trees.{argument_list_tree, argument_tree, arguments_tree, attributed_type_tree, extended_attribute_list_tree, single_argument_tree, type_tree, variadic_argument_tree}

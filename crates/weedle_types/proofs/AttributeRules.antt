@@ -9,6 +9,7 @@ use Rattle.std.specs.Str.{IsUtf8}
 use Rattle.weedle_base.proofs.Choice.{choice_reading, choice_tree, first_last, first_more, first_rule}
 use Rattle.weedle_base.proofs.RuleFacts.{fault_rule, got_rule, mark, mark_rule, option_rule, own_rule, seq_last, seq_next, seq_rule, still_rule}
 use Rattle.weedle_base.proofs.Steps.{part_steps}
+use Rattle.weedle_base.proofs.TakesFacts.{own_takes}
 use Rattle.weedle_base.specs.Generic.{pair_reading}
 use Rattle.weedle_base.specs.Own.{own}
 use Rattle.weedle_base.specs.Reading.{Faults, Got, Reading}
@@ -28,11 +29,12 @@ use Rattle.weedle_parts.specs.declared.common.brackets.Bracketed.{Bracketed}
 use Rattle.weedle_parts.specs.declared.common.brackets.Parenthesized.{Parenthesized}
 use Rattle.weedle_parts.specs.declared.common.identifier.Identifier.{Identifier}
 use Rattle.weedle_parts.specs.declared.common.punctuated.Punctuated.{Punctuated}
+use Rattle.weedle_rules.proofs.FewReads.{x}
 use Rattle.weedle_rules.specs.Table.Leaves.{IDENTIFIER}
 use Rattle.weedle_rules.specs.Table.Symbols.{ASSIGN, CLOSE_BRACKET, COMMA, OPEN_BRACKET}
 use Rattle.weedle_rules.specs.Table.Types.{EXTENDED_ATTRIBUTE, EXTENDED_ATTRIBUTE_ARG_LIST, EXTENDED_ATTRIBUTE_IDENT, EXTENDED_ATTRIBUTE_IDENT_LIST, EXTENDED_ATTRIBUTE_LIST, EXTENDED_ATTRIBUTE_NAMED_ARG_LIST, EXTENDED_ATTRIBUTE_NO_ARGS, LIST_EXTENDED_ATTRIBUTE_COMMA, OPT_EXTENDED_ATTRIBUTE_LIST, PARENTHESIZED_ARGUMENT_LIST, TAIL_EXTENDED_ATTRIBUTE_COMMA}
 use Rattle.weedle_rules.specs.Trees.{Alt}
-use Rattle.weedle_types.proofs.Direct.{direct_choice, direct_none, direct_some, direct_stop, list_stop, own_takes, pair_takes, refused_by, seen_takes}
+use Rattle.weedle_types.proofs.Direct.{direct_choice, direct_none, direct_some, direct_stop, list_stop, pair_takes, refused_by, seen_takes}
 use Rattle.weedle_types.specs.Trees.{arguments_tree, extended_attribute_arg_list_tree, extended_attribute_ident_list_tree, extended_attribute_ident_tree, extended_attribute_list_tree, extended_attribute_named_arg_list_tree, extended_attribute_no_args_tree, extended_attribute_tree, extended_attributes_tree}
 use Rattle.weedle_types.specs.declared.argument.Argument.{Argument}
 use Rattle.weedle_types.specs.declared.attribute.ExtendedAttributeIdent.{ExtendedAttributeIdent}

@@ -7,6 +7,7 @@ use Rattle.std.specs.Global.{Box}
 use Rattle.std.specs.Prelude.{List, Option, ℕ, ◌≡◌}
 use Rattle.weedle_base.proofs.RuleFacts.{fault_rule, got_rule, mark, mark_rule, option_rule, own_rule, seq_last, seq_next, seq_rule, still_rule}
 use Rattle.weedle_base.proofs.Steps.{part_steps}
+use Rattle.weedle_base.proofs.TakesFacts.{own_takes}
 use Rattle.weedle_base.specs.Generic.{option_reading, pair_reading}
 use Rattle.weedle_base.specs.Own.{own}
 use Rattle.weedle_base.specs.Reading.{Faults, Got, Reading}
@@ -23,12 +24,13 @@ use Rattle.weedle_base.specs.declared.term.type_keywords.Sequence.{Sequence}
 use Rattle.weedle_parts.specs.ValueTrees.{generics_tree, may_be_null_tree}
 use Rattle.weedle_parts.specs.declared.common.brackets.Generics.{Generics}
 use Rattle.weedle_parts.specs.declared.types.may_be_null.MayBeNull.{MayBeNull}
+use Rattle.weedle_rules.proofs.FewReads.{x}
 use Rattle.weedle_rules.specs.Table.CapitalizedKeywords.{FROZEN_ARRAY, PROMISE}
 use Rattle.weedle_rules.specs.Table.Keywords.{RECORD, SEQUENCE}
 use Rattle.weedle_rules.specs.Table.SimpleTypes.{OPT_Q_MARK}
 use Rattle.weedle_rules.specs.Table.Symbols.{COMMA, GREATER_THAN, LESS_THAN, Q_MARK}
 use Rattle.weedle_rules.specs.Table.Types.{FROZEN_ARRAY_TYPE, GENERICS_RECORD_TYPES, GENERICS_RETURN_TYPE, GENERICS_TYPE, MAY_BE_NULL_FROZEN_ARRAY_TYPE, MAY_BE_NULL_RECORD_TYPE, MAY_BE_NULL_SEQUENCE_TYPE, PROMISE_TYPE, RECORD_KEY_TYPE, RECORD_TYPE, RECORD_TYPES, RETURN_TYPE, SEQUENCE_TYPE, TYPE}
-use Rattle.weedle_types.proofs.Direct.{memory_fault, own_takes}
+use Rattle.weedle_types.proofs.Direct.{memory_fault}
 use Rattle.weedle_types.specs.Steps.{OutOfMemory}
 use Rattle.weedle_types.specs.Trees.{boxed_return_type_tree, boxed_type_tree, frozen_array_type_tree, promise_type_tree, record_key_type_tree, record_type_tree, record_types_tree, return_type_tree, sequence_type_tree, type_tree}
 use Rattle.weedle_types.specs.declared.formers.FrozenArrayType.{FrozenArrayType}

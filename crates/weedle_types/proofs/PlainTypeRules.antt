@@ -6,6 +6,7 @@ use Rattle.std.specs.Borrow.{Bor}
 use Rattle.std.specs.Prelude.{List, ℕ, ◌⊎◌}
 use Rattle.weedle_base.proofs.Choice.{IsFirst, choice_reading, choice_tree, first_last, first_more}
 use Rattle.weedle_base.proofs.RuleFacts.{mark, mark_rule, own_rule}
+use Rattle.weedle_base.proofs.TakesFacts.{own_takes}
 use Rattle.weedle_base.specs.Own.{own}
 use Rattle.weedle_base.specs.Reading.{Faults, Got, Reading}
 use Rattle.weedle_base.specs.Rules.{mark_tree}
@@ -44,7 +45,7 @@ use Rattle.weedle_rules.specs.Table.Keywords.{BOOLEAN, BYTE, OBJECT, OCTET, SYMB
 use Rattle.weedle_rules.specs.Table.SimpleTypes.{FLOATING_POINT_TYPE, INTEGER_TYPE, MAY_BE_NULL_BOOLEAN, MAY_BE_NULL_BYTE, MAY_BE_NULL_FLOATING_POINT_TYPE, MAY_BE_NULL_INTEGER_TYPE, MAY_BE_NULL_OCTET}
 use Rattle.weedle_rules.specs.Table.Types.{MAY_BE_NULL_ARRAY_BUFFER, MAY_BE_NULL_ARRAY_BUFFER_VIEW, MAY_BE_NULL_BUFFER_SOURCE, MAY_BE_NULL_BYTE_STRING, MAY_BE_NULL_DATA_VIEW, MAY_BE_NULL_DOM_STRING, MAY_BE_NULL_ERROR, MAY_BE_NULL_FLOAT32_ARRAY, MAY_BE_NULL_FLOAT64_ARRAY, MAY_BE_NULL_INT16_ARRAY, MAY_BE_NULL_INT32_ARRAY, MAY_BE_NULL_INT8_ARRAY, MAY_BE_NULL_OBJECT, MAY_BE_NULL_SYMBOL, MAY_BE_NULL_UINT16_ARRAY, MAY_BE_NULL_UINT32_ARRAY, MAY_BE_NULL_UINT8_ARRAY, MAY_BE_NULL_UINT8_CLAMPED_ARRAY, MAY_BE_NULL_USV_STRING}
 use Rattle.weedle_rules.specs.Trees.{Alt}
-use Rattle.weedle_types.proofs.Direct.{direct_choice, fault_members, first_piece, got_members, members_first, own_takes, pair_takes, seen_takes}
+use Rattle.weedle_types.proofs.Direct.{direct_choice, fault_members, first_piece, got_members, members_first, pair_takes, seen_takes}
 use Rattle.weedle_types.specs.Pieces.{after_sequence_rules, before_sequence_rules, float_arrays_rules, numbers_rules, objects_rules, signed_arrays_rules, strings_rules, unsigned_arrays_rules}
 use Rattle.weedle_types.specs.Steps.{members}
 use Rattle.weedle_types.specs.Trees.{non_any_type_tree}

@@ -7,6 +7,7 @@ use Rattle.std.specs.Prelude.{List, Option, ℕ, ◌⊎◌}
 use Rattle.weedle_base.proofs.Choice.{choice_reading, choice_tree, first_last, first_more, first_rule}
 use Rattle.weedle_base.proofs.RuleFacts.{fault_rule, got_rule, mark, mark_rule, own_rule, seq_last, seq_next, seq_rule, still_rule}
 use Rattle.weedle_base.proofs.Steps.{part_steps}
+use Rattle.weedle_base.proofs.TakesFacts.{own_takes}
 use Rattle.weedle_base.specs.Generic.{pair_reading}
 use Rattle.weedle_base.specs.Own.{own}
 use Rattle.weedle_base.specs.Reading.{Faults, Got, Reading}
@@ -28,13 +29,14 @@ use Rattle.weedle_parts.specs.declared.common.brackets.Parenthesized.{Parenthesi
 use Rattle.weedle_parts.specs.declared.common.identifier.Identifier.{Identifier}
 use Rattle.weedle_parts.specs.declared.common.punctuated.Punctuated.{Punctuated}
 use Rattle.weedle_parts.specs.declared.types.may_be_null.MayBeNull.{MayBeNull}
+use Rattle.weedle_rules.proofs.FewReads.{x}
 use Rattle.weedle_rules.specs.Table.CapitalizedKeywords.{BYTE_STRING, DOM_STRING, USV_STRING}
 use Rattle.weedle_rules.specs.Table.Keywords.{ANY, UNDEFINED}
 use Rattle.weedle_rules.specs.Table.Leaves.{IDENTIFIER}
 use Rattle.weedle_rules.specs.Table.SimpleTypes.{MAY_BE_NULL_IDENTIFIER}
 use Rattle.weedle_rules.specs.Table.Types.{ATTRIBUTED_NON_ANY_TYPE, ATTRIBUTED_TYPE, MAY_BE_NULL_FROZEN_ARRAY_TYPE, MAY_BE_NULL_RECORD_TYPE, MAY_BE_NULL_SEQUENCE_TYPE, MAY_BE_NULL_UNION_TYPE, NON_ANY_TYPE, OPT_EXTENDED_ATTRIBUTE_LIST, PROMISE_TYPE, RECORD_KEY_TYPE, RETURN_TYPE, SINGLE_TYPE, TYPE}
 use Rattle.weedle_rules.specs.Trees.{Alt}
-use Rattle.weedle_types.proofs.Direct.{direct_choice, first_piece, members_first, own_takes, pair_takes, seen_takes, still_first}
+use Rattle.weedle_types.proofs.Direct.{direct_choice, first_piece, members_first, pair_takes, seen_takes, still_first}
 use Rattle.weedle_types.proofs.TreeLaws.{promise_of, record_of, single_type_of, union_of}
 use Rattle.weedle_types.specs.Pieces.{after_sequence_rules, before_sequence_rules}
 use Rattle.weedle_types.specs.Steps.{members}

@@ -9,6 +9,7 @@ use Rattle.std.specs.Str.{IsUtf8}
 use Rattle.weedle_base.proofs.Choice.{choice_reading, choice_tree, first_last, first_more, first_rule}
 use Rattle.weedle_base.proofs.RuleFacts.{fault_rule, got_rule, mark, mark_rule, option_rule, own_rule, seq_last, seq_next, seq_rule, still_rule}
 use Rattle.weedle_base.proofs.Steps.{part_steps}
+use Rattle.weedle_base.proofs.TakesFacts.{own_takes}
 use Rattle.weedle_base.specs.Generic.{option_reading, pair_reading}
 use Rattle.weedle_base.specs.Own.{own}
 use Rattle.weedle_base.specs.Reading.{Faults, Got, Reading}
@@ -27,12 +28,13 @@ use Rattle.weedle_parts.specs.ValueTrees.{may_be_null_tree}
 use Rattle.weedle_parts.specs.declared.common.brackets.Parenthesized.{Parenthesized}
 use Rattle.weedle_parts.specs.declared.common.punctuated.Punctuated.{Punctuated}
 use Rattle.weedle_parts.specs.declared.types.may_be_null.MayBeNull.{MayBeNull}
+use Rattle.weedle_rules.proofs.FewReads.{x}
 use Rattle.weedle_rules.specs.Table.Keywords.{OR}
 use Rattle.weedle_rules.specs.Table.SimpleTypes.{OPT_Q_MARK}
 use Rattle.weedle_rules.specs.Table.Symbols.{CLOSE_PAREN, OPEN_PAREN, Q_MARK}
 use Rattle.weedle_rules.specs.Table.Types.{ATTRIBUTED_NON_ANY_TYPE, LIST_UNION_MEMBER_TYPE_OR, MAY_BE_NULL_UNION_TYPE, TAIL_UNION_MEMBER_TYPE_OR, UNION_MEMBER_TYPE, UNION_TYPE}
 use Rattle.weedle_rules.specs.Trees.{Alt}
-use Rattle.weedle_types.proofs.Direct.{direct_choice, list_stop, own_takes, pair_takes, refused_by, seen_takes}
+use Rattle.weedle_types.proofs.Direct.{direct_choice, list_stop, pair_takes, refused_by, seen_takes}
 use Rattle.weedle_types.proofs.TreeLaws.{member_single_of, member_union_of}
 use Rattle.weedle_types.specs.Trees.{attributed_non_any_type_tree, union_member_type_tree, union_member_types_tree, union_type_tree}
 use Rattle.weedle_types.specs.declared.types.AttributedNonAnyType.{AttributedNonAnyType}

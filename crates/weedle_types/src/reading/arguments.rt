@@ -14,7 +14,7 @@ use super::types::{attributed_type, type_};
 use crate::argument::{Argument, ArgumentList, SingleArgument, VariadicArgument};
 use std::alloc::Global;
 use weedle_base::term::Comma;
-use weedle_base::{Err, Error, ErrorKind, IResult};
+use weedle_base::{Err, IResult, out_of_memory};
 use weedle_parts::common::{Parenthesized, Punctuated};
 
 /// Reads an argument, as `long x` or `long... xs`.
@@ -159,7 +159,7 @@ pub(crate) fn argument_list<'a>(
 
 /// Reads the arguments after the first, each behind a comma.
 #[cycle(group)]
-#[tactic(auto, using(crate::proofs::Direct::own_takes))]
+#[tactic(auto, using(weedle_base::proofs::TakesFacts::own_takes))]
 pub(crate) fn more_arguments<'a>(
     alloc: Global,
     first: Argument<'a>,
@@ -170,10 +170,7 @@ pub(crate) fn more_arguments<'a>(
 {
     let mut list = Vec::new(alloc);
     if list.push(first).is_err() {
-        return Err(Err::Failure(Error {
-            input,
-            code: ErrorKind::Memory,
-        }));
+        return Err(out_of_memory(input));
     }
     let mut rest = input;
     'items: loop {
@@ -185,10 +182,7 @@ pub(crate) fn more_arguments<'a>(
         match argument(alloc, after) {
             Ok((next, item)) => {
                 if list.push(item).is_err() {
-                    return Err(Err::Failure(Error {
-                        input: rest,
-                        code: ErrorKind::Memory,
-                    }));
+                    return Err(out_of_memory(rest));
                 }
                 rest = next;
             }

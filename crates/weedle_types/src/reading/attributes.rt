@@ -17,7 +17,7 @@ use crate::attribute::{
 };
 use std::alloc::Global;
 use weedle_base::term::Comma;
-use weedle_base::{Err, Error, ErrorKind, IResult};
+use weedle_base::{Err, IResult, out_of_memory};
 use weedle_parts::common::{Bracketed, Punctuated};
 
 /// Reads attributes in brackets, where they stand.
@@ -171,7 +171,7 @@ pub(crate) fn extended_attributes<'a>(
 
 /// Reads the attributes after the first, each behind a comma.
 #[cycle(group)]
-#[tactic(auto, using(crate::proofs::Direct::own_takes))]
+#[tactic(auto, using(weedle_base::proofs::TakesFacts::own_takes))]
 pub(crate) fn more_extended_attributes<'a>(
     alloc: Global,
     first: ExtendedAttribute<'a>,
@@ -182,10 +182,7 @@ pub(crate) fn more_extended_attributes<'a>(
 {
     let mut list = Vec::new(alloc);
     if list.push(first).is_err() {
-        return Err(Err::Failure(Error {
-            input,
-            code: ErrorKind::Memory,
-        }));
+        return Err(out_of_memory(input));
     }
     let mut rest = input;
     'items: loop {
@@ -197,10 +194,7 @@ pub(crate) fn more_extended_attributes<'a>(
         match extended_attribute(alloc, after) {
             Ok((next, item)) => {
                 if list.push(item).is_err() {
-                    return Err(Err::Failure(Error {
-                        input: rest,
-                        code: ErrorKind::Memory,
-                    }));
+                    return Err(out_of_memory(rest));
                 }
                 rest = next;
             }

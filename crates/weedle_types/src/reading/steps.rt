@@ -1,11 +1,11 @@
 //! What every reading of a part is made of.
 
 ghost use Rattle.std.specs.Prelude.{◌<◌, ◌≤◌, length, IfOk};
-ghost use Rattle.weedle_base.specs.Reading.{Answers};
-ghost use Rattle.weedle_types.specs.Steps.{TakesSome, IsBoxed};
+ghost use Rattle.weedle_base.specs.Reading.{Answers, TakesSome};
+ghost use Rattle.weedle_types.specs.Steps.{IsBoxed};
 
 use std::alloc::Global;
-use weedle_base::{Err, Error, ErrorKind, IResult, Parse};
+use weedle_base::{Err, Error, IResult, Parse, out_of_memory};
 
 /// Reads a part; what follows it is no longer than the text.
 pub(crate) fn part<'a, T: Parse<'a>>(alloc: Global, input: &'a str) -> IResult<&'a str, T>
@@ -25,6 +25,7 @@ pub(crate) fn word<'a, T: Parse<'a>>(alloc: Global, input: &'a str) -> IResult<&
 }
 
 /// Puts a value that was read from `input` into a box.
+#[tactic(auto, using(crate::proofs::Direct::out_here))]
 pub(crate) fn boxed<'a, T: Drop>(
     alloc: Global,
     input: &'a str,
@@ -34,9 +35,6 @@ pub(crate) fn boxed<'a, T: Drop>(
 {
     match Box::new(alloc, value) {
         Ok(held) => Ok(held),
-        Err(_) => Err(Err::Failure(Error {
-            input,
-            code: ErrorKind::Memory,
-        })),
+        Err(_) => Err(out_of_memory(input)),
     }
 }

@@ -14,7 +14,7 @@ use super::types::attributed_non_any_type;
 use crate::types::{UnionMemberType, UnionType};
 use std::alloc::Global;
 use weedle_base::term::Or;
-use weedle_base::{Err, Error, ErrorKind, IResult};
+use weedle_base::{Err, IResult, out_of_memory};
 use weedle_parts::common::{Parenthesized, Punctuated};
 use weedle_parts::types::MayBeNull;
 
@@ -109,7 +109,7 @@ pub(crate) fn union_member_types<'a>(
 
 /// Reads the members after the first, each behind `or`.
 #[cycle(group)]
-#[tactic(auto, using(crate::proofs::Direct::own_takes))]
+#[tactic(auto, using(weedle_base::proofs::TakesFacts::own_takes))]
 pub(crate) fn more_union_member_types<'a>(
     alloc: Global,
     first: UnionMemberType<'a>,
@@ -120,10 +120,7 @@ pub(crate) fn more_union_member_types<'a>(
 {
     let mut list = Vec::new(alloc);
     if list.push(first).is_err() {
-        return Err(Err::Failure(Error {
-            input,
-            code: ErrorKind::Memory,
-        }));
+        return Err(out_of_memory(input));
     }
     let mut rest = input;
     'items: loop {
@@ -135,10 +132,7 @@ pub(crate) fn more_union_member_types<'a>(
         match union_member_type(alloc, after) {
             Ok((next, item)) => {
                 if list.push(item).is_err() {
-                    return Err(Err::Failure(Error {
-                        input: rest,
-                        code: ErrorKind::Memory,
-                    }));
+                    return Err(out_of_memory(rest));
                 }
                 rest = next;
             }
