@@ -1,11 +1,10 @@
 -- What the names for lists and brackets read is what their rules read. `known` is what is known of a list's separator.
 use Rattle.std.proofs.Common.{inl, inr, refl}
-use Rattle.std.specs.Prelude.{Option}
 use Rattle.weedle_base.proofs.RuleFacts.{mark, mark_rule, option_rule, own_rule, still_rule, wider_rule}
 use Rattle.weedle_base.specs.Generic.{option_reading, pair_reading, seen_reading}
 use Rattle.weedle_base.specs.Own.{own}
 use Rattle.weedle_base.specs.Reading.{Reading}
-use Rattle.weedle_base.specs.Rules.{HasRule, IsRule, option_tree}
+use Rattle.weedle_base.specs.Rules.{HasRule, IsRule}
 use Rattle.weedle_base.specs.declared.term.symbols.Comma.{Comma}
 use Rattle.weedle_base.specs.declared.term.type_keywords.Or.{Or}
 use Rattle.weedle_parts.proofs.ListRules.{punctuated_rule}
@@ -21,7 +20,7 @@ use Rattle.weedle_rules.specs.Table.Leaves.{IDENTIFIER}
 use Rattle.weedle_rules.specs.Table.SimpleTypes.{IDENTIFIER_LIST, PARENTHESIZED_IDENTIFIER_LIST, TAIL_IDENTIFIER_COMMA}
 use Rattle.weedle_rules.specs.Table.Symbols.{COMMA}
 use Rattle.weedle_rules.specs.Table.Types.{ARGUMENT, ARGUMENT_LIST, EXTENDED_ATTRIBUTE, EXTENDED_ATTRIBUTE_LIST, LIST_EXTENDED_ATTRIBUTE_COMMA, LIST_UNION_MEMBER_TYPE_OR, MAY_BE_NULL_UNION_TYPE, OPT_EXTENDED_ATTRIBUTE_LIST, PARENTHESIZED_ARGUMENT_LIST, TAIL_ARGUMENT_COMMA, TAIL_EXTENDED_ATTRIBUTE_COMMA, TAIL_UNION_MEMBER_TYPE_OR, UNION_MEMBER_TYPE, UNION_TYPE}
-use Rattle.weedle_types.specs.Trees.{argument_list_tree, argument_tree, arguments_tree, attributes_tree, extended_attribute_list_tree, extended_attribute_tree, extended_attributes_tree, union_member_type_tree, union_member_types_tree, union_type_tree}
+use Rattle.weedle_types.specs.Trees.{argument_list_tree, argument_tree, arguments_tree, attributes_tree, extended_attribute_list_tree, extended_attribute_tree, union_member_type_tree, union_type_tree}
 use Rattle.weedle_types.specs.declared.argument.Argument.{Argument}
 use Rattle.weedle_types.specs.declared.formers.ExtendedAttribute.{ExtendedAttribute}
 use Rattle.weedle_types.specs.declared.types.UnionMemberType.{UnionMemberType}

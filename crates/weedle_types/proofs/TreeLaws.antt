@@ -1,40 +1,40 @@
 -- The trees of values of the group, by their parts.
 use Rattle.std.proofs.Common.{◌≡◌, refl, ap, sym, ◌∙◌, Option, None, Some, map, Vec, Global}
+use Rattle.std.specs.Prelude.{[], ◌∷◌}
 use Rattle.weedle_base.specs.Rules.{option_tree, mark_tree}
 use Rattle.weedle_base.specs.declared.term.symbols.Comma.{Comma}
 use Rattle.weedle_base.specs.declared.term.type_keywords.Or.{Or}
-use Rattle.weedle_parts.specs.ValueTrees.{identifier_tree, bracket_tree, may_be_null_tree}
 use Rattle.weedle_parts.specs.LiteralTrees.{default_tree}
+use Rattle.weedle_parts.specs.ValueTrees.{identifier_tree, bracket_tree, may_be_null_tree}
 use Rattle.weedle_parts.specs.declared.common.brackets.Bracketed.{Bracketed}
 use Rattle.weedle_parts.specs.declared.common.brackets.Parenthesized.{Parenthesized}
 use Rattle.weedle_parts.specs.declared.common.punctuated.Punctuated.{Punctuated}
 use Rattle.weedle_parts.specs.declared.types.may_be_null.MayBeNull.{MayBeNull}
-use Rattle.std.specs.Prelude.{[], ◌∷◌}
-use Rattle.weedle_rules.specs.Trees.{Tree, Trees, Done, Then, Mark, Node, Alt, Absent, Present, Items, trees}
+use Rattle.weedle_rules.specs.Trees.{Then, Mark, Node, Alt, Present, Items, trees}
 use Rattle.weedle_types.specs.Trees.{argument_tree, non_any_type_tree, type_tree, union_member_type_tree, held_return, held_key, held_single, held_attributes, held_attribute, attribute_row, argument_row, union_row, single_type_tree, return_type_tree, record_key_type_tree, record_type_tree, promise_type_tree, union_type_tree, extended_attribute_tree, attributes_tree, attributed_non_any_type_tree, single_argument_tree, variadic_argument_tree}
-use Rattle.weedle_types.specs.declared.argument.Argument.{Argument}
-use Rattle.weedle_types.specs.declared.argument.Argument.TheVariants.{Single as Argument-Single, Variadic as Argument-Variadic}
 use Rattle.weedle_types.specs.declared.argument.Argument.TheBlock.{Held-SingleArgument-attributes-24, ArgList', NamedArgList', IdentList', Ident', NoArgs', Row_of-Argument, end_of-Argument, more_of-Argument, Row_of-UnionMemberType, end_of-UnionMemberType, more_of-UnionMemberType, Row_of-SingleArgument-attributes-24, end_of-SingleArgument-attributes-24, more_of-SingleArgument-attributes-24, items-the_row-Argument, items-the_row-UnionMemberType, items-the_row-SingleArgument-attributes-24, items_hidden-the_row-Argument-0, items_hidden-the_row-SingleArgument-attributes-24-1, items_hidden-the_row-UnionMemberType-2, items_shown-the_row-Argument-0, hidden-the_row-Argument-0, hidden-the_row-SingleArgument-attributes-24-1, hidden-the_row-UnionMemberType-2, back-SingleArgument-attributes, back-SingleArgument-attributes-24, view-SingleArgument-attributes-24, back-Type-Single-0, back-RecordTypes-0-4, back-NonAnyType-Promise-0-4}
+use Rattle.weedle_types.specs.declared.argument.Argument.TheVariants.{Single as Argument-Single, Variadic as Argument-Variadic}
+use Rattle.weedle_types.specs.declared.argument.Argument.{Argument}
 use Rattle.weedle_types.specs.declared.argument.SingleArgument.{SingleArgument}
 use Rattle.weedle_types.specs.declared.argument.VariadicArgument.{VariadicArgument}
-use Rattle.weedle_types.specs.declared.formers.ExtendedAttribute.{ExtendedAttribute}
 use Rattle.weedle_types.specs.declared.formers.ExtendedAttribute.TheVariants.{ArgList, NamedArgList, IdentList, Ident, NoArgs}
-use Rattle.weedle_types.specs.declared.types.AttributedNonAnyType.{AttributedNonAnyType}
-use Rattle.weedle_types.specs.declared.types.NonAnyType.{NonAnyType}
-use Rattle.weedle_types.specs.declared.types.NonAnyType.TheVariants.{Promise as NonAnyType-Promise, RecordType as NonAnyType-RecordType}
+use Rattle.weedle_types.specs.declared.formers.ExtendedAttribute.{ExtendedAttribute}
 use Rattle.weedle_types.specs.declared.formers.PromiseType.{PromiseType}
-use Rattle.weedle_types.specs.declared.formers.RecordKeyType.{RecordKeyType}
 use Rattle.weedle_types.specs.declared.formers.RecordKeyType.TheVariants.{Byte as RecordKeyType-Byte, DOM as RecordKeyType-DOM, USV as RecordKeyType-USV, NonAny as RecordKeyType-NonAny}
+use Rattle.weedle_types.specs.declared.formers.RecordKeyType.{RecordKeyType}
 use Rattle.weedle_types.specs.declared.formers.RecordType.{RecordType}
-use Rattle.weedle_types.specs.declared.types.RecordTypes.{RecordTypes}
-use Rattle.weedle_types.specs.declared.formers.ReturnType.{ReturnType}
 use Rattle.weedle_types.specs.declared.formers.ReturnType.TheVariants.{Undefined as ReturnType-Undefined, Type_ as ReturnType-Type_}
-use Rattle.weedle_types.specs.declared.formers.SingleType.{SingleType}
+use Rattle.weedle_types.specs.declared.formers.ReturnType.{ReturnType}
 use Rattle.weedle_types.specs.declared.formers.SingleType.TheVariants.{Any as SingleType-Any, NonAny as SingleType-NonAny}
-use Rattle.weedle_types.specs.declared.types.UnionMemberType.{UnionMemberType}
+use Rattle.weedle_types.specs.declared.formers.SingleType.{SingleType}
+use Rattle.weedle_types.specs.declared.types.AttributedNonAnyType.{AttributedNonAnyType}
+use Rattle.weedle_types.specs.declared.types.NonAnyType.TheVariants.{Promise as NonAnyType-Promise, RecordType as NonAnyType-RecordType}
+use Rattle.weedle_types.specs.declared.types.NonAnyType.{NonAnyType}
+use Rattle.weedle_types.specs.declared.types.RecordTypes.{RecordTypes}
 use Rattle.weedle_types.specs.declared.types.UnionMemberType.TheVariants.{Single as UnionMemberType-Single, Union as UnionMemberType-Union}
-use Rattle.weedle_types.specs.declared.types.«Type».{«Type»}
+use Rattle.weedle_types.specs.declared.types.UnionMemberType.{UnionMemberType}
 use Rattle.weedle_types.specs.declared.types.«Type».TheVariants.{Single as Type-Single, Union as Type-Union}
+use Rattle.weedle_types.specs.declared.types.«Type».{«Type»}
 
 union_row_items : (n : _) (k : Row_of-UnionMemberType n) → trees (map union_member_type_tree (items-the_row-UnionMemberType n k)) ≡ union_row k
 union_row_items n end_of-UnionMemberType = refl

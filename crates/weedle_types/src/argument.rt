@@ -1,4 +1,7 @@
 //! Arguments, as `optional long x = 5`.
+//!
+//! A list of arguments ends behind its last argument: of `long x, long` the rest is `, long`. Attributes and
+//! types ask for memory: where it is refused, the call ends at once with a failure of code `Memory`.
 
 ghost use Rattle.std.specs.Prelude.{◌≡◌};
 

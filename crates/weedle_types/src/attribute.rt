@@ -1,4 +1,7 @@
 //! Attributes, as `[Exposed=(Window, Worker), SecureContext]`.
+//!
+//! A list without its closing bracket, or with a comma at its end, is a mismatch. Lists ask for memory: where it
+//! is refused, the call ends at once with a failure of code `Memory`.
 
 ghost use Rattle.std.specs.Prelude.{◌≡◌};
 ghost use Rattle.weedle_base.specs.Own.{own};

@@ -1,7 +1,9 @@
 //! Types, as `sequence<(long or DOMString)>?`.
 //!
 //! A type is read whole, with no limit on how deep types stand in one another. What follows it is the rest:
-//! `Promise<long>?` is a promise and `?`, since a promise is never null.
+//! `Promise<long>?` is a promise and `?`, since a promise is never null. A text that begins with no type is a
+//! mismatch. Boxes, unions and attributes ask for memory: where it is refused, the call ends at once with a
+//! failure of code `Memory`.
 
 mod from;
 mod from_non_any;
