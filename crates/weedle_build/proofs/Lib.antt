@@ -1,0 +1,9 @@
+pub mod Finding
+pub mod Sequences
+pub mod Options
+pub mod Choices
+pub mod Keeping
+pub mod Items
+pub mod Separated
+pub mod NonEmpty
+pub mod LineSteps

@@ -1,0 +1,48 @@
+//! Docstrings.
+
+ghost use Rattle.std.specs.Prelude.{◌≡◌, [], ◌∷◌};
+ghost use Rattle.weedle_rules.specs.Trees.{Lines, Gives};
+ghost use Rattle.weedle_rules.specs.Table.{Reads};
+ghost use Rattle.weedle_rules.specs.Table.Leaves.{DOC_LINE, DOCSTRING};
+ghost use Rattle.weedle_parts.specs.LiteralTrees.{docstring_tree};
+ghost use Rattle.weedle_build.specs.Built.{Due};
+
+use crate::at::At;
+use crate::build::{Build, BuildResult, end_at};
+use std::alloc::Global;
+use weedle_parts::common::Docstring;
+use weedle_rules::{Ends, Rule};
+
+/// The text of the line at a place, without its LF, and where the next one begins.
+fn doc_line<'a>(table: &Ends<'a>, place: usize) -> (&'a str, usize)
+    requires { Due table.now.text DOC_LINE place }
+    ensures { Reads table.now.text DOC_LINE place (Gives (Lines result.0.now ∷ []) result.1) }
+{
+    let blanks = end_at(table, Rule::RUN_BLANK, place);
+    let start = end_at(table, Rule::BYTES_THREE_SLASHES, blanks);
+    let end = end_at(table, Rule::DOC_LINE, place);
+    let text = table.text();
+    (&text[start..end - 1], end)
+}
+
+impl<'a> Build<'a> for Docstring {
+    ghost fits = { λ r. r ≡ DOCSTRING };
+
+    ghost tree = { docstring_tree };
+
+    fn build(alloc: Global, table: &Ends<'a>, _rule: Rule, at: At) -> BuildResult<Self> {
+        let (first, mut place) = doc_line(table, at.place);
+        let mut text = String::from_str(alloc, first)?;
+        while let Some(_) = table.end(Rule::DOC_LINE, place) {
+            let (line, next) = doc_line(table, place);
+            text.push('\n')?;
+            text.push_str(line)?;
+            place = next;
+        }
+        let end = At {
+            place,
+            visits: at.visits.saturating_add(1),
+        };
+        Ok((Docstring(text), end))
+    }
+}
