@@ -7,3 +7,4 @@ pub mod Items
 pub mod Separated
 pub mod NonEmpty
 pub mod LineSteps
+pub mod WholeSteps

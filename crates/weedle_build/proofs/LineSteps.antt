@@ -27,7 +27,10 @@ record EndsLine (s : List ℕ) (k : ℕ) : Type 0 where
 
 line_more : (t : ℕ) (rest : List ℕ) (k : ℕ) → EndsLine rest k → EndsLine (t ∷ rest) (suc k)
 line_more t rest zero h = absurd (let a = h.some in omega arith)
-line_more t rest (suc k) h = record { some = omega arith; inside = omega (arith, h.inside); last = h.last }
+line_more t rest (suc k) h =
+    let a : suc (suc k) - 1 ≡ suc k = omega arith in
+    let b : suc k - 1 ≡ k = omega arith in
+    record { some = omega arith; inside = omega (arith, h.inside); last = ap (λ n. get_or (t ∷ rest) n 0) a ∙ ap (λ n. get_or rest n 0) (sym b) ∙ h.last }
 
 line_here : (b : Bool) (t : ℕ) (rest : List ℕ) (k : ℕ) (m : Option ℕ) → (b ≡ true → t ≡ 10) → ((j : ℕ) → m ≡ Some j → EndsLine rest j)
     → (if b then Some 1 else option_map suc m) ≡ Some k → EndsLine (t ∷ rest) k
@@ -51,11 +54,9 @@ past_ends {text} {s} {e} {us} d =
     (g.0, line_end (drop s text) g.0 g.1, g.2)
 
 get_drop : (xs : List ℕ) (s i : ℕ) → get_or (drop s xs) i 0 ≡ get_or xs (s + i) 0
-get_drop [] zero i = refl
-get_drop [] (suc s) zero = refl
-get_drop [] (suc s) (suc i) = refl
-get_drop (x ∷ xs) zero i = refl
-get_drop (x ∷ xs) (suc s) i = get_drop xs s i
+get_drop xs zero i = let e : i ≡ 0 + i = omega arith in ap (λ n. get_or xs n 0) e
+get_drop [] (suc s) i = refl
+get_drop (x ∷ xs) (suc s) i = let e : suc (s + i) ≡ suc s + i = omega arith in get_drop xs s i ∙ ap (λ n. get_or (x ∷ xs) n 0) e
 
 module _ {text : List ℕ} {p : ℕ} (d : Due text DOC_LINE p) where
   rest_here : Rest text (RUN_BLANK ∷ BYTES_THREE_SLASHES ∷ PAST_LF ∷ []) p
@@ -73,6 +74,10 @@ module _ {text : List ℕ} {p : ℕ} (d : Due text DOC_LINE p) where
     module _ {s : ℕ} (slashes : Found text BYTES_THREE_SLASHES q s) where
       past_due : Due text PAST_LF s
       past_due = front (next_found slashes (next_found blanks rest_here))
+
+      -- where the text of the line begins
+      pub line_start : IsCharBoundary text s
+      line_start = past_due.boundary
 
       whole : Reads text DOC_LINE p (Gives (Lines (but_last (between text s past_due.end)) ∷ []) past_due.end)
       whole = by_row (by_seq (seq_more blanks.reads (seq_more slashes.reads (seq_more past_due.reads (seq_end refl) refl) refl) refl) refl) refl
@@ -179,6 +184,6 @@ module _ {text : List ℕ} {p q : ℕ} {bytes : List ℕ} (h : Lining text p byt
   -- no more lines
   pub lining_end : {v w : ℕ} → HasEnd text DOC_LINE q None → w ≡ plus v 1 → Builds text DOCSTRING (Lines bytes) p v q w
   lining_end {v} {w} f c =
-      let items = repeating_end {r = MANY_DOC_LINE} h.tail f refl refl (record { same = refl; counts = refl }) in
+      let items : Builds text MANY_DOC_LINE (Items (trees h.more)) h.place 0 q (plus h.count 1) = repeating_end h.tail f refl refl (record { same = refl; counts = refl }) in
       let d : Reads text DOCSTRING p (Gives (Lines (h.first ++ more_lines (trees h.more)) ∷ []) q) = by_row (by_seq (seq_more h.head (seq_more items.reads (seq_end refl) refl) refl) refl) refl in
       record { reads = subst (λ xs. Reads text DOCSTRING p (Gives (Lines xs ∷ []) q)) (sym h.bytes_are) d; counts = c }

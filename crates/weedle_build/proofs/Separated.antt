@@ -164,7 +164,7 @@ module _ {text : List ℕ} {x s p v : ℕ} {ts : List Tree} {q w : ℕ} (h : Lis
     listing_back sep f = items_from (tailing_back h.tail sep f)
 
 -- what follows the items of a list is due where the list is
-due_behind : {text : List ℕ} {t : ℕ} (row : Row) (shape : Shape) (p q : ℕ) (given ts : List Tree) (end : ℕ) (o : Outcome) → IsUtf8 text → IsCharBoundary text q
+pub due_behind : {text : List ℕ} {t : ℕ} (row : Row) (shape : Shape) (p q : ℕ) (given ts : List Tree) (end : ℕ) (o : Outcome) → IsUtf8 text → IsCharBoundary text q
     → Gives given end ≡ shaped text row shape p (before ts (raw_of o)) → Reads text t q o → Due text t q
 due_behind row shape p q given ts end Fails u b h d = cc
 due_behind row shape p q given ts end (Gives us z) u b h d = record { given = us; end = z; reads = d; utf8 = u; boundary = b }

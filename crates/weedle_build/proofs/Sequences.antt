@@ -62,7 +62,7 @@ if_rest row shape u b (if_fails d f) h = let z = f in cc
 if_rest row shape u b (if_absent d g f) h = record { pieces = _; reads = d; utf8 = u; boundary = b }
 if_rest row shape u b (if_present d g m f) h = record { pieces = _; reads = d; utf8 = u; boundary = b }
 
-row_rest : {text rs : List ℕ} {r p : ℕ} → Due text r p → (row : Row) → row_of r ≡ row → row_parts row ≡ Some rs → Rest text rs p
+pub row_rest : {text rs : List ℕ} {r p : ℕ} → Due text r p → (row : Row) → row_of r ≡ row → row_parts row ≡ Some rs → Rest text rs p
 row_rest {text} {rs} {r} {p} d (Seq parts) e f =
     let h = parts_of e d.reads in
     let q : parts ≡ rs = cc in

@@ -2,10 +2,11 @@
 use Rattle.std.specs.Prelude.{◌≡◌, ℕ, ◌+◌, ◌-◌, ◌^◌, min, List, [], ◌∷◌, IsUtf8, IsCharBoundary, Result, Ok, Err, Some, ◌<◌, length, get_or}
 use Rattle.weedle_build.specs.declared.at.At.{At}
 use Rattle.weedle_rules.specs.Trees.{Tree, Alt, Gives}
-use Rattle.weedle_rules.specs.Table.{webidl, row_of, Reads}
+use Rattle.weedle_rules.specs.Rows.{Opt}
+use Rattle.weedle_rules.specs.Table.{webidl, row_of, shape_of, Reads}
 use Rattle.weedle_build.specs.Fits.{firsts}
 use Rattle.weedle_rules.specs.Size.{size, total_size}
-use Rattle.weedle_rules.specs.Meaning.{Piece, ReadsSeq, given_of, last_end}
+use Rattle.weedle_rules.specs.Meaning.{Piece, Plain, ReadsSeq, given_of, last_end}
 
 -- a count and so many more, as far as counts go
 abbrev pub plus : ℕ → ℕ → ℕ
@@ -89,3 +90,13 @@ module _ {V E : Type 0} (text : List ℕ) (x t : ℕ) (given : V → List Tree) 
   abbrev pub ItemAnswers : Result (V × At) E → Type 0
   ItemAnswers (Ok a) = BuiltItems text x t p v (given a.0) a.1.place a.1.visits
   ItemAnswers (Err e) = Unit {0}
+
+-- a character of the text begins at the place
+pub record IsPlace (text : List ℕ) (p : ℕ) : Type 0 where
+  pub utf8 : IsUtf8 text
+  pub boundary : IsCharBoundary text p
+
+-- rule r takes rule x, or nothing
+pub record IsOption (x r : ℕ) : Type 0 where
+  pub row : row_of r ≡ Opt x
+  pub shape : shape_of r ≡ Plain

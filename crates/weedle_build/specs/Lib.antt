@@ -1,3 +1,4 @@
 pub mod Built
 pub mod Fits
 pub mod PartTrees
+pub mod Whole

@@ -1,6 +1,6 @@
 //! Docstrings.
 
-ghost use Rattle.std.specs.Prelude.{◌≡◌, [], ◌∷◌};
+ghost use Rattle.std.specs.Prelude.{◌≡◌, [], ◌∷◌, ◌++◌, OnOk, string_bytes};
 ghost use Rattle.weedle_rules.specs.Trees.{Lines, Gives};
 ghost use Rattle.weedle_rules.specs.Table.{Reads};
 ghost use Rattle.weedle_rules.specs.Table.Leaves.{DOC_LINE, DOCSTRING};
@@ -9,7 +9,7 @@ ghost use Rattle.weedle_build.specs.Built.{Due};
 
 use crate::at::At;
 use crate::build::{Build, BuildResult, end_at};
-use std::alloc::Global;
+use std::alloc::{AllocError, Global};
 use weedle_parts::common::Docstring;
 use weedle_rules::{Ends, Rule};
 
@@ -25,6 +25,14 @@ fn doc_line<'a>(table: &Ends<'a>, place: usize) -> (&'a str, usize)
     (&text[start..end - 1], end)
 }
 
+/// Puts an LF and the line at the end of the text.
+fn push_line(text: &mut String, line: &str) -> Result<(), AllocError>
+    ensures { OnOk result (string_bytes text.new ≡ (string_bytes text.old ++ (10 ∷ [])) ++ line.now) }
+{
+    text.push('\n')?;
+    text.push_str(line)
+}
+
 impl<'a> Build<'a> for Docstring {
     ghost fits = { λ r. r ≡ DOCSTRING };
 
@@ -35,8 +43,7 @@ impl<'a> Build<'a> for Docstring {
         let mut text = String::from_str(alloc, first)?;
         while let Some(_) = table.end(Rule::DOC_LINE, place) {
             let (line, next) = doc_line(table, place);
-            text.push('\n')?;
-            text.push_str(line)?;
+            push_line(&mut text, line)?;
             place = next;
         }
         let end = At {

@@ -14,3 +14,4 @@ mod lists;
 mod literals;
 mod simple_types;
 mod terminals;
+mod whole;

@@ -1,5 +1,6 @@
 //! Lists with separators.
 
+ghost use Rattle.std.specs.Global.{Vec};
 ghost use Rattle.std.specs.Prelude.{map};
 ghost use Rattle.weedle_rules.specs.Table.{row_of as row_of_rule, shape_of};
 ghost use Rattle.weedle_parts.specs.ValueTrees.{punctuated_tree, punctuated_non_empty_tree};

@@ -18,13 +18,13 @@ end-requires g c = c.loop-behind.invariant.tail.boundary.0
 pub end-requires-in-Some : goal.end-requires-in-Some
 end-requires-in-Some g c = (behind_boundary c.loop-behind.invariant.tail c.in-Some.ensures.right).0
 
-pub returns-in_default-end : goal.returns-in_default-end
-returns-in_default-end g c =
+pub returns-in_default-end-2 : goal.returns-in_default-end-2
+returns-in_default-end-2 g c =
     let r = fits_tail_is c.args.item (row_of c.args.tail) (shape_of c.args.tail) c.in-Tail.ensures c.requires.tail in
-    listing_back c.loop-behind.invariant r.0 r.1 c.in-Some.ensures.right c.in_default-end.ensures.right
+    listing_back c.loop-behind.invariant r.0 r.1 c.in-Some.ensures.right c.in_default-end-2.ensures.right
 
 pub build-requires-in-Some : goal.build-requires-in-Some
-build-requires-in-Some g c κs = ((refl, tt), (c.requires.fit, behind_due c.loop-behind.invariant.tail c.in-Some.ensures.right c.in-Some-2.ensures.right))
+build-requires-in-Some g c κs = ((refl, tt), (c.requires.fit, behind_due c.loop-behind.invariant.tail c.in-Some.ensures.right c.in-Some-end.ensures.right))
 
 pub loop-behind-smaller : goal.loop-behind-smaller
 loop-behind-smaller g c = let n = listing_next c.loop-behind.invariant c.in-Some.ensures.right c.in_ok-value.ensures in omega (arith, n.1, n.0.tail.boundary.0)
@@ -37,4 +37,4 @@ loop-behind-preserved g c =
 pub returns : goal.returns
 returns g c =
     let r = fits_tail_is c.args.item (row_of c.args.tail) (shape_of c.args.tail) c.in-Tail.ensures c.requires.tail in
-    listing_end c.loop-behind.invariant r.0 r.1 c.in_default-end-2.ensures.right
+    listing_end c.loop-behind.invariant r.0 r.1 c.in_default-end.ensures.right
