@@ -1,17 +1,18 @@
--- The first place of a byte or of a text, and what is read past it.
-use Rattle.std.specs.Prelude.{◌≡◌, ℕ, suc, ◌+◌, ◌<◌, List, [], ◌∷◌, drop, ◌++◌, get_or, length, Some, None}
+-- The first place of a byte or of a text, what stands before it, and what is read past it.
+use Rattle.std.specs.Prelude.{◌≡◌, ℕ, suc, ◌+◌, ◌<◌, List, [], ◌∷◌, drop, ◌++◌, get_or, length, Some, None, Bool, true, false, not, ◌==◌}
 use Rattle.std.specs.Str.{IsCharBoundary, IsUtf8}
-use Rattle.std.proofs.Common.{ap, ◌∙◌, drop-cons}
+use Rattle.std.proofs.Common.{refl, ap, ◌∙◌, drop-cons, arith}
 use Rattle.std.proofs.lemmas.Bool.{eqb-true}
 use Rattle.std.proofs.lemmas.Str.{IsCharBoundary-after_ascii}
 use Rattle.memchr.specs.Find.{IsFirstByte, FindsNeedle, is_byte}
-use Rattle.weedle_rules.specs.Rows.{Past}
+use Rattle.weedle_rules.specs.declared.class.Class.{Class}
+use Rattle.weedle_rules.specs.Rows.{Past, is_in, run_length}
 use Rattle.weedle_rules.specs.Meaning.{Silent}
 use Rattle.weedle_rules.specs.Trees.{Fails}
 use Rattle.weedle_rules.specs.Table.{row_of, shape_of, Reads}
 use Rattle.weedle_base.specs.Trivia.{Took}
 use Rattle.weedle_base.proofs.LeafFacts.{reads_past, cut, found_byte, nowhere_byte, found_past, nowhere_past}
-use Rattle.weedle_base.proofs.TriviaFacts.{given}
+use Rattle.weedle_base.proofs.TriviaFacts.{given, run_is}
 
 -- the byte stands at the place where it was found
 pub found_is : (byte : ℕ) (s : List ℕ) (i : ℕ) → IsFirstByte (is_byte byte) s (Some i) → get_or s i 0 ≡ byte
@@ -24,6 +25,29 @@ found_front byte s i p = drop-cons s i 0 p.0.high ∙ ap (λ (b : ℕ). b ∷ dr
 -- behind an ASCII byte that was found, a character begins
 pub behind_cut : (byte : ℕ) (s : List ℕ) (i : ℕ) → byte < 128 → IsUtf8 s → IsFirstByte (is_byte byte) s (Some i) → IsCharBoundary s (i + 1)
 behind_cut byte s i low u p = let e = found_is byte s i p in IsCharBoundary-after_ascii s i u p.0.high (rw e low)
+
+not_so : (b : Bool) → (b ≡ true → ⊥) → not b ≡ true
+not_so true h = absurd (h refl)
+not_so false h = refl
+
+so : (b : Bool) → b ≡ true → not b ≡ false
+so b h = rw h refl
+
+-- A class that has every byte but one.
+module _ (class : Class) (byte : ℕ) (but : (b : ℕ) → is_in class b ≡ not (b == byte)) (s : List ℕ) where
+  -- what stands before the first such byte is the run at the front
+  pub run_before : (i : ℕ) → IsFirstByte (is_byte byte) s (Some i) → i ≡ run_length class s
+  run_before i p =
+      run_is class s i (omega (arith, p.0.high))
+      (λ k l. but (get_or s k 0) ∙ not_so (get_or s k 0 == byte) (p.0.before k (omega arith) l))
+      (λ l. but (get_or s i 0) ∙ so (get_or s i 0 == byte) p.1)
+
+  -- where there is none, the run is the whole text
+  pub run_whole : IsFirstByte (is_byte byte) s None → length s ≡ run_length class s
+  run_whole p =
+      run_is class s (length s) (omega arith)
+      (λ k l. but (get_or s k 0) ∙ not_so (get_or s k 0 == byte) (p k (omega arith) l))
+      (λ l. absurd (omega (arith, l)))
 
 -- Everything past the first place of a byte, or of a text.
 module _ (r : ℕ) {byte : ℕ} (row : row_of r ≡ Past (byte ∷ [])) (shape : shape_of r ≡ Silent) {s : List ℕ} where

@@ -14,4 +14,5 @@ pub mod RuleLawFacts
 pub mod SilentRules
 pub mod WordFacts
 pub mod FindFacts
+pub mod LineEndFacts
 pub mod LineFacts

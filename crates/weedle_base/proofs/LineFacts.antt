@@ -9,8 +9,8 @@ use Rattle.weedle_rules.specs.Rows.{Many}
 use Rattle.weedle_rules.specs.Trees.{Tree, Lines, Items, trees, Fails, Gives}
 use Rattle.weedle_rules.specs.Meaning.{Yields, ReadsRow, by_seq, many_end, many_more, more_lines, but_last}
 use Rattle.weedle_rules.specs.Table.{webidl, Reads}
-use Rattle.weedle_rules.specs.Table.Trivia.{RUN_BLANK, PAST_LF}
-use Rattle.weedle_rules.specs.Table.Leaves.{BYTES_THREE_SLASHES, DOC_LINE, MANY_DOC_LINE, DOCSTRING}
+use Rattle.weedle_rules.specs.Table.Trivia.{RUN_BLANK}
+use Rattle.weedle_rules.specs.Table.Leaves.{BYTES_THREE_SLASHES, PAST_LF, DOC_LINE, MANY_DOC_LINE, DOCSTRING}
 use Rattle.weedle_rules.proofs.Suffix.{then_on, fails, nothing, no_node}
 use Rattle.weedle_rules.proofs.Checked.{rank, ranked}
 use Rattle.weedle_rules.proofs.Takes.{takes}

@@ -6,7 +6,7 @@ use Rattle.weedle_base.proofs.PlaceFacts.{suffix_along}
 use Rattle.weedle_base.specs.Generic.{option_reading, option_gives, pair_reading, seen_reading, boxed_reading}
 use Rattle.weedle_base.specs.Own.{stops_for_memory, own}
 use Rattle.weedle_base.specs.Reading.{Reading, Got, Faults, FaultSays}
-use Rattle.weedle_base.specs.Rules.{IsRule, option_tree}
+use Rattle.weedle_base.specs.Rules.{IsRule, mark_tree, option_tree}
 use Rattle.weedle_base.specs.declared.fault.Err.{Err as Fault}
 use Rattle.weedle_base.specs.declared.fault.Err.TheVariants.{Error as Recoverable, Failure}
 use Rattle.weedle_base.specs.declared.fault.Error.{Error}
@@ -36,6 +36,13 @@ module _ {V : Type 0} (r : ℕ) (tree : V → Tree) (grows : Type 0) where
   pub own_rule : IsRule (own r tree grows) r tree grows
   unfolding own
   own_rule = record { gives = λ s v k h. h; refuses = λ s h. h; stops = λ s x code h. h }
+
+-- a terminal
+abbrev pub mark : {V : Type 0} → ℕ → Reading V
+mark r = own r mark_tree ⊥
+
+pub mark_rule : {V : Type 0} (r : ℕ) → IsRule (mark {V = V} r) r mark_tree ⊥
+mark_rule r = own_rule r mark_tree ⊥
 
 -- what asks for no memory
 pub still_rule : {V : Type 0} {R : Reading V} {r : ℕ} {tree : V → Tree} {grows : Type 0} → IsRule R r tree ⊥ → IsRule R r tree grows

@@ -4,7 +4,7 @@ use Rattle.weedle_base.specs.Own.{stops_for_memory}
 use Rattle.weedle_base.specs.Reading.{Reading}
 use Rattle.weedle_base.specs.declared.fault.ErrorKind.{ErrorKind}
 use Rattle.weedle_rules.specs.Table.{Reads}
-use Rattle.weedle_rules.specs.Trees.{Tree, Absent, Present, trees, Fails, Gives, Items as Listed}
+use Rattle.weedle_rules.specs.Trees.{Tree, Absent, Present, trees, Fails, Gives, Mark, Items as Listed}
 
 -- the reading is that of the rule, with this tree of a value
 pub record IsRule {V : Type 0} (R : Reading V) (r : ℕ) (tree : V → Tree) (grows : Type 0) : Type 0 where
@@ -14,6 +14,10 @@ pub record IsRule {V : Type 0} (R : Reading V) (r : ℕ) (tree : V → Tree) (gr
   pub refuses : (s : List ℕ) → R.refuses s → Reads s r 0 Fails
   -- the reading stops for want of memory alone, and only if it grows
   pub stops : (s x : List ℕ) (code : ErrorKind) → R.stops s x code → stops_for_memory grows s x code
+
+-- the tree of a terminal
+abbrev pub mark_tree : {V : Type 0} → V → Tree
+mark_tree v = Mark
 
 -- the tree of an option
 abbrev pub option_tree : {V : Type 0} → (V → Tree) → Option V → Tree

@@ -35,8 +35,8 @@ pub fn ident_tag<'a>(tag: &'static str, input: &'a str) -> Option<(&'a str, &'a 
     Some((rest, tag))
 }
 
-/// Reads an identifier: trivia, an underscore that is dropped, a letter or a digit and the name
-/// characters that follow it, trivia. Answers what follows, then the name.
+/// Reads an identifier: trivia, an underscore that is dropped, a letter and the name characters
+/// that follow it, trivia. Answers what follows, then the name.
 ///
 /// `identifier(" _interface x")` is `Some(("x", "interface"))`; `identifier("__x")` is None. It
 /// takes no memory.
@@ -56,11 +56,11 @@ fn skip_underscore(input: &str) -> &str
     after_word(Rule::BYTES_UNDERSCORE, "_", input).unwrap_or(input)
 }
 
-/// What follows a letter or a digit and the name characters behind it, and the text of all of them.
+/// What follows a letter and the name characters behind it, and the text of all of them.
 fn name_text(input: &str) -> Option<(&str, &str)>
     ensures { MatchOption result (Reads input.now IDENTIFIER_TEXT 0 Fails) (λ x. TookText IDENTIFIER_TEXT input.now x.1.now x.0.now) }
 {
-    let first = after_one(Rule::ONE_OF_ALNUM, Class::Alnum, input)?;
+    let first = after_one(Rule::ONE_OF_LETTER, Class::Letter, input)?;
     let rest = after_run(Rule::RUN_NAME, Class::Name, first);
     Some((rest, taken(Rule::IDENTIFIER_TEXT, input, rest)))
 }

@@ -1,14 +1,24 @@
 //! The scanners of trivia.
 
-ghost use Rattle.std.specs.Prelude.{[]};
-ghost use Rattle.weedle_rules.specs.Table.Trivia.{LINE_COMMENT, BLANKS, BLOCK_COMMENT, PIECE, TRIVIA};
+ghost use Rattle.std.specs.Prelude.{List, ℕ, []};
+ghost use Rattle.weedle_rules.specs.Table.Trivia.{RUN_NOT_LINE_FEED, LINE_END, LINE_COMMENT, BLANKS, BLOCK_COMMENT, PIECE, TRIVIA};
 ghost use Rattle.weedle_base.specs.Trivia.{Trial, Took, TookText};
 
 use crate::scan::{after_one, after_run, after_word, next_is, taken};
 use memchr::{memchr, memmem};
 use weedle_rules::{Class, Rule};
 
-/// What follows a line comment: `//`, no third `/`, and everything up to an LF and past it.
+/// What follows the line at the front and its LF. Where there is no LF, the line ends with the text.
+fn after_line(input: &str) -> &str
+    ensures { (end : List ℕ) × Took RUN_NOT_LINE_FEED input.now [] end × Took LINE_END end [] result.now }
+{
+    match memchr(b'\n', input.as_bytes()) {
+        Some(end) => &input[end + 1..],
+        None => &input[input.len()..],
+    }
+}
+
+/// What follows a line comment: `//`, no third `/`, and the rest of the line.
 fn line_comment(input: &str) -> Option<&str>
     ensures { Trial LINE_COMMENT input.now result }
 {
@@ -16,8 +26,7 @@ fn line_comment(input: &str) -> Option<&str>
     if next_is(Class::Slash, after) {
         return None;
     }
-    let end = memchr(b'\n', after.as_bytes())?;
-    Some(&after[end + 1..])
+    Some(after_line(after))
 }
 
 /// What follows spaces, tabs, CRs and LFs, one at least.
@@ -65,9 +74,9 @@ pub fn skip_trivia(input: &str) -> &str
 
 /// Reads trivia: comments and blanks, none included. Answers what follows, then the trivia.
 ///
-/// `sp("// a\n/* b */ c")` is `("c", "// a\n/* b */ ")`. A comment that isn't closed is no trivia,
-/// nor is one that begins with `///`. Nothing is copied and no memory is taken; the ends of
-/// comments are found by `memchr`.
+/// `sp("// a\n/* b */ c")` is `("c", "// a\n/* b */ ")`. A line comment ends with its LF, or with
+/// the text. A block comment that isn't closed is no trivia, nor is a comment that begins with
+/// `///`. Nothing is copied and no memory is taken; the ends of comments are found by `memchr`.
 pub fn sp(input: &str) -> (&str, &str)
     ensures { TookText TRIVIA input.now result.1.now result.0.now }
 {

@@ -3,18 +3,18 @@ use Rattle.std.proofs.Common.{refl, inl, inr}
 use Rattle.std.specs.Borrow.{Bor}
 use Rattle.std.specs.Prelude.{ℕ, List, ◌⊎◌}
 use Rattle.weedle_base.proofs.Choice.{choice_reading, choice_tree, first_last, first_more, first_rule, choice_steps}
-use Rattle.weedle_base.proofs.RuleFacts.{own_rule, got_rule, fault_rule}
+use Rattle.weedle_base.proofs.RuleFacts.{mark, mark_rule, own_rule, got_rule, fault_rule}
 use Rattle.weedle_base.specs.Own.{own}
 use Rattle.weedle_base.specs.Reading.{Reading, Got, Faults}
-use Rattle.weedle_base.specs.Rules.{IsRule}
+use Rattle.weedle_base.specs.Rules.{IsRule, mark_tree}
 use Rattle.weedle_base.specs.declared.fault.Err.{Err as Fault}
 use Rattle.weedle_base.specs.declared.fault.Error.{Error}
 use Rattle.weedle_base.specs.declared.term.type_keywords.Boolean.{Boolean}
 use Rattle.weedle_base.specs.declared.term.type_keywords.Byte.{Byte}
 use Rattle.weedle_base.specs.declared.term.type_keywords.Octet.{Octet}
-use Rattle.weedle_parts.proofs.PartRules.{mark, mark_rule, may_be_null_rule}
+use Rattle.weedle_parts.proofs.PartRules.{may_be_null_rule}
 use Rattle.weedle_parts.specs.MayBeNull.{may_be_null_reading}
-use Rattle.weedle_parts.specs.ValueTrees.{mark_tree, identifier_tree, may_be_null_tree, integer_type_tree, floating_point_type_tree, const_type_tree}
+use Rattle.weedle_parts.specs.ValueTrees.{identifier_tree, may_be_null_tree, integer_type_tree, floating_point_type_tree, const_type_tree}
 use Rattle.weedle_parts.specs.declared.common.identifier.Identifier.{Identifier}
 use Rattle.weedle_parts.specs.declared.types.const_type.ConstType.{ConstType}
 use Rattle.weedle_parts.specs.declared.types.const_type.ConstType.TheVariants.{Integer, FloatingPoint, Boolean as IsBoolean, Byte as IsByte, Octet as IsOctet, Identifier as IsIdentifier}

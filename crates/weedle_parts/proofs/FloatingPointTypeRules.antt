@@ -4,18 +4,17 @@ use Rattle.std.proofs.Common.{refl, inl, inr}
 use Rattle.std.specs.Borrow.{Bor}
 use Rattle.std.specs.Prelude.{ℕ, List, [], ◌∷◌, ◌⊎◌, Option}
 use Rattle.weedle_base.proofs.Choice.{choice_reading, choice_tree, first_last, first_more, first_rule, choice_steps}
-use Rattle.weedle_base.proofs.RuleFacts.{own_rule, option_rule, pair_rule, got_rule, fault_rule}
+use Rattle.weedle_base.proofs.RuleFacts.{mark, mark_rule, own_rule, option_rule, pair_rule, got_rule, fault_rule}
 use Rattle.weedle_base.specs.Generic.{pair_reading, option_reading}
 use Rattle.weedle_base.specs.Own.{own}
 use Rattle.weedle_base.specs.Reading.{Reading, Got, Faults}
-use Rattle.weedle_base.specs.Rules.{IsRule, option_tree}
+use Rattle.weedle_base.specs.Rules.{IsRule, option_tree, mark_tree}
 use Rattle.weedle_base.specs.declared.fault.Err.{Err as Fault}
 use Rattle.weedle_base.specs.declared.fault.Error.{Error}
 use Rattle.weedle_base.specs.declared.term.type_keywords.Double.{Double}
 use Rattle.weedle_base.specs.declared.term.type_keywords.Float.{Float}
 use Rattle.weedle_base.specs.declared.term.type_keywords.Unrestricted.{Unrestricted}
-use Rattle.weedle_parts.proofs.PartRules.{mark, mark_rule}
-use Rattle.weedle_parts.specs.ValueTrees.{mark_tree, float_type_tree, double_type_tree, floating_point_type_tree}
+use Rattle.weedle_parts.specs.ValueTrees.{float_type_tree, double_type_tree, floating_point_type_tree}
 use Rattle.weedle_parts.specs.declared.types.floating_point.DoubleType.{DoubleType}
 use Rattle.weedle_parts.specs.declared.types.floating_point.FloatType.{FloatType}
 use Rattle.weedle_parts.specs.declared.types.floating_point.FloatingPointType.{FloatingPointType}

@@ -1,26 +1,18 @@
--- Terminals, bracketings and types that may be null, and their rules.
+-- Bracketings and types that may be null, and their rules.
 use Rattle.std.specs.Prelude.{◌≡◌, ℕ, [], ◌∷◌}
 use Rattle.std.proofs.Common.{refl}
-use Rattle.weedle_base.proofs.RuleFacts.{own_rule, still_rule, option_rule, pair_rule, seen_rule, triple_rule}
-use Rattle.weedle_base.specs.Own.{own}
+use Rattle.weedle_base.proofs.RuleFacts.{mark_rule, still_rule, option_rule, pair_rule, seen_rule, triple_rule}
 use Rattle.weedle_base.specs.Reading.{Reading}
 use Rattle.weedle_base.specs.Rules.{IsRule}
 use Rattle.weedle_parts.specs.Brackets.{bracket_reading, parenthesized_view, parenthesized_reading, bracketed_view, bracketed_reading, braced_view, braced_reading, generics_view, generics_reading}
 use Rattle.weedle_parts.specs.MayBeNull.{may_be_null_reading}
-use Rattle.weedle_parts.specs.ValueTrees.{mark_tree, bracket_tree, parenthesized_tree, bracketed_tree, braced_tree, generics_tree, may_be_null_tree}
+use Rattle.weedle_parts.specs.ValueTrees.{bracket_tree, parenthesized_tree, bracketed_tree, braced_tree, generics_tree, may_be_null_tree}
 use Rattle.weedle_rules.specs.Meaning.{Plain}
 use Rattle.weedle_rules.specs.Rows.{Seq}
 use Rattle.weedle_rules.specs.Table.{row_of, shape_of}
 use Rattle.weedle_rules.specs.Table.SimpleTypes.{OPT_Q_MARK}
 use Rattle.weedle_rules.specs.Table.Symbols.{OPEN_PAREN, CLOSE_PAREN, OPEN_BRACKET, CLOSE_BRACKET, OPEN_BRACE, CLOSE_BRACE, LESS_THAN, GREATER_THAN, Q_MARK}
 use Rattle.weedle_rules.specs.Trees.{Tree}
-
--- a terminal
-abbrev pub mark : {V : Type 0} → ℕ → Reading V
-mark r = own r mark_tree ⊥
-
-pub mark_rule : {V : Type 0} (r : ℕ) → IsRule (mark {V = V} r) r mark_tree ⊥
-mark_rule r = own_rule r mark_tree ⊥
 
 module _ {T : Type 0} {R : Reading T} {x : ℕ} {tree : T → Tree} {grows : Type 0} (rule : IsRule R x tree grows) (r : ℕ) where
   bracket_rule : {O C B : Type 0} (left right : ℕ) (view : B → O × (T × C)) → row_of r ≡ Seq (left ∷ x ∷ right ∷ []) → shape_of r ≡ Plain

@@ -1,5 +1,5 @@
 -- Texts in quotes.
-use Rattle.std.specs.Prelude.{◌≡◌, ℕ, suc, ◌+◌, ◌-◌, List, [], ◌∷◌, drop, take, Bool, true, false, not, ◌==◌, length, get_or, Some, None, slice_range}
+use Rattle.std.specs.Prelude.{◌≡◌, ℕ, suc, ◌+◌, ◌-◌, List, [], ◌∷◌, drop, take, length, Some, None, slice_range}
 use Rattle.std.proofs.Common.{refl, sym, ap, ◌∙◌, subst, arith, drop-drop}
 use Rattle.std.proofs.lemmas.List.{drop_all}
 use Rattle.memchr.specs.Find.{IsFirstByte, is_byte}
@@ -14,22 +14,9 @@ use Rattle.weedle_rules.proofs.Suffix.{then_on, then_fails_on, then_fails, fails
 use Rattle.weedle_base.proofs.RuleFacts.{of_row}
 use Rattle.weedle_base.proofs.Steps.{rest_add}
 use Rattle.weedle_base.proofs.LeafFacts.{reads_bytes, reads_run, takes_some}
-use Rattle.weedle_base.proofs.TriviaFacts.{slice_front, given, run_is}
+use Rattle.weedle_base.proofs.TriviaFacts.{slice_front, given}
 use Rattle.weedle_base.specs.Trivia.{Took}
-use Rattle.weedle_base.proofs.FindFacts.{found_front}
-
-not_so : (b : Bool) → (b ≡ true → ⊥) → not b ≡ true
-not_so true h = absurd (h refl)
-not_so false h = refl
-
-so : (b : Bool) → b ≡ true → not b ≡ false
-so b h = rw h refl
-
-quote_run : (s : List ℕ) (i : ℕ) → IsFirstByte (is_byte 34) s (Some i) → i ≡ run_length NotQuote s
-quote_run s i p = run_is NotQuote s i (omega (arith, p.0.high)) (λ k l. not_so (get_or s k 0 == 34) (p.0.before k (omega arith) l)) (λ l. so (get_or s i 0 == 34) p.1)
-
-open_run : (s : List ℕ) → IsFirstByte (is_byte 34) s None → length s ≡ run_length NotQuote s
-open_run s p = run_is NotQuote s (length s) (omega arith) (λ k l. not_so (get_or s k 0 == 34) (p k (omega arith) l)) (λ l. absurd (omega (arith, l)))
+use Rattle.weedle_base.proofs.FindFacts.{found_front, run_before, run_whole}
 
 module _ {s start : List ℕ} (a : Took TRIVIA s [] start) where
   pub no_quote : Reads start BYTES_QUOTE 0 Fails → Reads s STRING_LIT 0 Fails
@@ -38,14 +25,14 @@ module _ {s start : List ℕ} (a : Took TRIVIA s [] start) where
   module _ {after : List ℕ} (q : Took BYTES_QUOTE start [] after) where
     pub open_quote : IsFirstByte (is_byte 34) after None → Reads s STRING_LIT 0 Fails
     open_quote p =
-        let e : drop (run_length NotQuote after) after ≡ [] = drop_all (run_length NotQuote after) after (omega (arith, open_run after p)) in
+        let e : drop (run_length NotQuote after) after ≡ [] = drop_all (run_length NotQuote after) after (omega (arith, run_whole NotQuote 34 (λ b. refl) after p)) in
         let none : take_bytes (34 ∷ []) (drop (run_length NotQuote after) after) ≡ None = rw e refl in
         no_node refl (then_fails_on a.reads a.rest_is (then_fails_on q.reads q.rest_is
         (then_fails (reads_run {s = after} {r = RUN_NOT_QUOTE} {c = NotQuote} refl refl) (fails (given (reads_bytes {r = BYTES_QUOTE} refl refl) none)))))
 
     module _ (i : ℕ) (p : IsFirstByte (is_byte 34) after (Some i)) where
       inside : Reads after RUN_NOT_QUOTE 0 (Gives [] i)
-      inside = subst (λ (n : ℕ). Reads after RUN_NOT_QUOTE 0 (Gives [] n)) (sym (quote_run after i p)) (reads_run {s = after} {r = RUN_NOT_QUOTE} {c = NotQuote} refl refl)
+      inside = subst (λ (n : ℕ). Reads after RUN_NOT_QUOTE 0 (Gives [] n)) (sym (run_before NotQuote 34 (λ b. refl) after i p)) (reads_run {s = after} {r = RUN_NOT_QUOTE} {c = NotQuote} refl refl)
 
       closing : Reads (drop i after) BYTES_QUOTE 0 (Gives [] 1)
       closing = given (reads_bytes {r = BYTES_QUOTE} refl refl) (takes_some (34 ∷ []) (drop i after) (drop (suc i) after) (found_front 34 after i p))

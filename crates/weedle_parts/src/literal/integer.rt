@@ -38,7 +38,7 @@ impl<'a> Parse<'a> for DecLit<'a> {
     ghost lawful = { own_lawful DEC_LIT dec_tree ⊥ };
 }
 
-/// A hexadecimal number, as `-0x1F`. The digits may be missing, as in `0x`; without the `0x` it is a
+/// A hexadecimal number, as `-0x1F`. Without the `0x`, or a digit behind it, it is a
 /// mismatch.
 #[derive(Clone, Copy, Debug, PartialEq, Eq, PartialOrd, Ord, Hash)]
 pub struct HexLit<'a>(pub &'a str);
@@ -164,14 +164,15 @@ fn after_dec(input: &str) -> Option<&str>
     Some(after_run(Rule::RUN_DIGIT, Class::Digit, first))
 }
 
-/// What follows a hexadecimal number. It may have no digit behind its `x`.
+/// What follows a hexadecimal number. It has a digit at least behind its `x`.
 fn after_hex(input: &str) -> Option<&str>
     ensures { Trial HEX_LIT_TEXT input.now result }
 {
     let unsigned = skip_minus(input);
     let zero = after_word(Rule::BYTES_ZERO, "0", unsigned)?;
     let letter = after_one(Rule::ONE_OF_X_LETTER, Class::XLetter, zero)?;
-    Some(after_run(Rule::RUN_HEX, Class::Hex, letter))
+    let first = after_one(Rule::ONE_OF_HEX, Class::Hex, letter)?;
+    Some(after_run(Rule::RUN_HEX, Class::Hex, first))
 }
 
 /// What follows an octal number.
