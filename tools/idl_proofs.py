@@ -72,7 +72,7 @@ def perhaps_still(name):
 
 
 def shared(name, type_):
-    """A part that proofs/Parts.antt has by this name."""
+    """A part that proofs/SharedRules.antt has by this name."""
     return Part(type_, f"{name}_reading", f"{name}_rule", f"{name}_tree")
 
 
@@ -230,16 +230,15 @@ HOMES = {
     "Rattle.std.specs.Borrow": "Bor",
     "Rattle.std.specs.Global": "Vec",
     f"{BASE}.proofs.Choice": "choice_reading choice_tree first_last first_more first_rule choice_steps",
-    f"{BASE}.proofs.RuleFacts": "own_rule still_rule option_rule seq_rule seq_next seq_last got_rule fault_rule",
+    f"{BASE}.proofs.RuleFacts": "own_rule still_rule option_rule seq_rule seq_next seq_last got_rule fault_rule mark mark_rule",
     f"{BASE}.proofs.Steps": "part_steps",
     f"{BASE}.specs.Generic": "pair_reading option_reading",
     f"{BASE}.specs.Own": "own",
     f"{BASE}.specs.Reading": "Reading Got Faults",
-    f"{BASE}.specs.Rules": "IsRule option_tree",
+    f"{BASE}.specs.Rules": "IsRule mark_tree option_tree",
     f"{BASE}.specs.declared.fault.Error": "Error",
-    f"{PARTS}.proofs.PartRules": "mark mark_rule",
     f"{PARTS}.specs.LiteralTrees": "docstring_tree string_tree default_tree const_value_tree",
-    f"{PARTS}.specs.ValueTrees": "mark_tree identifier_tree const_type_tree",
+    f"{PARTS}.specs.ValueTrees": "identifier_tree const_type_tree",
     f"{PARTS}.specs.declared.common.brackets.Braced": "Braced",
     f"{PARTS}.specs.declared.common.default.Default": "Default",
     f"{PARTS}.specs.declared.common.docstring.Docstring": "Docstring",
@@ -254,7 +253,7 @@ HOMES = {
     f"{IDL}.specs.PartTrees": "Attributes Arguments OneType TwoTypes AsyncIterable optional_arguments_tree one_type_tree two_types_tree "
                               "async_iterable_tree members_tree",
     f"{IDL}.specs.DefinitionTrees": "EnumValues enum_values_tree",
-    f"{IDL}.proofs.Parts": "word perhaps attributes_reading attributes_rule arguments_reading arguments_rule optional_arguments_reading "
+    f"{IDL}.proofs.SharedRules": "word perhaps attributes_reading attributes_rule arguments_reading arguments_rule optional_arguments_reading "
                            "optional_arguments_rule one_type_reading one_type_rule two_types_reading two_types_rule "
                            "async_iterable_reading async_iterable_rule members_reading members_rule",
     f"{IDL}.proofs.EnumValueRules": "enum_values_reading enum_values_rule",

@@ -3,7 +3,7 @@ use Rattle.std.proofs.Common.{inl, inr, refl}
 use Rattle.std.specs.Borrow.{Bor}
 use Rattle.std.specs.Prelude.{ℕ, List, [], ◌∷◌, ◌⊎◌, Option}
 use Rattle.weedle_base.proofs.Choice.{choice_reading, choice_steps, choice_tree, first_last, first_more, first_rule}
-use Rattle.weedle_base.proofs.RuleFacts.{fault_rule, got_rule, own_rule, seq_last, seq_next, seq_rule}
+use Rattle.weedle_base.proofs.RuleFacts.{fault_rule, got_rule, mark, own_rule, seq_last, seq_next, seq_rule}
 use Rattle.weedle_base.proofs.Steps.{part_steps}
 use Rattle.weedle_base.specs.Generic.{pair_reading}
 use Rattle.weedle_base.specs.Own.{own}
@@ -12,14 +12,13 @@ use Rattle.weedle_base.specs.Rules.{IsRule}
 use Rattle.weedle_base.specs.declared.fault.Err.{Err as Fault}
 use Rattle.weedle_base.specs.declared.fault.Error.{Error}
 use Rattle.weedle_base.specs.declared.term.symbols.SemiColon.{SemiColon}
-use Rattle.weedle_idl.proofs.Parts.{async_iterable_reading, async_iterable_rule, attributes_reading, attributes_rule, one_type_reading, one_type_rule, optional_arguments_reading, optional_arguments_rule, two_types_reading, two_types_rule, word}
+use Rattle.weedle_idl.proofs.SharedRules.{async_iterable_reading, async_iterable_rule, attributes_reading, attributes_rule, one_type_reading, one_type_rule, optional_arguments_reading, optional_arguments_rule, two_types_reading, two_types_rule, word}
 use Rattle.weedle_idl.specs.InterfaceTrees.{async_iterable_interface_member_tree, double_typed_async_iterable_tree, single_typed_async_iterable_tree}
 use Rattle.weedle_idl.specs.PartTrees.{Arguments, AsyncIterable, Attributes, OneType, TwoTypes, async_iterable_tree, one_type_tree, optional_arguments_tree, two_types_tree}
 use Rattle.weedle_idl.specs.declared.interface.async_iterable.AsyncIterableInterfaceMember.TheVariants.{Single as IsSingle, Double as IsDouble}
 use Rattle.weedle_idl.specs.declared.interface.async_iterable.AsyncIterableInterfaceMember.{AsyncIterableInterfaceMember}
 use Rattle.weedle_idl.specs.declared.interface.async_iterable.DoubleTypedAsyncIterable.{DoubleTypedAsyncIterable}
 use Rattle.weedle_idl.specs.declared.interface.async_iterable.SingleTypedAsyncIterable.{SingleTypedAsyncIterable}
-use Rattle.weedle_parts.proofs.PartRules.{mark}
 use Rattle.weedle_rules.specs.Table.InterfaceMembers.{ASYNC_ITERABLE_INTERFACE_MEMBER, DOUBLE_TYPED_ASYNC_ITERABLE, SINGLE_TYPED_ASYNC_ITERABLE}
 use Rattle.weedle_rules.specs.Table.Symbols.{SEMI_COLON}
 use Rattle.weedle_rules.specs.Trees.{Alt, Mark, Node, trees}

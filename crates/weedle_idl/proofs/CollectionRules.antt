@@ -2,25 +2,23 @@
 use Rattle.std.proofs.Common.{refl}
 use Rattle.std.specs.Borrow.{Bor}
 use Rattle.std.specs.Prelude.{ℕ, List, [], ◌∷◌, Option}
-use Rattle.weedle_base.proofs.RuleFacts.{fault_rule, got_rule, seq_last, seq_next, seq_rule}
+use Rattle.weedle_base.proofs.RuleFacts.{fault_rule, got_rule, mark, mark_rule, seq_last, seq_next, seq_rule}
 use Rattle.weedle_base.proofs.Steps.{part_steps}
 use Rattle.weedle_base.specs.Generic.{option_reading, pair_reading}
 use Rattle.weedle_base.specs.Own.{own}
 use Rattle.weedle_base.specs.Reading.{Faults, Got, Reading}
-use Rattle.weedle_base.specs.Rules.{IsRule, option_tree}
+use Rattle.weedle_base.specs.Rules.{IsRule, mark_tree, option_tree}
 use Rattle.weedle_base.specs.declared.fault.Err.{Err as Fault}
 use Rattle.weedle_base.specs.declared.fault.Error.{Error}
 use Rattle.weedle_base.specs.declared.term.definition_keywords.Maplike.{Maplike}
 use Rattle.weedle_base.specs.declared.term.definition_keywords.ReadOnly.{ReadOnly}
 use Rattle.weedle_base.specs.declared.term.definition_keywords.Setlike.{Setlike}
 use Rattle.weedle_base.specs.declared.term.symbols.SemiColon.{SemiColon}
-use Rattle.weedle_idl.proofs.Parts.{attributes_reading, attributes_rule, one_type_reading, one_type_rule, perhaps, two_types_reading, two_types_rule, word}
+use Rattle.weedle_idl.proofs.SharedRules.{attributes_reading, attributes_rule, one_type_reading, one_type_rule, perhaps, two_types_reading, two_types_rule, word}
 use Rattle.weedle_idl.specs.InterfaceTrees.{maplike_interface_member_tree, setlike_interface_member_tree}
 use Rattle.weedle_idl.specs.PartTrees.{Attributes, OneType, TwoTypes, one_type_tree, two_types_tree}
 use Rattle.weedle_idl.specs.declared.interface.collection.MaplikeInterfaceMember.{MaplikeInterfaceMember}
 use Rattle.weedle_idl.specs.declared.interface.collection.SetlikeInterfaceMember.{SetlikeInterfaceMember}
-use Rattle.weedle_parts.proofs.PartRules.{mark, mark_rule}
-use Rattle.weedle_parts.specs.ValueTrees.{mark_tree}
 use Rattle.weedle_rules.specs.Table.InterfaceMembers.{MAPLIKE_INTERFACE_MEMBER, OPT_READ_ONLY, SETLIKE_INTERFACE_MEMBER}
 use Rattle.weedle_rules.specs.Table.Keywords.{MAPLIKE, READ_ONLY, SETLIKE}
 use Rattle.weedle_rules.specs.Table.Symbols.{SEMI_COLON}

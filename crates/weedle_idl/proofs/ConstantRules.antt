@@ -2,7 +2,7 @@
 use Rattle.std.proofs.Common.{refl}
 use Rattle.std.specs.Borrow.{Bor}
 use Rattle.std.specs.Prelude.{ℕ, List, [], ◌∷◌}
-use Rattle.weedle_base.proofs.RuleFacts.{fault_rule, got_rule, own_rule, seq_last, seq_next, seq_rule, still_rule}
+use Rattle.weedle_base.proofs.RuleFacts.{fault_rule, got_rule, mark, own_rule, seq_last, seq_next, seq_rule, still_rule}
 use Rattle.weedle_base.proofs.Steps.{part_steps}
 use Rattle.weedle_base.specs.Generic.{pair_reading}
 use Rattle.weedle_base.specs.Own.{own}
@@ -13,11 +13,10 @@ use Rattle.weedle_base.specs.declared.fault.Error.{Error}
 use Rattle.weedle_base.specs.declared.term.definition_keywords.Const.{Const}
 use Rattle.weedle_base.specs.declared.term.symbols.Assign.{Assign}
 use Rattle.weedle_base.specs.declared.term.symbols.SemiColon.{SemiColon}
-use Rattle.weedle_idl.proofs.Parts.{attributes_reading, attributes_rule, word}
+use Rattle.weedle_idl.proofs.SharedRules.{attributes_reading, attributes_rule, word}
 use Rattle.weedle_idl.specs.InterfaceTrees.{const_member_tree}
 use Rattle.weedle_idl.specs.PartTrees.{Attributes}
 use Rattle.weedle_idl.specs.declared.interface.constant.ConstMember.{ConstMember}
-use Rattle.weedle_parts.proofs.PartRules.{mark}
 use Rattle.weedle_parts.specs.LiteralTrees.{const_value_tree}
 use Rattle.weedle_parts.specs.ValueTrees.{const_type_tree, identifier_tree}
 use Rattle.weedle_parts.specs.declared.common.identifier.Identifier.{Identifier}

@@ -1,15 +1,15 @@
 -- How the values of an enum are read, and that this is what their rule reads.
 use Rattle.std.proofs.Common.{refl}
-use Rattle.weedle_base.proofs.RuleFacts.{own_rule}
+use Rattle.weedle_base.proofs.RuleFacts.{own_rule, mark}
 use Rattle.weedle_base.specs.Own.{own}
 use Rattle.weedle_base.specs.Reading.{Reading}
 use Rattle.weedle_base.specs.Rules.{IsRule}
 use Rattle.weedle_base.specs.declared.term.symbols.Comma.{Comma}
-use Rattle.weedle_idl.proofs.Parts.{word}
+use Rattle.weedle_idl.proofs.SharedRules.{word}
 use Rattle.weedle_idl.specs.DefinitionTrees.{EnumValues, enum_values_tree, enum_variant_tree}
 use Rattle.weedle_idl.specs.declared.definition.enums.EnumVariant.{EnumVariant}
 use Rattle.weedle_parts.proofs.ListRules.{punctuated_non_empty_rule}
-use Rattle.weedle_parts.proofs.PartRules.{mark, braced_rule}
+use Rattle.weedle_parts.proofs.PartRules.{braced_rule}
 use Rattle.weedle_parts.specs.Brackets.{braced_reading}
 use Rattle.weedle_parts.specs.Lists.{punctuated_non_empty_reading}
 use Rattle.weedle_parts.specs.declared.common.punctuated.PunctuatedNonEmpty.{PunctuatedNonEmpty}

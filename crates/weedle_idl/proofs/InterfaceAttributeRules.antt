@@ -2,24 +2,23 @@
 use Rattle.std.proofs.Common.{refl}
 use Rattle.std.specs.Borrow.{Bor}
 use Rattle.std.specs.Prelude.{ℕ, List, [], ◌∷◌, Option}
-use Rattle.weedle_base.proofs.RuleFacts.{fault_rule, got_rule, own_rule, seq_last, seq_next, seq_rule, still_rule}
+use Rattle.weedle_base.proofs.RuleFacts.{fault_rule, got_rule, mark, mark_rule, own_rule, seq_last, seq_next, seq_rule, still_rule}
 use Rattle.weedle_base.proofs.Steps.{part_steps}
 use Rattle.weedle_base.specs.Generic.{option_reading, pair_reading}
 use Rattle.weedle_base.specs.Own.{own}
 use Rattle.weedle_base.specs.Reading.{Faults, Got, Reading}
-use Rattle.weedle_base.specs.Rules.{IsRule, option_tree}
+use Rattle.weedle_base.specs.Rules.{IsRule, mark_tree, option_tree}
 use Rattle.weedle_base.specs.declared.fault.Err.{Err as Fault}
 use Rattle.weedle_base.specs.declared.fault.Error.{Error}
 use Rattle.weedle_base.specs.declared.term.definition_keywords.Attribute.{Attribute}
 use Rattle.weedle_base.specs.declared.term.definition_keywords.ReadOnly.{ReadOnly}
 use Rattle.weedle_base.specs.declared.term.symbols.SemiColon.{SemiColon}
-use Rattle.weedle_idl.proofs.Parts.{attributes_reading, attributes_rule, perhaps, word}
+use Rattle.weedle_idl.proofs.SharedRules.{attributes_reading, attributes_rule, perhaps, word}
 use Rattle.weedle_idl.specs.InterfaceTrees.{attribute_interface_member_tree, stringifier_or_inherit_or_static_tree}
 use Rattle.weedle_idl.specs.PartTrees.{Attributes}
 use Rattle.weedle_idl.specs.declared.interface.attribute.AttributeInterfaceMember.{AttributeInterfaceMember}
 use Rattle.weedle_idl.specs.declared.interface.modifier.StringifierOrInheritOrStatic.{StringifierOrInheritOrStatic}
-use Rattle.weedle_parts.proofs.PartRules.{mark, mark_rule}
-use Rattle.weedle_parts.specs.ValueTrees.{identifier_tree, mark_tree}
+use Rattle.weedle_parts.specs.ValueTrees.{identifier_tree}
 use Rattle.weedle_parts.specs.declared.common.identifier.Identifier.{Identifier}
 use Rattle.weedle_rules.specs.Table.InterfaceMembers.{ATTRIBUTE_INTERFACE_MEMBER, OPT_READ_ONLY, OPT_STRINGIFIER_OR_INHERIT_OR_STATIC, STRINGIFIER_OR_INHERIT_OR_STATIC}
 use Rattle.weedle_rules.specs.Table.Keywords.{ATTRIBUTE, READ_ONLY}

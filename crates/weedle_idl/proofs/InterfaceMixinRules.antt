@@ -3,7 +3,7 @@ use Rattle.std.proofs.Common.{refl}
 use Rattle.std.specs.Borrow.{Bor}
 use Rattle.std.specs.Global.{Vec}
 use Rattle.std.specs.Prelude.{ℕ, List, [], ◌∷◌}
-use Rattle.weedle_base.proofs.RuleFacts.{fault_rule, got_rule, own_rule, seq_last, seq_next, seq_rule, still_rule}
+use Rattle.weedle_base.proofs.RuleFacts.{fault_rule, got_rule, mark, own_rule, seq_last, seq_next, seq_rule, still_rule}
 use Rattle.weedle_base.proofs.Steps.{part_steps}
 use Rattle.weedle_base.specs.Generic.{pair_reading}
 use Rattle.weedle_base.specs.Own.{own}
@@ -17,7 +17,7 @@ use Rattle.weedle_base.specs.declared.term.definition_keywords.Interface.{Interf
 use Rattle.weedle_base.specs.declared.term.definition_keywords.Mixin.{Mixin}
 use Rattle.weedle_base.specs.declared.term.definition_keywords.Partial.{Partial}
 use Rattle.weedle_base.specs.declared.term.symbols.SemiColon.{SemiColon}
-use Rattle.weedle_idl.proofs.Parts.{attributes_reading, attributes_rule, members_reading, members_rule, word}
+use Rattle.weedle_idl.proofs.SharedRules.{attributes_reading, attributes_rule, members_reading, members_rule, word}
 use Rattle.weedle_idl.specs.DefinitionTrees.{implements_definition_tree, includes_statement_definition_tree, interface_mixin_definition_tree, partial_interface_mixin_definition_tree}
 use Rattle.weedle_idl.specs.OtherMemberTrees.{mixin_member_tree}
 use Rattle.weedle_idl.specs.PartTrees.{Attributes, members_tree}
@@ -26,7 +26,6 @@ use Rattle.weedle_idl.specs.declared.definition.mixins.IncludesStatementDefiniti
 use Rattle.weedle_idl.specs.declared.definition.mixins.InterfaceMixinDefinition.{InterfaceMixinDefinition}
 use Rattle.weedle_idl.specs.declared.definition.mixins.PartialInterfaceMixinDefinition.{PartialInterfaceMixinDefinition}
 use Rattle.weedle_idl.specs.declared.mixin.MixinMember.{MixinMember}
-use Rattle.weedle_parts.proofs.PartRules.{mark}
 use Rattle.weedle_parts.specs.ValueTrees.{identifier_tree}
 use Rattle.weedle_parts.specs.declared.common.brackets.Braced.{Braced}
 use Rattle.weedle_parts.specs.declared.common.identifier.Identifier.{Identifier}

@@ -2,7 +2,7 @@
 use Rattle.std.proofs.Common.{refl}
 use Rattle.std.specs.Borrow.{Bor}
 use Rattle.std.specs.Prelude.{ℕ, List, [], ◌∷◌, Option}
-use Rattle.weedle_base.proofs.RuleFacts.{fault_rule, got_rule, option_rule, own_rule, seq_last, seq_next, seq_rule}
+use Rattle.weedle_base.proofs.RuleFacts.{fault_rule, got_rule, mark, option_rule, own_rule, seq_last, seq_next, seq_rule}
 use Rattle.weedle_base.proofs.Steps.{part_steps}
 use Rattle.weedle_base.specs.Generic.{option_reading, pair_reading}
 use Rattle.weedle_base.specs.Own.{own}
@@ -12,14 +12,13 @@ use Rattle.weedle_base.specs.declared.fault.Err.{Err as Fault}
 use Rattle.weedle_base.specs.declared.fault.Error.{Error}
 use Rattle.weedle_base.specs.declared.term.definition_keywords.Constructor.{Constructor}
 use Rattle.weedle_base.specs.declared.term.symbols.SemiColon.{SemiColon}
-use Rattle.weedle_idl.proofs.Parts.{arguments_reading, arguments_rule, attributes_reading, attributes_rule, perhaps, word}
+use Rattle.weedle_idl.proofs.SharedRules.{arguments_reading, arguments_rule, attributes_reading, attributes_rule, perhaps, word}
 use Rattle.weedle_idl.specs.InterfaceTrees.{constructor_interface_member_tree, operation_interface_member_tree, special_tree, stringifier_or_static_tree}
 use Rattle.weedle_idl.specs.PartTrees.{Arguments, Attributes}
 use Rattle.weedle_idl.specs.declared.interface.modifier.Special.{Special}
 use Rattle.weedle_idl.specs.declared.interface.modifier.StringifierOrStatic.{StringifierOrStatic}
 use Rattle.weedle_idl.specs.declared.interface.operation.ConstructorInterfaceMember.{ConstructorInterfaceMember}
 use Rattle.weedle_idl.specs.declared.interface.operation.OperationInterfaceMember.{OperationInterfaceMember}
-use Rattle.weedle_parts.proofs.PartRules.{mark}
 use Rattle.weedle_parts.specs.LiteralTrees.{docstring_tree}
 use Rattle.weedle_parts.specs.ValueTrees.{identifier_tree}
 use Rattle.weedle_parts.specs.declared.common.docstring.Docstring.{Docstring}

@@ -3,7 +3,7 @@ use Rattle.std.proofs.Common.{inl, inr, refl}
 use Rattle.std.specs.Borrow.{Bor}
 use Rattle.std.specs.Prelude.{ℕ, List, [], ◌∷◌, ◌⊎◌}
 use Rattle.weedle_base.proofs.Choice.{choice_reading, choice_steps, choice_tree, first_last, first_more, first_rule}
-use Rattle.weedle_base.proofs.RuleFacts.{fault_rule, got_rule, own_rule, seq_last, seq_next, seq_rule}
+use Rattle.weedle_base.proofs.RuleFacts.{fault_rule, got_rule, mark, own_rule, seq_last, seq_next, seq_rule}
 use Rattle.weedle_base.proofs.Steps.{part_steps}
 use Rattle.weedle_base.specs.Generic.{pair_reading}
 use Rattle.weedle_base.specs.Own.{own}
@@ -13,14 +13,13 @@ use Rattle.weedle_base.specs.declared.fault.Err.{Err as Fault}
 use Rattle.weedle_base.specs.declared.fault.Error.{Error}
 use Rattle.weedle_base.specs.declared.term.definition_keywords.Iterable.{Iterable}
 use Rattle.weedle_base.specs.declared.term.symbols.SemiColon.{SemiColon}
-use Rattle.weedle_idl.proofs.Parts.{attributes_reading, attributes_rule, one_type_reading, one_type_rule, two_types_reading, two_types_rule, word}
+use Rattle.weedle_idl.proofs.SharedRules.{attributes_reading, attributes_rule, one_type_reading, one_type_rule, two_types_reading, two_types_rule, word}
 use Rattle.weedle_idl.specs.InterfaceTrees.{double_typed_iterable_tree, iterable_interface_member_tree, single_typed_iterable_tree}
 use Rattle.weedle_idl.specs.PartTrees.{Attributes, OneType, TwoTypes, one_type_tree, two_types_tree}
 use Rattle.weedle_idl.specs.declared.interface.iterable.DoubleTypedIterable.{DoubleTypedIterable}
 use Rattle.weedle_idl.specs.declared.interface.iterable.IterableInterfaceMember.TheVariants.{Single as IsSingle, Double as IsDouble}
 use Rattle.weedle_idl.specs.declared.interface.iterable.IterableInterfaceMember.{IterableInterfaceMember}
 use Rattle.weedle_idl.specs.declared.interface.iterable.SingleTypedIterable.{SingleTypedIterable}
-use Rattle.weedle_parts.proofs.PartRules.{mark}
 use Rattle.weedle_rules.specs.Table.InterfaceMembers.{DOUBLE_TYPED_ITERABLE, ITERABLE_INTERFACE_MEMBER, SINGLE_TYPED_ITERABLE}
 use Rattle.weedle_rules.specs.Table.Keywords.{ITERABLE}
 use Rattle.weedle_rules.specs.Table.Symbols.{SEMI_COLON}

@@ -1,4 +1,4 @@
-pub mod Parts
+pub mod SharedRules
 pub mod CopyFacts
 pub mod InheritanceRules
 pub mod ModifierRules

@@ -3,19 +3,19 @@ use Rattle.std.proofs.Common.{inl, inr, refl}
 use Rattle.std.specs.Borrow.{Bor}
 use Rattle.std.specs.Prelude.{ℕ, List, [], ◌∷◌, ◌⊎◌, Option}
 use Rattle.weedle_base.proofs.Choice.{choice_reading, choice_steps, choice_tree, first_last, first_more, first_rule}
-use Rattle.weedle_base.proofs.RuleFacts.{fault_rule, got_rule, own_rule, seq_last, seq_next, seq_rule, still_rule}
+use Rattle.weedle_base.proofs.RuleFacts.{fault_rule, got_rule, mark, mark_rule, own_rule, seq_last, seq_next, seq_rule, still_rule}
 use Rattle.weedle_base.proofs.Steps.{part_steps}
 use Rattle.weedle_base.specs.Generic.{option_reading, pair_reading}
 use Rattle.weedle_base.specs.Own.{own}
 use Rattle.weedle_base.specs.Reading.{Faults, Got, Reading}
-use Rattle.weedle_base.specs.Rules.{IsRule, option_tree}
+use Rattle.weedle_base.specs.Rules.{IsRule, mark_tree, option_tree}
 use Rattle.weedle_base.specs.declared.fault.Err.{Err as Fault}
 use Rattle.weedle_base.specs.declared.fault.Error.{Error}
 use Rattle.weedle_base.specs.declared.term.definition_keywords.Attribute.{Attribute}
 use Rattle.weedle_base.specs.declared.term.definition_keywords.ReadOnly.{ReadOnly}
 use Rattle.weedle_base.specs.declared.term.definition_keywords.Stringifier.{Stringifier}
 use Rattle.weedle_base.specs.declared.term.symbols.SemiColon.{SemiColon}
-use Rattle.weedle_idl.proofs.Parts.{arguments_reading, arguments_rule, attributes_reading, attributes_rule, perhaps, word}
+use Rattle.weedle_idl.proofs.SharedRules.{arguments_reading, arguments_rule, attributes_reading, attributes_rule, perhaps, word}
 use Rattle.weedle_idl.specs.InterfaceTrees.{const_member_tree, stringifier_member_tree}
 use Rattle.weedle_idl.specs.OtherMemberTrees.{attribute_mixin_member_tree, mixin_member_tree, operation_mixin_member_tree}
 use Rattle.weedle_idl.specs.PartTrees.{Arguments, Attributes}
@@ -25,8 +25,7 @@ use Rattle.weedle_idl.specs.declared.mixin.AttributeMixinMember.{AttributeMixinM
 use Rattle.weedle_idl.specs.declared.mixin.MixinMember.TheVariants.{Const as IsConst, Operation as IsOperation, Attribute as IsAttribute, Stringifier as IsStringifier}
 use Rattle.weedle_idl.specs.declared.mixin.MixinMember.{MixinMember}
 use Rattle.weedle_idl.specs.declared.mixin.OperationMixinMember.{OperationMixinMember}
-use Rattle.weedle_parts.proofs.PartRules.{mark, mark_rule}
-use Rattle.weedle_parts.specs.ValueTrees.{identifier_tree, mark_tree}
+use Rattle.weedle_parts.specs.ValueTrees.{identifier_tree}
 use Rattle.weedle_parts.specs.declared.common.identifier.Identifier.{Identifier}
 use Rattle.weedle_rules.specs.Table.InterfaceMembers.{CONST_MEMBER, OPT_IDENTIFIER, OPT_READ_ONLY, STRINGIFIER_MEMBER}
 use Rattle.weedle_rules.specs.Table.Keywords.{ATTRIBUTE, READ_ONLY, STRINGIFIER}

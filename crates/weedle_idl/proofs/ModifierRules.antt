@@ -3,7 +3,7 @@ use Rattle.std.proofs.Common.{inl, inr, refl}
 use Rattle.std.specs.Borrow.{Bor}
 use Rattle.std.specs.Prelude.{ℕ, List, ◌⊎◌}
 use Rattle.weedle_base.proofs.Choice.{choice_reading, choice_steps, choice_tree, first_last, first_more, first_rule}
-use Rattle.weedle_base.proofs.RuleFacts.{fault_rule, got_rule}
+use Rattle.weedle_base.proofs.RuleFacts.{fault_rule, got_rule, mark, mark_rule}
 use Rattle.weedle_base.specs.Own.{own}
 use Rattle.weedle_base.specs.Reading.{Faults, Got, Reading}
 use Rattle.weedle_base.specs.Rules.{IsRule}
@@ -23,7 +23,6 @@ use Rattle.weedle_idl.specs.declared.interface.modifier.StringifierOrInheritOrSt
 use Rattle.weedle_idl.specs.declared.interface.modifier.StringifierOrInheritOrStatic.{StringifierOrInheritOrStatic}
 use Rattle.weedle_idl.specs.declared.interface.modifier.StringifierOrStatic.TheVariants.{Stringifier as IsStringifier, Static as IsStatic}
 use Rattle.weedle_idl.specs.declared.interface.modifier.StringifierOrStatic.{StringifierOrStatic}
-use Rattle.weedle_parts.proofs.PartRules.{mark, mark_rule}
 use Rattle.weedle_rules.specs.Table.InterfaceMembers.{SPECIAL, STRINGIFIER_OR_INHERIT_OR_STATIC, STRINGIFIER_OR_STATIC}
 use Rattle.weedle_rules.specs.Table.Keywords.{DELETER, GETTER, INHERIT, LEGACY_CALLER, SETTER, STATIC, STRINGIFIER}
 use Rattle.weedle_rules.specs.Trees.{Alt, Mark}

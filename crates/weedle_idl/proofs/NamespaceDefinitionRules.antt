@@ -3,7 +3,7 @@ use Rattle.std.proofs.Common.{refl}
 use Rattle.std.specs.Borrow.{Bor}
 use Rattle.std.specs.Global.{Vec}
 use Rattle.std.specs.Prelude.{ℕ, List, [], ◌∷◌, Option}
-use Rattle.weedle_base.proofs.RuleFacts.{fault_rule, got_rule, option_rule, own_rule, seq_last, seq_next, seq_rule, still_rule}
+use Rattle.weedle_base.proofs.RuleFacts.{fault_rule, got_rule, mark, option_rule, own_rule, seq_last, seq_next, seq_rule, still_rule}
 use Rattle.weedle_base.proofs.Steps.{part_steps}
 use Rattle.weedle_base.specs.Generic.{option_reading, pair_reading}
 use Rattle.weedle_base.specs.Own.{own}
@@ -14,14 +14,13 @@ use Rattle.weedle_base.specs.declared.fault.Error.{Error}
 use Rattle.weedle_base.specs.declared.term.definition_keywords.Namespace.{Namespace}
 use Rattle.weedle_base.specs.declared.term.definition_keywords.Partial.{Partial}
 use Rattle.weedle_base.specs.declared.term.symbols.SemiColon.{SemiColon}
-use Rattle.weedle_idl.proofs.Parts.{attributes_reading, attributes_rule, members_reading, members_rule, word}
+use Rattle.weedle_idl.proofs.SharedRules.{attributes_reading, attributes_rule, members_reading, members_rule, word}
 use Rattle.weedle_idl.specs.DefinitionTrees.{namespace_definition_tree, partial_namespace_definition_tree}
 use Rattle.weedle_idl.specs.OtherMemberTrees.{namespace_member_tree}
 use Rattle.weedle_idl.specs.PartTrees.{Attributes, members_tree}
 use Rattle.weedle_idl.specs.declared.definition.namespaces.NamespaceDefinition.{NamespaceDefinition}
 use Rattle.weedle_idl.specs.declared.definition.namespaces.PartialNamespaceDefinition.{PartialNamespaceDefinition}
 use Rattle.weedle_idl.specs.declared.namespace.NamespaceMember.{NamespaceMember}
-use Rattle.weedle_parts.proofs.PartRules.{mark}
 use Rattle.weedle_parts.specs.LiteralTrees.{docstring_tree}
 use Rattle.weedle_parts.specs.ValueTrees.{identifier_tree}
 use Rattle.weedle_parts.specs.declared.common.brackets.Braced.{Braced}

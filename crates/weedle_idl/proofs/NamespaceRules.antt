@@ -3,7 +3,7 @@ use Rattle.std.proofs.Common.{inl, inr, refl}
 use Rattle.std.specs.Borrow.{Bor}
 use Rattle.std.specs.Prelude.{ℕ, List, [], ◌∷◌, ◌⊎◌, Option}
 use Rattle.weedle_base.proofs.Choice.{choice_reading, choice_steps, choice_tree, first_last, first_more, first_rule}
-use Rattle.weedle_base.proofs.RuleFacts.{fault_rule, got_rule, option_rule, own_rule, seq_last, seq_next, seq_rule, still_rule}
+use Rattle.weedle_base.proofs.RuleFacts.{fault_rule, got_rule, mark, option_rule, own_rule, seq_last, seq_next, seq_rule, still_rule}
 use Rattle.weedle_base.proofs.Steps.{part_steps}
 use Rattle.weedle_base.specs.Generic.{option_reading, pair_reading}
 use Rattle.weedle_base.specs.Own.{own}
@@ -14,14 +14,13 @@ use Rattle.weedle_base.specs.declared.fault.Error.{Error}
 use Rattle.weedle_base.specs.declared.term.definition_keywords.Attribute.{Attribute}
 use Rattle.weedle_base.specs.declared.term.definition_keywords.ReadOnly.{ReadOnly}
 use Rattle.weedle_base.specs.declared.term.symbols.SemiColon.{SemiColon}
-use Rattle.weedle_idl.proofs.Parts.{arguments_reading, arguments_rule, attributes_reading, attributes_rule, perhaps, word}
+use Rattle.weedle_idl.proofs.SharedRules.{arguments_reading, arguments_rule, attributes_reading, attributes_rule, perhaps, word}
 use Rattle.weedle_idl.specs.OtherMemberTrees.{attribute_namespace_member_tree, namespace_member_tree, operation_namespace_member_tree}
 use Rattle.weedle_idl.specs.PartTrees.{Arguments, Attributes}
 use Rattle.weedle_idl.specs.declared.namespace.AttributeNamespaceMember.{AttributeNamespaceMember}
 use Rattle.weedle_idl.specs.declared.namespace.NamespaceMember.TheVariants.{Operation as IsOperation, Attribute as IsAttribute}
 use Rattle.weedle_idl.specs.declared.namespace.NamespaceMember.{NamespaceMember}
 use Rattle.weedle_idl.specs.declared.namespace.OperationNamespaceMember.{OperationNamespaceMember}
-use Rattle.weedle_parts.proofs.PartRules.{mark}
 use Rattle.weedle_parts.specs.LiteralTrees.{docstring_tree}
 use Rattle.weedle_parts.specs.ValueTrees.{identifier_tree}
 use Rattle.weedle_parts.specs.declared.common.docstring.Docstring.{Docstring}

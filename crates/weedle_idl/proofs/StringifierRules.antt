@@ -2,7 +2,7 @@
 use Rattle.std.proofs.Common.{refl}
 use Rattle.std.specs.Borrow.{Bor}
 use Rattle.std.specs.Prelude.{ℕ, List, [], ◌∷◌}
-use Rattle.weedle_base.proofs.RuleFacts.{fault_rule, got_rule, seq_last, seq_next, seq_rule}
+use Rattle.weedle_base.proofs.RuleFacts.{fault_rule, got_rule, mark, seq_last, seq_next, seq_rule}
 use Rattle.weedle_base.proofs.Steps.{part_steps}
 use Rattle.weedle_base.specs.Generic.{pair_reading}
 use Rattle.weedle_base.specs.Own.{own}
@@ -12,11 +12,10 @@ use Rattle.weedle_base.specs.declared.fault.Err.{Err as Fault}
 use Rattle.weedle_base.specs.declared.fault.Error.{Error}
 use Rattle.weedle_base.specs.declared.term.definition_keywords.Stringifier.{Stringifier}
 use Rattle.weedle_base.specs.declared.term.symbols.SemiColon.{SemiColon}
-use Rattle.weedle_idl.proofs.Parts.{attributes_reading, attributes_rule, word}
+use Rattle.weedle_idl.proofs.SharedRules.{attributes_reading, attributes_rule, word}
 use Rattle.weedle_idl.specs.InterfaceTrees.{stringifier_member_tree}
 use Rattle.weedle_idl.specs.PartTrees.{Attributes}
 use Rattle.weedle_idl.specs.declared.interface.stringifier.StringifierMember.{StringifierMember}
-use Rattle.weedle_parts.proofs.PartRules.{mark}
 use Rattle.weedle_rules.specs.Table.InterfaceMembers.{STRINGIFIER_MEMBER}
 use Rattle.weedle_rules.specs.Table.Keywords.{STRINGIFIER}
 use Rattle.weedle_rules.specs.Table.Symbols.{SEMI_COLON}

@@ -1,6 +1,6 @@
 -- The trees of members of interfaces.
 use Rattle.std.specs.Prelude.{[], ◌∷◌}
-use Rattle.weedle_base.specs.Rules.{option_tree}
+use Rattle.weedle_base.specs.Rules.{mark_tree, option_tree}
 use Rattle.weedle_idl.specs.PartTrees.{async_iterable_tree, one_type_tree, optional_arguments_tree, two_types_tree}
 use Rattle.weedle_idl.specs.declared.interface.async_iterable.AsyncIterableInterfaceMember.TheVariants.{Single as AsyncIterableInterfaceMember-Single, Double as AsyncIterableInterfaceMember-Double}
 use Rattle.weedle_idl.specs.declared.interface.async_iterable.AsyncIterableInterfaceMember.{AsyncIterableInterfaceMember}
@@ -27,7 +27,7 @@ use Rattle.weedle_idl.specs.declared.interface.operation.ConstructorInterfaceMem
 use Rattle.weedle_idl.specs.declared.interface.operation.OperationInterfaceMember.{OperationInterfaceMember}
 use Rattle.weedle_idl.specs.declared.interface.stringifier.StringifierMember.{StringifierMember}
 use Rattle.weedle_parts.specs.LiteralTrees.{const_value_tree, docstring_tree}
-use Rattle.weedle_parts.specs.ValueTrees.{const_type_tree, identifier_tree, mark_tree}
+use Rattle.weedle_parts.specs.ValueTrees.{const_type_tree, identifier_tree}
 use Rattle.weedle_rules.specs.Trees.{Alt, Mark, Node, Tree, trees}
 use Rattle.weedle_types.specs.Trees.{arguments_tree, attributed_type_tree, attributes_tree, return_type_tree}
 

@@ -1,6 +1,6 @@
 -- The trees of members of mixins, namespaces and dictionaries.
 use Rattle.std.specs.Prelude.{[], ◌∷◌}
-use Rattle.weedle_base.specs.Rules.{option_tree}
+use Rattle.weedle_base.specs.Rules.{mark_tree, option_tree}
 use Rattle.weedle_idl.specs.InterfaceTrees.{const_member_tree, stringifier_member_tree}
 use Rattle.weedle_idl.specs.declared.dictionary.DictionaryMember.{DictionaryMember}
 use Rattle.weedle_idl.specs.declared.mixin.AttributeMixinMember.{AttributeMixinMember}
@@ -12,7 +12,7 @@ use Rattle.weedle_idl.specs.declared.namespace.NamespaceMember.TheVariants.{Oper
 use Rattle.weedle_idl.specs.declared.namespace.NamespaceMember.{NamespaceMember}
 use Rattle.weedle_idl.specs.declared.namespace.OperationNamespaceMember.{OperationNamespaceMember}
 use Rattle.weedle_parts.specs.LiteralTrees.{default_tree, docstring_tree}
-use Rattle.weedle_parts.specs.ValueTrees.{identifier_tree, mark_tree}
+use Rattle.weedle_parts.specs.ValueTrees.{identifier_tree}
 use Rattle.weedle_rules.specs.Trees.{Alt, Mark, Node, Tree, trees}
 use Rattle.weedle_types.specs.Trees.{arguments_tree, attributed_type_tree, attributes_tree, return_type_tree, type_tree}
 

@@ -28,7 +28,7 @@ pub use mixins::{
 pub use namespaces::{NamespaceDefinition, PartialNamespaceDefinition};
 use std::alloc::{AllocError, Global};
 pub use typedef::TypedefDefinition;
-use weedle_base::{IResult, Parse};
+use weedle_base::{IResult, Parse, TryClone};
 
 /// Definitions one after another, as `interface A {}; interface B {};`.
 pub type Definitions<'a> = Vec<Definition<'a>>;

@@ -11,7 +11,7 @@ use crate::copies::{copy_attributes, copy_docstring};
 use crate::parts::attributes;
 use std::alloc::{AllocError, Global};
 use weedle_base::term::{Required, SemiColon};
-use weedle_base::{IResult, Parse};
+use weedle_base::{IResult, Parse, TryClone};
 use weedle_parts::common::{Default, Docstring, Identifier};
 use weedle_types::attribute::ExtendedAttributeList;
 use weedle_types::types::Type;

@@ -12,7 +12,7 @@ use crate::interface::{ConstMember, StringifierMember};
 use crate::parts::{arguments, attributes};
 use std::alloc::{AllocError, Global};
 use weedle_base::term::{Attribute, ReadOnly, SemiColon, Stringifier};
-use weedle_base::{IResult, Parse};
+use weedle_base::{IResult, Parse, TryClone};
 use weedle_parts::common::{Identifier, Parenthesized};
 use weedle_types::argument::ArgumentList;
 use weedle_types::attribute::ExtendedAttributeList;

@@ -11,7 +11,7 @@ use crate::copies::{copy_arguments, copy_attributes};
 use crate::parts::{arguments, attributes};
 use std::alloc::{AllocError, Global};
 use weedle_base::term::{Assign, Callback, SemiColon};
-use weedle_base::{IResult, Parse};
+use weedle_base::{IResult, Parse, TryClone};
 use weedle_parts::common::{Identifier, Parenthesized};
 use weedle_types::argument::ArgumentList;
 use weedle_types::attribute::ExtendedAttributeList;

@@ -13,7 +13,7 @@ use crate::interface::Inheritance;
 use crate::parts::attributes;
 use std::alloc::{AllocError, Global};
 use weedle_base::term::{Dictionary, Partial, SemiColon};
-use weedle_base::{IResult, Parse};
+use weedle_base::{IResult, Parse, TryClone};
 use weedle_parts::common::{Braced, Docstring, Identifier};
 use weedle_types::attribute::ExtendedAttributeList;
 

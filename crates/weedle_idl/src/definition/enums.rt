@@ -13,7 +13,7 @@ use crate::copies::{copy_attributes, copy_docstring, copy_enum_values};
 use crate::parts::attributes;
 use std::alloc::{AllocError, Global};
 use weedle_base::term::{Comma, Enum, SemiColon};
-use weedle_base::{IResult, Parse};
+use weedle_base::{IResult, Parse, TryClone};
 use weedle_parts::common::{Braced, Docstring, Identifier, PunctuatedNonEmpty};
 use weedle_parts::literal::StringLit;
 use weedle_types::attribute::ExtendedAttributeList;

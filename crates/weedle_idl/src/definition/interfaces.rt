@@ -12,7 +12,7 @@ use crate::interface::{Inheritance, InterfaceMembers};
 use crate::parts::attributes;
 use std::alloc::{AllocError, Global};
 use weedle_base::term::{Callback, Interface, Partial, SemiColon};
-use weedle_base::{IResult, Parse};
+use weedle_base::{IResult, Parse, TryClone};
 use weedle_parts::common::{Braced, Docstring, Identifier};
 use weedle_types::attribute::ExtendedAttributeList;
 

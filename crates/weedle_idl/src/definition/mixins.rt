@@ -12,7 +12,7 @@ use crate::mixin::MixinMembers;
 use crate::parts::attributes;
 use std::alloc::{AllocError, Global};
 use weedle_base::term::{Implements, Includes, Interface, Mixin, Partial, SemiColon};
-use weedle_base::{IResult, Parse};
+use weedle_base::{IResult, Parse, TryClone};
 use weedle_parts::common::{Braced, Identifier};
 use weedle_types::attribute::ExtendedAttributeList;
 

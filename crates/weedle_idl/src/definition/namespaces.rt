@@ -12,7 +12,7 @@ use crate::namespace::NamespaceMembers;
 use crate::parts::attributes;
 use std::alloc::{AllocError, Global};
 use weedle_base::term::{Namespace, Partial, SemiColon};
-use weedle_base::{IResult, Parse};
+use weedle_base::{IResult, Parse, TryClone};
 use weedle_parts::common::{Braced, Docstring, Identifier};
 use weedle_types::attribute::ExtendedAttributeList;
 

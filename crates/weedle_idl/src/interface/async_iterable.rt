@@ -11,7 +11,7 @@ use crate::copies::{copy_attributes, copy_one_type, copy_optional_arguments, cop
 use crate::parts::{attributes, optional_arguments};
 use std::alloc::{AllocError, Global};
 use weedle_base::term::{Async, Comma, Iterable, SemiColon};
-use weedle_base::{IResult, Parse};
+use weedle_base::{IResult, Parse, TryClone};
 use weedle_parts::common::{Generics, Parenthesized};
 use weedle_types::argument::ArgumentList;
 use weedle_types::attribute::ExtendedAttributeList;

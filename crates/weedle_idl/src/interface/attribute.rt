@@ -12,7 +12,7 @@ use crate::interface::StringifierOrInheritOrStatic;
 use crate::parts::attributes;
 use std::alloc::{AllocError, Global};
 use weedle_base::term::{Attribute, ReadOnly, SemiColon};
-use weedle_base::{IResult, Parse};
+use weedle_base::{IResult, Parse, TryClone};
 use weedle_parts::common::Identifier;
 use weedle_types::attribute::ExtendedAttributeList;
 use weedle_types::types::AttributedType;

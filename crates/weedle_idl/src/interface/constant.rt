@@ -11,7 +11,7 @@ use crate::copies::copy_attributes;
 use crate::parts::attributes;
 use std::alloc::{AllocError, Global};
 use weedle_base::term::{Assign, Const, SemiColon};
-use weedle_base::{IResult, Parse};
+use weedle_base::{IResult, Parse, TryClone};
 use weedle_parts::common::Identifier;
 use weedle_parts::literal::ConstValue;
 use weedle_parts::types::ConstType;

@@ -11,7 +11,7 @@ use crate::copies::{copy_attributes, copy_one_type, copy_two_types};
 use crate::parts::attributes;
 use std::alloc::{AllocError, Global};
 use weedle_base::term::{Comma, Iterable, SemiColon};
-use weedle_base::{IResult, Parse};
+use weedle_base::{IResult, Parse, TryClone};
 use weedle_parts::common::Generics;
 use weedle_types::attribute::ExtendedAttributeList;
 use weedle_types::types::AttributedType;

@@ -13,7 +13,7 @@ use crate::interface::{
     OperationInterfaceMember, SetlikeInterfaceMember, StringifierMember,
 };
 use std::alloc::{AllocError, Global};
-use weedle_base::{IResult, Parse};
+use weedle_base::{IResult, Parse, TryClone};
 
 /// The members of an interface, one after another; none included.
 pub type InterfaceMembers<'a> = Vec<InterfaceMember<'a>>;

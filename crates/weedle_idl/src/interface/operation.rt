@@ -12,7 +12,7 @@ use crate::interface::{Special, StringifierOrStatic};
 use crate::parts::{arguments, attributes};
 use std::alloc::{AllocError, Global};
 use weedle_base::term::{Constructor, SemiColon};
-use weedle_base::{IResult, Parse};
+use weedle_base::{IResult, Parse, TryClone};
 use weedle_parts::common::{Docstring, Identifier, Parenthesized};
 use weedle_types::argument::ArgumentList;
 use weedle_types::attribute::ExtendedAttributeList;

@@ -11,7 +11,7 @@ use crate::copies::copy_attributes;
 use crate::parts::attributes;
 use std::alloc::{AllocError, Global};
 use weedle_base::term::{SemiColon, Stringifier};
-use weedle_base::{IResult, Parse};
+use weedle_base::{IResult, Parse, TryClone};
 use weedle_types::attribute::ExtendedAttributeList;
 
 /// A stringifier with no body, as `stringifier;`.

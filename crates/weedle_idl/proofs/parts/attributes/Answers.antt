@@ -1,5 +1,6 @@
-use Rattle.weedle_idl.proofs.Parts.{answers_rule, listed_attributes_rule}
+use Rattle.weedle_idl.proofs.SharedRules.{answers_rule}
 use Rattle.weedle_idl.proofs.parts.attributes.Goals as goal
+use Rattle.weedle_types.proofs.AliasRules.{attributes_law}
 
 pub returns : goal.returns
-returns c = answers_rule (listed_attributes_rule _) _ c.parse.ensures
+returns c = answers_rule (attributes_law _) _ c.parse.ensures

@@ -1,5 +1,5 @@
 use Rattle.weedle_idl.proofs.EnumValueRules.{listed_values_rule}
-use Rattle.weedle_idl.proofs.Parts.{answers_rule}
+use Rattle.weedle_idl.proofs.SharedRules.{answers_rule}
 use Rattle.weedle_idl.proofs.definition.enums.enum_values.Goals as goal
 
 pub returns : goal.returns

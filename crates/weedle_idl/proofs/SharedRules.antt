@@ -3,35 +3,28 @@ use Rattle.std.proofs.Common.{refl}
 use Rattle.std.specs.Borrow.{Bor}
 use Rattle.std.specs.Global.{Vec}
 use Rattle.std.specs.Prelude.{◌≡◌, ℕ, List, [], ◌∷◌, Option, Result, Ok, Err}
-use Rattle.weedle_base.proofs.RuleFacts.{own_rule, still_rule, option_rule, pair_rule, triple_rule, got_rule, fault_rule}
+use Rattle.weedle_base.proofs.RuleFacts.{own_rule, still_rule, option_rule, pair_rule, triple_rule, got_rule, fault_rule, mark, mark_rule}
 use Rattle.weedle_base.proofs.RunRules.{run_rule}
 use Rattle.weedle_base.specs.Generic.{option_reading, pair_reading, seen_reading}
 use Rattle.weedle_base.specs.Own.{own}
 use Rattle.weedle_base.specs.Reading.{Reading, Answers}
-use Rattle.weedle_base.specs.Rules.{IsRule, option_tree, items_tree}
+use Rattle.weedle_base.specs.Rules.{IsRule, mark_tree, option_tree}
 use Rattle.weedle_base.specs.Runs.{run_reading, vec_step}
 use Rattle.weedle_base.specs.declared.fault.Err.{Err as Fault}
 use Rattle.weedle_base.specs.declared.fault.Error.{Error}
-use Rattle.weedle_base.specs.declared.term.symbols.Comma.{Comma}
 use Rattle.weedle_idl.specs.PartTrees.{Attributes, Arguments, OneType, one_type_tree, KeyAndValue, key_and_value_tree, TwoTypes, two_types_tree, AsyncIterable, async_iterable_tree, members_tree, optional_arguments_tree}
-use Rattle.weedle_parts.proofs.ListRules.{punctuated_rule}
-use Rattle.weedle_parts.proofs.PartRules.{mark, mark_rule, braced_rule, bracketed_rule, generics_rule, parenthesized_rule}
-use Rattle.weedle_parts.specs.Brackets.{braced_reading, bracketed_reading, generics_reading, parenthesized_reading}
-use Rattle.weedle_parts.specs.Lists.{punctuated_reading}
-use Rattle.weedle_parts.specs.ValueTrees.{mark_tree}
+use Rattle.weedle_parts.proofs.PartRules.{braced_rule, generics_rule}
+use Rattle.weedle_parts.specs.Brackets.{braced_reading, generics_reading}
 use Rattle.weedle_parts.specs.declared.common.brackets.Braced.{Braced}
-use Rattle.weedle_parts.specs.declared.common.punctuated.Punctuated.{Punctuated}
 use Rattle.weedle_rules.specs.Meaning.{Plain}
 use Rattle.weedle_rules.specs.Rows.{Seq, Opt, Many}
 use Rattle.weedle_rules.specs.Table.InterfaceMembers.{ASYNC_ITERABLE, GENERICS_ATTRIBUTED_TYPE, GENERICS_KEY_AND_VALUE_TYPES, KEY_AND_VALUE_TYPES, OPT_PARENTHESIZED_ARGUMENT_LIST}
 use Rattle.weedle_rules.specs.Table.Keywords.{ASYNC, ITERABLE}
 use Rattle.weedle_rules.specs.Table.Symbols.{CLOSE_BRACE, COMMA, OPEN_BRACE}
-use Rattle.weedle_rules.specs.Table.Types.{ARGUMENT, ARGUMENT_LIST, ATTRIBUTED_TYPE, EXTENDED_ATTRIBUTE, EXTENDED_ATTRIBUTE_LIST, LIST_EXTENDED_ATTRIBUTE_COMMA, OPT_EXTENDED_ATTRIBUTE_LIST, PARENTHESIZED_ARGUMENT_LIST, TAIL_ARGUMENT_COMMA, TAIL_EXTENDED_ATTRIBUTE_COMMA}
+use Rattle.weedle_rules.specs.Table.Types.{ATTRIBUTED_TYPE, OPT_EXTENDED_ATTRIBUTE_LIST, PARENTHESIZED_ARGUMENT_LIST}
 use Rattle.weedle_rules.specs.Table.{row_of, shape_of}
 use Rattle.weedle_rules.specs.Trees.{Tree}
-use Rattle.weedle_types.specs.Trees.{argument_tree, arguments_tree, attributed_type_tree, attributes_tree, extended_attribute_tree}
-use Rattle.weedle_types.specs.declared.argument.Argument.{Argument}
-use Rattle.weedle_types.specs.declared.formers.ExtendedAttribute.{ExtendedAttribute}
+use Rattle.weedle_types.specs.Trees.{arguments_tree, attributed_type_tree, attributes_tree}
 
 -- a terminal, among parts that may want memory
 pub word : {V : Type 0} (r : ℕ) → IsRule (mark {V = V} r) r mark_tree (Unit {0})
@@ -108,12 +101,3 @@ pub answers_rule : {V : Type 0} {R : Reading V} {r : ℕ} {tree : V → Tree} {g
     → (result : Result (Bor (List ℕ) × V) (Fault (Error (Bor (List ℕ))))) → Answers R s result → Answers (own r tree grows) s result
 answers_rule {tree = tree} rule (Ok x) h = got_rule rule tree x.1 h refl
 answers_rule {tree = tree} rule (Err e) h = fault_rule rule tree h
-
--- Lists with separators. `known` is what is known of their separator without reading.
-module _ (known : Punctuated (ExtendedAttribute Argument) Comma → Type 0) where
-  pub listed_attributes_rule : IsRule (option_reading (bracketed_reading (punctuated_reading (own EXTENDED_ATTRIBUTE extended_attribute_tree (Unit {0})) (mark {V = Comma} COMMA) (λ p. p.list.items) known))) OPT_EXTENDED_ATTRIBUTE_LIST attributes_tree (Unit {0})
-  listed_attributes_rule = option_rule (bracketed_rule (punctuated_rule (own_rule EXTENDED_ATTRIBUTE extended_attribute_tree (Unit {0})) (word COMMA) TAIL_EXTENDED_ATTRIBUTE_COMMA refl refl (λ p. p.list.items) known LIST_EXTENDED_ATTRIBUTE_COMMA refl refl tt) EXTENDED_ATTRIBUTE_LIST refl refl) OPT_EXTENDED_ATTRIBUTE_LIST refl refl
-
-module _ (known : Punctuated Argument Comma → Type 0) where
-  pub listed_arguments_rule : IsRule (parenthesized_reading (punctuated_reading (own ARGUMENT argument_tree (Unit {0})) (mark {V = Comma} COMMA) (λ p. p.list.items) known)) PARENTHESIZED_ARGUMENT_LIST arguments_tree (Unit {0})
-  listed_arguments_rule = parenthesized_rule (punctuated_rule (own_rule ARGUMENT argument_tree (Unit {0})) (word COMMA) TAIL_ARGUMENT_COMMA refl refl (λ p. p.list.items) known ARGUMENT_LIST refl refl tt) PARENTHESIZED_ARGUMENT_LIST refl refl
