@@ -184,9 +184,8 @@ def listed(module, name, rule, item, separator, function):
 
 def others():
     attributes = [("attributes", CALL, "attributes")]
-    optional = attributes + [("optional", OPTIONAL, "OPT_OPTIONAL")]
+    optional = attributes + [("modifier", OPTIONAL, "OPT_OPTIONAL")]
     type_ = optional + [("type_", CALL, "attributed_type")]
-    four = " ".join(built(p) for p in type_) + " c.in_ok-identifier.ensures"
     some = (f"{built(attributes[0])} (rw c.in-Some.is at {built(optional[1])[1:-1]}) {built(type_[2])} "
             "c.in_ok-identifier.ensures")
     none = (f"{built(attributes[0])} (rw c.in-None.is at {built(optional[1])[1:-1]}) {built(type_[2])} "

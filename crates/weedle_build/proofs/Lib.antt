@@ -8,3 +8,5 @@ pub mod Separated
 pub mod NonEmpty
 pub mod LineSteps
 pub mod WholeSteps
+pub mod Calls
+pub mod Conditions

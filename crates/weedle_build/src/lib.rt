@@ -8,10 +8,14 @@ mod choice;
 mod docstring;
 mod fields;
 mod generic;
+mod idl;
 mod kept;
 mod leaves;
 mod lists;
 mod literals;
 mod simple_types;
 mod terminals;
+mod types;
 mod whole;
+
+pub use whole::{Built, build_definitions};

@@ -1,0 +1,7 @@
+//! Members and definitions.
+
+mod collections;
+mod definitions;
+mod interface_members;
+mod interfaces;
+mod other_members;
