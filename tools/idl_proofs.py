@@ -19,6 +19,8 @@ from terminals import FILES as TERMINALS
 PROOFS = Path("crates/weedle_idl/proofs")
 HEAD = "Written by tools/idl_proofs.py."
 GROWS = "(Unit {0})"
+# So many alternatives of a choice the search goes through.
+SEARCHED = 6
 TREE_NAMES = {"StringLit": "string_tree"}
 
 
@@ -366,11 +368,39 @@ pub ruleset {name}_steps = ({kind}_steps, {name}_got, {name}_fault)
 """
 
 
+def numbered(k):
+    """How the check tells the steps of one name apart."""
+    return "" if k == 0 else f"-{k + 1}"
+
+
+def answers(t, module):
+    """The answers of the alternatives that lie too deep for the search."""
+    name = snake(t.name)
+    last = len(t.variants) - 1
+    path = f"{module}.{t.name}Parse.parse"
+    out = [f"-- {HEAD}", f"use {IDL}.proofs.ChoiceFacts.{{later, this}}", f"use {HOME[name + '_got']}.{{{name}_got}}", f"use {IDL}.proofs.{path}.Goals as goal"]
+    for k in range(SEARCHED, last + 1):
+        goal = "returns" if k == last else f"returns-in_default-Some{numbered(k)}"
+        fact = f"c.in_ok-rest{numbered(k)}.ensures"
+        if k < last:
+            fact = f"(this _ _ {fact} c.in_default-Some{numbered(k)}.is-1)"
+        for j in reversed(range(k)):
+            fact = f"(later _ _ c.in_ok-rest{numbered(j)}.ensures c.in_default-None{numbered(j)}.is-1 {fact})"
+        out += ["", f"pub {goal} : goal.{goal}", f"{goal} c = {name}_got _ {fact}"]
+    folder = PROOFS / path.replace(".", "/")
+    folder.mkdir(parents=True, exist_ok=True)
+    (folder / "Answers.antt").write_text("\n".join(out) + "\n")
+
+
 def write(file):
     body = "\n".join([enum(t) if isinstance(t, Enum) else struct(t) for t in file.types] + [steps(t) for t in file.types])
     variants = [f"use {HOME[t.name]}.TheVariants.{{" + ", ".join(f"{v} as Is{v}" for v, _ in t.variants) + "}" for t in file.types if isinstance(t, Enum)]
     head = f"-- {file.about} {HEAD}\n" + "\n".join(uses(body, variants)) + "\n\n"
     (PROOFS / f"{file.name}.antt").write_text(head + body)
+    for t in file.types:
+        if isinstance(t, Enum) and len(t.variants) > SEARCHED:
+            HOME[snake(t.name) + "_got"] = f"{IDL}.proofs.{file.name}"
+            answers(t, file.module)
 
 
 def main():

@@ -13,7 +13,7 @@ use Rattle.weedle_parts.specs.declared.common.brackets.Braced.{Braced}
 use Rattle.weedle_parts.specs.declared.common.brackets.Bracketed.{Bracketed}
 use Rattle.weedle_parts.specs.declared.common.docstring.Docstring.{Docstring}
 use Rattle.weedle_parts.specs.declared.common.punctuated.Punctuated.{Punctuated}
-use Rattle.weedle_rules.specs.Trees.{Tree, Mark, Node, Items, Lines, trees}
+use Rattle.weedle_rules.specs.Trees.{Tree, Mark, Node, Items, Lines, Present, trees}
 use Rattle.weedle_types.specs.Trees.{argument_tree, arguments_tree, attributed_type_tree, attributes_tree, extended_attribute_list_tree, extended_attribute_tree}
 use Rattle.weedle_types.specs.declared.argument.Argument.{Argument}
 use Rattle.weedle_types.specs.declared.formers.ExtendedAttribute.{ExtendedAttribute}
@@ -27,7 +27,7 @@ items_alike tree (v ∷ vs) (w ∷ ws) h = rw (h.0, items_alike tree vs ws h.1) 
 
 -- options
 option_same : {V : Type 0} (tree : V → Tree) (alike : V → V → Type 0) → ((v w : V) → alike v w → tree v ≡ tree w) → (a b : Option V) → option_alike alike a b → option_tree tree a ≡ option_tree tree b
-option_same tree alike same (Some v) (Some w) h = rw same v w h refl
+option_same tree alike same (Some v) (Some w) h = ap Present (same v w h)
 option_same tree alike same (Some v) None h = absurd h
 option_same tree alike same None (Some w) h = absurd h
 option_same tree alike same None None h = refl
@@ -54,7 +54,7 @@ one_type_alike a b h = ap bracket_tree h
 
 -- the types of keys and values
 pub two_types_alike : (a b : TwoTypes) → (attributed_type_tree a.body.0 ≡ attributed_type_tree b.body.0) × ((a.body.1 ≡ b.body.1) × (attributed_type_tree a.body.2 ≡ attributed_type_tree b.body.2)) → two_types_tree a ≡ two_types_tree b
-two_types_alike a b h = rw (h.0, h.2) refl
+two_types_alike a b h = rw (h.0, h.1.1) refl
 
 -- members between braces
 pub members_alike : {V : Type 0} (tree : V → Tree) (a b : Braced (Vec V)) → all_alike (λ v w. tree v ≡ tree w) a.body.items b.body.items → members_tree tree a ≡ members_tree tree b

@@ -1,4 +1,5 @@
 pub mod SharedRules
+pub mod ChoiceFacts
 pub mod CopyFacts
 pub mod InheritanceRules
 pub mod ModifierRules

@@ -3,7 +3,7 @@ use Rattle.std.proofs.Common.{refl}
 use Rattle.std.specs.Borrow.{Bor}
 use Rattle.std.specs.Global.{Vec}
 use Rattle.std.specs.Prelude.{◌≡◌, ℕ, List, [], ◌∷◌, Option, Result, Ok, Err}
-use Rattle.weedle_base.proofs.RuleFacts.{own_rule, still_rule, option_rule, pair_rule, triple_rule, got_rule, fault_rule, mark, mark_rule}
+use Rattle.weedle_base.proofs.RuleFacts.{own_rule, still_rule, option_rule, triple_rule, got_rule, fault_rule, mark, mark_rule}
 use Rattle.weedle_base.proofs.RunRules.{run_rule}
 use Rattle.weedle_base.specs.Generic.{option_reading, pair_reading, seen_reading}
 use Rattle.weedle_base.specs.Own.{own}
@@ -19,7 +19,6 @@ use Rattle.weedle_parts.specs.declared.common.brackets.Braced.{Braced}
 use Rattle.weedle_rules.specs.Meaning.{Plain}
 use Rattle.weedle_rules.specs.Rows.{Seq, Opt, Many}
 use Rattle.weedle_rules.specs.Table.InterfaceMembers.{ASYNC_ITERABLE, GENERICS_ATTRIBUTED_TYPE, GENERICS_KEY_AND_VALUE_TYPES, KEY_AND_VALUE_TYPES, OPT_PARENTHESIZED_ARGUMENT_LIST}
-use Rattle.weedle_rules.specs.Table.Keywords.{ASYNC, ITERABLE}
 use Rattle.weedle_rules.specs.Table.Symbols.{CLOSE_BRACE, COMMA, OPEN_BRACE}
 use Rattle.weedle_rules.specs.Table.Types.{ATTRIBUTED_TYPE, OPT_EXTENDED_ATTRIBUTE_LIST, PARENTHESIZED_ARGUMENT_LIST}
 use Rattle.weedle_rules.specs.Table.{row_of, shape_of}
@@ -82,10 +81,10 @@ two_types_rule = generics_rule key_and_value_rule GENERICS_KEY_AND_VALUE_TYPES r
 
 -- the words `async iterable`
 abbrev pub async_iterable_reading : Reading AsyncIterable
-async_iterable_reading = pair_reading (mark ASYNC) (mark ITERABLE)
+async_iterable_reading = own ASYNC_ITERABLE async_iterable_tree ⊥
 
 pub async_iterable_rule : IsRule async_iterable_reading ASYNC_ITERABLE async_iterable_tree (Unit {0})
-async_iterable_rule = pair_rule (word ASYNC) (word ITERABLE) ASYNC_ITERABLE refl refl
+async_iterable_rule = still_rule (own_rule ASYNC_ITERABLE async_iterable_tree ⊥)
 
 -- members between braces
 abbrev pub members_reading : {V : Type 0} → Reading V → Reading (Braced (Vec V))
@@ -97,7 +96,7 @@ pub members_rule : {V : Type 0} {R : Reading V} {x : ℕ} {tree : V → Tree} �
 members_rule rule m r many plain row shape = braced_rule (run_rule rule (λ v. v.items) m many plain tt) r row shape
 
 -- what a reading of a rule answers, the rule answers
-pub answers_rule : {V : Type 0} {R : Reading V} {r : ℕ} {tree : V → Tree} {grows : Type 0} {s : List ℕ} → IsRule R r tree grows
+pub answers_rule : {V : Type 0} {R : Reading V} {r : ℕ} {tree : V → Tree} {grows : Type 0} (s : List ℕ) → IsRule R r tree grows
     → (result : Result (Bor (List ℕ) × V) (Fault (Error (Bor (List ℕ))))) → Answers R s result → Answers (own r tree grows) s result
-answers_rule {tree = tree} rule (Ok x) h = got_rule rule tree x.1 h refl
-answers_rule {tree = tree} rule (Err e) h = fault_rule rule tree h
+answers_rule {tree = tree} s rule (Ok x) h = got_rule rule tree x.1 h refl
+answers_rule {tree = tree} s rule (Err e) h = fault_rule rule tree h

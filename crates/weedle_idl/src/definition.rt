@@ -57,44 +57,57 @@ impl<'a> Parse<'a> for Definition<'a> {
     ghost reading = { own DEFINITION definition_tree (Unit {0}) };
 
     fn parse(alloc: Global, input: &'a str) -> IResult<&'a str, Self> {
-        if let (rest, Some(member)) = Option::parse(alloc, input)? {
-            return Ok((rest, Definition::Callback(member)));
+        match Option::parse(alloc, input)? {
+            (rest, Some(member)) => return Ok((rest, Definition::Callback(member))),
+            (_, None) => {}
         }
-        if let (rest, Some(member)) = Option::parse(alloc, input)? {
-            return Ok((rest, Definition::CallbackInterface(member)));
+        match Option::parse(alloc, input)? {
+            (rest, Some(member)) => return Ok((rest, Definition::CallbackInterface(member))),
+            (_, None) => {}
         }
-        if let (rest, Some(member)) = Option::parse(alloc, input)? {
-            return Ok((rest, Definition::Interface(member)));
+        match Option::parse(alloc, input)? {
+            (rest, Some(member)) => return Ok((rest, Definition::Interface(member))),
+            (_, None) => {}
         }
-        if let (rest, Some(member)) = Option::parse(alloc, input)? {
-            return Ok((rest, Definition::InterfaceMixin(member)));
+        match Option::parse(alloc, input)? {
+            (rest, Some(member)) => return Ok((rest, Definition::InterfaceMixin(member))),
+            (_, None) => {}
         }
-        if let (rest, Some(member)) = Option::parse(alloc, input)? {
-            return Ok((rest, Definition::Namespace(member)));
+        match Option::parse(alloc, input)? {
+            (rest, Some(member)) => return Ok((rest, Definition::Namespace(member))),
+            (_, None) => {}
         }
-        if let (rest, Some(member)) = Option::parse(alloc, input)? {
-            return Ok((rest, Definition::Dictionary(member)));
+        match Option::parse(alloc, input)? {
+            (rest, Some(member)) => return Ok((rest, Definition::Dictionary(member))),
+            (_, None) => {}
         }
-        if let (rest, Some(member)) = Option::parse(alloc, input)? {
-            return Ok((rest, Definition::PartialInterface(member)));
+        match Option::parse(alloc, input)? {
+            (rest, Some(member)) => return Ok((rest, Definition::PartialInterface(member))),
+            (_, None) => {}
         }
-        if let (rest, Some(member)) = Option::parse(alloc, input)? {
-            return Ok((rest, Definition::PartialInterfaceMixin(member)));
+        match Option::parse(alloc, input)? {
+            (rest, Some(member)) => return Ok((rest, Definition::PartialInterfaceMixin(member))),
+            (_, None) => {}
         }
-        if let (rest, Some(member)) = Option::parse(alloc, input)? {
-            return Ok((rest, Definition::PartialDictionary(member)));
+        match Option::parse(alloc, input)? {
+            (rest, Some(member)) => return Ok((rest, Definition::PartialDictionary(member))),
+            (_, None) => {}
         }
-        if let (rest, Some(member)) = Option::parse(alloc, input)? {
-            return Ok((rest, Definition::PartialNamespace(member)));
+        match Option::parse(alloc, input)? {
+            (rest, Some(member)) => return Ok((rest, Definition::PartialNamespace(member))),
+            (_, None) => {}
         }
-        if let (rest, Some(member)) = Option::parse(alloc, input)? {
-            return Ok((rest, Definition::Enum(member)));
+        match Option::parse(alloc, input)? {
+            (rest, Some(member)) => return Ok((rest, Definition::Enum(member))),
+            (_, None) => {}
         }
-        if let (rest, Some(member)) = Option::parse(alloc, input)? {
-            return Ok((rest, Definition::Typedef(member)));
+        match Option::parse(alloc, input)? {
+            (rest, Some(member)) => return Ok((rest, Definition::Typedef(member))),
+            (_, None) => {}
         }
-        if let (rest, Some(member)) = Option::parse(alloc, input)? {
-            return Ok((rest, Definition::IncludesStatement(member)));
+        match Option::parse(alloc, input)? {
+            (rest, Some(member)) => return Ok((rest, Definition::IncludesStatement(member))),
+            (_, None) => {}
         }
         let (rest, member) = Parse::parse(alloc, input)?;
         Ok((rest, Definition::Implements(member)))

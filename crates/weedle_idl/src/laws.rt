@@ -10,13 +10,11 @@ use crate::Definitions;
 use weedle_base::Parse;
 
 /// `Definitions` gives of a text what the grammar's rule of definitions gives.
-#[tactic(auto, using(crate::proofs::DefinitionListRules::definitions_rule))]
 pub fn definitions<'a>()
     ensures { HasRule ⟦<Definitions<'a> as Parse<'a>>⟧.reading DEFINITIONS (λ v. definitions_tree v.items) }
 {}
 
 /// `Definitions` is never a mismatch, since a definition takes a byte or more.
-#[tactic(auto, using(crate::proofs::DefinitionListRules::definitions_never_refuse))]
 pub fn definitions_never_refuse<'a>()
     ensures { NeverRefuses ⟦<Definitions<'a> as Parse<'a>>⟧.reading }
 {}

@@ -8,7 +8,7 @@ ghost use Rattle.weedle_idl.specs.InterfaceTrees.{async_iterable_interface_membe
 ghost use Rattle.weedle_rules.specs.Table.InterfaceMembers.{ASYNC_ITERABLE_INTERFACE_MEMBER, DOUBLE_TYPED_ASYNC_ITERABLE, SINGLE_TYPED_ASYNC_ITERABLE};
 
 use crate::copies::{copy_attributes, copy_one_type, copy_optional_arguments, copy_two_types};
-use crate::parts::{attributes, optional_arguments};
+use crate::parts::{async_iterable, attributes, optional_arguments};
 use std::alloc::{AllocError, Global};
 use weedle_base::term::{Async, Comma, Iterable, SemiColon};
 use weedle_base::{IResult, Parse, TryClone};
@@ -33,7 +33,7 @@ impl<'a> Parse<'a> for SingleTypedAsyncIterable<'a> {
 
     fn parse(alloc: Global, input: &'a str) -> IResult<&'a str, Self> {
         let (rest, attributes) = attributes(alloc, input)?;
-        let (rest, async_iterable) = Parse::parse(alloc, rest)?;
+        let (rest, async_iterable) = async_iterable(alloc, rest)?;
         let (rest, generics) = Generics::parse(alloc, rest)?;
         let (rest, args) = optional_arguments(alloc, rest)?;
         let (rest, semi_colon) = SemiColon::parse(alloc, rest)?;
@@ -85,7 +85,7 @@ impl<'a> Parse<'a> for DoubleTypedAsyncIterable<'a> {
 
     fn parse(alloc: Global, input: &'a str) -> IResult<&'a str, Self> {
         let (rest, attributes) = attributes(alloc, input)?;
-        let (rest, async_iterable) = Parse::parse(alloc, rest)?;
+        let (rest, async_iterable) = async_iterable(alloc, rest)?;
         let (rest, generics) = Generics::parse(alloc, rest)?;
         let (rest, args) = optional_arguments(alloc, rest)?;
         let (rest, semi_colon) = SemiColon::parse(alloc, rest)?;

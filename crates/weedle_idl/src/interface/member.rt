@@ -39,29 +39,37 @@ impl<'a> Parse<'a> for InterfaceMember<'a> {
     ghost reading = { own INTERFACE_MEMBER interface_member_tree (Unit {0}) };
 
     fn parse(alloc: Global, input: &'a str) -> IResult<&'a str, Self> {
-        if let (rest, Some(member)) = Option::parse(alloc, input)? {
-            return Ok((rest, InterfaceMember::Const(member)));
+        match Option::parse(alloc, input)? {
+            (rest, Some(member)) => return Ok((rest, InterfaceMember::Const(member))),
+            (_, None) => {}
         }
-        if let (rest, Some(member)) = Option::parse(alloc, input)? {
-            return Ok((rest, InterfaceMember::Attribute(member)));
+        match Option::parse(alloc, input)? {
+            (rest, Some(member)) => return Ok((rest, InterfaceMember::Attribute(member))),
+            (_, None) => {}
         }
-        if let (rest, Some(member)) = Option::parse(alloc, input)? {
-            return Ok((rest, InterfaceMember::Constructor(member)));
+        match Option::parse(alloc, input)? {
+            (rest, Some(member)) => return Ok((rest, InterfaceMember::Constructor(member))),
+            (_, None) => {}
         }
-        if let (rest, Some(member)) = Option::parse(alloc, input)? {
-            return Ok((rest, InterfaceMember::Operation(member)));
+        match Option::parse(alloc, input)? {
+            (rest, Some(member)) => return Ok((rest, InterfaceMember::Operation(member))),
+            (_, None) => {}
         }
-        if let (rest, Some(member)) = Option::parse(alloc, input)? {
-            return Ok((rest, InterfaceMember::Iterable(member)));
+        match Option::parse(alloc, input)? {
+            (rest, Some(member)) => return Ok((rest, InterfaceMember::Iterable(member))),
+            (_, None) => {}
         }
-        if let (rest, Some(member)) = Option::parse(alloc, input)? {
-            return Ok((rest, InterfaceMember::AsyncIterable(member)));
+        match Option::parse(alloc, input)? {
+            (rest, Some(member)) => return Ok((rest, InterfaceMember::AsyncIterable(member))),
+            (_, None) => {}
         }
-        if let (rest, Some(member)) = Option::parse(alloc, input)? {
-            return Ok((rest, InterfaceMember::Maplike(member)));
+        match Option::parse(alloc, input)? {
+            (rest, Some(member)) => return Ok((rest, InterfaceMember::Maplike(member))),
+            (_, None) => {}
         }
-        if let (rest, Some(member)) = Option::parse(alloc, input)? {
-            return Ok((rest, InterfaceMember::Setlike(member)));
+        match Option::parse(alloc, input)? {
+            (rest, Some(member)) => return Ok((rest, InterfaceMember::Setlike(member))),
+            (_, None) => {}
         }
         let (rest, member) = Parse::parse(alloc, input)?;
         Ok((rest, InterfaceMember::Stringifier(member)))

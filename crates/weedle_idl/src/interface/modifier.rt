@@ -1,5 +1,6 @@
 //! The words that may stand before a member of an interface.
 
+ghost use Rattle.std.specs.Prelude.{◌≡◌};
 ghost use Rattle.weedle_base.specs.Own.{own};
 ghost use Rattle.weedle_base.specs.OwnLaws.{own_lawful};
 ghost use Rattle.weedle_idl.specs.InterfaceTrees.{special_tree, stringifier_or_inherit_or_static_tree, stringifier_or_static_tree};

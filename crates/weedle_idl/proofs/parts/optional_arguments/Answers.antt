@@ -6,4 +6,4 @@ use Rattle.weedle_rules.specs.Table.InterfaceMembers.{OPT_PARENTHESIZED_ARGUMENT
 use Rattle.weedle_types.proofs.AliasRules.{arguments_law}
 
 pub returns : goal.returns
-returns c = answers_rule (option_rule (arguments_law _) OPT_PARENTHESIZED_ARGUMENT_LIST refl refl) _ c.parse.ensures
+returns c = answers_rule _ (option_rule (arguments_law _) OPT_PARENTHESIZED_ARGUMENT_LIST refl refl) _ c.parse.ensures

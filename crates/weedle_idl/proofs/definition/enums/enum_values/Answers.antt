@@ -3,4 +3,4 @@ use Rattle.weedle_idl.proofs.SharedRules.{answers_rule}
 use Rattle.weedle_idl.proofs.definition.enums.enum_values.Goals as goal
 
 pub returns : goal.returns
-returns c = answers_rule (listed_values_rule _) _ c.parse.ensures
+returns c = answers_rule _ (listed_values_rule _) _ c.parse.ensures
