@@ -3,9 +3,11 @@ use Rattle.std.proofs.Common.{refl, ap, subst, arith}
 use Rattle.std.proofs.lemmas.List.{length-drop}
 use Rattle.std.specs.Borrow.{Bor}
 use Rattle.std.specs.Global.{Vec}
-use Rattle.std.specs.Prelude.{◌≡◌, ℕ, ◌<◌, ◌==◌, false, List, [], ◌∷◌, length, drop}
+use Rattle.std.specs.Prelude.{◌≡◌, ℕ, ◌<◌, ◌==◌, false, List, [], ◌∷◌, length, drop, Err as Failed}
+use Rattle.weedle_base.specs.Faults.{IsOutOfMemory}
 use Rattle.weedle_base.specs.Reading.{Got, Faults}
-use Rattle.weedle_base.specs.declared.fault.Err.TheVariants.{Error as Stopped}
+use Rattle.weedle_base.specs.declared.fault.Err.{Err as Fault}
+use Rattle.weedle_base.specs.declared.fault.Err.TheVariants.{Error as Stopped, Failure}
 use Rattle.weedle_base.specs.declared.fault.Error.{Error}
 use Rattle.weedle_base.specs.declared.fault.ErrorKind.TheVariants.{Unread}
 use Rattle.weedle_rules.proofs.Unique.{one_outcome}
@@ -14,12 +16,17 @@ use Rattle.weedle_rules.specs.Table.Definitions.{DEFINITIONS}
 use Rattle.weedle_rules.specs.Trees.{Tree, Gives}
 use Rattle.weedle_idl.proofs.DefinitionListRules.{definitions_reading, definitions_rule, definitions_never_refuse}
 use Rattle.weedle_idl.specs.DefinitionTrees.{definitions_tree}
-use Rattle.weedle.specs.Whole.{IsWhole, IsLeft, LeavesRest}
+use Rattle.weedle.specs.Whole.{IsWhole, IsLeft, LeavesRest, ParseAnswers}
 use Rattle.weedle_idl.specs.declared.definition.Definition.{Definition}
 
 -- a list of definitions is read from any text
-pub never_refused : {raw : List ℕ} {e : Error (Bor (List ℕ))} → Faults definitions_reading raw (Stopped e) → ⊥
-never_refused {raw} h = definitions_never_refuse raw h.says.0
+pub never_left : {raw : List ℕ} {e : Error (Bor (List ℕ))} → Faults definitions_reading raw (Stopped e) → ⊥
+never_left {raw} h = definitions_never_refuse raw h.says.0
+
+-- where memory was refused, the fault has the text
+pub runs_out : (raw : List ℕ) (e : Fault (Error (Bor (List ℕ)))) → IsOutOfMemory raw e → ParseAnswers raw (Failed e)
+runs_out raw (Stopped e) h = absurd h
+runs_out raw (Failure e) h = record { code = h.0; input = h.1 }
 
 pub not_empty : (rest : List ℕ) → false ≡ (length rest == 0) → 0 < length rest
 not_empty [] e = cc
