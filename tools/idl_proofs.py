@@ -19,8 +19,6 @@ from terminals import FILES as TERMINALS
 PROOFS = Path("crates/weedle_idl/proofs")
 HEAD = "Written by tools/idl_proofs.py."
 GROWS = "(Unit {0})"
-# So many alternatives of a choice the search goes through.
-SEARCHED = 6
 TREE_NAMES = {"StringLit": "string_tree"}
 
 
@@ -90,8 +88,10 @@ class Struct:
 
 
 class Enum:
-    def __init__(self, name, about, *variants, grows=GROWS):
-        self.name, self.about, self.variants, self.grows = name, about, variants, grows
+    """An enum. Where the search can't go through all its variants, they are read in pieces, each by a function of its own."""
+
+    def __init__(self, name, about, *variants, grows=GROWS, pieces=()):
+        self.name, self.about, self.variants, self.grows, self.pieces = name, about, variants, grows, pieces
 
 
 class File:
@@ -171,7 +171,7 @@ FILES = [
              ("Const", "ConstMember"), ("Attribute", "AttributeInterfaceMember"), ("Constructor", "ConstructorInterfaceMember"),
              ("Operation", "OperationInterfaceMember"), ("Iterable", "IterableInterfaceMember"),
              ("AsyncIterable", "AsyncIterableInterfaceMember"), ("Maplike", "MaplikeInterfaceMember"), ("Setlike", "SetlikeInterfaceMember"),
-             ("Stringifier", "StringifierMember")))),
+             ("Stringifier", "StringifierMember")), pieces=(("named_member", 5), ("collection_member", 4)))),
     File("MixinRules", "mixin", "Members of mixins.",
          Struct("OperationMixinMember", "an operation", ATTRIBUTES, STRINGIFIER, RETURN_TYPE, PERHAPS_IDENTIFIER, ("args", ARGUMENTS), SEMI_COLON),
          Struct("AttributeMixinMember", "an attribute", ATTRIBUTES, STRINGIFIER, READ_ONLY, ("attribute", word("Attribute")), ATTRIBUTED_TYPE,
@@ -222,7 +222,8 @@ FILES = [
     File("TypedefRules", "definition.typedef", "Names for types.",
          Struct("TypedefDefinition", "a name for a type", ATTRIBUTES, ("typedef", word("Typedef")), ATTRIBUTED_TYPE, IDENTIFIER, SEMI_COLON)),
     File("DefinitionRules", "definition", "Definitions.",
-         Enum("Definition", "any of them", *owned(*[(k, f"{k}Definition") for k in KINDS]))),
+         Enum("Definition", "any of them", *owned(*[(k, f"{k}Definition") for k in KINDS]),
+              pieces=(("main_definition", 6), ("partial_definition", 4), ("other_definition", 4)))),
 ]
 
 # Where each name stands.
@@ -231,7 +232,7 @@ HOMES = {
     "Rattle.std.proofs.Common": "refl inl inr",
     "Rattle.std.specs.Borrow": "Bor",
     "Rattle.std.specs.Global": "Vec",
-    f"{BASE}.proofs.Choice": "choice_reading choice_tree first_last first_more first_rule choice_steps",
+    f"{BASE}.proofs.Choice": "choice_reading choice_tree first_last first_more first_rule choice_steps IsFirst",
     f"{BASE}.proofs.RuleFacts": "own_rule still_rule option_rule seq_rule seq_next seq_last got_rule fault_rule mark mark_rule",
     f"{BASE}.proofs.Steps": "part_steps",
     f"{BASE}.specs.Generic": "pair_reading option_reading",
@@ -248,6 +249,9 @@ HOMES = {
     f"{PARTS}.specs.declared.literal.string.StringLit": "StringLit",
     f"{PARTS}.specs.declared.literal.value.ConstValue": "ConstValue",
     f"{PARTS}.specs.declared.types.const_type.ConstType": "ConstType",
+    f"{TYPES}.proofs.Direct": "direct_choice fault_members first_piece got_members members_first",
+    f"{TYPES}.specs.Steps": "members",
+    f"{IDL}.specs.Pieces": "named_member_rules collection_member_rules main_definition_rules partial_definition_rules other_definition_rules",
     f"{TYPES}.specs.Trees": "type_tree return_type_tree attributed_type_tree attributes_tree arguments_tree",
     f"{TYPES}.specs.declared.types.AttributedType": "AttributedType",
     f"{TYPES}.specs.declared.types.«Type»": "«Type»",
@@ -299,6 +303,12 @@ def place(k, n):
     return "x" + ".1" * k + ("" if k == n - 1 else ".0")
 
 
+def chosen(k, last):
+    """Alternative k of those up to the last, as a value of a nested sum."""
+    depth, end = (k, "inl v") if k < last else (k - 1, "inr v")
+    return "inr (" * depth + end + ")" * depth
+
+
 def lemmas(t, view, cases):
     """What the parts give or refuse, the rule gives or refuses."""
     name, rule, tree = snake(t.name), upper(t.name), tree_name(t.name)
@@ -342,9 +352,7 @@ def enum(t):
     trees = nested([f"(λ v. Alt {k} {('(' + p.tree_of('v') + ')') if p.tree != 'mark_tree' else 'Mark'})" for k, p in enumerate(parts)],
                    lambda a, b: f"(choice_tree {a} {b})")
     fact = nested([f"(first_last {k} {p.rule})" if k == last else f"(first_more {k} {p.rule}" for k, p in enumerate(parts)], lambda a, b: f"{a} {b})")
-    views = ["inr (" * min(k, last) + ("inl v" if k < last else "v") + ")" * min(k, last) for k in range(last + 1)]
-    views = [re.sub(r"\((v)\)", r"\1", v) for v in views]
-    view = "\n".join(f"{name}_view (Is{variant} v) = {views[k]}" for k, (variant, _) in enumerate(t.variants))
+    view = "\n".join(f"{name}_view (Is{variant} v) = {chosen(k, last)}" for k, (variant, _) in enumerate(t.variants))
     cases = "\n".join(f"{name}_got (Is{variant} v) h = got_rule {name}_rule {tree} _ h refl" for variant, _ in t.variants)
     return f"""-- {t.about}
 abbrev {name}_parts : Reading ({types})
@@ -368,39 +376,123 @@ pub ruleset {name}_steps = ({kind}_steps, {name}_got, {name}_fault)
 """
 
 
-def numbered(k):
-    """How the check tells the steps of one name apart."""
-    return "" if k == 0 else f"-{k + 1}"
+def piece(t, name, first, variants):
+    """The proofs of a function that reads a few alternatives, counted from `first`."""
+    tree = tree_name(t.name)
+    last = len(variants) - 1
+    parts = [p for _, p in variants]
+    types = nested([p.type for p in parts], lambda a, b: f"{a} ⊎ ({b})" if "⊎" in b else f"{a} ⊎ {b}")
+    reading = nested([p.reading for p in parts], lambda a, b: f"(choice_reading {a} {b})")
+    trees = nested([f"(λ v. Alt {first + k} ({p.tree_of('v')}))" for k, p in enumerate(parts)], lambda a, b: f"(choice_tree {a} {b})")
+    fact = nested([f"(first_last {first + k} {p.rule})" if k == last else f"(first_more {first + k} {p.rule}" for k, p in enumerate(parts)],
+                  lambda a, b: f"{a} {b})")
+    whole = f"(members {name}_rules {first} {tree} {t.grows})"
+    out = f"""-- `{name}`
+abbrev {name}_parts : Reading ({types})
+{name}_parts = {reading[1:-1]}
+
+{name}_first : IsFirst {name}_parts {name}_rules {first} {trees} {t.grows}
+{name}_first = {fact[1:-1]}
+
+"""
+    for k, (variant, p) in enumerate(variants):
+        out += f"""pub {name}_got_{k} : {{s rest : List ℕ}} {{v : {p.type}}} → Got {name}_parts s ({chosen(k, last)}) rest → Got {whole} s (Is{variant} v) rest
+{name}_got_{k} {{v = v}} h = got_members {name}_first {tree} (Is{variant} v) h refl
+
+"""
+    got = ", ".join(f"{name}_got_{k}" for k in range(last + 1))
+    return out + f"""pub {name}_fault : {{s : List ℕ}} {{e : Fault (Error (Bor (List ℕ)))}} → Faults {name}_parts s e → Faults {whole} s e
+{name}_fault h = fault_members {name}_first {tree} h
+
+-- what the search for the proof of `{name}` uses
+pub ruleset {name}_steps = (choice_steps, {got}, {name}_fault)
+"""
 
 
-def answers(t, module):
-    """The answers of the alternatives that lie too deep for the search."""
+def joined(t):
+    """The proofs of an enum whose pieces are read one where those before it were a mismatch."""
+    name, rule, tree = snake(t.name), upper(t.name), tree_name(t.name)
+    out, first, firsts, readings = "", 0, [], []
+    for piece_name, count in t.pieces:
+        out += piece(t, piece_name, first, t.variants[first:first + count]) + "\n"
+        firsts.append((piece_name, first))
+        first += count
+    readings = [f"(members {p}_rules {i} {tree} {t.grows})" for p, i in firsts]
+    last = len(firsts) - 1
+    types = nested([t.name for _ in firsts], lambda a, b: f"{a} ⊎ ({b})" if "⊎" in b else f"{a} ⊎ {b}")
+    fact = [f"(members_first {p}_rules {i} {tree} {t.grows})" for p, i in firsts]
+    whole = fact[last]
+    for k in reversed(range(last)):
+        whole = f"(first_piece {firsts[k + 1][1]} {fact[k]} {whole} refl)"
+    trees = nested([tree for _ in firsts], lambda a, b: f"(choice_tree {a} {b})")
+    own_reading = f"(own {rule} {tree} {t.grows})"
+    out += f"""-- all of them
+abbrev {name}_parts : Reading ({types})
+{name}_parts = {nested(readings, lambda a, b: f"(choice_reading {a} {b})")[1:-1]}
+
+{name}_rule : IsRule {name}_parts {rule} {trees} {t.grows}
+{name}_rule = first_rule {whole} {rule} refl refl
+
+"""
+    for k in range(last + 1):
+        out += f"""pub {name}_got_{k} : {{s rest : List ℕ}} {{v : {t.name}}} → Got {name}_parts s ({chosen(k, last)}) rest → Got {own_reading} s v rest
+{name}_got_{k} {{v = v}} h = got_rule {name}_rule {tree} v h refl
+
+"""
+    got = ", ".join(f"{name}_got_{k}" for k in range(last + 1))
+    return out + f"""-- a fault of the parts is one of the rule
+pub {name}_fault : {{s : List ℕ}} {{e : Fault (Error (Bor (List ℕ)))}} → Faults {name}_parts s e → Faults {own_reading} s e
+{name}_fault h = fault_rule {name}_rule {tree} h
+
+-- what the search for the proof of its `parse` uses
+pub ruleset {name}_steps = (direct_choice, {got}, {name}_fault)
+"""
+
+
+def answers(t, file):
+    """The answers of an enum's `parse` that tries its pieces."""
     name = snake(t.name)
-    last = len(t.variants) - 1
-    path = f"{module}.{t.name}Parse.parse"
-    out = [f"-- {HEAD}", f"use {IDL}.proofs.ChoiceFacts.{{later, this}}", f"use {HOME[name + '_got']}.{{{name}_got}}", f"use {IDL}.proofs.{path}.Goals as goal"]
-    for k in range(SEARCHED, last + 1):
-        goal = "returns" if k == last else f"returns-in_default-Some{numbered(k)}"
-        fact = f"c.in_ok-rest{numbered(k)}.ensures"
-        if k < last:
-            fact = f"(this _ _ {fact} c.in_default-Some{numbered(k)}.is-1)"
+    pieces = [p for p, _ in t.pieces]
+    last = len(pieces) - 1
+    path = f"{file.module}.{t.name}Parse.parse"
+    got = ", ".join(f"{name}_got_{k}" for k in range(last + 1))
+    out = [f"-- Alternatives, each where those before it were a mismatch. {HEAD}",
+           f"use {BASE}.proofs.Steps.{{exit_answers}}",
+           f"use {IDL}.proofs.{file.name}.{{{name}_fault, {got}}}",
+           f"use {IDL}.proofs.{path}.Goals as goal",
+           f"use {TYPES}.proofs.Direct.{{stop_first, stop_next, take_first, take_next}}"]
+
+    def behind(step, k, fact):
         for j in reversed(range(k)):
-            fact = f"(later _ _ c.in_ok-rest{numbered(j)}.ensures c.in_default-None{numbered(j)}.is-1 {fact})"
-        out += ["", f"pub {goal} : goal.{goal}", f"{goal} c = {name}_got _ {fact}"]
+            end = "" if j == 0 else f"-{pieces[j]}"
+            fact = f"({step} _ _ c.in-Err-Error{end}.ensures c.in-Err-Error{end}.field-0-is {fact})"
+        return fact
+
+    for k in range(last):
+        end = "" if k == 0 else f"-{pieces[k]}"
+        goal = f"returns-in-Ok{end}"
+        out += ["", f"pub {goal} : goal.{goal}", f"{goal} c = {name}_got_{k} {behind('take_next', k, f'(take_first _ _ c.in-Ok{end}.ensures)')}"]
+        goal = f"returns-in-Err-Failure{end}"
+        stop = f"(stop_first _ _ c.in-Err-Failure{end}.ensures c.in-Err-Failure{end}.field-0-is)"
+        out += ["", f"pub {goal} : goal.{goal}", f"{goal} c = {name}_fault {behind('stop_next', k, stop)}"]
+    out += ["", "pub returns : goal.returns", f"returns c = {name}_got_{last} {behind('take_next', last, 'c.in_ok-rest.ensures')}"]
+    fault = f"({name}_fault {behind('stop_next', last, 'c.in_err-rest.ensures')})"
+    out += ["", "pub returns-in_err-rest : goal.returns-in_err-rest",
+            f"returns-in_err-rest c = exit_answers c.from_residual.result {fault} c.from_residual.ensures.1"]
     folder = PROOFS / path.replace(".", "/")
     folder.mkdir(parents=True, exist_ok=True)
     (folder / "Answers.antt").write_text("\n".join(out) + "\n")
 
 
 def write(file):
-    body = "\n".join([enum(t) if isinstance(t, Enum) else struct(t) for t in file.types] + [steps(t) for t in file.types])
+    texts = [struct(t) if isinstance(t, Struct) else joined(t) if t.pieces else enum(t) for t in file.types]
+    body = "\n".join(texts + [steps(t) for t in file.types if isinstance(t, Struct) or not t.pieces])
     variants = [f"use {HOME[t.name]}.TheVariants.{{" + ", ".join(f"{v} as Is{v}" for v, _ in t.variants) + "}" for t in file.types if isinstance(t, Enum)]
     head = f"-- {file.about} {HEAD}\n" + "\n".join(uses(body, variants)) + "\n\n"
     (PROOFS / f"{file.name}.antt").write_text(head + body)
     for t in file.types:
-        if isinstance(t, Enum) and len(t.variants) > SEARCHED:
-            HOME[snake(t.name) + "_got"] = f"{IDL}.proofs.{file.name}"
-            answers(t, file.module)
+        if isinstance(t, Enum) and t.pieces:
+            answers(t, file)
 
 
 def main():

@@ -35,6 +35,7 @@ use Rattle.weedle_rules.specs.Table.Leaves.{DOCSTRING, IDENTIFIER}
 use Rattle.weedle_rules.specs.Table.OtherMembers.{BRACED_DICTIONARY_MEMBERS, DICTIONARY_MEMBER, DICTIONARY_MEMBERS}
 use Rattle.weedle_rules.specs.Table.Symbols.{SEMI_COLON}
 use Rattle.weedle_rules.specs.Trees.{Mark, Node, trees}
+use Rattle.weedle_types.specs.Steps.{members}
 use Rattle.weedle_types.specs.Trees.{attributes_tree}
 
 -- a dictionary

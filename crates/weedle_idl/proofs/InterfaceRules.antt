@@ -35,6 +35,7 @@ use Rattle.weedle_rules.specs.Table.Keywords.{CALLBACK, INTERFACE, PARTIAL}
 use Rattle.weedle_rules.specs.Table.Leaves.{DOCSTRING, IDENTIFIER}
 use Rattle.weedle_rules.specs.Table.Symbols.{SEMI_COLON}
 use Rattle.weedle_rules.specs.Trees.{Mark, Node, trees}
+use Rattle.weedle_types.specs.Steps.{members}
 use Rattle.weedle_types.specs.Trees.{attributes_tree}
 
 -- a callback interface

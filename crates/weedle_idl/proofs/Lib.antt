@@ -1,5 +1,4 @@
 pub mod SharedRules
-pub mod ChoiceFacts
 pub mod CopyFacts
 pub mod InheritanceRules
 pub mod ModifierRules

@@ -33,6 +33,7 @@ use Rattle.weedle_rules.specs.Table.Leaves.{DOCSTRING, IDENTIFIER}
 use Rattle.weedle_rules.specs.Table.OtherMembers.{BRACED_NAMESPACE_MEMBERS, NAMESPACE_MEMBER, NAMESPACE_MEMBERS}
 use Rattle.weedle_rules.specs.Table.Symbols.{SEMI_COLON}
 use Rattle.weedle_rules.specs.Trees.{Mark, Node, trees}
+use Rattle.weedle_types.specs.Steps.{members}
 use Rattle.weedle_types.specs.Trees.{attributes_tree}
 
 -- a namespace

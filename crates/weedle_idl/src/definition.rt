@@ -4,7 +4,10 @@ ghost use Rattle.std.specs.Prelude.{◌≡◌};
 ghost use Rattle.weedle_base.specs.AlikeLaws.{equal_equivalence, seen_equivalence};
 ghost use Rattle.weedle_base.specs.Own.{own};
 ghost use Rattle.weedle_base.specs.OwnLaws.{own_lawful};
+ghost use Rattle.weedle_base.specs.Reading.{Answers};
 ghost use Rattle.weedle_idl.specs.DefinitionTrees.{definition_tree};
+ghost use Rattle.weedle_idl.specs.Pieces.{main_definition_rules, other_definition_rules, partial_definition_rules};
+ghost use Rattle.weedle_types.specs.Steps.{members};
 ghost use Rattle.weedle_rules.specs.Table.Definitions.{DEFINITION};
 
 mod callback;
@@ -28,7 +31,7 @@ pub use mixins::{
 pub use namespaces::{NamespaceDefinition, PartialNamespaceDefinition};
 use std::alloc::{AllocError, Global};
 pub use typedef::TypedefDefinition;
-use weedle_base::{IResult, Parse, TryClone};
+use weedle_base::{Err, IResult, Parse, TryClone};
 
 /// Definitions one after another, as `interface A {}; interface B {};`.
 pub type Definitions<'a> = Vec<Definition<'a>>;
@@ -57,63 +60,81 @@ impl<'a> Parse<'a> for Definition<'a> {
     ghost reading = { own DEFINITION definition_tree (Unit {0}) };
 
     fn parse(alloc: Global, input: &'a str) -> IResult<&'a str, Self> {
-        match Option::parse(alloc, input)? {
-            (rest, Some(member)) => return Ok((rest, Definition::Callback(member))),
-            (_, None) => {}
+        match main_definition(alloc, input) {
+            Ok((rest, member)) => return Ok((rest, member)),
+            Err(Err::Error(_)) => {}
+            Err(Err::Failure(fault)) => return Err(Err::Failure(fault)),
         }
-        match Option::parse(alloc, input)? {
-            (rest, Some(member)) => return Ok((rest, Definition::CallbackInterface(member))),
-            (_, None) => {}
+        match partial_definition(alloc, input) {
+            Ok((rest, member)) => return Ok((rest, member)),
+            Err(Err::Error(_)) => {}
+            Err(Err::Failure(fault)) => return Err(Err::Failure(fault)),
         }
-        match Option::parse(alloc, input)? {
-            (rest, Some(member)) => return Ok((rest, Definition::Interface(member))),
-            (_, None) => {}
-        }
-        match Option::parse(alloc, input)? {
-            (rest, Some(member)) => return Ok((rest, Definition::InterfaceMixin(member))),
-            (_, None) => {}
-        }
-        match Option::parse(alloc, input)? {
-            (rest, Some(member)) => return Ok((rest, Definition::Namespace(member))),
-            (_, None) => {}
-        }
-        match Option::parse(alloc, input)? {
-            (rest, Some(member)) => return Ok((rest, Definition::Dictionary(member))),
-            (_, None) => {}
-        }
-        match Option::parse(alloc, input)? {
-            (rest, Some(member)) => return Ok((rest, Definition::PartialInterface(member))),
-            (_, None) => {}
-        }
-        match Option::parse(alloc, input)? {
-            (rest, Some(member)) => return Ok((rest, Definition::PartialInterfaceMixin(member))),
-            (_, None) => {}
-        }
-        match Option::parse(alloc, input)? {
-            (rest, Some(member)) => return Ok((rest, Definition::PartialDictionary(member))),
-            (_, None) => {}
-        }
-        match Option::parse(alloc, input)? {
-            (rest, Some(member)) => return Ok((rest, Definition::PartialNamespace(member))),
-            (_, None) => {}
-        }
-        match Option::parse(alloc, input)? {
-            (rest, Some(member)) => return Ok((rest, Definition::Enum(member))),
-            (_, None) => {}
-        }
-        match Option::parse(alloc, input)? {
-            (rest, Some(member)) => return Ok((rest, Definition::Typedef(member))),
-            (_, None) => {}
-        }
-        match Option::parse(alloc, input)? {
-            (rest, Some(member)) => return Ok((rest, Definition::IncludesStatement(member))),
-            (_, None) => {}
-        }
-        let (rest, member) = Parse::parse(alloc, input)?;
-        Ok((rest, Definition::Implements(member)))
+        let (rest, member) = other_definition(alloc, input)?;
+        Ok((rest, member))
     }
 
     ghost lawful = { own_lawful DEFINITION definition_tree (Unit {0}) };
+}
+
+/// Reads a callback, or the whole of an interface, a mixin, a namespace or a dictionary.
+#[tactic(auto, using(crate::proofs::DefinitionRules::main_definition_steps))]
+fn main_definition<'a>(alloc: Global, input: &'a str) -> IResult<&'a str, Definition<'a>>
+    ensures { Answers (members main_definition_rules 0 definition_tree (Unit {0})) input.now result }
+{
+    if let (rest, Some(member)) = Option::parse(alloc, input)? {
+        return Ok((rest, Definition::Callback(member)));
+    }
+    if let (rest, Some(member)) = Option::parse(alloc, input)? {
+        return Ok((rest, Definition::CallbackInterface(member)));
+    }
+    if let (rest, Some(member)) = Option::parse(alloc, input)? {
+        return Ok((rest, Definition::Interface(member)));
+    }
+    if let (rest, Some(member)) = Option::parse(alloc, input)? {
+        return Ok((rest, Definition::InterfaceMixin(member)));
+    }
+    if let (rest, Some(member)) = Option::parse(alloc, input)? {
+        return Ok((rest, Definition::Namespace(member)));
+    }
+    let (rest, member) = Parse::parse(alloc, input)?;
+    Ok((rest, Definition::Dictionary(member)))
+}
+
+/// Reads a part of one of these.
+#[tactic(auto, using(crate::proofs::DefinitionRules::partial_definition_steps))]
+fn partial_definition<'a>(alloc: Global, input: &'a str) -> IResult<&'a str, Definition<'a>>
+    ensures { Answers (members partial_definition_rules 6 definition_tree (Unit {0})) input.now result }
+{
+    if let (rest, Some(member)) = Option::parse(alloc, input)? {
+        return Ok((rest, Definition::PartialInterface(member)));
+    }
+    if let (rest, Some(member)) = Option::parse(alloc, input)? {
+        return Ok((rest, Definition::PartialInterfaceMixin(member)));
+    }
+    if let (rest, Some(member)) = Option::parse(alloc, input)? {
+        return Ok((rest, Definition::PartialDictionary(member)));
+    }
+    let (rest, member) = Parse::parse(alloc, input)?;
+    Ok((rest, Definition::PartialNamespace(member)))
+}
+
+/// Reads an enum, a name for a type or a statement.
+#[tactic(auto, using(crate::proofs::DefinitionRules::other_definition_steps))]
+fn other_definition<'a>(alloc: Global, input: &'a str) -> IResult<&'a str, Definition<'a>>
+    ensures { Answers (members other_definition_rules 10 definition_tree (Unit {0})) input.now result }
+{
+    if let (rest, Some(member)) = Option::parse(alloc, input)? {
+        return Ok((rest, Definition::Enum(member)));
+    }
+    if let (rest, Some(member)) = Option::parse(alloc, input)? {
+        return Ok((rest, Definition::Typedef(member)));
+    }
+    if let (rest, Some(member)) = Option::parse(alloc, input)? {
+        return Ok((rest, Definition::IncludesStatement(member)));
+    }
+    let (rest, member) = Parse::parse(alloc, input)?;
+    Ok((rest, Definition::Implements(member)))
 }
 
 impl TryClone for Definition<'_> {

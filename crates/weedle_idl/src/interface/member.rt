@@ -4,7 +4,10 @@ ghost use Rattle.std.specs.Prelude.{◌≡◌};
 ghost use Rattle.weedle_base.specs.AlikeLaws.{equal_equivalence, seen_equivalence};
 ghost use Rattle.weedle_base.specs.Own.{own};
 ghost use Rattle.weedle_base.specs.OwnLaws.{own_lawful};
+ghost use Rattle.weedle_base.specs.Reading.{Answers};
 ghost use Rattle.weedle_idl.specs.InterfaceTrees.{interface_member_tree};
+ghost use Rattle.weedle_idl.specs.Pieces.{collection_member_rules, named_member_rules};
+ghost use Rattle.weedle_types.specs.Steps.{members};
 ghost use Rattle.weedle_rules.specs.Table.InterfaceMembers.{INTERFACE_MEMBER};
 
 use crate::interface::{
@@ -13,7 +16,7 @@ use crate::interface::{
     OperationInterfaceMember, SetlikeInterfaceMember, StringifierMember,
 };
 use std::alloc::{AllocError, Global};
-use weedle_base::{IResult, Parse, TryClone};
+use weedle_base::{Err, IResult, Parse, TryClone};
 
 /// The members of an interface, one after another; none included.
 pub type InterfaceMembers<'a> = Vec<InterfaceMember<'a>>;
@@ -39,43 +42,55 @@ impl<'a> Parse<'a> for InterfaceMember<'a> {
     ghost reading = { own INTERFACE_MEMBER interface_member_tree (Unit {0}) };
 
     fn parse(alloc: Global, input: &'a str) -> IResult<&'a str, Self> {
-        match Option::parse(alloc, input)? {
-            (rest, Some(member)) => return Ok((rest, InterfaceMember::Const(member))),
-            (_, None) => {}
+        match named_member(alloc, input) {
+            Ok((rest, member)) => return Ok((rest, member)),
+            Err(Err::Error(_)) => {}
+            Err(Err::Failure(fault)) => return Err(Err::Failure(fault)),
         }
-        match Option::parse(alloc, input)? {
-            (rest, Some(member)) => return Ok((rest, InterfaceMember::Attribute(member))),
-            (_, None) => {}
-        }
-        match Option::parse(alloc, input)? {
-            (rest, Some(member)) => return Ok((rest, InterfaceMember::Constructor(member))),
-            (_, None) => {}
-        }
-        match Option::parse(alloc, input)? {
-            (rest, Some(member)) => return Ok((rest, InterfaceMember::Operation(member))),
-            (_, None) => {}
-        }
-        match Option::parse(alloc, input)? {
-            (rest, Some(member)) => return Ok((rest, InterfaceMember::Iterable(member))),
-            (_, None) => {}
-        }
-        match Option::parse(alloc, input)? {
-            (rest, Some(member)) => return Ok((rest, InterfaceMember::AsyncIterable(member))),
-            (_, None) => {}
-        }
-        match Option::parse(alloc, input)? {
-            (rest, Some(member)) => return Ok((rest, InterfaceMember::Maplike(member))),
-            (_, None) => {}
-        }
-        match Option::parse(alloc, input)? {
-            (rest, Some(member)) => return Ok((rest, InterfaceMember::Setlike(member))),
-            (_, None) => {}
-        }
-        let (rest, member) = Parse::parse(alloc, input)?;
-        Ok((rest, InterfaceMember::Stringifier(member)))
+        let (rest, member) = collection_member(alloc, input)?;
+        Ok((rest, member))
     }
 
     ghost lawful = { own_lawful INTERFACE_MEMBER interface_member_tree (Unit {0}) };
+}
+
+/// Reads one of the members up to iterations.
+#[tactic(auto, using(crate::proofs::InterfaceMemberRules::named_member_steps))]
+fn named_member<'a>(alloc: Global, input: &'a str) -> IResult<&'a str, InterfaceMember<'a>>
+    ensures { Answers (members named_member_rules 0 interface_member_tree (Unit {0})) input.now result }
+{
+    if let (rest, Some(member)) = Option::parse(alloc, input)? {
+        return Ok((rest, InterfaceMember::Const(member)));
+    }
+    if let (rest, Some(member)) = Option::parse(alloc, input)? {
+        return Ok((rest, InterfaceMember::Attribute(member)));
+    }
+    if let (rest, Some(member)) = Option::parse(alloc, input)? {
+        return Ok((rest, InterfaceMember::Constructor(member)));
+    }
+    if let (rest, Some(member)) = Option::parse(alloc, input)? {
+        return Ok((rest, InterfaceMember::Operation(member)));
+    }
+    let (rest, member) = Parse::parse(alloc, input)?;
+    Ok((rest, InterfaceMember::Iterable(member)))
+}
+
+/// Reads one of the members from asynchronous iterations on.
+#[tactic(auto, using(crate::proofs::InterfaceMemberRules::collection_member_steps))]
+fn collection_member<'a>(alloc: Global, input: &'a str) -> IResult<&'a str, InterfaceMember<'a>>
+    ensures { Answers (members collection_member_rules 5 interface_member_tree (Unit {0})) input.now result }
+{
+    if let (rest, Some(member)) = Option::parse(alloc, input)? {
+        return Ok((rest, InterfaceMember::AsyncIterable(member)));
+    }
+    if let (rest, Some(member)) = Option::parse(alloc, input)? {
+        return Ok((rest, InterfaceMember::Maplike(member)));
+    }
+    if let (rest, Some(member)) = Option::parse(alloc, input)? {
+        return Ok((rest, InterfaceMember::Setlike(member)));
+    }
+    let (rest, member) = Parse::parse(alloc, input)?;
+    Ok((rest, InterfaceMember::Stringifier(member)))
 }
 
 impl TryClone for InterfaceMember<'_> {

@@ -1,28 +1,23 @@
--- Written by tools/idl_proofs.py.
-use Rattle.weedle_idl.proofs.ChoiceFacts.{later, this}
-use Rattle.weedle_idl.proofs.DefinitionRules.{definition_got}
+-- Alternatives, each where those before it were a mismatch. Written by tools/idl_proofs.py.
+use Rattle.weedle_base.proofs.Steps.{exit_answers}
+use Rattle.weedle_idl.proofs.DefinitionRules.{definition_fault, definition_got_0, definition_got_1, definition_got_2}
 use Rattle.weedle_idl.proofs.definition.DefinitionParse.parse.Goals as goal
+use Rattle.weedle_types.proofs.Direct.{stop_first, stop_next, take_first, take_next}
 
-pub returns-in_default-Some-7 : goal.returns-in_default-Some-7
-returns-in_default-Some-7 c = definition_got _ (later _ _ c.in_ok-rest.ensures c.in_default-None.is-1 (later _ _ c.in_ok-rest-2.ensures c.in_default-None-2.is-1 (later _ _ c.in_ok-rest-3.ensures c.in_default-None-3.is-1 (later _ _ c.in_ok-rest-4.ensures c.in_default-None-4.is-1 (later _ _ c.in_ok-rest-5.ensures c.in_default-None-5.is-1 (later _ _ c.in_ok-rest-6.ensures c.in_default-None-6.is-1 (this _ _ c.in_ok-rest-7.ensures c.in_default-Some-7.is-1)))))))
+pub returns-in-Ok : goal.returns-in-Ok
+returns-in-Ok c = definition_got_0 (take_first _ _ c.in-Ok.ensures)
 
-pub returns-in_default-Some-8 : goal.returns-in_default-Some-8
-returns-in_default-Some-8 c = definition_got _ (later _ _ c.in_ok-rest.ensures c.in_default-None.is-1 (later _ _ c.in_ok-rest-2.ensures c.in_default-None-2.is-1 (later _ _ c.in_ok-rest-3.ensures c.in_default-None-3.is-1 (later _ _ c.in_ok-rest-4.ensures c.in_default-None-4.is-1 (later _ _ c.in_ok-rest-5.ensures c.in_default-None-5.is-1 (later _ _ c.in_ok-rest-6.ensures c.in_default-None-6.is-1 (later _ _ c.in_ok-rest-7.ensures c.in_default-None-7.is-1 (this _ _ c.in_ok-rest-8.ensures c.in_default-Some-8.is-1))))))))
+pub returns-in-Err-Failure : goal.returns-in-Err-Failure
+returns-in-Err-Failure c = definition_fault (stop_first _ _ c.in-Err-Failure.ensures c.in-Err-Failure.field-0-is)
 
-pub returns-in_default-Some-9 : goal.returns-in_default-Some-9
-returns-in_default-Some-9 c = definition_got _ (later _ _ c.in_ok-rest.ensures c.in_default-None.is-1 (later _ _ c.in_ok-rest-2.ensures c.in_default-None-2.is-1 (later _ _ c.in_ok-rest-3.ensures c.in_default-None-3.is-1 (later _ _ c.in_ok-rest-4.ensures c.in_default-None-4.is-1 (later _ _ c.in_ok-rest-5.ensures c.in_default-None-5.is-1 (later _ _ c.in_ok-rest-6.ensures c.in_default-None-6.is-1 (later _ _ c.in_ok-rest-7.ensures c.in_default-None-7.is-1 (later _ _ c.in_ok-rest-8.ensures c.in_default-None-8.is-1 (this _ _ c.in_ok-rest-9.ensures c.in_default-Some-9.is-1)))))))))
+pub returns-in-Ok-partial_definition : goal.returns-in-Ok-partial_definition
+returns-in-Ok-partial_definition c = definition_got_1 (take_next _ _ c.in-Err-Error.ensures c.in-Err-Error.field-0-is (take_first _ _ c.in-Ok-partial_definition.ensures))
 
-pub returns-in_default-Some-10 : goal.returns-in_default-Some-10
-returns-in_default-Some-10 c = definition_got _ (later _ _ c.in_ok-rest.ensures c.in_default-None.is-1 (later _ _ c.in_ok-rest-2.ensures c.in_default-None-2.is-1 (later _ _ c.in_ok-rest-3.ensures c.in_default-None-3.is-1 (later _ _ c.in_ok-rest-4.ensures c.in_default-None-4.is-1 (later _ _ c.in_ok-rest-5.ensures c.in_default-None-5.is-1 (later _ _ c.in_ok-rest-6.ensures c.in_default-None-6.is-1 (later _ _ c.in_ok-rest-7.ensures c.in_default-None-7.is-1 (later _ _ c.in_ok-rest-8.ensures c.in_default-None-8.is-1 (later _ _ c.in_ok-rest-9.ensures c.in_default-None-9.is-1 (this _ _ c.in_ok-rest-10.ensures c.in_default-Some-10.is-1))))))))))
-
-pub returns-in_default-Some-11 : goal.returns-in_default-Some-11
-returns-in_default-Some-11 c = definition_got _ (later _ _ c.in_ok-rest.ensures c.in_default-None.is-1 (later _ _ c.in_ok-rest-2.ensures c.in_default-None-2.is-1 (later _ _ c.in_ok-rest-3.ensures c.in_default-None-3.is-1 (later _ _ c.in_ok-rest-4.ensures c.in_default-None-4.is-1 (later _ _ c.in_ok-rest-5.ensures c.in_default-None-5.is-1 (later _ _ c.in_ok-rest-6.ensures c.in_default-None-6.is-1 (later _ _ c.in_ok-rest-7.ensures c.in_default-None-7.is-1 (later _ _ c.in_ok-rest-8.ensures c.in_default-None-8.is-1 (later _ _ c.in_ok-rest-9.ensures c.in_default-None-9.is-1 (later _ _ c.in_ok-rest-10.ensures c.in_default-None-10.is-1 (this _ _ c.in_ok-rest-11.ensures c.in_default-Some-11.is-1)))))))))))
-
-pub returns-in_default-Some-12 : goal.returns-in_default-Some-12
-returns-in_default-Some-12 c = definition_got _ (later _ _ c.in_ok-rest.ensures c.in_default-None.is-1 (later _ _ c.in_ok-rest-2.ensures c.in_default-None-2.is-1 (later _ _ c.in_ok-rest-3.ensures c.in_default-None-3.is-1 (later _ _ c.in_ok-rest-4.ensures c.in_default-None-4.is-1 (later _ _ c.in_ok-rest-5.ensures c.in_default-None-5.is-1 (later _ _ c.in_ok-rest-6.ensures c.in_default-None-6.is-1 (later _ _ c.in_ok-rest-7.ensures c.in_default-None-7.is-1 (later _ _ c.in_ok-rest-8.ensures c.in_default-None-8.is-1 (later _ _ c.in_ok-rest-9.ensures c.in_default-None-9.is-1 (later _ _ c.in_ok-rest-10.ensures c.in_default-None-10.is-1 (later _ _ c.in_ok-rest-11.ensures c.in_default-None-11.is-1 (this _ _ c.in_ok-rest-12.ensures c.in_default-Some-12.is-1))))))))))))
-
-pub returns-in_default-Some-13 : goal.returns-in_default-Some-13
-returns-in_default-Some-13 c = definition_got _ (later _ _ c.in_ok-rest.ensures c.in_default-None.is-1 (later _ _ c.in_ok-rest-2.ensures c.in_default-None-2.is-1 (later _ _ c.in_ok-rest-3.ensures c.in_default-None-3.is-1 (later _ _ c.in_ok-rest-4.ensures c.in_default-None-4.is-1 (later _ _ c.in_ok-rest-5.ensures c.in_default-None-5.is-1 (later _ _ c.in_ok-rest-6.ensures c.in_default-None-6.is-1 (later _ _ c.in_ok-rest-7.ensures c.in_default-None-7.is-1 (later _ _ c.in_ok-rest-8.ensures c.in_default-None-8.is-1 (later _ _ c.in_ok-rest-9.ensures c.in_default-None-9.is-1 (later _ _ c.in_ok-rest-10.ensures c.in_default-None-10.is-1 (later _ _ c.in_ok-rest-11.ensures c.in_default-None-11.is-1 (later _ _ c.in_ok-rest-12.ensures c.in_default-None-12.is-1 (this _ _ c.in_ok-rest-13.ensures c.in_default-Some-13.is-1)))))))))))))
+pub returns-in-Err-Failure-partial_definition : goal.returns-in-Err-Failure-partial_definition
+returns-in-Err-Failure-partial_definition c = definition_fault (stop_next _ _ c.in-Err-Error.ensures c.in-Err-Error.field-0-is (stop_first _ _ c.in-Err-Failure-partial_definition.ensures c.in-Err-Failure-partial_definition.field-0-is))
 
 pub returns : goal.returns
-returns c = definition_got _ (later _ _ c.in_ok-rest.ensures c.in_default-None.is-1 (later _ _ c.in_ok-rest-2.ensures c.in_default-None-2.is-1 (later _ _ c.in_ok-rest-3.ensures c.in_default-None-3.is-1 (later _ _ c.in_ok-rest-4.ensures c.in_default-None-4.is-1 (later _ _ c.in_ok-rest-5.ensures c.in_default-None-5.is-1 (later _ _ c.in_ok-rest-6.ensures c.in_default-None-6.is-1 (later _ _ c.in_ok-rest-7.ensures c.in_default-None-7.is-1 (later _ _ c.in_ok-rest-8.ensures c.in_default-None-8.is-1 (later _ _ c.in_ok-rest-9.ensures c.in_default-None-9.is-1 (later _ _ c.in_ok-rest-10.ensures c.in_default-None-10.is-1 (later _ _ c.in_ok-rest-11.ensures c.in_default-None-11.is-1 (later _ _ c.in_ok-rest-12.ensures c.in_default-None-12.is-1 (later _ _ c.in_ok-rest-13.ensures c.in_default-None-13.is-1 c.in_ok-rest-14.ensures)))))))))))))
+returns c = definition_got_2 (take_next _ _ c.in-Err-Error.ensures c.in-Err-Error.field-0-is (take_next _ _ c.in-Err-Error-partial_definition.ensures c.in-Err-Error-partial_definition.field-0-is c.in_ok-rest.ensures))
+
+pub returns-in_err-rest : goal.returns-in_err-rest
+returns-in_err-rest c = exit_answers c.from_residual.result (definition_fault (stop_next _ _ c.in-Err-Error.ensures c.in-Err-Error.field-0-is (stop_next _ _ c.in-Err-Error-partial_definition.ensures c.in-Err-Error-partial_definition.field-0-is c.in_err-rest.ensures))) c.from_residual.ensures.1
