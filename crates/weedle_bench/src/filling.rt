@@ -1,4 +1,4 @@
-//! The table of ends of a text, filled and timed.
+//! The table of ends of a text, filled, and timed.
 
 use std::alloc::{AllocError, Global};
 use std::fmt::{self, Display, Formatter, Write};
@@ -8,12 +8,11 @@ use weedle_rules::{Cell, Ends, Narrow, RULES, Rule};
 /// Fills the table and prints what it holds.
 pub fn count(rt: &HostRuntime, text: &str) -> anyhow::Result<()> {
     let ends = Ends::new(rt.alloc(), text)?;
+    let end = ends.end(Rule::DEFINITIONS, 0);
     println!(rt;
-        "{} bytes, {} workings, {} reads, definitions to {:?}",
+        "{} bytes, {} cells, definitions to {end:?}",
         text.len(),
-        ends.workings(),
-        ends.reads(),
-        ends.end(Rule::DEFINITIONS, 0)
+        ends.workings()
     )?;
     Ok(())
 }

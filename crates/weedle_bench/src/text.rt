@@ -3,6 +3,7 @@
 use crate::random::Random;
 use std::alloc::{AllocError, Global};
 
+/// Names of definitions.
 const NAMES: [&str; 16] = [
     "Node",
     "Element",
@@ -22,6 +23,7 @@ const NAMES: [&str; 16] = [
     "Observer",
 ];
 
+/// Names of members and arguments.
 const WORDS: [&str; 16] = [
     "name",
     "value",
@@ -41,6 +43,7 @@ const WORDS: [&str; 16] = [
     "timeStamp",
 ];
 
+/// Types of members and arguments.
 const TYPES: [&str; 16] = [
     "long",
     "unsigned long",
@@ -60,6 +63,7 @@ const TYPES: [&str; 16] = [
     "Uint8Array",
 ];
 
+/// What may stand before a definition.
 const COMMENTS: [&str; 4] = [
     "// What a page may call here.\n",
     "/* The origin of this part is\n * https://example.org/standard/#part\n */\n",
@@ -67,6 +71,7 @@ const COMMENTS: [&str; 4] = [
     "\n",
 ];
 
+/// Defaults of the members of a dictionary.
 const VALUES: [&str; 4] = ["0", "false", "\"auto\"", "null"];
 
 /// Definitions of every kind mixed by the seed, about `size` bytes of them.
@@ -83,6 +88,7 @@ pub fn definitions(alloc: Global, seed: u64, size: usize) -> Result<String, Allo
     Ok(text)
 }
 
+/// One more definition, of a kind that the numbers choose.
 fn definition(random: &mut Random, text: &mut String) -> Result<(), AllocError> {
     match random.next() % 16 {
         0..8 => interface(random, text),
@@ -121,6 +127,7 @@ fn definition(random: &mut Random, text: &mut String) -> Result<(), AllocError> 
     }
 }
 
+/// One more interface, a part of one, or a mixin.
 fn interface(random: &mut Random, text: &mut String) -> Result<(), AllocError> {
     let lead = random.pick(&[
         "[Exposed=Window]\ninterface ",
@@ -135,6 +142,7 @@ fn interface(random: &mut Random, text: &mut String) -> Result<(), AllocError> {
     text.push_str("};\n\n")
 }
 
+/// One more member of an interface: an attribute, a constant or an operation.
 fn member(random: &mut Random, text: &mut String) -> Result<(), AllocError> {
     if random.in_ten(5) {
         let lead = random.pick(&[
@@ -176,6 +184,7 @@ fn member(random: &mut Random, text: &mut String) -> Result<(), AllocError> {
     }
 }
 
+/// One more dictionary.
 fn dictionary(random: &mut Random, text: &mut String) -> Result<(), AllocError> {
     append(
         text,
@@ -198,6 +207,7 @@ fn dictionary(random: &mut Random, text: &mut String) -> Result<(), AllocError> 
     text.push_str("};\n\n")
 }
 
+/// One more enum.
 fn values(random: &mut Random, text: &mut String) -> Result<(), AllocError> {
     append(
         text,
@@ -224,6 +234,7 @@ fn values(random: &mut Random, text: &mut String) -> Result<(), AllocError> {
     text.push_str("\n};\n\n")
 }
 
+/// One more namespace.
 fn namespace(random: &mut Random, text: &mut String) -> Result<(), AllocError> {
     append(text, &["namespace ", random.pick(&NAMES), "Tools {\n"])?;
     for _ in 0..random.next() % 4 {
@@ -241,6 +252,7 @@ fn namespace(random: &mut Random, text: &mut String) -> Result<(), AllocError> {
     text.push_str("};\n\n")
 }
 
+/// The pieces at the end of the text.
 fn append(text: &mut String, pieces: &[&str]) -> Result<(), AllocError> {
     for piece in pieces {
         text.push_str(piece)?;

@@ -17,17 +17,22 @@ known_of stands workings rows = map stands (take workings (cells_of rows))
 abbrev pub AreRows : {C : Type 0} → List (List C) → Type 0
 AreRows {C} rows = (i : ℕ) (d : List C) → i < length rows → length (get_or rows i d) ≡ rule_count
 
--- what always holds
+-- what always holds of a reader whose cells stand for outcomes by `stands`, up to the greatest end
 pub record IsReader {C : Type 0} (stands : C → Option ℕ) (greatest : ℕ) (text : List ℕ) (rows : List (List C)) (capacity before workings reads most : ℕ) (is_open : Bool) : Type 0 where
+  -- every end in the text can be held
   pub fits : length text ≤ greatest
   pub even : AreRows rows
   -- all cells of the rows before the last are known
   pub above : before ≡ (length rows - 1) * rule_count
   pub laid : workings ≤ length rows * rule_count
+  -- there is room for a row for each place, and no more are laid out
   pub room : length text + 1 ≤ capacity
   pub few : length rows ≤ length text + 1
+  -- each known cell is its rule's end, or its failure, at its place
   pub right : AllRight text (known_of stands workings rows)
+  -- each closed working-out looked once at least, and `most_reads` times at most
   pub looked : workings ≤ reads
   pub bounded : reads ≤ most_reads * workings
   pub most_bounded : most ≤ most_reads
+  -- while a working-out is open, its cell is laid out
   pub open_cell : is_open ≡ true → workings < length rows * rule_count

@@ -1,4 +1,7 @@
 //! The counting reader: the one way to the text and to the cells of a table that is being filled.
+//!
+//! Its fields are private to this module. While a cell is worked out, bytes and cells are looked at
+//! by `byte` and `cell` alone, each of which counts; the text is never handed out.
 
 ghost use Rattle.std.specs.Prelude.{◌≡◌, ◌≤◌, ◌<◌, ◌+◌, ◌*◌, ◌∷◌, ◌++◌, [], ℕ, true, false, length, max, slice_get, slice_index_or, Option, Some, None, IfSome, IfOk};
 ghost use Rattle.weedle_rules.specs.Bound.{rule_count};
@@ -12,7 +15,7 @@ use crate::{READS, RULES};
 use std::alloc::{AllocError, Global};
 use std::marker::Model;
 
-/// A table that is being filled. Its cells and its hold on the text are private.
+/// A table that is being filled, from the last place to the first.
 #[derive(Drop)]
 pub(crate) struct Reader<'a, C: Cell> {
     text: &'a [u8],
@@ -68,7 +71,7 @@ impl Model for Working {
     ghost invariant = { λ w. w.count ≤ most_reads };
 }
 
-/// The rule's cell of a row.
+/// The cell of the rule in a row.
 #[inline(always)]
 fn in_row<C: Cell>(row: &[C; RULES], rule: Rule) -> C
     ensures { result ≡ slice_index_or row.now rule result }
@@ -161,7 +164,7 @@ impl<'a, C: Cell> Reader<'a, C> {
         }
     }
 
-    /// What the cell says.
+    /// What the cell of the rule at the place says.
     #[inline(always)]
     fn known(&self, rule: Rule, place: usize) -> Option<usize>
         requires within { place ≤ length self.now.text }
@@ -173,7 +176,7 @@ impl<'a, C: Cell> Reader<'a, C> {
         in_row(&self.rows[self.text.len() - place], rule).unpack()
     }
 
-    /// A look at a cell.
+    /// A look at the cell of the rule at the place: where the rule ends, or None where it fails.
     #[inline(always)]
     pub(crate) fn cell(&self, working: &mut Working, rule: Rule, place: usize) -> Option<usize>
         requires opened { self.now.is_open ≡ true }
@@ -187,7 +190,7 @@ impl<'a, C: Cell> Reader<'a, C> {
         self.known(rule, place)
     }
 
-    /// What the cell says, while none is being worked out.
+    /// What the cell of the rule at the place says, while none is being worked out. It counts nothing.
     #[inline(always)]
     pub(crate) fn asked(&self, rule: Rule, place: usize) -> Option<usize>
         requires closed { self.now.is_open ≡ false }
