@@ -4,7 +4,7 @@ use Rattle.weedle_base.specs.Rules.{option_tree}
 use Rattle.weedle_rules.specs.Meaning.{Kept, Plain, Piece, piece, ReadsSeq, given_of, ends_of, last_end, kept, between}
 use Rattle.weedle_rules.specs.Rows.{Seq, First, Opt}
 use Rattle.weedle_rules.specs.Table.{webidl, row_of, shape_of, Reads}
-use Rattle.weedle_rules.specs.Trees.{Tree, Trees, Done, Then, trees, Text, Node, Alt, Absent, Present, Items, Gives}
+use Rattle.weedle_rules.specs.Trees.{Tree, trees, Text, Node, Alt, Absent, Present, Items, Gives}
 use Rattle.weedle_spell.specs.Forms.{Form, empty, ◌then◌, that, optional}
 use Rattle.weedle_rules.proofs.OneTree.{is_single, gives_one}
 use Rattle.weedle_spell.proofs.Always.{Always, AlwaysParts}
@@ -100,10 +100,6 @@ module _ {L : Type 0} {r : ℕ} {t : Tree} {A : Form} (h : Spelt L r t A) where
         subst (λ (ps : List Piece). Taken L text p (last_end p ps) (A then B)) (sym x.5) (taken_then f.0 (others.of text x.1 x.2 x.4 f.1));
   }
 
-untree : Tree → Trees → Trees
-untree t Done = Done
-untree t (Then u us) = us
-
 same_trees : (ts us : List Tree) → trees ts ≡ trees us → ts ≡ us
 same_trees [] [] e = refl
 same_trees [] (u ∷ us) e = cc
@@ -144,7 +140,7 @@ alternative {L} {r} {x} {rs} {t} {A} i row shape here h = record {
       (subst (λ (us : List Tree). Reads text (get_or rs w.0 0) p (Gives us e)) m.1 w.2));
 }
 
-absent_spelt : {L : Type 0} {r x : ℕ} → row_of r ≡ Opt x → shape_of r ≡ Plain → is_single x ≡ true → Spelt L r Absent empty
+pub absent_spelt : {L : Type 0} {r x : ℕ} → row_of r ≡ Opt x → shape_of r ≡ Plain → is_single x ≡ true → Spelt L r Absent empty
 absent_spelt {L} {r} {x} row shape s = record {
   single = rw (shape, row) refl;
   of = λ text p e d.
@@ -155,7 +151,7 @@ absent_spelt {L} {r} {x} row shape s = record {
       ];
 }
 
-present_spelt : {L : Type 0} {r x : ℕ} {t : Tree} {A : Form} → row_of r ≡ Opt x → shape_of r ≡ Plain → Spelt L x t A → Spelt L r (Present t) A
+pub present_spelt : {L : Type 0} {r x : ℕ} {t : Tree} {A : Form} → row_of r ≡ Opt x → shape_of r ≡ Plain → Spelt L x t A → Spelt L r (Present t) A
 present_spelt {L} {r} {x} {t} row shape h = record {
   single = rw (shape, row) refl;
   of = λ text p e d.

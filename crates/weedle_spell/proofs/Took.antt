@@ -35,9 +35,6 @@ pub no_left : (s t : List ℕ) → s ++ t ≡ [] → (s ≡ []) × (t ≡ [])
 no_left [] t e = (refl, e)
 no_left (b ∷ s) t e = cc
 
-not_both : (s t : List ℕ) → s ≢ [] → s ++ t ≢ []
-not_both s t h e = h (no_left s t e).0
-
 not_either : (s t : List ℕ) → t ≢ [] → s ++ t ≢ []
 not_either s t h e = h (no_left s t e).1
 

@@ -23,19 +23,26 @@ no_slash [] t k (suc n) h e = cc
 no_slash (b ∷ s) t k zero h e = cc
 no_slash (b ∷ s) t k (suc n) h e = let f : b ≡ 47 = cc in let g : take_not_next Slash (47 ∷ s) ≡ Some k = subst (λ (x : ℕ). take_not_next Slash (x ∷ s) ≡ Some k) f h in cc
 
-module _ {text : List ℕ} {p q e : ℕ} {ts us : List Tree} where
-  -- what stands behind the slashes
-  comment_took : Reads text NOT_NEXT_SLASH p (Gives ts q) → Reads text RUN_NOT_LINE_FEED q (Gives us e) → Took text p e comment_text
-  comment_took d m =
-      let g = gave {r = NOT_NEXT_SLASH} refl d in
-      let k = leaf_end p (take_not_next Slash (drop p text)) (of_not_next g.2) in
-      let none_taken = not_next_zero Slash (drop p text) k.0 k.1 in
-      let same : q ≡ p = omega (arith, none_taken, k.2) in
-      let r = gave {r = RUN_NOT_LINE_FEED} refl (subst (λ (z : ℕ). Reads text RUN_NOT_LINE_FEED z (Gives us e)) same m) in
-      let n = leaf_end p (Some (run_length NotLineFeed (drop p text))) (of_run r.2) in
-      let run : run_length NotLineFeed (drop p text) ≡ n.0 = cc in
-      took_leaf n.0 n.2 (taken_le (Run NotLineFeed) (drop p text) n.0 n.1)
-      (subst (λ (z : ℕ). any NotLineFeed (take z (drop p text))) run (run_form NotLineFeed (drop p text)), λ t. no_slash (drop p text) t k.0 n.0 k.1)
+-- no slash is next, and nothing was taken
+abbrev NotSlash : List ℕ → ℕ → ℕ → Type 0
+NotSlash text p q = (q ≡ p) × ((n : ℕ) (t : List ℕ) → take n (drop p text) ≢ 47 ∷ t)
+
+not_slash : {text : List ℕ} {p q : ℕ} {ts : List Tree} → Reads text NOT_NEXT_SLASH p (Gives ts q) → NotSlash text p q
+not_slash {text} {p} d =
+    let g = gave {r = NOT_NEXT_SLASH} refl d in
+    let k = leaf_end p (take_not_next Slash (drop p text)) (of_not_next g.2) in
+    let none_taken = not_next_zero Slash (drop p text) k.0 k.1 in
+    (omega (arith, none_taken, k.2), λ n t. no_slash (drop p text) t k.0 n k.1)
+
+-- what stands behind the slashes
+comment_took : {text : List ℕ} {p e : ℕ} {us : List Tree} → ((n : ℕ) (t : List ℕ) → take n (drop p text) ≢ 47 ∷ t)
+    → Reads text RUN_NOT_LINE_FEED p (Gives us e) → Took text p e comment_text
+comment_took {text} {p} no_more d =
+    let g = gave {r = RUN_NOT_LINE_FEED} refl d in
+    let n = leaf_end p (Some (run_length NotLineFeed (drop p text))) (of_run g.2) in
+    let run : run_length NotLineFeed (drop p text) ≡ n.0 = cc in
+    took_leaf n.0 n.2 (taken_le (Run NotLineFeed) (drop p text) n.0 n.1)
+    (subst (λ (z : ℕ). any NotLineFeed (take z (drop p text))) run (run_form NotLineFeed (drop p text)), no_more n.0)
 
 ends_here : (s : List ℕ) (k : ℕ) → take_not_next Any s ≡ Some k → s ≡ []
 ends_here [] k h = refl
@@ -100,9 +107,11 @@ line_comment_always = record {
       let f = pieced c.4 in
       let n = unpieced f.4 in
       let slashes : Always ⊥ BYTES_SLASH_SLASH (exactly (codes "//")) = bytes_always refl in
+      let look = not_slash b.3 in
+      let behind = comment_took look.1 (subst (λ (k : ℕ). Reads text RUN_NOT_LINE_FEED k (Gives c.0 c.1)) look.0 c.3) in
       let z : f.1 ≡ e = sym (end_on _ _ _ _ _ a.5 ∙ end_on _ _ _ _ _ b.5 ∙ end_on _ _ _ _ _ c.5 ∙ end_on _ _ _ _ _ f.5 ∙ ap (λ (ps : List Piece). last_end f.1 ps) n) ∙ s.2 in
       subst (λ (k : ℕ). Taken (Unit {0}) text p k line_comment) z
-      (comment_of (exact (slashes.of text p a.1 a.0 a.3)) (comment_took b.3 c.3) (line_end f.3));
+      (comment_of (exact (slashes.of text p a.1 a.0 a.3)) behind (line_end f.3));
 }
 
 -- blanks
