@@ -9,7 +9,7 @@ ghost use Rattle.weedle.specs.ValueTrees.{identifier_tree};
 
 use std::alloc::Global;
 use weedle_base::term::{CloseBrace, OpenBrace};
-use weedle_base::{Err, Error, ErrorKind, IResult, Parse, scan};
+use weedle_base::{IResult, Parse, mismatch, scan};
 
 /// A name, as `sessionStorage`. It is `interface` for `_interface`, since one underscore may lead
 /// a name and is no part of it.
@@ -25,10 +25,7 @@ impl<'a> Parse<'a> for Identifier<'a> {
     fn parse(_alloc: Global, input: &'a str) -> IResult<&'a str, Self> {
         match scan::identifier(input) {
             Some((rest, name)) => Ok((rest, Identifier(name))),
-            None => Err(Err::Error(Error {
-                input,
-                code: ErrorKind::Mismatch,
-            })),
+            None => Err(mismatch(input)),
         }
     }
 

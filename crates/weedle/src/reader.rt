@@ -4,7 +4,7 @@ ghost use Rattle.weedle.specs.Whole.{ParseAnswers};
 
 use crate::Definitions;
 use std::alloc::Global;
-use weedle_base::{Err, Error, ErrorKind, Parse};
+use weedle_base::{Err, Error, ErrorKind, Parse, out_of_memory};
 
 /// Reads a whole text as definitions, in their order.
 ///
@@ -33,9 +33,6 @@ pub fn parse(alloc: Global, raw: &str) -> Result<Definitions<'_>, Err<Error<&str
         }
         // A definition takes a byte or more, so that a list of them is read from any text.
         Err(Err::Error(_)) => unreachable!(),
-        Err(Err::Failure(_)) => Err(Err::Failure(Error {
-            input: raw,
-            code: ErrorKind::Memory,
-        })),
+        Err(Err::Failure(_)) => Err(out_of_memory(raw)),
     }
 }

@@ -1,7 +1,9 @@
 pub mod PlaceFacts
 pub mod RunFacts
+pub mod FaultFacts
 pub mod Steps
 pub mod Reached
+pub mod TakesFacts
 pub mod RuleFacts
 pub mod RunRules
 pub mod Choice

@@ -1,7 +1,6 @@
 -- The lines of a docstring.
 use Rattle.std.specs.Prelude.{◌≡◌, ◌≢◌, ℕ, ◌+◌, ◌-◌, ◌<◌, ◌≤◌, List, [], ◌∷◌, ◌++◌, drop, take, map, length, Some, None, Result, Ok, Err, OnOk, is_ok, true, slice_range}
 use Rattle.std.specs.Str.{IsUtf8}
-use Rattle.std.specs.Borrow.{Bor}
 use Rattle.std.proofs.Common.{refl, sym, ap, ◌∙◌, subst, arith, append-nil, append_assoc, drop-drop, take-take, length-take-le}
 use Rattle.std.proofs.lemmas.List.{length-drop}
 use Rattle.memchr.specs.Find.{IsFirstByte, is_byte}
@@ -15,11 +14,6 @@ use Rattle.weedle_rules.proofs.Suffix.{then_on, fails, nothing, no_node}
 use Rattle.weedle_rules.proofs.Checked.{rank, ranked}
 use Rattle.weedle_rules.proofs.Takes.{takes}
 use Rattle.weedle_rules.proofs.Exists.{advances}
-use Rattle.weedle_base.specs.declared.fault.Error.{Error}
-use Rattle.weedle_base.specs.declared.fault.ErrorKind.TheVariants.{Memory}
-use Rattle.weedle_base.specs.declared.fault.Err.TheVariants.{Failure}
-use Rattle.weedle_base.specs.Reading.{Faults}
-use Rattle.weedle_base.specs.Own.{own}
 use Rattle.weedle_base.proofs.RuleFacts.{of_row}
 use Rattle.weedle_base.proofs.RunRules.{row_forth}
 use Rattle.weedle_base.proofs.Steps.{rest_add}
@@ -147,12 +141,6 @@ lined_all {s} {text} {rest} h d =
           (ap (λ (x : List ℕ). Gives (Lines x ∷ []) (h.head.place + (h.place + 0))) h.text_is);
       rest_is = rest_add s h.behind rest h.head.place h.place h.head.rest_is h.rest_is ∙ ap (λ (n : ℕ). drop n s) (omega arith);
     }
-
--- a request for memory was refused
-pub fault_full : {V : Type 0} (r : ℕ) (tree : V → Tree) {s : List ℕ} {e : Error (Bor (List ℕ))} → IsUtf8 s → e.code ≡ Memory
-    → e.input.now ≡ s → Faults (own r tree (Unit {0})) s (Failure e)
-unfolding own
-fault_full r tree {s} {e} u c i = record { says = (tt, c, (rw i u, 0, i)) }
 
 -- what an `Ok` promises
 pub when_ok : {T E : Type 0} {P : Type 0} (r : Result T E) → is_ok r ≡ true → OnOk r P → P

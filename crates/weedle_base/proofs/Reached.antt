@@ -1,21 +1,21 @@
 -- A list that is being read: the items so far stand at the start of the text.
-use Rattle.std.proofs.Common.{refl, ap, subst, inr, arith}
+use Rattle.std.proofs.Common.{refl, ap, subst, inl, inr, arith}
 use Rattle.std.proofs.lemmas.List.{length-drop}
 use Rattle.std.specs.Prelude.{◌≡◌, ℕ, ◌+◌, ◌≤◌, List, [], ◌∷◌, ◌++◌, drop, length}
 use Rattle.std.specs.Str.{IsUtf8}
-use Rattle.weedle_base.proofs.PlaceFacts.{suffix_along, suffix_self, took_some}
+use Rattle.weedle_base.proofs.FaultFacts.{fault_mismatch, fault_memory}
+use Rattle.weedle_base.proofs.PlaceFacts.{took_some}
 use Rattle.weedle_base.proofs.RunFacts.{Items-push}
 use Rattle.weedle_base.proofs.Steps.{within_add, rest_add, fault_along}
+use Rattle.weedle_base.specs.Faults.{IsMismatch, IsOutOfMemory}
 use Rattle.weedle_base.specs.Places.{IsSuffix}
 use Rattle.weedle_base.specs.Reading.{Reading, Got, Faults}
 use Rattle.weedle_base.specs.Generic.{option_reading}
 use Rattle.weedle_base.specs.Runs.{Step, Items, run_reading, vec_step}
 use Rattle.std.specs.Borrow.{Bor}
 use Rattle.weedle_base.specs.declared.fault.Err.{Err as Fault}
-use Rattle.weedle_base.specs.declared.fault.Err.TheVariants.{Error as Recoverable}
 use Rattle.weedle_base.specs.declared.fault.Error.{Error}
 use Rattle.weedle_base.specs.declared.fault.ErrorKind.{ErrorKind}
-use Rattle.weedle_base.specs.declared.fault.ErrorKind.TheVariants.{Mismatch}
 
 -- the items were read from s, and rest is left
 pub record Reached {V : Type 0} (S : Step V) (s : List ℕ) (vs : List V) (rest : List ℕ) : Type 0 where
@@ -46,9 +46,9 @@ module _ {V : Type 0} (S : Step V) where
         → (vs : List V) × (k : ℕ) × Items S.takes s vs k × S.stops (drop k s) r code
     reached_stops r code e = (vs, h.place, h.items, subst (λ (t : List ℕ). S.stops t r code) h.rest_is e)
 
-    -- a suffix of what is left is a suffix of the text
-    pub reached_suffix : (r : List ℕ) → IsSuffix rest r → IsSuffix s r
-    reached_suffix r e = suffix_along s rest r h.place h.rest_is e
+    -- what is left is a suffix of the text
+    pub reached_all : IsSuffix s rest
+    reached_all = (h.text, h.place, h.rest_is)
 
     -- one more item
     pub reached_push : (v : V) (i : ℕ) (after : List ℕ) → S.takes rest v i → i ≤ length rest → after ≡ drop i rest
@@ -78,9 +78,14 @@ module _ {V : Type 0} (R : Reading V) where
 
 module _ {V L : Type 0} (view : L → List V) (R : Reading V) {s rest : List ℕ} {vs : List V} (h : Reached (vec_step R) s vs rest) where
   -- an item that took nothing refuses the whole
-  pub run_stuck : {after : List ℕ} {v : V} → Got R rest v after → length after ≡ length rest → {e : Error (Bor (List ℕ))} → e.code ≡ Mismatch → e.input.now ≡ rest
-      → Faults (run_reading view (vec_step R)) s (Recoverable e)
-  run_stuck g n {e} c i = record { says = (reached_refuses (vec_step R) h (stuck_item R g n), c, reached_suffix (vec_step R) h e.input.now (rw i (suffix_self rest h.text))) }
+  pub run_stuck : {after : List ℕ} {v : V} → Got R rest v after → length after ≡ length rest → {e : Fault (Error (Bor (List ℕ)))} → IsMismatch rest e
+      → Faults (run_reading view (vec_step R)) s e
+  run_stuck g n m =
+      fault_mismatch (run_reading view (vec_step R)) m (reached_refuses (vec_step R) h (stuck_item R g n)) (reached_all (vec_step R) h)
+
+  -- the call may end for want of memory
+  pub run_full : {e : Fault (Error (Bor (List ℕ)))} → IsOutOfMemory rest e → Faults (run_reading view (vec_step R)) s e
+  run_full m = fault_memory (run_reading view (vec_step R)) m (inl (refl, reached_all (vec_step R) h))
 
   -- a failure of an item is a failure of the whole
   pub run_fault : {e : Fault (Error (Bor (List ℕ)))} → Faults (option_reading R) rest e → Faults (run_reading view (vec_step R)) s e

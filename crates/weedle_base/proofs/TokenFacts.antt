@@ -4,18 +4,20 @@ use Rattle.std.specs.Borrow.{Bor}
 use Rattle.std.specs.Prelude.{◌≡◌, ℕ, List, [], ◌∷◌, ◌++◌, Bool, true, false, None}
 use Rattle.std.specs.Str.{IsUtf8}
 use Rattle.std.specs.Str.Pattern.{LacksTextAt, FindsTextPrefix, StripsPrefix}
+use Rattle.weedle_base.proofs.FaultFacts.{fault_mismatch, fault_memory}
 use Rattle.weedle_base.proofs.LeafFacts.{begins_with, reads_bytes, cut}
+use Rattle.weedle_base.proofs.PlaceFacts.{suffix_self}
 use Rattle.weedle_base.proofs.SilentRules.{along, last, lost, marked_seq}
 use Rattle.weedle_base.proofs.TriviaFacts.{given}
 use Rattle.weedle_base.proofs.WordFacts.{word_lacks, word_took, word_split, look_fails, look_took}
+use Rattle.weedle_base.specs.Faults.{IsMismatch, IsOutOfMemory}
 use Rattle.weedle_base.specs.Own.{own}
 use Rattle.weedle_base.specs.Reading.{Got, Faults}
 use Rattle.weedle_base.specs.Names.{IsTagged, LacksTag}
 use Rattle.weedle_base.specs.Tokens.{IsSymbol, IsKeyword, core}
 use Rattle.weedle_base.specs.Trivia.{Took, is_next}
-use Rattle.weedle_base.specs.declared.fault.Err.TheVariants.{Error as Recoverable}
+use Rattle.weedle_base.specs.declared.fault.Err.{Err as Fault}
 use Rattle.weedle_base.specs.declared.fault.Error.{Error}
-use Rattle.weedle_base.specs.declared.fault.ErrorKind.TheVariants.{Mismatch}
 use Rattle.weedle_rules.proofs.Suffix.{fails, no_node}
 use Rattle.weedle_rules.specs.Rows.{begins}
 use Rattle.weedle_rules.specs.Table.{Reads}
@@ -38,10 +40,15 @@ module _ {V : Type 0} {r : ℕ} (tree : V → Tree) (grows : Type 0) {s : List �
   }
 
   -- where the rule fails, a mismatch at the start of the text
-  pub fault_own : {e : Error (Bor (List ℕ))} → Reads s r 0 Fails → IsUtf8 s → e.code ≡ Mismatch → e.input.now ≡ s
-      → Faults (own r tree grows) s (Recoverable e)
+  pub fault_own : {e : Fault (Error (Bor (List ℕ)))} → Reads s r 0 Fails → IsUtf8 s → IsMismatch s e → Faults (own r tree grows) s e
   unfolding own
-  fault_own {e} d u c i = record { says = (d, c, (rw i u, 0, i)) }
+  fault_own d u m = fault_mismatch (own r tree grows) m d (suffix_self s u)
+
+-- a type that asks for memory may stop at the start of the text
+pub fault_full : {V : Type 0} (r : ℕ) (tree : V → Tree) {s : List ℕ} {e : Fault (Error (Bor (List ℕ)))} → IsUtf8 s → IsOutOfMemory s e
+    → Faults (own r tree (Unit {0})) s e
+unfolding own
+fault_full r tree {s} u m = fault_memory (own r tree (Unit {0})) m (tt, refl, suffix_self s u)
 
 -- A symbol: trivia, its bytes, trivia.
 module _ {r : ℕ} {b s start : List ℕ} (a : Took TRIVIA s [] start) (is : IsSymbol r b) where

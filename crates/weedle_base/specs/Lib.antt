@@ -1,6 +1,7 @@
 pub mod Places
 pub mod Alike
 pub mod Reading
+pub mod Faults
 pub mod Runs
 pub mod Generic
 pub mod Own

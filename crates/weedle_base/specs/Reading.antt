@@ -1,6 +1,6 @@
 -- What a type reads, and what a call of `parse` may answer.
 use Rattle.std.specs.Borrow.{Bor}
-use Rattle.std.specs.Prelude.{◌≡◌, ◌≤◌, ℕ, List, drop, length, Result, Ok, Err}
+use Rattle.std.specs.Prelude.{◌≡◌, ◌≤◌, ◌<◌, ℕ, List, drop, length, Result, Ok, Err}
 use Rattle.std.specs.Str.{IsCharBoundary, IsUtf8}
 use Rattle.weedle_base.specs.Places.{IsSuffix}
 use Rattle.weedle_base.specs.declared.fault.Err.{Err as Fault}
@@ -49,6 +49,10 @@ module _ {V : Type 0} (R : Reading V) (s : List ℕ) where
   abbrev pub Answers : Result (Bor (List ℕ) × V) (Fault (Error (Bor (List ℕ)))) → Type 0
   Answers (Ok x) = Got R s x.1 x.0.now
   Answers (Err e) = Faults R s e
+
+-- each value of the reading takes a byte or more
+pub record TakesSome {V : Type 0} (R : Reading V) : Type 0 where
+  pub takes : (s : List ℕ) (v : V) (k : ℕ) → R.gives s v k → 0 < k
 
 -- the laws of a reading
 pub record IsLawful {V : Type 0} (R : Reading V) : Type 0 where

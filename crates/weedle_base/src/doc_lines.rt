@@ -8,7 +8,7 @@ ghost use Rattle.weedle_base.specs.Reading.{Answers};
 ghost use Rattle.weedle_base.specs.Own.{own};
 ghost use Rattle.weedle_base.specs.Trivia.{Took};
 
-use crate::fault::{Err, Error, ErrorKind, IResult};
+use crate::fault::{IResult, mismatch, out_of_memory};
 use crate::scan::{after_run, after_word};
 use memchr::memchr;
 use std::alloc::{AllocError, Global};
@@ -41,24 +41,15 @@ pub fn docstring(alloc: Global, input: &str) -> IResult<&str, String>
     ensures { Answers (own DOCSTRING (λ s. Lines (string_bytes s)) (Unit {0})) input.now result }
 {
     let Some((first, behind)) = doc_line(input) else {
-        return Err(Err::Error(Error {
-            input,
-            code: ErrorKind::Mismatch,
-        }));
+        return Err(mismatch(input));
     };
     let Ok(mut text) = String::from_str(alloc, first) else {
-        return Err(Err::Failure(Error {
-            input,
-            code: ErrorKind::Memory,
-        }));
+        return Err(out_of_memory(input));
     };
     let mut rest = behind;
     while let Some((line, next)) = doc_line(rest) {
         if push_line(&mut text, line).is_err() {
-            return Err(Err::Failure(Error {
-                input,
-                code: ErrorKind::Memory,
-            }));
+            return Err(out_of_memory(input));
         }
         rest = next;
     }

@@ -5,7 +5,7 @@ ghost use Rattle.weedle_base.specs.GenericLaws.{option_lawful, pair_lawful, boxe
 ghost use Rattle.weedle_base.specs.Runs.{run_reading, vec_step};
 ghost use Rattle.weedle_base.specs.RunLaws.{run_lawful, vec_step_lawful};
 
-use crate::fault::{Err, Error, ErrorKind, IResult};
+use crate::fault::{Err, IResult, mismatch, out_of_memory};
 use crate::parse::Parse;
 use std::alloc::Global;
 
@@ -37,7 +37,7 @@ impl<'a, T: Parse<'a>, U: Parse<'a>> Parse<'a> for (T, U) {
     ghost lawful = { pair_lawful T.reading U.reading T.lawful U.lawful };
 }
 
-#[tactic(auto, using(crate::proofs::PlaceFacts::suffix_self), unfolding(crate::specs::Generic::boxed_reading))]
+#[tactic(auto, using(crate::proofs::PlaceFacts::suffix_self, crate::proofs::FaultFacts::fault_memory), unfolding(crate::specs::Generic::boxed_reading))]
 impl<'a, T: Parse<'a>> Parse<'a> for Box<T> {
     ghost reading = { boxed_reading (λ b. b.value) T.reading };
 
@@ -45,10 +45,7 @@ impl<'a, T: Parse<'a>> Parse<'a> for Box<T> {
         let (rest, value) = T::parse(alloc, input)?;
         match Box::new(alloc, value) {
             Ok(held) => Ok((rest, held)),
-            Err(_) => Err(Err::Failure(Error {
-                input,
-                code: ErrorKind::Memory,
-            })),
+            Err(_) => Err(out_of_memory(input)),
         }
     }
 
@@ -67,16 +64,10 @@ impl<'a, T: Parse<'a>> Parse<'a> for Vec<T> {
                 return Ok((rest, list));
             };
             if after.len() == rest.len() {
-                return Err(Err::Error(Error {
-                    input: rest,
-                    code: ErrorKind::Mismatch,
-                }));
+                return Err(mismatch(rest));
             }
             if list.push(item).is_err() {
-                return Err(Err::Failure(Error {
-                    input: rest,
-                    code: ErrorKind::Memory,
-                }));
+                return Err(out_of_memory(rest));
             }
             rest = after;
         }

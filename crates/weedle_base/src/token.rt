@@ -6,7 +6,7 @@ ghost use Rattle.weedle_base.specs.Reading.{Answers};
 ghost use Rattle.weedle_base.specs.Own.{own};
 ghost use Rattle.weedle_base.specs.Tokens.{IsSymbol, IsKeyword};
 
-use crate::fault::{Err, Error, ErrorKind, IResult};
+use crate::fault::{IResult, mismatch};
 use crate::names::ident_tag;
 use crate::trivia::skip_trivia;
 use weedle_rules::Rule;
@@ -25,10 +25,7 @@ pub fn symbol<'a, T: Drop>(
     let start = skip_trivia(input);
     match start.strip_prefix(tag) {
         Some(after) => Ok((skip_trivia(after), value)),
-        None => Err(Err::Error(Error {
-            input,
-            code: ErrorKind::Mismatch,
-        })),
+        None => Err(mismatch(input)),
     }
 }
 
@@ -46,9 +43,6 @@ pub fn keyword<'a, T: Drop>(
     let start = skip_trivia(input);
     match ident_tag(tag, start) {
         Some((after, _)) => Ok((skip_trivia(after), value)),
-        None => Err(Err::Error(Error {
-            input,
-            code: ErrorKind::Mismatch,
-        })),
+        None => Err(mismatch(input)),
     }
 }

@@ -1,17 +1,17 @@
 -- A list with separators that is being read.
 use Rattle.std.proofs.Common.{refl, subst, inl, inr}
 use Rattle.std.specs.Prelude.{◌≡◌, ℕ, ◌+◌, List, [], ◌∷◌, ◌++◌, drop, length}
-use Rattle.weedle_base.proofs.PlaceFacts.{suffix_self, took_some}
-use Rattle.weedle_base.proofs.Reached.{Reached, reached_push, reached_refuses, reached_stops, reached_suffix, stuck_item}
+use Rattle.weedle_base.proofs.FaultFacts.{fault_mismatch, fault_memory}
+use Rattle.weedle_base.proofs.PlaceFacts.{took_some}
+use Rattle.weedle_base.proofs.Reached.{Reached, reached_push, reached_refuses, reached_stops, reached_all, stuck_item}
 use Rattle.weedle_base.proofs.Steps.{within_add, rest_add, fault_along}
+use Rattle.weedle_base.specs.Faults.{IsMismatch, IsOutOfMemory}
 use Rattle.weedle_base.specs.Reading.{Reading, Got, Faults}
 use Rattle.weedle_base.specs.Generic.{option_reading}
 use Rattle.std.specs.Borrow.{Bor}
 use Rattle.weedle_base.specs.declared.fault.Err.{Err as Fault}
-use Rattle.weedle_base.specs.declared.fault.Err.TheVariants.{Error as Recoverable}
 use Rattle.weedle_base.specs.declared.fault.Error.{Error}
 use Rattle.weedle_base.specs.declared.fault.ErrorKind.{ErrorKind}
-use Rattle.weedle_base.specs.declared.fault.ErrorKind.TheVariants.{Mismatch}
 use Rattle.weedle_parts.specs.Lists.{next_step, after_first}
 
 module _ {V W : Type 0} (R : Reading V) (S : Reading W) where
@@ -37,9 +37,13 @@ module _ {V W L : Type 0} (R : Reading V) (S : Reading W) (view : L → List V) 
   list_ends l e x = record { place = h.place; gives = (vs, e, (h.items, subst (next_step R S).ends h.rest_is x)); within = h.within; rest_is = h.rest_is; text = h.text }
 
   -- a separator that took nothing refuses the whole
-  pub list_stuck : {after : List ℕ} {w : W} → Got S rest w after → length after ≡ length rest → {e : Error (Bor (List ℕ))} → e.code ≡ Mismatch → e.input.now ≡ rest
-      → Faults (after_first R S view first) s (Recoverable e)
-  list_stuck g n {e} c i = record { says = (reached_refuses (next_step R S) h (stuck_item S g n), c, reached_suffix (next_step R S) h e.input.now (rw i (suffix_self rest h.text))) }
+  pub list_stuck : {after : List ℕ} {w : W} → Got S rest w after → length after ≡ length rest → {e : Fault (Error (Bor (List ℕ)))} → IsMismatch rest e
+      → Faults (after_first R S view first) s e
+  list_stuck g n m = fault_mismatch (after_first R S view first) m (reached_refuses (next_step R S) h (stuck_item S g n)) (reached_all (next_step R S) h)
+
+  -- the call may end for want of memory
+  pub list_full : {e : Fault (Error (Bor (List ℕ)))} → IsOutOfMemory rest e → Faults (after_first R S view first) s e
+  list_full m = fault_memory (after_first R S view first) m (inl (refl, reached_all (next_step R S) h))
 
   -- a failure of a separator is a failure of the whole
   pub separator_fault : {e : Fault (Error (Bor (List ℕ)))} → Faults (option_reading S) rest e → Faults (after_first R S view first) s e

@@ -4,15 +4,25 @@
 #[cfg(test)]
 mod answers;
 #[cfg(test)]
+mod arguments;
+#[cfg(test)]
+mod attributes;
+#[cfg(test)]
 mod definitions;
+#[cfg(test)]
+mod ends;
 #[cfg(test)]
 mod generic_parts;
 #[cfg(test)]
 mod leaves;
 #[cfg(test)]
+mod plain_types;
+#[cfg(test)]
 mod program;
 #[cfg(test)]
 mod readme;
+#[cfg(test)]
+mod recursive_types;
 #[cfg(test)]
 mod rules;
 #[cfg(test)]
@@ -25,3 +35,9 @@ mod terminals;
 mod types;
 #[cfg(test)]
 mod users;
+#[cfg(test)]
+mod values;
+#[cfg(test)]
+mod whole;
+#[cfg(test)]
+mod word_types;

@@ -4,7 +4,7 @@ ghost use Rattle.weedle_rows.specs.Users.{nothing_reading, fuse_reading};
 ghost use Rattle.weedle_rows.specs.UserLaws.{nothing_lawful, fuse_lawful};
 
 use std::alloc::Global;
-use weedle_base::{Err, Error, ErrorKind, IResult, Parse};
+use weedle_base::{Err, Error, ErrorKind, IResult, Parse, mismatch};
 
 /// It is read from every text, and takes nothing.
 #[derive(Clone, Copy, Debug, Default, PartialEq, Eq)]
@@ -24,6 +24,7 @@ impl<'a> Parse<'a> for Nothing {
 #[derive(Clone, Copy, Debug, Default, PartialEq, Eq)]
 pub struct Fuse;
 
+#[tactic(auto, using(weedle_base::proofs::FaultFacts::fault_mismatch, weedle_base::proofs::PlaceFacts::suffix_self))]
 impl<'a> Parse<'a> for Fuse {
     ghost reading = { fuse_reading };
 
@@ -34,10 +35,7 @@ impl<'a> Parse<'a> for Fuse {
                 code: ErrorKind::Unread,
             }));
         }
-        Err(Err::Error(Error {
-            input,
-            code: ErrorKind::Mismatch,
-        }))
+        Err(mismatch(input))
     }
 
     ghost lawful = { fuse_lawful };

@@ -9,10 +9,10 @@ ghost use Rattle.weedle_base.specs.OwnLaws.{own_lawful};
 
 use std::alloc::{AllocError, Global};
 use weedle_base::scan::identifier;
-use weedle_base::{Err, Error, ErrorKind, IResult, Parse, TryClone};
+use weedle_base::{IResult, Parse, TryClone, mismatch};
 
 /// A name, as `Window`, kept without the underscore that may stand before it, as in `_interface`. Any other
-/// text, as `__x`, is a mismatch. It takes no memory and never gives a failure.
+/// text, as `__x` or `9a`, is a mismatch. It takes no memory and never gives a failure.
 #[derive(Clone, Copy, Debug, PartialEq, Eq, PartialOrd, Ord, Hash)]
 pub struct Identifier<'a>(pub &'a str);
 
@@ -23,10 +23,7 @@ impl<'a> Parse<'a> for Identifier<'a> {
     fn parse(_alloc: Global, input: &'a str) -> IResult<&'a str, Self> {
         match identifier(input) {
             Some((rest, name)) => Ok((rest, Identifier(name))),
-            None => Err(Err::Error(Error {
-                input,
-                code: ErrorKind::Mismatch,
-            })),
+            None => Err(mismatch(input)),
         }
     }
 

@@ -7,7 +7,7 @@ ghost use Rattle.weedle_parts.specs.Lists.{after_first, punctuated_reading, punc
 ghost use Rattle.weedle_parts.specs.ListLaws.{punctuated_lawful, punctuated_non_empty_lawful};
 
 use std::alloc::{AllocError, Global};
-use weedle_base::{Err, Error, ErrorKind, IResult, Parse, TryClone};
+use weedle_base::{Err, IResult, Parse, TryClone, mismatch, out_of_memory};
 
 /// Items with a separator between each two, as `a, b`; none included. `separator` is the default, not what
 /// was read.
@@ -97,10 +97,7 @@ fn following<'a, T: Parse<'a>, S: Parse<'a>>(
 {
     let mut list = Vec::new(alloc);
     if list.push(first).is_err() {
-        return Err(Err::Failure(Error {
-            input,
-            code: ErrorKind::Memory,
-        }));
+        return Err(out_of_memory(input));
     }
     let mut rest = input;
     loop {
@@ -109,20 +106,14 @@ fn following<'a, T: Parse<'a>, S: Parse<'a>>(
             return Ok((rest, list));
         };
         if after.len() == rest.len() {
-            return Err(Err::Error(Error {
-                input: rest,
-                code: ErrorKind::Mismatch,
-            }));
+            return Err(mismatch(rest));
         }
         let (next, read) = Option::<T>::parse(alloc, after)?;
         let Some(item) = read else {
             return Ok((rest, list));
         };
         if list.push(item).is_err() {
-            return Err(Err::Failure(Error {
-                input: rest,
-                code: ErrorKind::Memory,
-            }));
+            return Err(out_of_memory(rest));
         }
         rest = next;
     }

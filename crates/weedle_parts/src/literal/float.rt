@@ -12,7 +12,7 @@ use crate::literal::integer::skip_minus;
 use std::alloc::Global;
 use weedle_base::scan::{after_one, after_run, after_word, skip_trivia, taken};
 use weedle_base::term::{Infinity, NaN, NegInfinity};
-use weedle_base::{Err, Error, ErrorKind, IResult, Parse};
+use weedle_base::{IResult, Parse, mismatch};
 use weedle_rules::{Class, Rule};
 
 /// A number with a point or an exponent, as `-.5E+3`, `5.` or `1e3`. An exponent without digits is
@@ -31,10 +31,7 @@ impl<'a> Parse<'a> for FloatValueLit<'a> {
                 skip_trivia(rest),
                 FloatValueLit(taken(Rule::FLOAT_VALUE_LIT_TEXT, start, rest)),
             )),
-            None => Err(Err::Error(Error {
-                input,
-                code: ErrorKind::Mismatch,
-            })),
+            None => Err(mismatch(input)),
         }
     }
 

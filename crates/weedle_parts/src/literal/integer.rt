@@ -10,7 +10,7 @@ ghost use Rattle.weedle_parts.specs.LiteralTrees.{dec_tree, hex_tree, oct_tree, 
 
 use std::alloc::Global;
 use weedle_base::scan::{after_one, after_run, after_word, skip_trivia, taken};
-use weedle_base::{Err, Error, ErrorKind, IResult, Parse};
+use weedle_base::{IResult, Parse, mismatch};
 use weedle_rules::{Class, Rule};
 
 /// A decimal number, as `-12`: a digit other than `0` and any digits, perhaps behind a `-`. Anything
@@ -28,10 +28,7 @@ impl<'a> Parse<'a> for DecLit<'a> {
                 skip_trivia(rest),
                 DecLit(taken(Rule::DEC_LIT_TEXT, start, rest)),
             )),
-            None => Err(Err::Error(Error {
-                input,
-                code: ErrorKind::Mismatch,
-            })),
+            None => Err(mismatch(input)),
         }
     }
 
@@ -53,10 +50,7 @@ impl<'a> Parse<'a> for HexLit<'a> {
                 skip_trivia(rest),
                 HexLit(taken(Rule::HEX_LIT_TEXT, start, rest)),
             )),
-            None => Err(Err::Error(Error {
-                input,
-                code: ErrorKind::Mismatch,
-            })),
+            None => Err(mismatch(input)),
         }
     }
 
@@ -78,10 +72,7 @@ impl<'a> Parse<'a> for OctLit<'a> {
                 skip_trivia(rest),
                 OctLit(taken(Rule::OCT_LIT_TEXT, start, rest)),
             )),
-            None => Err(Err::Error(Error {
-                input,
-                code: ErrorKind::Mismatch,
-            })),
+            None => Err(mismatch(input)),
         }
     }
 

@@ -8,7 +8,7 @@ ghost use Rattle.weedle_parts.specs.LiteralTrees.{string_tree};
 use memchr::memchr;
 use std::alloc::Global;
 use weedle_base::scan::{after_word, skip_trivia};
-use weedle_base::{Err, Error, ErrorKind, IResult, Parse};
+use weedle_base::{IResult, Parse, mismatch};
 use weedle_rules::Rule;
 
 /// A text in quotes, as `"blob"`. It holds what stands between them, in which nothing is an escape
@@ -22,17 +22,11 @@ impl<'a> Parse<'a> for StringLit<'a> {
     fn parse(_alloc: Global, input: &'a str) -> IResult<&'a str, Self> {
         let start = skip_trivia(input);
         let Some(after) = after_word(Rule::BYTES_QUOTE, "\"", start) else {
-            return Err(Err::Error(Error {
-                input,
-                code: ErrorKind::Mismatch,
-            }));
+            return Err(mismatch(input));
         };
         match memchr(b'"', after.as_bytes()) {
             Some(end) => Ok((skip_trivia(&after[end + 1..]), StringLit(&after[..end]))),
-            None => Err(Err::Error(Error {
-                input,
-                code: ErrorKind::Mismatch,
-            })),
+            None => Err(mismatch(input)),
         }
     }
 

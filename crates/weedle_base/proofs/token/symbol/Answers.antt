@@ -5,7 +5,7 @@ use Rattle.weedle_base.proofs.token.symbol.Goals as goal
 
 pub returns-in-None-clause-outcome : goal.returns-in-None-clause-outcome
 returns-in-None-clause-outcome g c =
-    fault_own (λ v. Mark) ⊥ (symbol_lacks c.skip_trivia-start.ensures c.requires c.in-None.ensures.cases) c.utf8.input refl refl
+    fault_own (λ v. Mark) ⊥ (symbol_lacks c.skip_trivia-start.ensures c.requires c.in-None.ensures.cases) c.utf8.input c.mismatch.ensures
 
 pub returns-in-Some-clause-outcome : goal.returns-in-Some-clause-outcome
 returns-in-Some-clause-outcome g c =

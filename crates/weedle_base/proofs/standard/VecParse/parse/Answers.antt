@@ -1,6 +1,6 @@
-use Rattle.std.proofs.Common.{◌≡◌, [], ◌∷◌, ◌++◌, refl}
+use Rattle.std.proofs.Common.{◌≡◌, [], ◌∷◌, ◌++◌}
 use Rattle.weedle_base.specs.Runs.{vec_step}
-use Rattle.weedle_base.proofs.Reached.{reached_none, reached_item, reached_ends, run_stuck, run_fault}
+use Rattle.weedle_base.proofs.Reached.{reached_none, reached_item, reached_ends, run_stuck, run_full, run_fault}
 use Rattle.weedle_base.proofs.Steps.{of_some, of_none, exit_answers}
 use Rattle.weedle_base.proofs.standard.VecParse.parse.Goals as goal
 
@@ -18,7 +18,10 @@ returns-in_default g c =
     reached_ends (vec_step g.T.Parse.reading) (λ v. v.items) c.args.input.now c.loop-list.rest.now c.loop-list.list c.loop-list.invariant.1 (of_none g.T.Parse.reading c.in_ok-after.ensures c.in_default.is)
 
 pub returns-then-after-rest : goal.returns-then-after-rest
-returns-then-after-rest g c = run_stuck (λ v. v.items) g.T.Parse.reading c.loop-list.invariant.1 (of_some g.T.Parse.reading c.in_ok-after.ensures c.in-Some.is) c.if-after-rest.true refl refl
+returns-then-after-rest g c = run_stuck (λ v. v.items) g.T.Parse.reading c.loop-list.invariant.1 (of_some g.T.Parse.reading c.in_ok-after.ensures c.in-Some.is) c.if-after-rest.true c.mismatch.ensures
+
+pub returns-then-is_err : goal.returns-then-is_err
+returns-then-is_err g c = run_full (λ v. v.items) g.T.Parse.reading c.loop-list.invariant.1 c.out_of_memory.ensures
 
 pub returns-in_err-after : goal.returns-in_err-after
 returns-in_err-after g c = exit_answers c.from_residual.result (run_fault (λ v. v.items) g.T.Parse.reading c.loop-list.invariant.1 c.in_err-after.ensures) c.from_residual.ensures.1

@@ -1,8 +1,8 @@
-use Rattle.std.proofs.Common.{◌≡◌, [], ◌∷◌, ◌++◌, List, ap, ◌∙◌, refl, inl}
+use Rattle.std.proofs.Common.{◌≡◌, [], ◌∷◌, ◌++◌, List, ap, ◌∙◌, inl}
 use Rattle.weedle_parts.specs.Lists.{next_step}
 use Rattle.weedle_base.proofs.Reached.{reached_none}
 use Rattle.weedle_base.proofs.Steps.{of_some, of_none, exit_answers}
-use Rattle.weedle_parts.proofs.ReachedLists.{reached_next, ends_behind, list_ends, list_stuck, separator_fault, item_fault}
+use Rattle.weedle_parts.proofs.ReachedLists.{reached_next, ends_behind, list_ends, list_stuck, list_full, separator_fault, item_fault}
 use Rattle.weedle_parts.proofs.common.punctuated.following.Goals as goal
 
 pub loop-list-init : goal.loop-list-init
@@ -27,7 +27,13 @@ returns-in_default g c = list_ends g.T.Parse.reading g.S.Parse.reading (λ l. l.
 
 pub returns-then-after-rest : goal.returns-then-after-rest
 returns-then-after-rest g c =
-    list_stuck g.T.Parse.reading g.S.Parse.reading (λ l. l.items) c.args.first c.loop-list.invariant.1.2 (of_some g.S.Parse.reading c.in_ok-after.ensures c.in-Some.is) c.if-after-rest.true refl refl
+    list_stuck g.T.Parse.reading g.S.Parse.reading (λ l. l.items) c.args.first c.loop-list.invariant.1.2 (of_some g.S.Parse.reading c.in_ok-after.ensures c.in-Some.is) c.if-after-rest.true c.mismatch.ensures
+
+pub returns-then-is_err : goal.returns-then-is_err
+returns-then-is_err g c = list_full g.T.Parse.reading g.S.Parse.reading (λ l. l.items) c.args.first (reached_none (next_step g.T.Parse.reading g.S.Parse.reading) c.args.input.now c.utf8.input) c.out_of_memory.ensures
+
+pub returns-then-is_err-2 : goal.returns-then-is_err-2
+returns-then-is_err-2 g c = list_full g.T.Parse.reading g.S.Parse.reading (λ l. l.items) c.args.first c.loop-list.invariant.1.2 c.out_of_memory-then-is_err-2.ensures
 
 pub returns-in_err-next : goal.returns-in_err-next
 returns-in_err-next g c =

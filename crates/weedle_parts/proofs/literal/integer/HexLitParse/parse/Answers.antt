@@ -8,4 +8,4 @@ pub returns-in-Some : goal.returns-in-Some
 returns-in-Some c = got_own (λ v. Text v.0.now) ⊥ _ (kept_reads c.skip_trivia-start.ensures refl refl c.taken.ensures c.skip_trivia.ensures) refl c.utf8.input c.skip_trivia.utf8
 
 pub returns-in-None : goal.returns-in-None
-returns-in-None c = fault_own (λ v. Text v.0.now) ⊥ (no_kept c.skip_trivia-start.ensures refl c.in-None.ensures) c.utf8.input refl refl
+returns-in-None c = fault_own (λ v. Text v.0.now) ⊥ (no_kept c.skip_trivia-start.ensures refl c.in-None.ensures) c.utf8.input c.mismatch.ensures

@@ -7,7 +7,7 @@ use Rattle.weedle_parts.proofs.QuoteFacts.{no_quote, open_quote, quoted}
 use Rattle.weedle_parts.proofs.literal.string.StringLitParse.parse.Goals as goal
 
 pub returns-in_default : goal.returns-in_default
-returns-in_default c = fault_own (λ v. Text v.0.now) ⊥ (no_quote c.skip_trivia-start.ensures c.in_default.ensures) c.utf8.input refl refl
+returns-in_default c = fault_own (λ v. Text v.0.now) ⊥ (no_quote c.skip_trivia-start.ensures c.in_default.ensures) c.utf8.input c.mismatch.ensures
 
 pub range_from-requires : goal.range_from-requires
 range_from-requires c =
@@ -22,4 +22,4 @@ returns-in-Some-memchr c =
 pub returns-in-None : goal.returns-in-None
 returns-in-None c =
     let p : IsFirstByte (is_byte 34) c.in-Some.after.now None = rw c.as_bytes.ensures.value at c.in-None.ensures in
-    fault_own (λ v. Text v.0.now) ⊥ (open_quote c.skip_trivia-start.ensures c.in-Some.ensures p) c.utf8.input refl refl
+    fault_own (λ v. Text v.0.now) ⊥ (open_quote c.skip_trivia-start.ensures c.in-Some.ensures p) c.utf8.input c.mismatch-in-None.ensures

@@ -1,0 +1,226 @@
+//! The table of ends.
+
+use std::alloc::{AllocError, Global};
+use std::process::Abort;
+use std::test::Fail;
+use weedle_rules::{Cell, Ends, Narrow, READS, RULES, Rule, Wide};
+
+/// Attributes within attributes, as `[A([A(a... b)] a... b)] interface I {};`.
+fn nested(alloc: Global, levels: usize) -> Result<String, AllocError> {
+    let mut text = String::new(alloc);
+    for _ in 0..levels {
+        text.push_str("[A(")?;
+    }
+    text.push_str("[A(a... b")?;
+    for _ in 0..levels {
+        text.push_str(")] a... b")?;
+    }
+    text.push_str(")] interface I {};")?;
+    Ok(text)
+}
+
+/// The beginning of a comment, again and again.
+fn unclosed(alloc: Global) -> Result<String, AllocError> {
+    let mut text = String::new(alloc);
+    for _ in 0..1_000 {
+        text.push_str("/* ")?;
+    }
+    Ok(text)
+}
+
+#[test]
+fn definitions_end_where_the_grammar_says(rt: HostRuntime) -> Result<(), Fail> {
+    let alloc = rt.alloc();
+    let ends = Ends::new(alloc, "")?;
+    assert_eq!(rt; ends.end(Rule::DEFINITIONS, 0), Some(0));
+    assert_eq!(rt; ends.workings(), RULES as u128);
+    assert_eq!(rt; Ends::new(alloc, "  ")?.end(Rule::DEFINITIONS, 0), Some(0));
+    let text = "interface A {}; // end";
+    let ends = Ends::new(alloc, text)?;
+    assert_eq!(rt; ends.end(Rule::DEFINITIONS, 0), Some(22));
+    assert_eq!(rt; ends.end(Rule::DEFINITION, 1), None);
+    assert_eq!(rt; ends.text(), text);
+    assert!(rt; ends.is_narrow());
+    Ok(())
+}
+
+#[test]
+fn what_is_asked_changes_nothing(rt: HostRuntime) -> Result<(), Fail> {
+    let text = nested(rt.alloc(), 39)?;
+    assert_eq!(rt; text.len(), 495);
+    let ends = Ends::new(rt.alloc(), &text)?;
+    let workings = ends.workings();
+    let reads = ends.reads();
+    assert_eq!(rt; workings, RULES as u128 * 496);
+    assert_eq!(rt; ends.end(Rule::DEFINITIONS, 0), Some(495));
+    assert_eq!(rt; ends.end(Rule::DEFINITIONS, 0), Some(495));
+    assert_eq!(rt; ends.workings(), workings);
+    assert_eq!(rt; ends.reads(), reads);
+    Ok(())
+}
+
+#[test]
+fn unclosed_comments_are_read_in_bounded_steps(rt: HostRuntime) -> Result<(), Fail> {
+    let text = unclosed(rt.alloc())?;
+    let ends = Ends::new(rt.alloc(), &text)?;
+    assert_eq!(rt; ends.end(Rule::DEFINITIONS, 0), Some(0));
+    let workings = RULES as u128 * 3_001;
+    assert_eq!(rt; ends.workings(), workings);
+    assert!(rt; ends.reads() >= workings);
+    assert!(rt; ends.reads() <= READS as u128 * workings);
+    Ok(())
+}
+
+#[test]
+fn cells_give_back_what_they_hold(rt: HostRuntime) {
+    assert!(rt; Narrow::fits(4_294_967_294));
+    assert!(rt; !Narrow::fits(4_294_967_295));
+    assert_eq!(rt; Narrow::pack(None).unpack(), None);
+    assert_eq!(rt; Narrow::pack(Some(0)).unpack(), Some(0));
+    assert_eq!(rt;
+        Narrow::pack(Some(4_294_967_294)).unpack(),
+        Some(4_294_967_294)
+    );
+    assert!(rt; Wide::fits(usize::MAX));
+    assert_eq!(rt; Wide::pack(None).unpack(), None);
+    assert_eq!(rt; Wide::pack(Some(usize::MAX)).unpack(), Some(usize::MAX));
+}
+
+/// The texts of the worked examples.
+const TEXTS: [&str; 100] = [
+    "",
+    "  ",
+    "interface Window { readonly attribute Storage sessionStorage; };",
+    "\n    interface Window {\n        readonly attribute Storage sessionStorage;\n    };\n",
+    "interface A {}; // end",
+    "interface A {};interface B {}",
+    "// c",
+    "// c\n",
+    "interface mixin {};",
+    "interface mixin M {};",
+    "interface includes B;",
+    "interface A { ///d\n attribute long x; };",
+    "interface A { ///d\n void f(); };",
+    "interface A { attribute long x; };",
+    "interface A { readonly attribute x; };",
+    "interface A {};\ninterface _B {};",
+    "DOMStringMap",
+    "longé",
+    "record<DOMString?, short>",
+    "record<u64, short>",
+    "()",
+    "(a or)",
+    "Promise<long>?",
+    "optional... x",
+    "long x = 5",
+    "optional long x = 5",
+    "_9a-b c",
+    "__x",
+    "_interface",
+    "0x;",
+    "-0x",
+    "08",
+    "-0",
+    ",x",
+    ";;",
+    "enum E {\"a\",\"b\",};",
+    "enum E {};",
+    "///a\n ///b\nx",
+    "///a\r\nx",
+    "///a",
+    "stringifier;",
+    "stringifier();",
+    "1.5e",
+    "-.5E+3x",
+    "1e3",
+    "5.",
+    "+Infinity",
+    "/*/*/interface A {};",
+    "/*/interface A {};",
+    "/**/interface A {};",
+    "// c\n///d\ninterface A {};",
+    "interface A {}; // c\n///d\ninterface B {};",
+    "(  anything",
+    "  -Infinity  ",
+    "long-x",
+    "([Clamp] byte or [Named] byte)",
+    "Exposed=(Window,Worker)",
+    "NamedConstructor=Image(DOMString src)",
+    "PutForwards=name",
+    "Reflect=\"x\"",
+    "\"a\nb\" c",
+    "\"a",
+    "const long X = 0;",
+    "const long X = 0x;",
+    "readonly attribute long x;",
+    "required x;",
+    "callback F = undefined (long x);",
+    "interface É {};",
+    "interface A {};\nenum E {\"a\"};",
+    "A includes B;",
+    "// a\n/* b */ c",
+    " //x",
+    "- Infinity",
+    "  ///\n///b\n",
+    "a, b ,",
+    ",,.x",
+    "unsigned long long ?x",
+    "-0x1F",
+    "[ ]",
+    "any?",
+    "sequence<long",
+    "((a or b)? or c)?",
+    "(long or or)",
+    "[A] [B] long x",
+    "[A,]",
+    "FrozenArray<short>",
+    "[A] iterable<long, long>;",
+    "async iterable<long>(long x);",
+    "constructor();",
+    "getter any (long i);",
+    "///d\nconst long X = 0;",
+    "stringifier readonly attribute long x;",
+    "/*a*/enum/*b*/E/*c*/{/*d*/\"a\"/*e*/,/*f*/}/*g*/;/*h*/",
+    "interface A {}; /* x */ /*",
+    "interface A {};\n// é\nenum E {\"é\"};\n",
+    "enum E {\"日本\"};",
+    "interface A {};\n///d\n",
+    "///a\n// c\n///b\ninterface A {};",
+    "dictionary D { ///d\n long x = 5; };",
+    "callback C = undefined ();\ncallback interface D {};\ninterface E {};\ninterface mixin F {};\n\
+     namespace G {};\ndictionary H {};\npartial interface I {};\npartial interface mixin J {};\n\
+     partial dictionary K {};\npartial namespace L {};\nenum M {\"m\"};\ntypedef long N;\n\
+     O includes P;\nQ implements R;",
+];
+
+/// Asserts that a table of narrow cells and one of wide cells say the same of the text.
+fn assert_tables_agree(rt: &impl Abort, alloc: Global, text: &str) -> Result<(), AllocError> {
+    let narrow = Ends::new(alloc, text)?;
+    let wide = Ends::new_wide(alloc, text)?;
+    assert!(rt; narrow.is_narrow() && !wide.is_narrow());
+    assert_eq!(rt; narrow.workings(), wide.workings());
+    assert_eq!(rt; narrow.reads(), wide.reads());
+    for place in 0..text.len() + 1 {
+        for number in 0..RULES as u16 {
+            if let Some(rule) = Rule::new(number) {
+                assert_eq!(rt;
+                    narrow.end(rule, place),
+                    wide.end(rule, place),
+                    "rule {number} at {place} of {text:?}"
+                );
+            }
+        }
+    }
+    Ok(())
+}
+
+#[test]
+fn narrow_and_wide_cells_say_the_same(rt: HostRuntime) -> Result<(), Fail> {
+    let alloc = rt.alloc();
+    for text in TEXTS {
+        assert_tables_agree(&rt, alloc, text)?;
+    }
+    assert_tables_agree(&rt, alloc, &nested(alloc, 39)?)?;
+    assert_tables_agree(&rt, alloc, &unclosed(alloc)?)?;
+    Ok(())
+}
