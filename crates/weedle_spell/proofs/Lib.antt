@@ -14,3 +14,7 @@ pub mod PartFacts
 pub mod LeafLaws
 pub mod LiteralLaws
 pub mod SimpleTypeLaws
+pub mod PlainAttributeLaws
+pub mod RecursiveTypeFacts
+pub mod ArgumentLaws
+pub mod TypeLaws

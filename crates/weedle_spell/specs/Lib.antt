@@ -6,3 +6,7 @@ pub mod Literals
 pub mod SimpleTypes
 pub mod Pieces
 pub mod Laws
+pub mod PlainAttributes
+pub mod RecursiveTypes
+pub mod Arguments
+pub mod Types
