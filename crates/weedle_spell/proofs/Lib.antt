@@ -18,3 +18,6 @@ pub mod PlainAttributeLaws
 pub mod RecursiveTypeFacts
 pub mod ArgumentLaws
 pub mod TypeLaws
+pub mod InterfaceMemberLaws
+pub mod OtherMemberLaws
+pub mod DefinitionLaws

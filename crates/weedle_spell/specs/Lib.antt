@@ -10,3 +10,6 @@ pub mod PlainAttributes
 pub mod RecursiveTypes
 pub mod Arguments
 pub mod Types
+pub mod InterfaceMembers
+pub mod OtherMembers
+pub mod Definitions
