@@ -12,9 +12,10 @@ same part (the same row and the same shape) share one rule.
 It writes, for each section S of the grammar,
     specs/Table/S.antt      the numbers of its rules, and their rows and shapes
     src/grammar/s.rt        the same for the program: numbers, constants of `Rule`, rows
+    src/fill/place/s.rt     the filling of the cells of its rules at a place
     proofs/Takes/S.antt     which of its rules always take a byte
 and over all sections specs/Table.antt, specs/Bound.antt, src/grammar.rt,
-proofs/Takes.antt and the number of rules in src/lib.rt.
+src/fill/place.rt, proofs/Takes.antt and the numbers RULES and READS in src/lib.rt.
 
 A rule has a constant of `Rule` where it has a doc line, or where a scanner names it.
 """
@@ -468,6 +469,25 @@ def read_first(row):
     return parts_of(row)
 
 
+def reads_of(row):
+    """How often a byte or a cell is looked at, at most, to work a cell of the row out."""
+    kind = row[0]
+    if kind == "Bytes":
+        return len(row[1])
+    if kind == "Past":
+        return len(row[1]) + 1
+    if kind in ("Seq", "First"):
+        return len(row[1])
+    if kind == "If":
+        return len(row[1]) + 1
+    return {"OneOf": 1, "NotNext": 1, "Run": 2, "Opt": 1, "Many": 2, "List": 2, "List1": 2, "Tail": 3}[kind]
+
+
+# Where all alternatives of a choice fail, each is looked at: so no smaller number holds, if the greatest is a choice's.
+MOST_READS = max(reads_of(r.row) for r in RULES)
+assert MOST_READS <= 100 and any(r.row[0] == "First" and reads_of(r.row) == MOST_READS for r in RULES)
+
+
 for r in RULES:
     for x in parts_of(r.row):
         if x not in NUMBER:
@@ -620,11 +640,11 @@ def code_section(s):
             out.append(f"use crate::grammar::{home.module}::{{{', '.join(names)}}};")
     out.append("use crate::row::{" + ("Row, parts_of" if "parts_of(" in text else "Row") + "};")
     out += ["use crate::rule::Rule;", ""]
-    out += [f"pub(super) const {r.name}: u16 = {NUMBER[r.name]};" for r in s.rules]
+    out += [f"pub(crate) const {r.name}: u16 = {NUMBER[r.name]};" for r in s.rules]
     constants = [(r.name, doc_of(r)) for r in s.rules if doc_of(r)]
     out += ["", "impl Rule {"] + [line for name, doc in constants for line in (f"    /// {doc}", f"    pub const {name}: Rule = Rule({name});")] + ["}"]
     requires = [f"    requires low {{ {low} ≤ number }}", f"    requires high {{ number < {high} }}"]
-    out += ["", f"/// The row of a rule from {low} to {high - 1}.", "pub(super) fn row(number: u16) -> Row"]
+    out += ["", f"/// The row of a rule from {low} to {high - 1}.", "#[inline(always)]", "pub(super) fn row(number: u16) -> Row"]
     out += requires if low else [requires[1].replace("requires high", "requires")]
     out += ["    ensures { row_view result ≡ row_of number }", "{", "    match number {"]
     for i, r in enumerate(s.rules):
@@ -641,8 +661,8 @@ def code_grammar():
            "ghost use Rattle.weedle_rules.specs.Table.{row_of as row_of_lem};",
            "ghost use Rattle.weedle_rules.specs.View.{row_view};", "",
            "use crate::row::Row;", "use crate::rule::Rule;", ""]
-    out += [f"mod {s.module};" for s in SECTIONS]
-    out += ["", "/// What a rule reads. It takes no memory.", "pub fn row_of(rule: Rule) -> Row",
+    out += [f"pub(crate) mod {s.module};" for s in SECTIONS]
+    out += ["", "/// What a rule reads. It takes no memory.", "#[inline(always)]", "pub fn row_of(rule: Rule) -> Row",
             "    ensures { row_view result ≡ row_of_lem rule }", "{", "    let number = rule.number();"]
     for i, s in enumerate(SECTIONS):
         high = NUMBER[s.rules[-1].name] + 1
@@ -655,12 +675,63 @@ def code_grammar():
 
 def spec_bound():
     write("specs/Bound.antt", "\n".join([
-        f"-- How many rules there are. {HEAD[0].upper() + HEAD[1:]}.",
+        f"-- How many rules there are, and how much is looked at for one cell. {HEAD[0].upper() + HEAD[1:]}.",
         "use Rattle.std.specs.Prelude.{ℕ}", "",
-        "-- one more than the greatest number", "abbrev pub rule_count : ℕ", f"rule_count = {len(RULES)}"]) + "\n")
+        "-- one more than the greatest number", "abbrev pub rule_count : ℕ", f"rule_count = {len(RULES)}", "",
+        "-- how often a byte or a cell is looked at, at most, to work a rule out at a place", "abbrev pub most_reads : ℕ",
+        f"most_reads = {MOST_READS}"]) + "\n")
     path = CRATE / "src/lib.rt"
     if path.exists():
-        path.write_text(re.sub(r"pub const RULES: usize = \d+;", f"pub const RULES: usize = {len(RULES)};", path.read_text()))
+        text = path.read_text()
+        for name, value in (("RULES", len(RULES)), ("READS", MOST_READS)):
+            text = re.sub(rf"pub const {name}: usize = \d+;", f"pub const {name}: usize = {value};", text)
+        path.write_text(text)
+
+
+FILL_GHOSTS = ["ghost use Rattle.std.specs.Prelude.{◌≤◌, length};", "ghost use Rattle.weedle_rules.specs.Work.{IsFilling};", ""]
+EIGHT = 8
+
+
+def fill_head(visibility, name, low, high):
+    return ["#[inline(always)]", f"{visibility}fn {name}<C: Cell>(reader: &mut Reader<'_, C>, place: usize)",
+            "    requires within { place ≤ length reader.old.text }",
+            f"    requires next {{ IsFilling reader.old reader.old.text place {low} }}",
+            f"    ensures {{ IsFilling reader.new reader.old.text place {high} }}", "{"]
+
+
+def code_fill_section(s):
+    names = [r.name for r in s.rules]
+    low, high = NUMBER[names[0]], NUMBER[names[-1]] + 1
+    out = [f"//! Works out the cells of a place, section: {s.about}", "//!", f"//! {HEAD[0].upper() + HEAD[1:]}.", ""]
+    out += FILL_GHOSTS
+    out += ["use crate::cell::Cell;", "use crate::fill::fill_cell;",
+            f"use crate::grammar::{s.module}::{{{', '.join(sorted(names))}}};" if len(names) > 1 else f"use crate::grammar::{s.module}::{names[0]};",
+            "use crate::reader::Reader;", "use crate::rule::Rule;", ""]
+    starts = range(low, high, EIGHT)
+    out += [f"/// Works out the cells of the rules from {low} to {high - 1}."] + fill_head("pub(super) ", "fill", low, high)
+    out += [f"    fill_from_{start}(reader, place);" for start in starts] + ["}"]
+    for start in starts:
+        stop = min(start + EIGHT, high)
+        out += [""] + fill_head("", f"fill_from_{start}", start, stop)
+        out += [f"    fill_cell(reader, Rule({RULES[n].name}), place);" for n in range(start, stop)] + ["}"]
+    write(f"src/fill/place/{s.module}.rt", "\n".join(out) + "\n")
+
+
+def code_fill_place():
+    out = ["//! Works out the cells of one place, section by section.", "//!", f"//! {HEAD[0].upper() + HEAD[1:]}.", "",
+           "ghost use Rattle.std.specs.Prelude.{◌≤◌, ◌+◌, ◌-◌, ◌*◌, length};",
+           "ghost use Rattle.weedle_rules.specs.Bound.{rule_count};",
+           "ghost use Rattle.weedle_rules.specs.Work.{IsFilled};", "",
+           "use crate::cell::Cell;", "use crate::reader::Reader;", ""]
+    out += [f"mod {s.module};" for s in SECTIONS]
+    out += ["", "/// Works out the cells of all rules at a place, where all behind it are known.",
+            "#[inline(always)]", "pub(super) fn fill_place<C: Cell>(reader: &mut Reader<'_, C>, place: usize)",
+            "    requires within { place ≤ length reader.old.text }",
+            "    requires next { IsFilled reader.old reader.old.text ((length reader.old.text - place) * rule_count) }",
+            "    ensures { IsFilled reader.new reader.old.text ((length reader.old.text - place) * rule_count + rule_count) }",
+            "{", "    reader.lay();"]
+    out += [f"    {s.module}::fill(reader, place);" for s in SECTIONS] + ["}"]
+    write("src/fill/place.rt", "\n".join(out) + "\n")
 
 
 def proof_takes():
@@ -694,9 +765,11 @@ def main():
     for s in SECTIONS:
         spec_section(s)
         code_section(s)
+        code_fill_section(s)
     spec_table()
     spec_bound()
     code_grammar()
+    code_fill_place()
     proof_takes()
     print(f"{len(RULES)} rules in {len(SECTIONS)} sections: " + ", ".join(f"{s.module} {len(s.rules)}" for s in SECTIONS))
 

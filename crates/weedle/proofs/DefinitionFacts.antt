@@ -16,7 +16,7 @@ use Rattle.weedle_base.specs.declared.fault.Err.{Err as Fault}
 use Rattle.weedle_base.specs.declared.fault.Error.{Error}
 use Rattle.weedle_base.specs.declared.term.definition_keywords.Interface.{Interface}
 use Rattle.weedle_base.specs.declared.term.symbols.SemiColon.{SemiColon}
-use Rattle.weedle_rules.specs.Table.Definitions.{INTERFACE_MEMBER, INTERFACE_MEMBERS, MEMBERS, INTERFACE_DEFINITION, DEFINITION}
+use Rattle.weedle_rules.specs.Table.FirstPath.{FIRST_MEMBER, FIRST_MEMBERS, BRACED_FIRST_MEMBERS, FIRST_INTERFACE, FIRST_DEFINITION}
 use Rattle.weedle_rules.specs.Table.Keywords.{INTERFACE}
 use Rattle.weedle_rules.specs.Table.Leaves.{IDENTIFIER}
 use Rattle.weedle_rules.specs.Table.Symbols.{SEMI_COLON}
@@ -31,45 +31,45 @@ use Rattle.weedle.specs.declared.definition.InterfaceDefinition.{InterfaceDefini
 use Rattle.weedle.specs.declared.interface.InterfaceMember.{InterfaceMember}
 
 abbrev pub members_reading : Reading (Vec InterfaceMember)
-members_reading = run_reading (λ v. v.items) (vec_step (own INTERFACE_MEMBER interface_member_tree ⊥))
+members_reading = run_reading (λ v. v.items) (vec_step (own FIRST_MEMBER interface_member_tree ⊥))
 
-members_rule : IsRule members_reading INTERFACE_MEMBERS interface_members_tree (Unit {0})
-members_rule = run_rule (still_rule (own_rule INTERFACE_MEMBER interface_member_tree ⊥)) (λ v. v.items) INTERFACE_MEMBERS refl refl tt
+members_rule : IsRule members_reading FIRST_MEMBERS interface_members_tree (Unit {0})
+members_rule = run_rule (still_rule (own_rule FIRST_MEMBER interface_member_tree ⊥)) (λ v. v.items) FIRST_MEMBERS refl refl tt
 
-braced_members_rule : IsRule (braced_reading members_reading) MEMBERS members_tree (Unit {0})
-braced_members_rule = braced_rule members_rule MEMBERS refl refl
+braced_members_rule : IsRule (braced_reading members_reading) BRACED_FIRST_MEMBERS members_tree (Unit {0})
+braced_members_rule = braced_rule members_rule BRACED_FIRST_MEMBERS refl refl
 
 abbrev pub interface_parts : Reading (Interface × (Identifier × (Braced (Vec InterfaceMember) × SemiColon)))
 interface_parts =
     pair_reading (own INTERFACE (λ v. Mark) ⊥) (pair_reading (own IDENTIFIER identifier_tree ⊥) (pair_reading (braced_reading members_reading) (own SEMI_COLON (λ v. Mark) ⊥)))
 
-interface_rule : IsRule interface_parts INTERFACE_DEFINITION (λ x. Node (trees (Mark ∷ identifier_tree x.1.0 ∷ members_tree x.1.1.0 ∷ Mark ∷ []))) (Unit {0})
+interface_rule : IsRule interface_parts FIRST_INTERFACE (λ x. Node (trees (Mark ∷ identifier_tree x.1.0 ∷ members_tree x.1.1.0 ∷ Mark ∷ []))) (Unit {0})
 interface_rule =
     let semi_colon = seq_last (still_rule (own_rule SEMI_COLON (λ v. Mark) ⊥)) in
     seq_rule (seq_next (still_rule (own_rule INTERFACE (λ v. Mark) ⊥)) (seq_next (still_rule (own_rule IDENTIFIER identifier_tree ⊥))
-    (seq_next braced_members_rule semi_colon))) INTERFACE_DEFINITION refl refl
+    (seq_next braced_members_rule semi_colon))) FIRST_INTERFACE refl refl
 
 abbrev pub interface_own : Reading InterfaceDefinition
-interface_own = own INTERFACE_DEFINITION interface_definition_tree (Unit {0})
+interface_own = own FIRST_INTERFACE interface_definition_tree (Unit {0})
 
-one_definition_rule : IsRule interface_own DEFINITION (λ v. Alt 0 (interface_definition_tree v)) (Unit {0})
-one_definition_rule = first_rule (first_last 0 (own_rule INTERFACE_DEFINITION interface_definition_tree (Unit {0}))) DEFINITION refl refl
+one_definition_rule : IsRule interface_own FIRST_DEFINITION (λ v. Alt 0 (interface_definition_tree v)) (Unit {0})
+one_definition_rule = first_rule (first_last 0 (own_rule FIRST_INTERFACE interface_definition_tree (Unit {0}))) FIRST_DEFINITION refl refl
 
 module _ {s : List ℕ} where
   module _ {rest : List ℕ} where
     pub interface_definition_got : {interface : Interface} {identifier : Identifier} {members : Braced (Vec InterfaceMember)} {semi_colon : SemiColon}
         → Got interface_parts s (interface, (identifier, (members, semi_colon))) rest
-        → Got (own INTERFACE_DEFINITION interface_definition_tree (Unit {0})) s (record { interface = interface; identifier = identifier; members = members; semi_colon = semi_colon }) rest
+        → Got (own FIRST_INTERFACE interface_definition_tree (Unit {0})) s (record { interface = interface; identifier = identifier; members = members; semi_colon = semi_colon }) rest
     interface_definition_got h = got_rule interface_rule interface_definition_tree _ h refl
 
-    pub definition_got : {v : InterfaceDefinition} → Got (own INTERFACE_DEFINITION interface_definition_tree (Unit {0})) s v rest → Got (own DEFINITION definition_tree (Unit {0})) s (IsInterface v) rest
+    pub definition_got : {v : InterfaceDefinition} → Got (own FIRST_INTERFACE interface_definition_tree (Unit {0})) s v rest → Got (own FIRST_DEFINITION definition_tree (Unit {0})) s (IsInterface v) rest
     definition_got h = got_rule one_definition_rule definition_tree _ h refl
 
   module _ {e : Fault (Error (Bor (List ℕ)))} where
-    pub interface_definition_fault : Faults interface_parts s e → Faults (own INTERFACE_DEFINITION interface_definition_tree (Unit {0})) s e
+    pub interface_definition_fault : Faults interface_parts s e → Faults (own FIRST_INTERFACE interface_definition_tree (Unit {0})) s e
     interface_definition_fault h = fault_rule interface_rule interface_definition_tree h
 
-    pub definition_fault : Faults (own INTERFACE_DEFINITION interface_definition_tree (Unit {0})) s e → Faults (own DEFINITION definition_tree (Unit {0})) s e
+    pub definition_fault : Faults (own FIRST_INTERFACE interface_definition_tree (Unit {0})) s e → Faults (own FIRST_DEFINITION definition_tree (Unit {0})) s e
     definition_fault h = fault_rule one_definition_rule definition_tree h
 
 -- what the search for the proof of its `parse` uses

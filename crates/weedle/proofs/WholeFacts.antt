@@ -16,7 +16,7 @@ use Rattle.weedle_rules.proofs.Exists.{advances}
 use Rattle.weedle_rules.proofs.Takes.{takes}
 use Rattle.weedle_rules.proofs.Unique.{one_outcome}
 use Rattle.weedle_rules.specs.Table.{webidl, Reads}
-use Rattle.weedle_rules.specs.Table.Definitions.{DEFINITION, DEFINITIONS}
+use Rattle.weedle_rules.specs.Table.FirstPath.{FIRST_DEFINITION, FIRST_DEFINITIONS}
 use Rattle.weedle_rules.specs.Trees.{Tree, Gives}
 use Rattle.weedle.specs.Laws.{definitions_reading, ReadsDefinitions}
 use Rattle.weedle.specs.ValueTrees.{definition_tree, definitions_tree}
@@ -24,9 +24,9 @@ use Rattle.weedle.specs.Whole.{IsWhole, IsLeft, LeavesRest}
 use Rattle.weedle.specs.declared.definition.Definition.{Definition}
 
 pub reads_definitions : ReadsDefinitions
-reads_definitions = run_rule (own_rule DEFINITION definition_tree (Unit {0})) (λ v. v.items) DEFINITIONS refl refl tt
+reads_definitions = run_rule (own_rule FIRST_DEFINITION definition_tree (Unit {0})) (λ v. v.items) FIRST_DEFINITIONS refl refl tt
 
-takes_a_byte : (s : List ℕ) (ts : List Tree) (k : ℕ) → Reads s DEFINITION 0 (Gives ts k) → 0 < k
+takes_a_byte : (s : List ℕ) (ts : List Tree) (k : ℕ) → Reads s FIRST_DEFINITION 0 (Gives ts k) → 0 < k
 takes_a_byte s ts k d = advances webidl s rank takes ranked d refl
 
 -- a list of definitions is read from any text
@@ -41,7 +41,7 @@ not_empty [] e = cc
 not_empty (t ∷ rest) e = omega arith
 
 module _ {raw rest : List ℕ} {v : Vec Definition} (h : Got definitions_reading raw v rest) where
-  reads : Reads raw DEFINITIONS 0 (Gives (definitions_tree v.items ∷ []) h.place)
+  reads : Reads raw FIRST_DEFINITIONS 0 (Gives (definitions_tree v.items ∷ []) h.place)
   reads = reads_definitions.gives raw v h.place h.gives
 
   size : length rest ≡ length (drop h.place raw)
@@ -51,7 +51,7 @@ module _ {raw rest : List ℕ} {v : Vec Definition} (h : Got definitions_reading
   unfolding IsWhole
   whole e =
       let place : h.place ≡ length raw = omega (arith, e, size, length-drop h.place raw, h.within) in
-      subst (λ (k : ℕ). Reads raw DEFINITIONS 0 (Gives (definitions_tree v.items ∷ []) k)) place reads
+      subst (λ (k : ℕ). Reads raw FIRST_DEFINITIONS 0 (Gives (definitions_tree v.items ∷ []) k)) place reads
 
   same_end : {t u : Tree} {k l : ℕ} → Gives (t ∷ []) k ≡ Gives (u ∷ []) l → k ≡ l
   same_end e = cc

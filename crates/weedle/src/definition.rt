@@ -3,7 +3,7 @@
 ghost use Rattle.std.specs.Prelude.{◌≡◌};
 ghost use Rattle.weedle_base.specs.Own.{own};
 ghost use Rattle.weedle_base.specs.OwnLaws.{own_lawful};
-ghost use Rattle.weedle_rules.specs.Table.Definitions.{INTERFACE_DEFINITION, DEFINITION};
+ghost use Rattle.weedle_rules.specs.Table.FirstPath.{FIRST_INTERFACE, FIRST_DEFINITION};
 ghost use Rattle.weedle.specs.Titles.{kind_text, name_text};
 ghost use Rattle.weedle.specs.ValueTrees.{interface_definition_tree, definition_tree};
 
@@ -27,7 +27,7 @@ pub struct InterfaceDefinition<'a> {
 
 #[tactic(auto, using(crate::proofs::DefinitionFacts::interface_definition_steps))]
 impl<'a> Parse<'a> for InterfaceDefinition<'a> {
-    ghost reading = { own INTERFACE_DEFINITION interface_definition_tree (Unit {0}) };
+    ghost reading = { own FIRST_INTERFACE interface_definition_tree (Unit {0}) };
 
     /// Reads an interface, as `interface Window {};`. A text that misses a part, as the last
     /// semicolon, is refused. It takes memory for the list of members.
@@ -47,7 +47,7 @@ impl<'a> Parse<'a> for InterfaceDefinition<'a> {
         ))
     }
 
-    ghost lawful = { own_lawful INTERFACE_DEFINITION interface_definition_tree (Unit {0}) };
+    ghost lawful = { own_lawful FIRST_INTERFACE interface_definition_tree (Unit {0}) };
 }
 
 /// A definition, as `interface Window {};`.
@@ -58,7 +58,7 @@ pub enum Definition<'a> {
 
 #[tactic(auto, using(crate::proofs::DefinitionFacts::definition_got, crate::proofs::DefinitionFacts::definition_fault))]
 impl<'a> Parse<'a> for Definition<'a> {
-    ghost reading = { own DEFINITION definition_tree (Unit {0}) };
+    ghost reading = { own FIRST_DEFINITION definition_tree (Unit {0}) };
 
     /// Reads a definition, which is an interface. Any other text is refused. It takes memory for
     /// the list of members.
@@ -67,7 +67,7 @@ impl<'a> Parse<'a> for Definition<'a> {
         Ok((rest, Definition::Interface(definition)))
     }
 
-    ghost lawful = { own_lawful DEFINITION definition_tree (Unit {0}) };
+    ghost lawful = { own_lawful FIRST_DEFINITION definition_tree (Unit {0}) };
 }
 
 /// The word for the kind of a definition: `interface`. It takes no memory.

@@ -2,7 +2,7 @@
 
 ghost use Rattle.weedle_base.specs.Own.{own};
 ghost use Rattle.weedle_base.specs.OwnLaws.{own_lawful};
-ghost use Rattle.weedle_rules.specs.Table.Definitions.{ATTRIBUTE_INTERFACE_MEMBER, INTERFACE_MEMBER};
+ghost use Rattle.weedle_rules.specs.Table.FirstPath.{FIRST_ATTRIBUTE, FIRST_MEMBER};
 ghost use Rattle.weedle.specs.ValueTrees.{attribute_member_tree, interface_member_tree};
 
 use crate::common::Identifier;
@@ -25,7 +25,7 @@ pub struct AttributeInterfaceMember<'a> {
 
 #[tactic(auto, using(crate::proofs::MemberFacts::attribute_member_steps))]
 impl<'a> Parse<'a> for AttributeInterfaceMember<'a> {
-    ghost reading = { own ATTRIBUTE_INTERFACE_MEMBER attribute_member_tree ⊥ };
+    ghost reading = { own FIRST_ATTRIBUTE attribute_member_tree ⊥ };
 
     /// Reads an attribute, as `attribute long length;`, whose type is one name. A text without a
     /// type, a name or a semicolon is refused. It takes no memory.
@@ -47,7 +47,7 @@ impl<'a> Parse<'a> for AttributeInterfaceMember<'a> {
         ))
     }
 
-    ghost lawful = { own_lawful ATTRIBUTE_INTERFACE_MEMBER attribute_member_tree ⊥ };
+    ghost lawful = { own_lawful FIRST_ATTRIBUTE attribute_member_tree ⊥ };
 }
 
 /// A member of an interface, as `attribute long length;`.
@@ -58,7 +58,7 @@ pub enum InterfaceMember<'a> {
 
 #[tactic(auto, using(crate::proofs::MemberFacts::interface_member_got, crate::proofs::MemberFacts::interface_member_fault))]
 impl<'a> Parse<'a> for InterfaceMember<'a> {
-    ghost reading = { own INTERFACE_MEMBER interface_member_tree ⊥ };
+    ghost reading = { own FIRST_MEMBER interface_member_tree ⊥ };
 
     /// Reads a member of an interface, which is an attribute. Any other text is refused. It takes
     /// no memory.
@@ -67,5 +67,5 @@ impl<'a> Parse<'a> for InterfaceMember<'a> {
         Ok((rest, InterfaceMember::Attribute(member)))
     }
 
-    ghost lawful = { own_lawful INTERFACE_MEMBER interface_member_tree ⊥ };
+    ghost lawful = { own_lawful FIRST_MEMBER interface_member_tree ⊥ };
 }

@@ -42,8 +42,8 @@ impl From<AllocError> for RunFault {
 
 /// Reads the reader to its end, and writes the report of the text that it gave.
 ///
-/// For `interface A {};` the lines are `interface A` and `definitions 1`. For
-/// `interface A {}; // end`, which isn't read whole, the one line is `unread at byte 16`.
+/// For `interface A {}; // end` the lines are `interface A` and `definitions 1`. For
+/// `interface A {}; ///d`, which isn't read whole, the one line is `unread at byte 16`.
 ///
 /// The report stands in memory, beside the text and its definitions, before the first write. A write
 /// that fails or takes no byte ends the run, and no write is tried again. The writer is not flushed.

@@ -15,7 +15,7 @@ use Rattle.weedle_rules.specs.Trees.{Text, Fails, Gives}
 -- An identifier: trivia, an underscore where there is one, the text that is kept, trivia.
 module _ {s start : List ℕ} (a : Took TRIVIA s [] start) where
   module _ {body : List ℕ} (u : Took OPT_BYTES_UNDERSCORE start [] body) where
-    -- no identifier without a letter or a digit
+    -- no identifier without a letter
     pub no_identifier : Reads body IDENTIFIER_TEXT 0 Fails → Reads s IDENTIFIER 0 Fails
     no_identifier d = no_node refl (lost a (lost u (fails d)))
 

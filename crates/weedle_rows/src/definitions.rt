@@ -87,6 +87,7 @@ fn reads_texts_whole(rt: HostRuntime) -> Result<(), Fail> {
     assert!(rt; parse(alloc, "")?.is_empty());
     assert!(rt; parse(alloc, "/*/*/interface A {};")? == one);
     assert!(rt; parse(alloc, "/**/interface A {};")? == one);
+    assert!(rt; parse(alloc, "interface A {}; // end")? == one);
     let named_mixin = vec![in alloc; interface(alloc, "mixin", &[])?]?;
     assert!(rt; parse(alloc, "interface mixin {};")? == named_mixin);
     let with_long = vec![in alloc; interface(alloc, "A", &[attribute(None, "long", "x")])?]?;
@@ -98,9 +99,11 @@ fn reads_texts_whole(rt: HostRuntime) -> Result<(), Fail> {
 fn leaves_the_rest(rt: HostRuntime) {
     let table = [
         ("  ", 0, "  "),
-        ("interface A {}; // end", 16, "// end"),
+        ("interface A {}; ///d", 16, "///d"),
         ("interface A {};interface B {}", 15, "interface B {}"),
+        ("// c", 0, "// c"),
         ("// c\n", 0, "// c\n"),
+        ("interface 9 {};", 0, "interface 9 {};"),
         ("/*/interface A {};", 0, "/*/interface A {};"),
         ("interface É {};", 0, "interface É {};"),
         (

@@ -13,9 +13,19 @@ use weedle_parts::literal::{
 #[test]
 fn a_name_is_kept_without_its_underscore(rt: HostRuntime) {
     let alloc = rt.alloc();
-    assert!(rt; Identifier::parse(alloc, "_9a-b c") == Ok(("c", Identifier("9a-b"))));
+    assert!(rt; Identifier::parse(alloc, "_a9-b c") == Ok(("c", Identifier("a9-b"))));
     assert!(rt; Identifier::parse(alloc, "_interface") == Ok(("", Identifier("interface"))));
     assert!(rt; is_mismatch(&Identifier::parse(alloc, "__x")));
+}
+
+#[test]
+fn a_name_begins_with_a_letter(rt: HostRuntime) {
+    for text in ["_9a-b c", "9", "-a", "é"] {
+        assert!(rt;
+            is_mismatch(&Identifier::parse(rt.alloc(), text)),
+            "on {text}"
+        );
+    }
 }
 
 #[test]
@@ -23,11 +33,19 @@ fn integers_are_decimal_hexadecimal_or_octal(rt: HostRuntime) {
     let alloc = rt.alloc();
     assert!(rt; DecLit::parse(alloc, " -12 x") == Ok(("x", DecLit("-12"))));
     assert!(rt; OctLit::parse(alloc, "017") == Ok(("", OctLit("017"))));
-    assert!(rt; HexLit::parse(alloc, "0x;") == Ok((";", HexLit("0x"))));
+    assert!(rt; HexLit::parse(alloc, "0x1;") == Ok((";", HexLit("0x1"))));
     assert!(rt; IntegerLit::parse(alloc, "45") == Ok(("", IntegerLit::Dec(DecLit("45")))));
     assert!(rt; IntegerLit::parse(alloc, "08") == Ok(("8", IntegerLit::Oct(OctLit("0")))));
     assert!(rt; IntegerLit::parse(alloc, "-0") == Ok(("", IntegerLit::Oct(OctLit("-0")))));
     assert!(rt; IntegerLit::parse(alloc, "0Xff") == Ok(("", IntegerLit::Hex(HexLit("0Xff")))));
+}
+
+#[test]
+fn a_hexadecimal_number_has_a_digit(rt: HostRuntime) {
+    let alloc = rt.alloc();
+    assert!(rt; is_mismatch(&HexLit::parse(alloc, "0x;")));
+    assert!(rt; IntegerLit::parse(alloc, "0x;") == Ok(("x;", IntegerLit::Oct(OctLit("0")))));
+    assert!(rt; IntegerLit::parse(alloc, "-0x") == Ok(("x", IntegerLit::Oct(OctLit("-0")))));
 }
 
 #[test]

@@ -81,6 +81,16 @@ fn reports_what_is_read_and_what_is_left(rt: HostRuntime) -> Result<(), Fail> {
         ),
         ("  ", Status::Unread, "unread at byte 0\n"),
         ("interface A {};}", Status::Unread, "unread at byte 15\n"),
+        (
+            "interface A {}; // end",
+            Status::Read,
+            "interface A\ndefinitions 1\n",
+        ),
+        (
+            "interface A {}; ///d",
+            Status::Unread,
+            "unread at byte 16\n",
+        ),
     ];
     for (text, status, report) in table {
         for most in [1, 100] {

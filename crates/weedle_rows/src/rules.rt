@@ -37,4 +37,7 @@ fn classes_hold_their_bytes(rt: HostRuntime) {
     assert!(rt; !holds(Class::Alnum, b'_'));
     assert!(rt; !holds(Class::Name, 0xc3));
     assert!(rt; holds(Class::NotQuote, 0xc3));
+    assert!(rt; holds(Class::Letter, b'z') && !holds(Class::Letter, b'9'));
+    assert!(rt; holds(Class::NotLineFeed, 0xc3) && !holds(Class::NotLineFeed, b'\n'));
+    assert!(rt; holds(Class::Any, 0xff));
 }

@@ -10,7 +10,10 @@ use weedle_base::{Parse, docstring, ident_tag, is_alphanum_underscore_dash, sp};
 fn trivia_is_comments_and_blanks(rt: HostRuntime) {
     for (text, rest, trivia) in [
         ("// a\n/* b */ c", "c", "// a\n/* b */ "),
-        (" //x", "//x", " "),
+        ("// a", "", "// a"),
+        ("//", "", "//"),
+        (" //x", "", " //x"),
+        ("///", "///", ""),
         ("///a\n", "///a\n", ""),
         ("/* a", "/* a", ""),
         ("\t\r\n é", "é", "\t\r\n "),
@@ -84,7 +87,7 @@ fn splits(alloc: Global, text: &str) -> bool {
 
 #[test]
 fn every_prefix_is_read_in_every_way(rt: HostRuntime) {
-    let text = "// é\n/* 日本 */ \t///d\r\n///\u{1F600}\nlong... // open";
+    let text = "// é\n/* 日本 */ \t///d\r\n///\u{1F600}\nlong... // 終";
     for (place, _) in text.char_indices() {
         match text.get(..place) {
             Some(prefix) => assert!(rt; splits(rt.alloc(), prefix), "up to {place}"),

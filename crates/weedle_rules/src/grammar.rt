@@ -9,20 +9,21 @@ ghost use Rattle.weedle_rules.specs.View.{row_view};
 use crate::row::Row;
 use crate::rule::Rule;
 
-mod capitalized_keywords;
-mod definitions;
-mod first_path;
-mod interface_members;
-mod keywords;
-mod leaves;
-mod literals;
-mod other_members;
-mod simple_types;
-mod symbols;
-mod trivia;
-mod types;
+pub(crate) mod capitalized_keywords;
+pub(crate) mod definitions;
+pub(crate) mod first_path;
+pub(crate) mod interface_members;
+pub(crate) mod keywords;
+pub(crate) mod leaves;
+pub(crate) mod literals;
+pub(crate) mod other_members;
+pub(crate) mod simple_types;
+pub(crate) mod symbols;
+pub(crate) mod trivia;
+pub(crate) mod types;
 
 /// What a rule reads. It takes no memory.
+#[inline(always)]
 pub fn row_of(rule: Rule) -> Row
     ensures { row_view result ≡ row_of_lem rule }
 {

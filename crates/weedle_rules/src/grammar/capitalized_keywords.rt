@@ -11,93 +11,93 @@ use crate::grammar::trivia::TRIVIA;
 use crate::row::{Row, parts_of};
 use crate::rule::Rule;
 
-pub(super) const BYTES_BYTE_STRING: u16 = 140;
+pub(crate) const BYTES_BYTE_STRING: u16 = 140;
 
-pub(super) const BYTE_STRING: u16 = 141;
+pub(crate) const BYTE_STRING: u16 = 141;
 
-pub(super) const BYTES_DOM_STRING: u16 = 142;
+pub(crate) const BYTES_DOM_STRING: u16 = 142;
 
-pub(super) const DOM_STRING: u16 = 143;
+pub(crate) const DOM_STRING: u16 = 143;
 
-pub(super) const BYTES_FROZEN_ARRAY: u16 = 144;
+pub(crate) const BYTES_FROZEN_ARRAY: u16 = 144;
 
-pub(super) const FROZEN_ARRAY: u16 = 145;
+pub(crate) const FROZEN_ARRAY: u16 = 145;
 
-pub(super) const BYTES_INFINITY: u16 = 146;
+pub(crate) const BYTES_INFINITY: u16 = 146;
 
-pub(super) const INFINITY: u16 = 147;
+pub(crate) const INFINITY: u16 = 147;
 
-pub(super) const BYTES_NAN: u16 = 148;
+pub(crate) const BYTES_NAN: u16 = 148;
 
-pub(super) const NAN: u16 = 149;
+pub(crate) const NAN: u16 = 149;
 
-pub(super) const BYTES_USV_STRING: u16 = 150;
+pub(crate) const BYTES_USV_STRING: u16 = 150;
 
-pub(super) const USV_STRING: u16 = 151;
+pub(crate) const USV_STRING: u16 = 151;
 
-pub(super) const BYTES_ARRAY_BUFFER: u16 = 152;
+pub(crate) const BYTES_ARRAY_BUFFER: u16 = 152;
 
-pub(super) const ARRAY_BUFFER: u16 = 153;
+pub(crate) const ARRAY_BUFFER: u16 = 153;
 
-pub(super) const BYTES_DATA_VIEW: u16 = 154;
+pub(crate) const BYTES_DATA_VIEW: u16 = 154;
 
-pub(super) const DATA_VIEW: u16 = 155;
+pub(crate) const DATA_VIEW: u16 = 155;
 
-pub(super) const BYTES_INT8_ARRAY: u16 = 156;
+pub(crate) const BYTES_INT8_ARRAY: u16 = 156;
 
-pub(super) const INT8_ARRAY: u16 = 157;
+pub(crate) const INT8_ARRAY: u16 = 157;
 
-pub(super) const BYTES_INT16_ARRAY: u16 = 158;
+pub(crate) const BYTES_INT16_ARRAY: u16 = 158;
 
-pub(super) const INT16_ARRAY: u16 = 159;
+pub(crate) const INT16_ARRAY: u16 = 159;
 
-pub(super) const BYTES_INT32_ARRAY: u16 = 160;
+pub(crate) const BYTES_INT32_ARRAY: u16 = 160;
 
-pub(super) const INT32_ARRAY: u16 = 161;
+pub(crate) const INT32_ARRAY: u16 = 161;
 
-pub(super) const BYTES_UINT8_ARRAY: u16 = 162;
+pub(crate) const BYTES_UINT8_ARRAY: u16 = 162;
 
-pub(super) const UINT8_ARRAY: u16 = 163;
+pub(crate) const UINT8_ARRAY: u16 = 163;
 
-pub(super) const BYTES_UINT16_ARRAY: u16 = 164;
+pub(crate) const BYTES_UINT16_ARRAY: u16 = 164;
 
-pub(super) const UINT16_ARRAY: u16 = 165;
+pub(crate) const UINT16_ARRAY: u16 = 165;
 
-pub(super) const BYTES_UINT32_ARRAY: u16 = 166;
+pub(crate) const BYTES_UINT32_ARRAY: u16 = 166;
 
-pub(super) const UINT32_ARRAY: u16 = 167;
+pub(crate) const UINT32_ARRAY: u16 = 167;
 
-pub(super) const BYTES_UINT8_CLAMPED_ARRAY: u16 = 168;
+pub(crate) const BYTES_UINT8_CLAMPED_ARRAY: u16 = 168;
 
-pub(super) const UINT8_CLAMPED_ARRAY: u16 = 169;
+pub(crate) const UINT8_CLAMPED_ARRAY: u16 = 169;
 
-pub(super) const BYTES_FLOAT32_ARRAY: u16 = 170;
+pub(crate) const BYTES_FLOAT32_ARRAY: u16 = 170;
 
-pub(super) const FLOAT32_ARRAY: u16 = 171;
+pub(crate) const FLOAT32_ARRAY: u16 = 171;
 
-pub(super) const BYTES_FLOAT64_ARRAY: u16 = 172;
+pub(crate) const BYTES_FLOAT64_ARRAY: u16 = 172;
 
-pub(super) const FLOAT64_ARRAY: u16 = 173;
+pub(crate) const FLOAT64_ARRAY: u16 = 173;
 
-pub(super) const BYTES_ARRAY_BUFFER_VIEW: u16 = 174;
+pub(crate) const BYTES_ARRAY_BUFFER_VIEW: u16 = 174;
 
-pub(super) const ARRAY_BUFFER_VIEW: u16 = 175;
+pub(crate) const ARRAY_BUFFER_VIEW: u16 = 175;
 
-pub(super) const BYTES_BUFFER_SOURCE: u16 = 176;
+pub(crate) const BYTES_BUFFER_SOURCE: u16 = 176;
 
-pub(super) const BUFFER_SOURCE: u16 = 177;
+pub(crate) const BUFFER_SOURCE: u16 = 177;
 
-pub(super) const BYTES_PROMISE: u16 = 178;
+pub(crate) const BYTES_PROMISE: u16 = 178;
 
-pub(super) const PROMISE: u16 = 179;
+pub(crate) const PROMISE: u16 = 179;
 
-pub(super) const BYTES_ERROR: u16 = 180;
+pub(crate) const BYTES_ERROR: u16 = 180;
 
-pub(super) const ERROR: u16 = 181;
+pub(crate) const ERROR: u16 = 181;
 
-pub(super) const BYTES_NEG_INFINITY: u16 = 182;
+pub(crate) const BYTES_NEG_INFINITY: u16 = 182;
 
-pub(super) const NEG_INFINITY: u16 = 183;
+pub(crate) const NEG_INFINITY: u16 = 183;
 
 impl Rule {
     /// The keyword `ByteString`.
@@ -147,6 +147,7 @@ impl Rule {
 }
 
 /// The row of a rule from 140 to 183.
+#[inline(always)]
 pub(super) fn row(number: u16) -> Row
     requires low { 140 ≤ number }
     requires high { number < 184 }

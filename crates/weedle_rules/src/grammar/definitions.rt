@@ -22,37 +22,37 @@ use crate::grammar::types::{
 use crate::row::{Row, parts_of};
 use crate::rule::Rule;
 
-pub(super) const CALLBACK_DEFINITION: u16 = 370;
+pub(crate) const CALLBACK_DEFINITION: u16 = 370;
 
-pub(super) const CALLBACK_INTERFACE_DEFINITION: u16 = 371;
+pub(crate) const CALLBACK_INTERFACE_DEFINITION: u16 = 371;
 
-pub(super) const INTERFACE_DEFINITION: u16 = 372;
+pub(crate) const INTERFACE_DEFINITION: u16 = 372;
 
-pub(super) const INTERFACE_MIXIN_DEFINITION: u16 = 373;
+pub(crate) const INTERFACE_MIXIN_DEFINITION: u16 = 373;
 
-pub(super) const NAMESPACE_DEFINITION: u16 = 374;
+pub(crate) const NAMESPACE_DEFINITION: u16 = 374;
 
-pub(super) const DICTIONARY_DEFINITION: u16 = 375;
+pub(crate) const DICTIONARY_DEFINITION: u16 = 375;
 
-pub(super) const PARTIAL_INTERFACE_DEFINITION: u16 = 376;
+pub(crate) const PARTIAL_INTERFACE_DEFINITION: u16 = 376;
 
-pub(super) const PARTIAL_INTERFACE_MIXIN_DEFINITION: u16 = 377;
+pub(crate) const PARTIAL_INTERFACE_MIXIN_DEFINITION: u16 = 377;
 
-pub(super) const PARTIAL_DICTIONARY_DEFINITION: u16 = 378;
+pub(crate) const PARTIAL_DICTIONARY_DEFINITION: u16 = 378;
 
-pub(super) const PARTIAL_NAMESPACE_DEFINITION: u16 = 379;
+pub(crate) const PARTIAL_NAMESPACE_DEFINITION: u16 = 379;
 
-pub(super) const ENUM_DEFINITION: u16 = 380;
+pub(crate) const ENUM_DEFINITION: u16 = 380;
 
-pub(super) const TYPEDEF_DEFINITION: u16 = 381;
+pub(crate) const TYPEDEF_DEFINITION: u16 = 381;
 
-pub(super) const INCLUDES_STATEMENT_DEFINITION: u16 = 382;
+pub(crate) const INCLUDES_STATEMENT_DEFINITION: u16 = 382;
 
-pub(super) const IMPLEMENTS_DEFINITION: u16 = 383;
+pub(crate) const IMPLEMENTS_DEFINITION: u16 = 383;
 
-pub(super) const DEFINITION: u16 = 384;
+pub(crate) const DEFINITION: u16 = 384;
 
-pub(super) const DEFINITIONS: u16 = 385;
+pub(crate) const DEFINITIONS: u16 = 385;
 
 impl Rule {
     /// A callback, as `callback F = undefined (long x);`.
@@ -90,6 +90,7 @@ impl Rule {
 }
 
 /// The row of a rule from 370 to 385.
+#[inline(always)]
 pub(super) fn row(number: u16) -> Row
     requires low { 370 ≤ number }
     requires high { number < 386 }

@@ -13,19 +13,19 @@ use crate::grammar::symbols::{CLOSE_BRACE, OPEN_BRACE, SEMI_COLON};
 use crate::row::{Row, parts_of};
 use crate::rule::Rule;
 
-pub(super) const FIRST_ATTRIBUTE: u16 = 386;
+pub(crate) const FIRST_ATTRIBUTE: u16 = 386;
 
-pub(super) const FIRST_MEMBER: u16 = 387;
+pub(crate) const FIRST_MEMBER: u16 = 387;
 
-pub(super) const FIRST_MEMBERS: u16 = 388;
+pub(crate) const FIRST_MEMBERS: u16 = 388;
 
-pub(super) const BRACED_FIRST_MEMBERS: u16 = 389;
+pub(crate) const BRACED_FIRST_MEMBERS: u16 = 389;
 
-pub(super) const FIRST_INTERFACE: u16 = 390;
+pub(crate) const FIRST_INTERFACE: u16 = 390;
 
-pub(super) const FIRST_DEFINITION: u16 = 391;
+pub(crate) const FIRST_DEFINITION: u16 = 391;
 
-pub(super) const FIRST_DEFINITIONS: u16 = 392;
+pub(crate) const FIRST_DEFINITIONS: u16 = 392;
 
 impl Rule {
     /// An attribute, as `readonly attribute Node x;`.
@@ -45,6 +45,7 @@ impl Rule {
 }
 
 /// The row of a rule from 386 to 392.
+#[inline(always)]
 pub(super) fn row(number: u16) -> Row
     requires low { 386 ≤ number }
     requires high { number < 393 }

@@ -22,69 +22,69 @@ use crate::grammar::types::{
 use crate::row::{Row, parts_of};
 use crate::rule::Rule;
 
-pub(super) const OPT_DOCSTRING: u16 = 317;
+pub(crate) const OPT_DOCSTRING: u16 = 317;
 
-pub(super) const OPT_IDENTIFIER: u16 = 318;
+pub(crate) const OPT_IDENTIFIER: u16 = 318;
 
-pub(super) const OPT_READ_ONLY: u16 = 319;
+pub(crate) const OPT_READ_ONLY: u16 = 319;
 
-pub(super) const KEY_AND_VALUE_TYPES: u16 = 320;
+pub(crate) const KEY_AND_VALUE_TYPES: u16 = 320;
 
-pub(super) const GENERICS_ATTRIBUTED_TYPE: u16 = 321;
+pub(crate) const GENERICS_ATTRIBUTED_TYPE: u16 = 321;
 
-pub(super) const GENERICS_KEY_AND_VALUE_TYPES: u16 = 322;
+pub(crate) const GENERICS_KEY_AND_VALUE_TYPES: u16 = 322;
 
-pub(super) const INHERITANCE: u16 = 323;
+pub(crate) const INHERITANCE: u16 = 323;
 
-pub(super) const OPT_INHERITANCE: u16 = 324;
+pub(crate) const OPT_INHERITANCE: u16 = 324;
 
-pub(super) const SPECIAL: u16 = 325;
+pub(crate) const SPECIAL: u16 = 325;
 
-pub(super) const OPT_SPECIAL: u16 = 326;
+pub(crate) const OPT_SPECIAL: u16 = 326;
 
-pub(super) const STRINGIFIER_OR_INHERIT_OR_STATIC: u16 = 327;
+pub(crate) const STRINGIFIER_OR_INHERIT_OR_STATIC: u16 = 327;
 
-pub(super) const OPT_STRINGIFIER_OR_INHERIT_OR_STATIC: u16 = 328;
+pub(crate) const OPT_STRINGIFIER_OR_INHERIT_OR_STATIC: u16 = 328;
 
-pub(super) const STRINGIFIER_OR_STATIC: u16 = 329;
+pub(crate) const STRINGIFIER_OR_STATIC: u16 = 329;
 
-pub(super) const OPT_STRINGIFIER_OR_STATIC: u16 = 330;
+pub(crate) const OPT_STRINGIFIER_OR_STATIC: u16 = 330;
 
-pub(super) const CONST_MEMBER: u16 = 331;
+pub(crate) const CONST_MEMBER: u16 = 331;
 
-pub(super) const ATTRIBUTE_INTERFACE_MEMBER: u16 = 332;
+pub(crate) const ATTRIBUTE_INTERFACE_MEMBER: u16 = 332;
 
-pub(super) const CONSTRUCTOR_INTERFACE_MEMBER: u16 = 333;
+pub(crate) const CONSTRUCTOR_INTERFACE_MEMBER: u16 = 333;
 
-pub(super) const OPERATION_INTERFACE_MEMBER: u16 = 334;
+pub(crate) const OPERATION_INTERFACE_MEMBER: u16 = 334;
 
-pub(super) const SINGLE_TYPED_ITERABLE: u16 = 335;
+pub(crate) const SINGLE_TYPED_ITERABLE: u16 = 335;
 
-pub(super) const DOUBLE_TYPED_ITERABLE: u16 = 336;
+pub(crate) const DOUBLE_TYPED_ITERABLE: u16 = 336;
 
-pub(super) const ITERABLE_INTERFACE_MEMBER: u16 = 337;
+pub(crate) const ITERABLE_INTERFACE_MEMBER: u16 = 337;
 
-pub(super) const ASYNC_ITERABLE: u16 = 338;
+pub(crate) const ASYNC_ITERABLE: u16 = 338;
 
-pub(super) const OPT_PARENTHESIZED_ARGUMENT_LIST: u16 = 339;
+pub(crate) const OPT_PARENTHESIZED_ARGUMENT_LIST: u16 = 339;
 
-pub(super) const SINGLE_TYPED_ASYNC_ITERABLE: u16 = 340;
+pub(crate) const SINGLE_TYPED_ASYNC_ITERABLE: u16 = 340;
 
-pub(super) const DOUBLE_TYPED_ASYNC_ITERABLE: u16 = 341;
+pub(crate) const DOUBLE_TYPED_ASYNC_ITERABLE: u16 = 341;
 
-pub(super) const ASYNC_ITERABLE_INTERFACE_MEMBER: u16 = 342;
+pub(crate) const ASYNC_ITERABLE_INTERFACE_MEMBER: u16 = 342;
 
-pub(super) const MAPLIKE_INTERFACE_MEMBER: u16 = 343;
+pub(crate) const MAPLIKE_INTERFACE_MEMBER: u16 = 343;
 
-pub(super) const SETLIKE_INTERFACE_MEMBER: u16 = 344;
+pub(crate) const SETLIKE_INTERFACE_MEMBER: u16 = 344;
 
-pub(super) const STRINGIFIER_MEMBER: u16 = 345;
+pub(crate) const STRINGIFIER_MEMBER: u16 = 345;
 
-pub(super) const INTERFACE_MEMBER: u16 = 346;
+pub(crate) const INTERFACE_MEMBER: u16 = 346;
 
-pub(super) const INTERFACE_MEMBERS: u16 = 347;
+pub(crate) const INTERFACE_MEMBERS: u16 = 347;
 
-pub(super) const BRACED_INTERFACE_MEMBERS: u16 = 348;
+pub(crate) const BRACED_INTERFACE_MEMBERS: u16 = 348;
 
 impl Rule {
     /// What an interface or a dictionary inherits from, as `: Node`.
@@ -128,6 +128,7 @@ impl Rule {
 }
 
 /// The row of a rule from 317 to 348.
+#[inline(always)]
 pub(super) fn row(number: u16) -> Row
     requires low { 317 ≤ number }
     requires high { number < 349 }

@@ -11,191 +11,191 @@ use crate::grammar::trivia::TRIVIA;
 use crate::row::{Row, parts_of};
 use crate::rule::Rule;
 
-pub(super) const BYTES_OR: u16 = 47;
+pub(crate) const BYTES_OR: u16 = 47;
 
-pub(super) const NOT_NEXT_NAME: u16 = 48;
+pub(crate) const NOT_NEXT_NAME: u16 = 48;
 
-pub(super) const OR: u16 = 49;
+pub(crate) const OR: u16 = 49;
 
-pub(super) const BYTES_OPTIONAL: u16 = 50;
+pub(crate) const BYTES_OPTIONAL: u16 = 50;
 
-pub(super) const OPTIONAL: u16 = 51;
+pub(crate) const OPTIONAL: u16 = 51;
 
-pub(super) const BYTES_ASYNC: u16 = 52;
+pub(crate) const BYTES_ASYNC: u16 = 52;
 
-pub(super) const ASYNC: u16 = 53;
+pub(crate) const ASYNC: u16 = 53;
 
-pub(super) const BYTES_ATTRIBUTE: u16 = 54;
+pub(crate) const BYTES_ATTRIBUTE: u16 = 54;
 
-pub(super) const ATTRIBUTE: u16 = 55;
+pub(crate) const ATTRIBUTE: u16 = 55;
 
-pub(super) const BYTES_CALLBACK: u16 = 56;
+pub(crate) const BYTES_CALLBACK: u16 = 56;
 
-pub(super) const CALLBACK: u16 = 57;
+pub(crate) const CALLBACK: u16 = 57;
 
-pub(super) const BYTES_CONST: u16 = 58;
+pub(crate) const BYTES_CONST: u16 = 58;
 
-pub(super) const CONST: u16 = 59;
+pub(crate) const CONST: u16 = 59;
 
-pub(super) const BYTES_DELETER: u16 = 60;
+pub(crate) const BYTES_DELETER: u16 = 60;
 
-pub(super) const DELETER: u16 = 61;
+pub(crate) const DELETER: u16 = 61;
 
-pub(super) const BYTES_DICTIONARY: u16 = 62;
+pub(crate) const BYTES_DICTIONARY: u16 = 62;
 
-pub(super) const DICTIONARY: u16 = 63;
+pub(crate) const DICTIONARY: u16 = 63;
 
-pub(super) const BYTES_ENUM: u16 = 64;
+pub(crate) const BYTES_ENUM: u16 = 64;
 
-pub(super) const ENUM: u16 = 65;
+pub(crate) const ENUM: u16 = 65;
 
-pub(super) const BYTES_GETTER: u16 = 66;
+pub(crate) const BYTES_GETTER: u16 = 66;
 
-pub(super) const GETTER: u16 = 67;
+pub(crate) const GETTER: u16 = 67;
 
-pub(super) const BYTES_INCLUDES: u16 = 68;
+pub(crate) const BYTES_INCLUDES: u16 = 68;
 
-pub(super) const INCLUDES: u16 = 69;
+pub(crate) const INCLUDES: u16 = 69;
 
-pub(super) const BYTES_INHERIT: u16 = 70;
+pub(crate) const BYTES_INHERIT: u16 = 70;
 
-pub(super) const INHERIT: u16 = 71;
+pub(crate) const INHERIT: u16 = 71;
 
-pub(super) const BYTES_INTERFACE: u16 = 72;
+pub(crate) const BYTES_INTERFACE: u16 = 72;
 
-pub(super) const INTERFACE: u16 = 73;
+pub(crate) const INTERFACE: u16 = 73;
 
-pub(super) const BYTES_ITERABLE: u16 = 74;
+pub(crate) const BYTES_ITERABLE: u16 = 74;
 
-pub(super) const ITERABLE: u16 = 75;
+pub(crate) const ITERABLE: u16 = 75;
 
-pub(super) const BYTES_MAPLIKE: u16 = 76;
+pub(crate) const BYTES_MAPLIKE: u16 = 76;
 
-pub(super) const MAPLIKE: u16 = 77;
+pub(crate) const MAPLIKE: u16 = 77;
 
-pub(super) const BYTES_NAMESPACE: u16 = 78;
+pub(crate) const BYTES_NAMESPACE: u16 = 78;
 
-pub(super) const NAMESPACE: u16 = 79;
+pub(crate) const NAMESPACE: u16 = 79;
 
-pub(super) const BYTES_PARTIAL: u16 = 80;
+pub(crate) const BYTES_PARTIAL: u16 = 80;
 
-pub(super) const PARTIAL: u16 = 81;
+pub(crate) const PARTIAL: u16 = 81;
 
-pub(super) const BYTES_REQUIRED: u16 = 82;
+pub(crate) const BYTES_REQUIRED: u16 = 82;
 
-pub(super) const REQUIRED: u16 = 83;
+pub(crate) const REQUIRED: u16 = 83;
 
-pub(super) const BYTES_SETLIKE: u16 = 84;
+pub(crate) const BYTES_SETLIKE: u16 = 84;
 
-pub(super) const SETLIKE: u16 = 85;
+pub(crate) const SETLIKE: u16 = 85;
 
-pub(super) const BYTES_SETTER: u16 = 86;
+pub(crate) const BYTES_SETTER: u16 = 86;
 
-pub(super) const SETTER: u16 = 87;
+pub(crate) const SETTER: u16 = 87;
 
-pub(super) const BYTES_STATIC: u16 = 88;
+pub(crate) const BYTES_STATIC: u16 = 88;
 
-pub(super) const STATIC: u16 = 89;
+pub(crate) const STATIC: u16 = 89;
 
-pub(super) const BYTES_STRINGIFIER: u16 = 90;
+pub(crate) const BYTES_STRINGIFIER: u16 = 90;
 
-pub(super) const STRINGIFIER: u16 = 91;
+pub(crate) const STRINGIFIER: u16 = 91;
 
-pub(super) const BYTES_TYPEDEF: u16 = 92;
+pub(crate) const BYTES_TYPEDEF: u16 = 92;
 
-pub(super) const TYPEDEF: u16 = 93;
+pub(crate) const TYPEDEF: u16 = 93;
 
-pub(super) const BYTES_UNRESTRICTED: u16 = 94;
+pub(crate) const BYTES_UNRESTRICTED: u16 = 94;
 
-pub(super) const UNRESTRICTED: u16 = 95;
+pub(crate) const UNRESTRICTED: u16 = 95;
 
-pub(super) const BYTES_SYMBOL: u16 = 96;
+pub(crate) const BYTES_SYMBOL: u16 = 96;
 
-pub(super) const SYMBOL: u16 = 97;
+pub(crate) const SYMBOL: u16 = 97;
 
-pub(super) const BYTES_ANY: u16 = 98;
+pub(crate) const BYTES_ANY: u16 = 98;
 
-pub(super) const ANY: u16 = 99;
+pub(crate) const ANY: u16 = 99;
 
-pub(super) const BYTES_BOOLEAN: u16 = 100;
+pub(crate) const BYTES_BOOLEAN: u16 = 100;
 
-pub(super) const BOOLEAN: u16 = 101;
+pub(crate) const BOOLEAN: u16 = 101;
 
-pub(super) const BYTES_BYTE: u16 = 102;
+pub(crate) const BYTES_BYTE: u16 = 102;
 
-pub(super) const BYTE: u16 = 103;
+pub(crate) const BYTE: u16 = 103;
 
-pub(super) const BYTES_DOUBLE: u16 = 104;
+pub(crate) const BYTES_DOUBLE: u16 = 104;
 
-pub(super) const DOUBLE: u16 = 105;
+pub(crate) const DOUBLE: u16 = 105;
 
-pub(super) const BYTES_FALSE: u16 = 106;
+pub(crate) const BYTES_FALSE: u16 = 106;
 
-pub(super) const FALSE: u16 = 107;
+pub(crate) const FALSE: u16 = 107;
 
-pub(super) const BYTES_FLOAT: u16 = 108;
+pub(crate) const BYTES_FLOAT: u16 = 108;
 
-pub(super) const FLOAT: u16 = 109;
+pub(crate) const FLOAT: u16 = 109;
 
-pub(super) const BYTES_LONG: u16 = 110;
+pub(crate) const BYTES_LONG: u16 = 110;
 
-pub(super) const LONG: u16 = 111;
+pub(crate) const LONG: u16 = 111;
 
-pub(super) const BYTES_NULL: u16 = 112;
+pub(crate) const BYTES_NULL: u16 = 112;
 
-pub(super) const NULL: u16 = 113;
+pub(crate) const NULL: u16 = 113;
 
-pub(super) const BYTES_OBJECT: u16 = 114;
+pub(crate) const BYTES_OBJECT: u16 = 114;
 
-pub(super) const OBJECT: u16 = 115;
+pub(crate) const OBJECT: u16 = 115;
 
-pub(super) const BYTES_OCTET: u16 = 116;
+pub(crate) const BYTES_OCTET: u16 = 116;
 
-pub(super) const OCTET: u16 = 117;
+pub(crate) const OCTET: u16 = 117;
 
-pub(super) const BYTES_SEQUENCE: u16 = 118;
+pub(crate) const BYTES_SEQUENCE: u16 = 118;
 
-pub(super) const SEQUENCE: u16 = 119;
+pub(crate) const SEQUENCE: u16 = 119;
 
-pub(super) const BYTES_SHORT: u16 = 120;
+pub(crate) const BYTES_SHORT: u16 = 120;
 
-pub(super) const SHORT: u16 = 121;
+pub(crate) const SHORT: u16 = 121;
 
-pub(super) const BYTES_TRUE: u16 = 122;
+pub(crate) const BYTES_TRUE: u16 = 122;
 
-pub(super) const TRUE: u16 = 123;
+pub(crate) const TRUE: u16 = 123;
 
-pub(super) const BYTES_UNSIGNED: u16 = 124;
+pub(crate) const BYTES_UNSIGNED: u16 = 124;
 
-pub(super) const UNSIGNED: u16 = 125;
+pub(crate) const UNSIGNED: u16 = 125;
 
-pub(super) const BYTES_UNDEFINED: u16 = 126;
+pub(crate) const BYTES_UNDEFINED: u16 = 126;
 
-pub(super) const UNDEFINED: u16 = 127;
+pub(crate) const UNDEFINED: u16 = 127;
 
-pub(super) const BYTES_RECORD: u16 = 128;
+pub(crate) const BYTES_RECORD: u16 = 128;
 
-pub(super) const RECORD: u16 = 129;
+pub(crate) const RECORD: u16 = 129;
 
-pub(super) const BYTES_READ_ONLY: u16 = 130;
+pub(crate) const BYTES_READ_ONLY: u16 = 130;
 
-pub(super) const READ_ONLY: u16 = 131;
+pub(crate) const READ_ONLY: u16 = 131;
 
-pub(super) const BYTES_MIXIN: u16 = 132;
+pub(crate) const BYTES_MIXIN: u16 = 132;
 
-pub(super) const MIXIN: u16 = 133;
+pub(crate) const MIXIN: u16 = 133;
 
-pub(super) const BYTES_IMPLEMENTS: u16 = 134;
+pub(crate) const BYTES_IMPLEMENTS: u16 = 134;
 
-pub(super) const IMPLEMENTS: u16 = 135;
+pub(crate) const IMPLEMENTS: u16 = 135;
 
-pub(super) const BYTES_LEGACY_CALLER: u16 = 136;
+pub(crate) const BYTES_LEGACY_CALLER: u16 = 136;
 
-pub(super) const LEGACY_CALLER: u16 = 137;
+pub(crate) const LEGACY_CALLER: u16 = 137;
 
-pub(super) const BYTES_CONSTRUCTOR: u16 = 138;
+pub(crate) const BYTES_CONSTRUCTOR: u16 = 138;
 
-pub(super) const CONSTRUCTOR: u16 = 139;
+pub(crate) const CONSTRUCTOR: u16 = 139;
 
 impl Rule {
     /// The keyword `or`.
@@ -293,6 +293,7 @@ impl Rule {
 }
 
 /// The row of a rule from 47 to 139.
+#[inline(always)]
 pub(super) fn row(number: u16) -> Row
     requires low { 47 ≤ number }
     requires high { number < 140 }

@@ -13,21 +13,21 @@ use crate::grammar::symbols::{ASSIGN, CLOSE_BRACE, CLOSE_BRACKET, OPEN_BRACE, OP
 use crate::row::{Row, parts_of};
 use crate::rule::Rule;
 
-pub(super) const BOOLEAN_LIT: u16 = 227;
+pub(crate) const BOOLEAN_LIT: u16 = 227;
 
-pub(super) const INTEGER_LIT: u16 = 228;
+pub(crate) const INTEGER_LIT: u16 = 228;
 
-pub(super) const FLOAT_LIT: u16 = 229;
+pub(crate) const FLOAT_LIT: u16 = 229;
 
-pub(super) const EMPTY_ARRAY_LIT: u16 = 230;
+pub(crate) const EMPTY_ARRAY_LIT: u16 = 230;
 
-pub(super) const EMPTY_DICTIONARY_LIT: u16 = 231;
+pub(crate) const EMPTY_DICTIONARY_LIT: u16 = 231;
 
-pub(super) const DEFAULT_VALUE: u16 = 232;
+pub(crate) const DEFAULT_VALUE: u16 = 232;
 
-pub(super) const CONST_VALUE: u16 = 233;
+pub(crate) const CONST_VALUE: u16 = 233;
 
-pub(super) const DEFAULT: u16 = 234;
+pub(crate) const DEFAULT: u16 = 234;
 
 impl Rule {
     /// `true` or `false`.
@@ -49,6 +49,7 @@ impl Rule {
 }
 
 /// The row of a rule from 227 to 234.
+#[inline(always)]
 pub(super) fn row(number: u16) -> Row
     requires low { 227 ≤ number }
     requires high { number < 235 }

@@ -19,47 +19,47 @@ use crate::grammar::types::{
 use crate::row::{Row, parts_of};
 use crate::rule::Rule;
 
-pub(super) const OPT_STRINGIFIER: u16 = 349;
+pub(crate) const OPT_STRINGIFIER: u16 = 349;
 
-pub(super) const OPERATION_MIXIN_MEMBER: u16 = 350;
+pub(crate) const OPERATION_MIXIN_MEMBER: u16 = 350;
 
-pub(super) const ATTRIBUTE_MIXIN_MEMBER: u16 = 351;
+pub(crate) const ATTRIBUTE_MIXIN_MEMBER: u16 = 351;
 
-pub(super) const MIXIN_MEMBER: u16 = 352;
+pub(crate) const MIXIN_MEMBER: u16 = 352;
 
-pub(super) const MIXIN_MEMBERS: u16 = 353;
+pub(crate) const MIXIN_MEMBERS: u16 = 353;
 
-pub(super) const BRACED_MIXIN_MEMBERS: u16 = 354;
+pub(crate) const BRACED_MIXIN_MEMBERS: u16 = 354;
 
-pub(super) const OPERATION_NAMESPACE_MEMBER: u16 = 355;
+pub(crate) const OPERATION_NAMESPACE_MEMBER: u16 = 355;
 
-pub(super) const ATTRIBUTE_NAMESPACE_MEMBER: u16 = 356;
+pub(crate) const ATTRIBUTE_NAMESPACE_MEMBER: u16 = 356;
 
-pub(super) const NAMESPACE_MEMBER: u16 = 357;
+pub(crate) const NAMESPACE_MEMBER: u16 = 357;
 
-pub(super) const NAMESPACE_MEMBERS: u16 = 358;
+pub(crate) const NAMESPACE_MEMBERS: u16 = 358;
 
-pub(super) const BRACED_NAMESPACE_MEMBERS: u16 = 359;
+pub(crate) const BRACED_NAMESPACE_MEMBERS: u16 = 359;
 
-pub(super) const OPT_REQUIRED: u16 = 360;
+pub(crate) const OPT_REQUIRED: u16 = 360;
 
-pub(super) const DICTIONARY_MEMBER: u16 = 361;
+pub(crate) const DICTIONARY_MEMBER: u16 = 361;
 
-pub(super) const DICTIONARY_MEMBERS: u16 = 362;
+pub(crate) const DICTIONARY_MEMBERS: u16 = 362;
 
-pub(super) const BRACED_DICTIONARY_MEMBERS: u16 = 363;
+pub(crate) const BRACED_DICTIONARY_MEMBERS: u16 = 363;
 
-pub(super) const ENUM_VARIANT: u16 = 364;
+pub(crate) const ENUM_VARIANT: u16 = 364;
 
-pub(super) const TAIL_ENUM_VARIANT_COMMA: u16 = 365;
+pub(crate) const TAIL_ENUM_VARIANT_COMMA: u16 = 365;
 
-pub(super) const LIST1_ENUM_VARIANT_COMMA: u16 = 366;
+pub(crate) const LIST1_ENUM_VARIANT_COMMA: u16 = 366;
 
-pub(super) const OPT_COMMA: u16 = 367;
+pub(crate) const OPT_COMMA: u16 = 367;
 
-pub(super) const ENUM_VALUE_LIST: u16 = 368;
+pub(crate) const ENUM_VALUE_LIST: u16 = 368;
 
-pub(super) const BRACED_ENUM_VALUE_LIST: u16 = 369;
+pub(crate) const BRACED_ENUM_VALUE_LIST: u16 = 369;
 
 impl Rule {
     /// An operation of a mixin, as `undefined f(long x);`.
@@ -89,6 +89,7 @@ impl Rule {
 }
 
 /// The row of a rule from 349 to 369.
+#[inline(always)]
 pub(super) fn row(number: u16) -> Row
     requires low { 349 ≤ number }
     requires high { number < 370 }

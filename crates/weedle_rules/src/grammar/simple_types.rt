@@ -14,47 +14,47 @@ use crate::grammar::symbols::{CLOSE_PAREN, COMMA, OPEN_PAREN, Q_MARK};
 use crate::row::{Row, parts_of};
 use crate::rule::Rule;
 
-pub(super) const OPT_UNSIGNED: u16 = 235;
+pub(crate) const OPT_UNSIGNED: u16 = 235;
 
-pub(super) const LONG_LONG: u16 = 236;
+pub(crate) const LONG_LONG: u16 = 236;
 
-pub(super) const LONG_LONG_TYPE: u16 = 237;
+pub(crate) const LONG_LONG_TYPE: u16 = 237;
 
-pub(super) const LONG_TYPE: u16 = 238;
+pub(crate) const LONG_TYPE: u16 = 238;
 
-pub(super) const SHORT_TYPE: u16 = 239;
+pub(crate) const SHORT_TYPE: u16 = 239;
 
-pub(super) const INTEGER_TYPE: u16 = 240;
+pub(crate) const INTEGER_TYPE: u16 = 240;
 
-pub(super) const OPT_UNRESTRICTED: u16 = 241;
+pub(crate) const OPT_UNRESTRICTED: u16 = 241;
 
-pub(super) const FLOAT_TYPE: u16 = 242;
+pub(crate) const FLOAT_TYPE: u16 = 242;
 
-pub(super) const DOUBLE_TYPE: u16 = 243;
+pub(crate) const DOUBLE_TYPE: u16 = 243;
 
-pub(super) const FLOATING_POINT_TYPE: u16 = 244;
+pub(crate) const FLOATING_POINT_TYPE: u16 = 244;
 
-pub(super) const OPT_Q_MARK: u16 = 245;
+pub(crate) const OPT_Q_MARK: u16 = 245;
 
-pub(super) const MAY_BE_NULL_INTEGER_TYPE: u16 = 246;
+pub(crate) const MAY_BE_NULL_INTEGER_TYPE: u16 = 246;
 
-pub(super) const MAY_BE_NULL_FLOATING_POINT_TYPE: u16 = 247;
+pub(crate) const MAY_BE_NULL_FLOATING_POINT_TYPE: u16 = 247;
 
-pub(super) const MAY_BE_NULL_BOOLEAN: u16 = 248;
+pub(crate) const MAY_BE_NULL_BOOLEAN: u16 = 248;
 
-pub(super) const MAY_BE_NULL_BYTE: u16 = 249;
+pub(crate) const MAY_BE_NULL_BYTE: u16 = 249;
 
-pub(super) const MAY_BE_NULL_OCTET: u16 = 250;
+pub(crate) const MAY_BE_NULL_OCTET: u16 = 250;
 
-pub(super) const MAY_BE_NULL_IDENTIFIER: u16 = 251;
+pub(crate) const MAY_BE_NULL_IDENTIFIER: u16 = 251;
 
-pub(super) const CONST_TYPE: u16 = 252;
+pub(crate) const CONST_TYPE: u16 = 252;
 
-pub(super) const TAIL_IDENTIFIER_COMMA: u16 = 253;
+pub(crate) const TAIL_IDENTIFIER_COMMA: u16 = 253;
 
-pub(super) const IDENTIFIER_LIST: u16 = 254;
+pub(crate) const IDENTIFIER_LIST: u16 = 254;
 
-pub(super) const PARENTHESIZED_IDENTIFIER_LIST: u16 = 255;
+pub(crate) const PARENTHESIZED_IDENTIFIER_LIST: u16 = 255;
 
 impl Rule {
     /// `long long`, or `unsigned long long`.
@@ -78,6 +78,7 @@ impl Rule {
 }
 
 /// The row of a rule from 235 to 255.
+#[inline(always)]
 pub(super) fn row(number: u16) -> Row
     requires low { 235 ≤ number }
     requires high { number < 256 }

@@ -10,35 +10,35 @@ use crate::class::Class;
 use crate::row::{Row, parts_of};
 use crate::rule::Rule;
 
-pub(super) const BYTES_LF: u16 = 0;
+pub(crate) const BYTES_LF: u16 = 0;
 
-pub(super) const NOT_NEXT_ANY: u16 = 1;
+pub(crate) const NOT_NEXT_ANY: u16 = 1;
 
-pub(super) const LINE_END: u16 = 2;
+pub(crate) const LINE_END: u16 = 2;
 
-pub(super) const BYTES_SLASH_SLASH: u16 = 3;
+pub(crate) const BYTES_SLASH_SLASH: u16 = 3;
 
-pub(super) const NOT_NEXT_SLASH: u16 = 4;
+pub(crate) const NOT_NEXT_SLASH: u16 = 4;
 
-pub(super) const RUN_NOT_LINE_FEED: u16 = 5;
+pub(crate) const RUN_NOT_LINE_FEED: u16 = 5;
 
-pub(super) const LINE_COMMENT: u16 = 6;
+pub(crate) const LINE_COMMENT: u16 = 6;
 
-pub(super) const ONE_OF_BLANK: u16 = 7;
+pub(crate) const ONE_OF_BLANK: u16 = 7;
 
-pub(super) const RUN_BLANK: u16 = 8;
+pub(crate) const RUN_BLANK: u16 = 8;
 
-pub(super) const BLANKS: u16 = 9;
+pub(crate) const BLANKS: u16 = 9;
 
-pub(super) const BYTES_SLASH_STAR: u16 = 10;
+pub(crate) const BYTES_SLASH_STAR: u16 = 10;
 
-pub(super) const PAST_STAR_SLASH: u16 = 11;
+pub(crate) const PAST_STAR_SLASH: u16 = 11;
 
-pub(super) const BLOCK_COMMENT: u16 = 12;
+pub(crate) const BLOCK_COMMENT: u16 = 12;
 
-pub(super) const PIECE: u16 = 13;
+pub(crate) const PIECE: u16 = 13;
 
-pub(super) const TRIVIA: u16 = 14;
+pub(crate) const TRIVIA: u16 = 14;
 
 impl Rule {
     /// An LF, or the end of the text.
@@ -64,6 +64,7 @@ impl Rule {
 }
 
 /// The row of a rule from 0 to 14.
+#[inline(always)]
 pub(super) fn row(number: u16) -> Row
     requires { number < 15 }
     ensures { row_view result ≡ row_of number }

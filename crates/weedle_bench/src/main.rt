@@ -1,0 +1,36 @@
+//! How long the table of ends of a text takes to fill.
+//!
+//! With a size in bytes it makes a text of about that size, times the filling of its table and,
+//! beside it, the laying down of as many cells that nothing is worked out for:
+//!
+//! ```text
+//! rt run -- 1000000
+//! ```
+//!
+//! With no argument it fills the tables of a few small texts and says what they hold.
+#![tactic(auto)]
+
+mod filling;
+mod random;
+mod text;
+
+use anyhow::anyhow;
+
+const SEED: u64 = 7;
+
+fn main(rt: HostRuntime) -> anyhow::Result<()> {
+    match std::env::args(&rt)?.nth(1) {
+        Some(size) => {
+            let Ok(size) = size.parse::<usize>() else {
+                return Err(anyhow!("usage: weedle_bench [SIZE]"));
+            };
+            filling::time(&rt, &text::definitions(rt.alloc(), SEED, size)?)
+        }
+        None => {
+            for size in [0, 1_000, 10_000] {
+                filling::count(&rt, &text::definitions(rt.alloc(), SEED, size)?)?;
+            }
+            Ok(())
+        }
+    }
+}

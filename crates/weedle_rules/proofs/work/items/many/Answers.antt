@@ -1,0 +1,27 @@
+use Rattle.std.proofs.Common.{arith, rules}
+use Rattle.weedle_rules.specs.Table.{webidl}
+use Rattle.weedle_rules.proofs.Takes.{takes}
+use Rattle.weedle_rules.proofs.Checked.{ranked}
+use Rattle.weedle_rules.proofs.EndFacts.{row_ends, many_low, many_ends, many_fails, many_goes}
+use Rattle.weedle_rules.proofs.WorkFacts.{looked, on, worked, known_here, known_behind, end_inside}
+use Rattle.weedle_rules.proofs.work.items.many.Goals as goal
+
+pub cell-requires-clause-known : goal.cell-requires-clause-known
+cell-requires-clause-known g c = known_here c.requires.begun (search rules) (many_low webidl c.args.reader.now.text takes ranked _ _ c.requires.row)
+
+pub cell-requires-else-end-place-clause-within : goal.cell-requires-else-end-place-clause-within
+cell-requires-else-end-place-clause-within g c = end_inside c.requires.begun c.in-Some.ensures.right
+
+pub cell-requires-else-end-place-clause-known : goal.cell-requires-else-end-place-clause-known
+cell-requires-else-end-place-clause-known g c = known_behind c.requires.begun c.in-Some.ensures.right c.if-end-place.false (search rules)
+
+pub returns-in-None : goal.returns-in-None
+returns-in-None g c = worked c.requires.begun c.requires.row (looked _ c.cell.ensures.counted) (omega arith) (many_ends webidl c.args.reader.now.text _ _ c.in-None.ensures.right)
+
+pub returns-then-end-place : goal.returns-then-end-place
+returns-then-end-place g c = worked c.requires.begun c.requires.row (looked _ c.cell.ensures.counted) (omega arith) (many_fails webidl c.args.reader.now.text _ _ (rw c.if-end-place.true at c.in-Some.ensures.right))
+
+pub returns-else-end-place : goal.returns-else-end-place
+returns-else-end-place g c =
+    let l = looked _ c.cell.ensures.counted in
+    worked c.requires.begun c.requires.row (on l c.cell-else-end-place.ensures.counted) (omega arith) (many_goes webidl c.args.reader.now.text _ _ _ _ c.in-Some.ensures.right c.if-end-place.false (row_ends c.requires.row c.cell-else-end-place.ensures.right))

@@ -1,0 +1,16 @@
+use Rattle.std.proofs.Common.{arith, rules}
+use Rattle.weedle_rules.specs.Table.{webidl}
+use Rattle.weedle_rules.proofs.Takes.{takes}
+use Rattle.weedle_rules.proofs.Checked.{ranked}
+use Rattle.weedle_rules.proofs.EndFacts.{opt_low, opt_present, opt_absent}
+use Rattle.weedle_rules.proofs.WorkFacts.{looked, worked, known_here}
+use Rattle.weedle_rules.proofs.work.items.opt.Goals as goal
+
+pub cell-requires-clause-known : goal.cell-requires-clause-known
+cell-requires-clause-known g c = known_here c.requires.begun (search rules) (opt_low webidl c.args.reader.now.text takes ranked _ _ c.requires.row)
+
+pub returns-in-Some : goal.returns-in-Some
+returns-in-Some g c = worked c.requires.begun c.requires.row (looked _ c.cell.ensures.counted) (omega arith) (opt_present webidl c.args.reader.now.text _ _ _ c.in-Some.ensures.right)
+
+pub returns-in-None : goal.returns-in-None
+returns-in-None g c = worked c.requires.begun c.requires.row (looked _ c.cell.ensures.counted) (omega arith) (opt_absent webidl c.args.reader.now.text _ _ c.in-None.ensures.right)

@@ -1,0 +1,82 @@
+-- The cells of the table of ends: when one is right, and in which order they are worked out.
+use Rattle.std.specs.Prelude.{◌≡◌, ◌≤◌, ◌<◌, ◌+◌, ◌-◌, ◌*◌, ℕ, Bool, List, length, Option, Some, None}
+use Rattle.std.proofs.Common.{get_or}
+use Rattle.weedle_rules.specs.Bound.{rule_count, most_reads}
+use Rattle.weedle_rules.specs.Trees.{Outcome, Fails, Gives}
+use Rattle.weedle_rules.specs.Meaning.{Grammar, ReadsBy}
+use Rattle.weedle_rules.specs.Table.{webidl}
+
+-- where an outcome ends; None of a failure
+abbrev pub end_of : Outcome → Option ℕ
+end_of Fails = None
+end_of (Gives ts q) = Some q
+
+-- rule r of a grammar has this end at place p, or fails there
+pub record EndsBy (G : Grammar) (text : List ℕ) (r p : ℕ) (e : Option ℕ) : Type 0 where
+  pub outcome : Outcome
+  pub reads : ReadsBy G text r p outcome
+  pub is : e ≡ end_of outcome
+
+-- the same of the grammar of the crate
+abbrev pub HasEnd : List ℕ → ℕ → ℕ → Option ℕ → Type 0
+HasEnd text r p e = EndsBy webidl text r p e
+
+-- the number of a cell in the order of the filling: from the last place of a text of n bytes to the first, at each
+-- place in the order of the rules
+abbrev pub cell_number : ℕ → ℕ → ℕ → ℕ
+cell_number n r p = (n - p) * rule_count + r
+
+-- what the cell of rule r at place p says
+abbrev pub cell_of : List ℕ → List (Option ℕ) → ℕ → ℕ → Option ℕ
+cell_of text known r p = get_or known (cell_number (length text) r p) None
+
+-- each cell that is known is its rule's end, or its failure, at its place
+abbrev pub AllRight : List ℕ → List (Option ℕ) → Type 0
+AllRight text known = (r p : ℕ) → r < rule_count → p ≤ length text → cell_number (length text) r p < length known
+    → HasEnd text r p (cell_of text known r p)
+
+-- a filling as contracts see it
+pub record Filling : Type 0 where
+  -- the text, and the cells that are known, in the order of the filling
+  pub text : List ℕ
+  pub known : List (Option ℕ)
+  -- for how many cells places are laid out
+  pub laid : ℕ
+  -- how many cells were worked out
+  pub workings : ℕ
+  -- how many reads all closed workings-out took, and at most one of them
+  pub reads : ℕ
+  pub most : ℕ
+  -- whether a working-out is open
+  pub is_open : Bool
+
+-- an open working-out as contracts see it: of which rule, at which place, and how many reads it took so far
+pub record Open : Type 0 where
+  pub rule : ℕ
+  pub place : ℕ
+  pub count : ℕ
+
+-- a table of ends as contracts see it: its text, its cells in the order of their numbers, and its counts
+pub record Table : Type 0 where
+  pub text : List ℕ
+  pub known : List (Option ℕ)
+  pub workings : ℕ
+  pub reads : ℕ
+  pub most : ℕ
+  -- whether its cells are narrow
+  pub narrow : Bool
+
+-- what always holds of the counts, where a working-out may take k reads
+pub record IsCounted (k : ℕ) (known : List (Option ℕ)) (workings reads most : ℕ) : Type 0 where
+  pub each : workings ≡ length known
+  pub looked : workings ≤ reads
+  pub bounded : reads ≤ k * workings
+  pub most_bounded : most ≤ k
+
+-- the whole table of a text
+pub record IsTable (t : Table) (text : List ℕ) : Type 0 where
+  pub text_is : t.text ≡ text
+  -- a cell for each rule at each place
+  pub full : length t.known ≡ (length text + 1) * rule_count
+  pub right : AllRight text t.known
+  pub counted : IsCounted most_reads t.known t.workings t.reads t.most

@@ -1,0 +1,33 @@
+-- A reader's fields as contracts see them, and what always holds of them.
+use Rattle.std.specs.Prelude.{◌≡◌, ◌≤◌, ◌<◌, ◌+◌, ◌-◌, ◌*◌, ℕ, Bool, true, List, length, map, take, Option}
+use Rattle.std.proofs.Common.{get_or}
+use Rattle.std.specs.List.{flat_map}
+use Rattle.weedle_rules.specs.Bound.{rule_count, most_reads}
+use Rattle.weedle_rules.specs.Cells.{AllRight}
+
+-- the cells of the rows, row by row
+abbrev pub cells_of : {C : Type 0} → List (List C) → List C
+cells_of rows = flat_map (λ row. row) rows
+
+-- what the cells that are known stand for
+abbrev pub known_of : {C : Type 0} → (C → Option ℕ) → ℕ → List (List C) → List (Option ℕ)
+known_of stands workings rows = map stands (take workings (cells_of rows))
+
+-- a cell for each rule in each row
+abbrev pub AreRows : {C : Type 0} → List (List C) → Type 0
+AreRows {C} rows = (i : ℕ) (d : List C) → i < length rows → length (get_or rows i d) ≡ rule_count
+
+-- what always holds
+pub record IsReader {C : Type 0} (stands : C → Option ℕ) (greatest : ℕ) (text : List ℕ) (rows : List (List C)) (capacity before workings reads most : ℕ) (is_open : Bool) : Type 0 where
+  pub fits : length text ≤ greatest
+  pub even : AreRows rows
+  -- all cells of the rows before the last are known
+  pub above : before ≡ (length rows - 1) * rule_count
+  pub laid : workings ≤ length rows * rule_count
+  pub room : length text + 1 ≤ capacity
+  pub few : length rows ≤ length text + 1
+  pub right : AllRight text (known_of stands workings rows)
+  pub looked : workings ≤ reads
+  pub bounded : reads ≤ most_reads * workings
+  pub most_bounded : most ≤ most_reads
+  pub open_cell : is_open ≡ true → workings < length rows * rule_count

@@ -1,0 +1,39 @@
+//! Filling a table: from the last place to the first, at each place in the order of the rules.
+
+ghost use Rattle.std.specs.Prelude.{◌≡◌, ◌≤◌, ◌+◌, ◌-◌, ◌*◌, length};
+ghost use Rattle.weedle_rules.specs.Bound.{rule_count};
+ghost use Rattle.weedle_rules.specs.Work.{IsUnfilled, IsFilled, IsFilling};
+
+use crate::cell::Cell;
+use crate::reader::Reader;
+use crate::rule::Rule;
+use crate::work::work_out;
+
+mod place;
+
+use place::fill_place;
+
+/// Works out the next cell, of this rule at this place.
+#[inline(always)]
+fn fill_cell<C: Cell>(reader: &mut Reader<'_, C>, rule: Rule, place: usize)
+    requires within { place ≤ length reader.old.text }
+    requires next { IsFilling reader.old reader.old.text place rule }
+    ensures { IsFilling reader.new reader.old.text place (rule + 1) }
+{
+    let mut working = reader.begin(rule, place);
+    let outcome = work_out(reader, &mut working, rule, place);
+    reader.close(working, outcome);
+}
+
+/// Works out all cells.
+#[inline(always)]
+pub(crate) fn fill<C: Cell>(reader: &mut Reader<'_, C>)
+    requires { IsUnfilled reader.old reader.old.text }
+    ensures { IsFilled reader.new reader.old.text ((length reader.old.text + 1) * rule_count) }
+{
+    let mut place = reader.places();
+    while place > 0 {
+        place -= 1;
+        fill_place(reader, place);
+    }
+}

@@ -1,0 +1,97 @@
+//! Rows of several parts: sequences, choices, and sequences whose last part has a condition.
+
+ghost use Rattle.std.specs.Prelude.{◌≡◌, if◌then◌else◌};
+ghost use Rattle.weedle_rules.specs.Rows.{Seq, First, If};
+ghost use Rattle.weedle_rules.specs.Table.{row_of as row_of_lem};
+ghost use Rattle.weedle_rules.specs.Work.{IsBegun, IsWorked};
+
+use crate::cell::Cell;
+use crate::reader::{Reader, Working};
+use crate::row::Parts;
+use crate::rule::Rule;
+
+/// The parts, each from the end of the one before.
+#[inline(always)]
+pub(crate) fn seq<C: Cell>(
+    reader: &Reader<'_, C>,
+    working: &mut Working,
+    rule: Rule,
+    place: usize,
+    parts: Parts,
+) -> Option<usize>
+    requires begun { IsBegun reader.now working.old rule place }
+    requires row { row_of_lem rule ≡ Seq parts.numbers.now }
+    ensures { IsWorked reader.now working.old working.new result }
+{
+    let mut end = place;
+    for part in parts.numbers {
+        match reader.cell(working, Rule(*part), end) {
+            Some(next) => end = next,
+            None => return None,
+        }
+    }
+    Some(end)
+}
+
+/// The first part that fits.
+#[inline(always)]
+pub(crate) fn first<C: Cell>(
+    reader: &Reader<'_, C>,
+    working: &mut Working,
+    rule: Rule,
+    place: usize,
+    parts: Parts,
+) -> Option<usize>
+    requires begun { IsBegun reader.now working.old rule place }
+    requires row { row_of_lem rule ≡ First parts.numbers.now }
+    ensures { IsWorked reader.now working.old working.new result }
+{
+    for part in parts.numbers {
+        match reader.cell(working, Rule(*part), place) {
+            Some(end) => return Some(end),
+            None => {}
+        }
+    }
+    None
+}
+
+/// The first where the test holds, else the second.
+#[inline(always)]
+fn choose(test: bool, first: bool, second: bool) -> bool
+    ensures { result ≡ (if test then first else second) }
+{
+    if test { first } else { second }
+}
+
+/// The parts, then the rule where the part of this number gave something.
+#[inline(always)]
+pub(crate) fn conditional<C: Cell>(
+    reader: &Reader<'_, C>,
+    working: &mut Working,
+    rule: Rule,
+    place: usize,
+    parts: Parts,
+    k: usize,
+    y: Rule,
+) -> Option<usize>
+    requires begun { IsBegun reader.now working.old rule place }
+    requires row { row_of_lem rule ≡ If parts.numbers.now k y }
+    ensures { IsWorked reader.now working.old working.new result }
+{
+    let mut end = place;
+    let mut present = false;
+    for (i, part) in parts.numbers.iter().enumerate() {
+        match reader.cell(working, Rule(*part), end) {
+            Some(next) => {
+                present = choose(i == k, next != end, present);
+                end = next;
+            }
+            None => return None,
+        }
+    }
+    if present {
+        reader.cell(working, y, end)
+    } else {
+        Some(end)
+    }
+}

@@ -1,0 +1,16 @@
+pub mod Took
+pub mod Given
+pub mod RowBytes
+pub mod Always
+pub mod Spelt
+pub mod SpeltLists
+pub mod Conditional
+pub mod TriviaFacts
+pub mod LeafFacts
+pub mod DocLineFacts
+pub mod PieceFacts
+pub mod LawFacts
+pub mod PartFacts
+pub mod LeafLaws
+pub mod LiteralLaws
+pub mod SimpleTypeLaws

@@ -1,0 +1,49 @@
+//! The laws of names, numbers, strings and docstrings.
+
+ghost use Rattle.weedle_parts.specs.LiteralTrees.{dec_tree, hex_tree, oct_tree, float_value_tree, string_tree, docstring_tree};
+ghost use Rattle.weedle_parts.specs.ValueTrees.{identifier_tree};
+ghost use Rattle.weedle_rules.specs.Table.Leaves.{IDENTIFIER, DEC_LIT, HEX_LIT, OCT_LIT, FLOAT_VALUE_LIT, STRING_LIT, DOCSTRING};
+ghost use Rattle.weedle_spell.specs.Laws.{SpellsExactly, SpellsValues};
+ghost use Rattle.weedle_spell.specs.Leaves.{identifier_spelling, dec_spelling, hex_spelling, oct_spelling, float_value_spelling, string_spelling, docstring_spelling};
+
+/// A name, as `_name`, is its letters: the underscore is not of it.
+#[tactic(auto, using(crate::proofs::LeafLaws::identifier_law))]
+pub fn identifier()
+    ensures { SpellsValues IDENTIFIER identifier_tree identifier_spelling }
+{}
+
+/// A decimal number, as `-12`.
+#[tactic(auto, using(crate::proofs::LeafLaws::dec_law))]
+pub fn dec()
+    ensures { SpellsValues DEC_LIT dec_tree dec_spelling }
+{}
+
+/// A hexadecimal number, as `-0x1F`.
+#[tactic(auto, using(crate::proofs::LeafLaws::hex_law))]
+pub fn hex()
+    ensures { SpellsValues HEX_LIT hex_tree hex_spelling }
+{}
+
+/// An octal number, as `017`.
+#[tactic(auto, using(crate::proofs::LeafLaws::oct_law))]
+pub fn oct()
+    ensures { SpellsValues OCT_LIT oct_tree oct_spelling }
+{}
+
+/// A number with a point or an exponent, as `-1.5e3`.
+#[tactic(auto, using(crate::proofs::LeafLaws::float_value_law))]
+pub fn float_value()
+    ensures { SpellsValues FLOAT_VALUE_LIT float_value_tree float_value_spelling }
+{}
+
+/// A text in quotes, as `"a b"`: the quotes are not of it.
+#[tactic(auto, using(crate::proofs::LeafLaws::string_law))]
+pub fn string()
+    ensures { SpellsValues STRING_LIT string_tree string_spelling }
+{}
+
+/// A docstring, as `/// a` and an LF. The LF of its last line may not be absent.
+#[tactic(auto, using(crate::proofs::LeafLaws::docstring_law))]
+pub fn docstring()
+    ensures { SpellsExactly DOCSTRING docstring_tree docstring_spelling }
+{}

@@ -1,0 +1,54 @@
+//! The laws of literals and defaults.
+
+ghost use Rattle.weedle_parts.specs.LiteralTrees.{integer_tree, float_tree, boolean_tree, empty_array_tree, empty_dictionary_tree, default_value_tree, const_value_tree, default_tree};
+ghost use Rattle.weedle_rules.specs.Table.Literals.{INTEGER_LIT, FLOAT_LIT, BOOLEAN_LIT, EMPTY_ARRAY_LIT, EMPTY_DICTIONARY_LIT, DEFAULT_VALUE, CONST_VALUE, DEFAULT};
+ghost use Rattle.weedle_spell.specs.Laws.{SpellsValues};
+ghost use Rattle.weedle_spell.specs.Literals.{integer_spelling, float_spelling, boolean_spelling, empty_array_spelling, empty_dictionary_spelling, default_value_spelling, const_value_spelling, default_spelling};
+
+/// A whole number, as `-12`, `0x1F` and `017`.
+#[tactic(auto, using(crate::proofs::LiteralLaws::integer_law))]
+pub fn integer()
+    ensures { SpellsValues INTEGER_LIT integer_tree integer_spelling }
+{}
+
+/// A float, as `1.5` and `-Infinity`.
+#[tactic(auto, using(crate::proofs::LiteralLaws::float_law))]
+pub fn float()
+    ensures { SpellsValues FLOAT_LIT float_tree float_spelling }
+{}
+
+/// A boolean: `true` or `false`.
+#[tactic(auto, using(crate::proofs::LiteralLaws::boolean_law))]
+pub fn boolean()
+    ensures { SpellsValues BOOLEAN_LIT boolean_tree boolean_spelling }
+{}
+
+/// An empty list: `[]`.
+#[tactic(auto, using(crate::proofs::LiteralLaws::empty_array_law))]
+pub fn empty_array()
+    ensures { SpellsValues EMPTY_ARRAY_LIT empty_array_tree empty_array_spelling }
+{}
+
+/// An empty dictionary: `{}`.
+#[tactic(auto, using(crate::proofs::LiteralLaws::empty_dictionary_law))]
+pub fn empty_dictionary()
+    ensures { SpellsValues EMPTY_DICTIONARY_LIT empty_dictionary_tree empty_dictionary_spelling }
+{}
+
+/// The value of a default, as `"a"`, `[]` and `null`.
+#[tactic(auto, using(crate::proofs::LiteralLaws::default_value_law))]
+pub fn default_value()
+    ensures { SpellsValues DEFAULT_VALUE default_value_tree default_value_spelling }
+{}
+
+/// The value of a constant, as `1` and `true`.
+#[tactic(auto, using(crate::proofs::LiteralLaws::const_value_law))]
+pub fn const_value()
+    ensures { SpellsValues CONST_VALUE const_value_tree const_value_spelling }
+{}
+
+/// A default, as `= 1`.
+#[tactic(auto, using(crate::proofs::LiteralLaws::default_law))]
+pub fn default()
+    ensures { SpellsValues DEFAULT default_tree default_spelling }
+{}

@@ -1,0 +1,25 @@
+//! What is read spells its value: a formatter, a validator or a diff can stand on the value alone.
+//!
+//! The crate has laws and no call. A law is a function of [`laws`] that does nothing when it runs.
+//! It says of one type: where the type's rule gives the tree of a value, the text that the rule
+//! took spells the value, and the texts that the value keeps stand in it in their order.
+//!
+//! - A spelling is a set of texts, by cases on the value (`specs/`). It knows of no places, rules or
+//!   order of choices; only the classes of bytes are the grammar's.
+//! - `Spells` holds of a text also where it would hold with an LF behind it: a line comment at the
+//!   end of a text needs no LF. Inside a value nothing is so widened, and a docstring never is.
+//! - A value has many spellings: nothing is said of which of them are read.
+//!
+//! ```rust
+//! use weedle_base::Parse;
+//! use weedle_parts::literal::StringLit;
+//!
+//! // What `parse` took is what the rule of strings takes, so it is trivia, a quote, the value's
+//! // text, a quote, trivia.
+//! let (rest, value) = StringLit::parse(rt.alloc(), " \"a\" // b").expect(rt, "a text");
+//! weedle_spell::laws::string();
+//! assert!(rt; rest == "" && value.0 == "a");
+//! ```
+#![tactic(auto)]
+
+pub mod laws;
