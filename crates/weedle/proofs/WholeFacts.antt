@@ -4,45 +4,30 @@ use Rattle.std.proofs.lemmas.List.{length-drop}
 use Rattle.std.specs.Borrow.{Bor}
 use Rattle.std.specs.Global.{Vec}
 use Rattle.std.specs.Prelude.{◌≡◌, ℕ, ◌<◌, ◌==◌, false, List, [], ◌∷◌, length, drop}
-use Rattle.weedle_base.proofs.RuleFacts.{own_rule}
-use Rattle.weedle_base.proofs.RunRules.{run_rule}
-use Rattle.weedle_base.specs.Own.{own}
 use Rattle.weedle_base.specs.Reading.{Got, Faults}
 use Rattle.weedle_base.specs.declared.fault.Err.TheVariants.{Error as Stopped}
 use Rattle.weedle_base.specs.declared.fault.Error.{Error}
 use Rattle.weedle_base.specs.declared.fault.ErrorKind.TheVariants.{Unread}
-use Rattle.weedle_rules.proofs.Checked.{rank, ranked}
-use Rattle.weedle_rules.proofs.Exists.{advances}
-use Rattle.weedle_rules.proofs.Takes.{takes}
 use Rattle.weedle_rules.proofs.Unique.{one_outcome}
-use Rattle.weedle_rules.specs.Table.{webidl, Reads}
-use Rattle.weedle_rules.specs.Table.FirstPath.{FIRST_DEFINITION, FIRST_DEFINITIONS}
+use Rattle.weedle_rules.specs.Table.{Reads}
+use Rattle.weedle_rules.specs.Table.Definitions.{DEFINITIONS}
 use Rattle.weedle_rules.specs.Trees.{Tree, Gives}
-use Rattle.weedle.specs.Laws.{definitions_reading, ReadsDefinitions}
-use Rattle.weedle.specs.ValueTrees.{definition_tree, definitions_tree}
+use Rattle.weedle_idl.proofs.DefinitionListRules.{definitions_reading, definitions_rule, definitions_never_refuse}
+use Rattle.weedle_idl.specs.DefinitionTrees.{definitions_tree}
 use Rattle.weedle.specs.Whole.{IsWhole, IsLeft, LeavesRest}
-use Rattle.weedle.specs.declared.definition.Definition.{Definition}
-
-pub reads_definitions : ReadsDefinitions
-reads_definitions = run_rule (own_rule FIRST_DEFINITION definition_tree (Unit {0})) (λ v. v.items) FIRST_DEFINITIONS refl refl tt
-
-takes_a_byte : (s : List ℕ) (ts : List Tree) (k : ℕ) → Reads s FIRST_DEFINITION 0 (Gives ts k) → 0 < k
-takes_a_byte s ts k d = advances webidl s rank takes ranked d refl
+use Rattle.weedle_idl.specs.declared.definition.Definition.{Definition}
 
 -- a list of definitions is read from any text
 pub never_refused : {raw : List ℕ} {e : Error (Bor (List ℕ))} → Faults definitions_reading raw (Stopped e) → ⊥
-unfolding own
-never_refused {raw} h =
-    let m = h.says.0 in
-    omega (arith, takes_a_byte (drop m.1 raw) (definition_tree m.3.0 ∷ []) 0 m.3.1)
+never_refused {raw} h = definitions_never_refuse raw h.says.0
 
 pub not_empty : (rest : List ℕ) → false ≡ (length rest == 0) → 0 < length rest
 not_empty [] e = cc
 not_empty (t ∷ rest) e = omega arith
 
 module _ {raw rest : List ℕ} {v : Vec Definition} (h : Got definitions_reading raw v rest) where
-  reads : Reads raw FIRST_DEFINITIONS 0 (Gives (definitions_tree v.items ∷ []) h.place)
-  reads = reads_definitions.gives raw v h.place h.gives
+  reads : Reads raw DEFINITIONS 0 (Gives (definitions_tree v.items ∷ []) h.place)
+  reads = definitions_rule.gives raw v h.place h.gives
 
   size : length rest ≡ length (drop h.place raw)
   size = ap length h.rest_is
@@ -51,7 +36,7 @@ module _ {raw rest : List ℕ} {v : Vec Definition} (h : Got definitions_reading
   unfolding IsWhole
   whole e =
       let place : h.place ≡ length raw = omega (arith, e, size, length-drop h.place raw, h.within) in
-      subst (λ (k : ℕ). Reads raw FIRST_DEFINITIONS 0 (Gives (definitions_tree v.items ∷ []) k)) place reads
+      subst (λ (k : ℕ). Reads raw DEFINITIONS 0 (Gives (definitions_tree v.items ∷ []) k)) place reads
 
   same_end : {t u : Tree} {k l : ℕ} → Gives (t ∷ []) k ≡ Gives (u ∷ []) l → k ≡ l
   same_end e = cc

@@ -3,7 +3,7 @@ use Rattle.std.specs.Prelude.{◌≡◌, ℕ, ◌-◌, ◌<◌, List, [], ◌∷
 use Rattle.std.specs.Io.KnownBytes.{Appends, Consumes, IsAtEnd}
 use Rattle.weedle.specs.Titles.{kind_text, name_text}
 use Rattle.weedle.specs.Whole.{IsWhole, IsLeft}
-use Rattle.weedle.specs.declared.definition.Definition.{Definition}
+use Rattle.weedle_idl.specs.declared.definition.Definition.{Definition}
 use Rattle.weedle.specs.declared.program.Status.{Status}
 use Rattle.weedle.specs.declared.program.Status.TheVariants.{Read, Unread}
 

@@ -1,0 +1,5 @@
+pub mod PartTrees
+pub mod InterfaceTrees
+pub mod OtherMemberTrees
+pub mod DefinitionTrees
+pub mod Laws
