@@ -8,17 +8,23 @@ mod arguments;
 #[cfg(test)]
 mod attributes;
 #[cfg(test)]
+mod definition_values;
+#[cfg(test)]
 mod definitions;
 #[cfg(test)]
 mod generic_parts;
 #[cfg(test)]
 mod leaves;
 #[cfg(test)]
+mod members;
+#[cfg(test)]
 mod plain_types;
 #[cfg(test)]
 mod program;
 #[cfg(test)]
 mod readme;
+#[cfg(test)]
+mod real_text;
 #[cfg(test)]
 mod recursive_types;
 #[cfg(test)]
