@@ -60,33 +60,30 @@ module _ {C : Type 0} (stands : C → Option ℕ) where
       get_or-map stands (take w (cells_of rows)) k c None (omega arith)
       ∙ ap stands (get_or-take w (cells_of rows) k c h ∙ cells_get rows even i j k row c in_rows low n ∙ ap (λ z. get_or z j c) (sym is) ∙ sym cis)
 
-  -- what a look at a cell answers
-  pub cell_is : (text : List ℕ) (rows : List (List C)) → AreRows rows → (w r p : ℕ) (row : List C) (c : C) (e : Option ℕ)
-      → w ≤ length rows * rule_count → r < rule_count → cell_number (length text) r p < length (known_of stands w rows)
-      → row ≡ get_or rows (length text - p) row → c ≡ get_or row r c → e ≡ stands c → e ≡ cell_of text (known_of stands w rows) r p
-  cell_is text rows even w r p row c e laid low l is cis es =
-      es ∙ sym (known_stands rows even (length text - p) r (cell_number (length text) r p) w row c laid (omega (arith, known_length rows even w laid)) refl low is cis)
-
-  -- it is right
-  pub cell_right : (text : List ℕ) (rows : List (List C)) → AreRows rows → (w r p : ℕ) (row : List C) (c : C) (e : Option ℕ) → AllRight text (known_of stands w rows)
-      → w ≤ length rows * rule_count → r < rule_count → p ≤ length text → cell_number (length text) r p < length (known_of stands w rows)
-      → row ≡ get_or rows (length text - p) row → c ≡ get_or row r c → e ≡ stands c → HasEnd text r p e
-  cell_right text rows even w r p row c e h laid low within l is cis es =
-      subst (HasEnd text r p) (sym (cell_is text rows even w r p row c e laid low l is cis es)) (h r p low within l)
-
   -- one more row is laid out, and the same cells are known
   pub lays_known : (rows : List (List C)) (row : List C) (w : ℕ) → w ≤ length (cells_of rows) → known_of stands w (rows ++ row ∷ []) ≡ known_of stands w rows
   lays_known rows row w h = ap (λ z. map stands (take w z)) (cells_push rows row) ∙ ap (map stands) (take-append-le w (cells_of rows) row h)
 
+-- what a reader's steps keep, where this holds of it
+module _ {C : Type 0} {stands : C → Option ℕ} {greatest : ℕ} {text : List ℕ} {rows : List (List C)} {capacity before w reads most : ℕ} {is_open : Bool} (h : IsReader stands greatest text rows capacity before w reads most is_open) where
+  -- what a look at a cell answers
+  pub cell_is : (r p : ℕ) {row : List C} {c : C} {e : Option ℕ} → r < rule_count → cell_number (length text) r p < length (known_of stands w rows)
+      → row ≡ get_or rows (length text - p) row → c ≡ get_or row r c → e ≡ stands c → e ≡ cell_of text (known_of stands w rows) r p
+  cell_is r p {row} {c} low l is cis es =
+      es ∙ sym (known_stands stands rows h.even (length text - p) r (cell_number (length text) r p) w row c h.laid (omega (arith, known_length stands rows h.even w h.laid)) refl low is cis)
+
+  -- it is right
+  pub cell_right : (r p : ℕ) {row : List C} {c : C} {e : Option ℕ} → r < rule_count → p ≤ length text → cell_number (length text) r p < length (known_of stands w rows)
+      → row ≡ get_or rows (length text - p) row → c ≡ get_or row r c → e ≡ stands c → HasEnd text r p e
+  cell_right r p low within l is cis es = subst (HasEnd text r p) (sym (cell_is r p low l is cis es)) (h.right r p low within l)
+
   -- laying a row out, where all cells of those before are known
-  pub reader_lays : (greatest : ℕ) (text : List ℕ) (rows : List (List C)) (capacity before w v reads most : ℕ) (is_open : Bool) (row : List C)
-      → IsReader stands greatest text rows capacity before w reads most is_open → length rows < length text + 1 → length row ≡ rule_count
-      → length (known_of stands w rows) ≡ length rows * rule_count → v ≡ w
+  pub reader_lays : (v : ℕ) (row : List C) → length rows < length text + 1 → length row ≡ rule_count → length (known_of stands w rows) ≡ length rows * rule_count → v ≡ w
       → IsReader stands greatest text (rows ++ row ∷ []) capacity w v reads most is_open
-  reader_lays greatest text rows capacity before w v reads most is_open row h room l full e =
+  reader_lays v row room l full e =
       let len = cells_length rows h.even in
       let more = length-append rows (row ∷ []) in
-      let all : w ≡ length rows * rule_count = sym (known_length rows h.even w h.laid) ∙ full in
+      let all : w ≡ length rows * rule_count = sym (known_length stands rows h.even w h.laid) ∙ full in
       subst (λ z. IsReader stands greatest text (rows ++ row ∷ []) capacity w z reads most is_open) (sym e) record {
         fits = h.fits;
         even = push_even rows h.even row l;
@@ -94,7 +91,7 @@ module _ {C : Type 0} (stands : C → Option ℕ) where
         laid = omega (arith, h.laid);
         room = h.room;
         few = omega arith;
-        right = subst (AllRight text) (sym (lays_known rows row w (omega (arith, h.laid)))) h.right;
+        right = subst (AllRight text) (sym (lays_known stands rows row w (omega (arith, h.laid)))) h.right;
         looked = h.looked;
         bounded = h.bounded;
         most_bounded = h.most_bounded;
@@ -102,10 +99,8 @@ module _ {C : Type 0} (stands : C → Option ℕ) where
       }
 
   -- opening a working-out
-  pub reader_opens : (greatest : ℕ) (text : List ℕ) (rows : List (List C)) (capacity before w reads most : ℕ) (is_open : Bool)
-      → IsReader stands greatest text rows capacity before w reads most is_open → length (known_of stands w rows) < length rows * rule_count
-      → IsReader stands greatest text rows capacity before w reads most true
-  reader_opens greatest text rows capacity before w reads most is_open h room =
+  pub reader_opens : length (known_of stands w rows) < length rows * rule_count → IsReader stands greatest text rows capacity before w reads most true
+  reader_opens room =
       record {
         fits = h.fits;
         even = h.even;
@@ -117,43 +112,41 @@ module _ {C : Type 0} (stands : C → Option ℕ) where
         looked = h.looked;
         bounded = h.bounded;
         most_bounded = h.most_bounded;
-        open_cell = λ o. omega (arith, known_length rows h.even w h.laid);
+        open_cell = λ o. omega (arith, known_length stands rows h.even w h.laid);
       }
 
-  pub reader_counts : (greatest : ℕ) (text : List ℕ) (rows : List (List C)) (capacity before w reads most : ℕ) (is_open : Bool)
-      → IsReader stands greatest text rows capacity before w reads most is_open → IsCounted most_reads (known_of stands w rows) w reads most
-  reader_counts greatest text rows capacity before w reads most is_open h =
-      record { each = sym (known_length rows h.even w h.laid); looked = h.looked; bounded = h.bounded; most_bounded = h.most_bounded }
+  -- the counts
+  pub reader_counts : IsCounted most_reads (known_of stands w rows) w reads most
+  reader_counts = record { each = sym (known_length stands rows h.even w h.laid); looked = h.looked; bounded = h.bounded; most_bounded = h.most_bounded }
 
+-- the same while a working-out is open
+module _ {C : Type 0} {stands : C → Option ℕ} {greatest : ℕ} {text : List ℕ} {rows : List (List C)} {capacity before w reads most : ℕ} (h : IsReader stands greatest text rows capacity before w reads most true) where
   -- the cell that is worked out is the next of the last row
-  pub closes_at : (greatest : ℕ) (text : List ℕ) (rows : List (List C)) (capacity before w reads most rule place filled : ℕ)
-      → IsReader stands greatest text rows capacity before w reads most true → rule < rule_count → w ≡ before + filled
-      → length (known_of stands w rows) ≡ cell_number (length text) rule place → (length text - place ≡ length rows - 1) × (filled ≡ rule)
-  closes_at greatest text rows capacity before w reads most rule place filled h low wn n =
+  pub closes_at : (rule place filled : ℕ) → rule < rule_count → w ≡ before + filled → length (known_of stands w rows) ≡ cell_number (length text) rule place
+      → (length text - place ≡ length rows - 1) × (filled ≡ rule)
+  closes_at rule place filled low wn n =
       let o = h.open_cell refl in
       let b = h.above in
-      let k : w ≡ cell_number (length text) rule place = sym (known_length rows h.even w h.laid) ∙ n in
+      let k : w ≡ cell_number (length text) rule place = sym (known_length stands rows h.even w h.laid) ∙ n in
       let r : length text - place ≡ length rows - 1 = omega arith in
       (r, omega arith)
 
   -- the cells that are known where a working-out is closed
-  pub closes_known : (greatest : ℕ) (text : List ℕ) (rows : List (List C)) (capacity before w v reads most i j : ℕ) (row : List C) (c : C) (e : Option ℕ)
-      → IsReader stands greatest text rows capacity before w reads most true → i ≡ length rows - 1 → w ≡ before + j → row ≡ get_or rows i row → stands c ≡ e → v ≡ w + 1
+  pub closes_known : (v i j : ℕ) {row : List C} {c : C} {e : Option ℕ} → i ≡ length rows - 1 → w ≡ before + j → row ≡ get_or rows i row → stands c ≡ e → v ≡ w + 1
       → known_of stands v (set rows i (set row j c)) ≡ known_of stands w rows ++ e ∷ []
-  closes_known greatest text rows capacity before w v reads most i j row c e h last wn at is ve =
+  closes_known v i j {row} {c} last wn at is ve =
       let o = h.open_cell refl in
       let b = h.above in
       ap (λ x. known_of stands x (set rows i (set row j c))) ve
       ∙ ap (λ z. known_of stands (w + 1) (set rows i (set z j c))) at
-      ∙ known_more rows h.even i j w row c (omega arith) (omega arith) (omega arith)
+      ∙ known_more stands rows h.even i j w row c (omega arith) (omega arith) (omega arith)
       ∙ ap (λ z. known_of stands w rows ++ z ∷ []) is
 
   -- closing a working-out
-  pub reader_closes : (greatest : ℕ) (text : List ℕ) (rows : List (List C)) (capacity before w v reads most rule place count i j : ℕ) (row : List C) (c : C) (e : Option ℕ)
-      → IsReader stands greatest text rows capacity before w reads most true → rule < rule_count → i ≡ length rows - 1 → w ≡ before + j → row ≡ get_or rows i row → place ≤ length text
-      → length (known_of stands w rows) ≡ cell_number (length text) rule place → stands c ≡ e → HasEnd text rule place e → 0 < count → count ≤ most_reads → v ≡ w + 1
+  pub reader_closes : (v rule place count i j : ℕ) {row : List C} {c : C} {e : Option ℕ} → rule < rule_count → i ≡ length rows - 1 → w ≡ before + j → row ≡ get_or rows i row
+      → place ≤ length text → length (known_of stands w rows) ≡ cell_number (length text) rule place → stands c ≡ e → HasEnd text rule place e → 0 < count → count ≤ most_reads → v ≡ w + 1
       → IsReader stands greatest text (set rows i (set row j c)) capacity before v (reads + count) (max most count) false
-  reader_closes greatest text rows capacity before w v reads most rule place count i j row c e h low last wn at within n is right looked few ve =
+  reader_closes v rule place count i j {row} {c} {e} low last wn at within n is right looked few ve =
       let o = h.open_cell refl in
       let ls = length-set rows i (set row j c) in
       let a = all_right_more text (known_of stands w rows) rule place e h.right low within n right in
@@ -164,7 +157,7 @@ module _ {C : Type 0} (stands : C → Option ℕ) where
         laid = omega arith;
         room = h.room;
         few = omega (arith, h.few);
-        right = subst (AllRight text) (sym (closes_known greatest text rows capacity before w v reads most i j row c e h last wn at is ve)) a;
+        right = subst (AllRight text) (sym (closes_known v i j last wn at is ve)) a;
         looked = omega (arith, h.looked);
         bounded = omega (arith, h.bounded);
         most_bounded = max-le h.most_bounded few;
