@@ -172,7 +172,6 @@ impl<'a, C: Cell> Reader<'a, C> {
         ensures value { result ≡ cell_of self.now.text self.now.known rule place }
         ensures right { HasEnd self.now.text rule place result }
     {
-        C::rows_fit();
         in_row(&self.rows[self.text.len() - place], rule).unpack()
     }
 
