@@ -689,7 +689,7 @@ def spec_bound():
 
 
 FILL_GHOSTS = ["ghost use Rattle.std.specs.Prelude.{◌≤◌, length};", "ghost use Rattle.weedle_rules.specs.Filling.{IsFilling};", ""]
-EIGHT = 8
+CALLS = 4  # in one function: what its check takes grows with their square
 
 
 def fill_head(visibility, name, low, high):
@@ -707,11 +707,11 @@ def code_fill_section(s):
     out += ["use crate::cell::Cell;", "use crate::fill::fill_cell;",
             f"use crate::grammar::{s.module}::{{{', '.join(sorted(names))}}};" if len(names) > 1 else f"use crate::grammar::{s.module}::{names[0]};",
             "use crate::reader::Reader;", "use crate::rule::Rule;", ""]
-    starts = range(low, high, EIGHT)
+    starts = range(low, high, CALLS)
     out += [f"/// Works out the cells of the rules from {low} to {high - 1}."] + fill_head("pub(super) ", "fill", low, high)
     out += [f"    fill_from_{start}(reader, place);" for start in starts] + ["}"]
     for start in starts:
-        stop = min(start + EIGHT, high)
+        stop = min(start + CALLS, high)
         out += [""] + fill_head("", f"fill_from_{start}", start, stop)
         out += [f"    fill_cell(reader, Rule({RULES[n].name}), place);" for n in range(start, stop)] + ["}"]
     write(f"src/fill/place/{s.module}.rt", "\n".join(out) + "\n")
