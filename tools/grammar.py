@@ -689,7 +689,7 @@ def spec_bound():
 
 
 FILL_GHOSTS = ["ghost use Rattle.std.specs.Prelude.{◌≤◌, length};", "ghost use Rattle.weedle_rules.specs.Filling.{IsFilling};", ""]
-CALLS = 4  # in one function: what its check takes grows with their square
+CALLS = 8  # in one function: of four the compiler makes slower code, of more the check takes longer
 
 
 def fill_head(visibility, name, low, high):

@@ -29,15 +29,10 @@ pub(super) fn fill<C: Cell>(reader: &mut Reader<'_, C>, place: usize)
     ensures { IsFilling reader.new reader.old.text place 184 }
 {
     fill_from_140(reader, place);
-    fill_from_144(reader, place);
     fill_from_148(reader, place);
-    fill_from_152(reader, place);
     fill_from_156(reader, place);
-    fill_from_160(reader, place);
     fill_from_164(reader, place);
-    fill_from_168(reader, place);
     fill_from_172(reader, place);
-    fill_from_176(reader, place);
     fill_from_180(reader, place);
 }
 
@@ -45,20 +40,12 @@ pub(super) fn fill<C: Cell>(reader: &mut Reader<'_, C>, place: usize)
 fn fill_from_140<C: Cell>(reader: &mut Reader<'_, C>, place: usize)
     requires within { place ≤ length reader.old.text }
     requires next { IsFilling reader.old reader.old.text place 140 }
-    ensures { IsFilling reader.new reader.old.text place 144 }
+    ensures { IsFilling reader.new reader.old.text place 148 }
 {
     fill_cell(reader, Rule(BYTES_BYTE_STRING), place);
     fill_cell(reader, Rule(BYTE_STRING), place);
     fill_cell(reader, Rule(BYTES_DOM_STRING), place);
     fill_cell(reader, Rule(DOM_STRING), place);
-}
-
-#[inline(always)]
-fn fill_from_144<C: Cell>(reader: &mut Reader<'_, C>, place: usize)
-    requires within { place ≤ length reader.old.text }
-    requires next { IsFilling reader.old reader.old.text place 144 }
-    ensures { IsFilling reader.new reader.old.text place 148 }
-{
     fill_cell(reader, Rule(BYTES_FROZEN_ARRAY), place);
     fill_cell(reader, Rule(FROZEN_ARRAY), place);
     fill_cell(reader, Rule(BYTES_INFINITY), place);
@@ -69,20 +56,12 @@ fn fill_from_144<C: Cell>(reader: &mut Reader<'_, C>, place: usize)
 fn fill_from_148<C: Cell>(reader: &mut Reader<'_, C>, place: usize)
     requires within { place ≤ length reader.old.text }
     requires next { IsFilling reader.old reader.old.text place 148 }
-    ensures { IsFilling reader.new reader.old.text place 152 }
+    ensures { IsFilling reader.new reader.old.text place 156 }
 {
     fill_cell(reader, Rule(BYTES_NAN), place);
     fill_cell(reader, Rule(NAN), place);
     fill_cell(reader, Rule(BYTES_USV_STRING), place);
     fill_cell(reader, Rule(USV_STRING), place);
-}
-
-#[inline(always)]
-fn fill_from_152<C: Cell>(reader: &mut Reader<'_, C>, place: usize)
-    requires within { place ≤ length reader.old.text }
-    requires next { IsFilling reader.old reader.old.text place 152 }
-    ensures { IsFilling reader.new reader.old.text place 156 }
-{
     fill_cell(reader, Rule(BYTES_ARRAY_BUFFER), place);
     fill_cell(reader, Rule(ARRAY_BUFFER), place);
     fill_cell(reader, Rule(BYTES_DATA_VIEW), place);
@@ -93,20 +72,12 @@ fn fill_from_152<C: Cell>(reader: &mut Reader<'_, C>, place: usize)
 fn fill_from_156<C: Cell>(reader: &mut Reader<'_, C>, place: usize)
     requires within { place ≤ length reader.old.text }
     requires next { IsFilling reader.old reader.old.text place 156 }
-    ensures { IsFilling reader.new reader.old.text place 160 }
+    ensures { IsFilling reader.new reader.old.text place 164 }
 {
     fill_cell(reader, Rule(BYTES_INT8_ARRAY), place);
     fill_cell(reader, Rule(INT8_ARRAY), place);
     fill_cell(reader, Rule(BYTES_INT16_ARRAY), place);
     fill_cell(reader, Rule(INT16_ARRAY), place);
-}
-
-#[inline(always)]
-fn fill_from_160<C: Cell>(reader: &mut Reader<'_, C>, place: usize)
-    requires within { place ≤ length reader.old.text }
-    requires next { IsFilling reader.old reader.old.text place 160 }
-    ensures { IsFilling reader.new reader.old.text place 164 }
-{
     fill_cell(reader, Rule(BYTES_INT32_ARRAY), place);
     fill_cell(reader, Rule(INT32_ARRAY), place);
     fill_cell(reader, Rule(BYTES_UINT8_ARRAY), place);
@@ -117,20 +88,12 @@ fn fill_from_160<C: Cell>(reader: &mut Reader<'_, C>, place: usize)
 fn fill_from_164<C: Cell>(reader: &mut Reader<'_, C>, place: usize)
     requires within { place ≤ length reader.old.text }
     requires next { IsFilling reader.old reader.old.text place 164 }
-    ensures { IsFilling reader.new reader.old.text place 168 }
+    ensures { IsFilling reader.new reader.old.text place 172 }
 {
     fill_cell(reader, Rule(BYTES_UINT16_ARRAY), place);
     fill_cell(reader, Rule(UINT16_ARRAY), place);
     fill_cell(reader, Rule(BYTES_UINT32_ARRAY), place);
     fill_cell(reader, Rule(UINT32_ARRAY), place);
-}
-
-#[inline(always)]
-fn fill_from_168<C: Cell>(reader: &mut Reader<'_, C>, place: usize)
-    requires within { place ≤ length reader.old.text }
-    requires next { IsFilling reader.old reader.old.text place 168 }
-    ensures { IsFilling reader.new reader.old.text place 172 }
-{
     fill_cell(reader, Rule(BYTES_UINT8_CLAMPED_ARRAY), place);
     fill_cell(reader, Rule(UINT8_CLAMPED_ARRAY), place);
     fill_cell(reader, Rule(BYTES_FLOAT32_ARRAY), place);
@@ -141,20 +104,12 @@ fn fill_from_168<C: Cell>(reader: &mut Reader<'_, C>, place: usize)
 fn fill_from_172<C: Cell>(reader: &mut Reader<'_, C>, place: usize)
     requires within { place ≤ length reader.old.text }
     requires next { IsFilling reader.old reader.old.text place 172 }
-    ensures { IsFilling reader.new reader.old.text place 176 }
+    ensures { IsFilling reader.new reader.old.text place 180 }
 {
     fill_cell(reader, Rule(BYTES_FLOAT64_ARRAY), place);
     fill_cell(reader, Rule(FLOAT64_ARRAY), place);
     fill_cell(reader, Rule(BYTES_ARRAY_BUFFER_VIEW), place);
     fill_cell(reader, Rule(ARRAY_BUFFER_VIEW), place);
-}
-
-#[inline(always)]
-fn fill_from_176<C: Cell>(reader: &mut Reader<'_, C>, place: usize)
-    requires within { place ≤ length reader.old.text }
-    requires next { IsFilling reader.old reader.old.text place 176 }
-    ensures { IsFilling reader.new reader.old.text place 180 }
-{
     fill_cell(reader, Rule(BYTES_BUFFER_SOURCE), place);
     fill_cell(reader, Rule(BUFFER_SOURCE), place);
     fill_cell(reader, Rule(BYTES_PROMISE), place);

@@ -25,29 +25,19 @@ pub(super) fn fill<C: Cell>(reader: &mut Reader<'_, C>, place: usize)
     ensures { IsFilling reader.new reader.old.text place 386 }
 {
     fill_from_370(reader, place);
-    fill_from_374(reader, place);
     fill_from_378(reader, place);
-    fill_from_382(reader, place);
 }
 
 #[inline(always)]
 fn fill_from_370<C: Cell>(reader: &mut Reader<'_, C>, place: usize)
     requires within { place ≤ length reader.old.text }
     requires next { IsFilling reader.old reader.old.text place 370 }
-    ensures { IsFilling reader.new reader.old.text place 374 }
+    ensures { IsFilling reader.new reader.old.text place 378 }
 {
     fill_cell(reader, Rule(CALLBACK_DEFINITION), place);
     fill_cell(reader, Rule(CALLBACK_INTERFACE_DEFINITION), place);
     fill_cell(reader, Rule(INTERFACE_DEFINITION), place);
     fill_cell(reader, Rule(INTERFACE_MIXIN_DEFINITION), place);
-}
-
-#[inline(always)]
-fn fill_from_374<C: Cell>(reader: &mut Reader<'_, C>, place: usize)
-    requires within { place ≤ length reader.old.text }
-    requires next { IsFilling reader.old reader.old.text place 374 }
-    ensures { IsFilling reader.new reader.old.text place 378 }
-{
     fill_cell(reader, Rule(NAMESPACE_DEFINITION), place);
     fill_cell(reader, Rule(DICTIONARY_DEFINITION), place);
     fill_cell(reader, Rule(PARTIAL_INTERFACE_DEFINITION), place);
@@ -58,20 +48,12 @@ fn fill_from_374<C: Cell>(reader: &mut Reader<'_, C>, place: usize)
 fn fill_from_378<C: Cell>(reader: &mut Reader<'_, C>, place: usize)
     requires within { place ≤ length reader.old.text }
     requires next { IsFilling reader.old reader.old.text place 378 }
-    ensures { IsFilling reader.new reader.old.text place 382 }
+    ensures { IsFilling reader.new reader.old.text place 386 }
 {
     fill_cell(reader, Rule(PARTIAL_DICTIONARY_DEFINITION), place);
     fill_cell(reader, Rule(PARTIAL_NAMESPACE_DEFINITION), place);
     fill_cell(reader, Rule(ENUM_DEFINITION), place);
     fill_cell(reader, Rule(TYPEDEF_DEFINITION), place);
-}
-
-#[inline(always)]
-fn fill_from_382<C: Cell>(reader: &mut Reader<'_, C>, place: usize)
-    requires within { place ≤ length reader.old.text }
-    requires next { IsFilling reader.old reader.old.text place 382 }
-    ensures { IsFilling reader.new reader.old.text place 386 }
-{
     fill_cell(reader, Rule(INCLUDES_STATEMENT_DEFINITION), place);
     fill_cell(reader, Rule(IMPLEMENTS_DEFINITION), place);
     fill_cell(reader, Rule(DEFINITION), place);

@@ -22,27 +22,18 @@ pub(super) fn fill<C: Cell>(reader: &mut Reader<'_, C>, place: usize)
     ensures { IsFilling reader.new reader.old.text place 393 }
 {
     fill_from_386(reader, place);
-    fill_from_390(reader, place);
 }
 
 #[inline(always)]
 fn fill_from_386<C: Cell>(reader: &mut Reader<'_, C>, place: usize)
     requires within { place ≤ length reader.old.text }
     requires next { IsFilling reader.old reader.old.text place 386 }
-    ensures { IsFilling reader.new reader.old.text place 390 }
+    ensures { IsFilling reader.new reader.old.text place 393 }
 {
     fill_cell(reader, Rule(FIRST_ATTRIBUTE), place);
     fill_cell(reader, Rule(FIRST_MEMBER), place);
     fill_cell(reader, Rule(FIRST_MEMBERS), place);
     fill_cell(reader, Rule(BRACED_FIRST_MEMBERS), place);
-}
-
-#[inline(always)]
-fn fill_from_390<C: Cell>(reader: &mut Reader<'_, C>, place: usize)
-    requires within { place ≤ length reader.old.text }
-    requires next { IsFilling reader.old reader.old.text place 390 }
-    ensures { IsFilling reader.new reader.old.text place 393 }
-{
     fill_cell(reader, Rule(FIRST_INTERFACE), place);
     fill_cell(reader, Rule(FIRST_DEFINITION), place);
     fill_cell(reader, Rule(FIRST_DEFINITIONS), place);

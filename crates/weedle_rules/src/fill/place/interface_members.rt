@@ -30,33 +30,21 @@ pub(super) fn fill<C: Cell>(reader: &mut Reader<'_, C>, place: usize)
     ensures { IsFilling reader.new reader.old.text place 349 }
 {
     fill_from_317(reader, place);
-    fill_from_321(reader, place);
     fill_from_325(reader, place);
-    fill_from_329(reader, place);
     fill_from_333(reader, place);
-    fill_from_337(reader, place);
     fill_from_341(reader, place);
-    fill_from_345(reader, place);
 }
 
 #[inline(always)]
 fn fill_from_317<C: Cell>(reader: &mut Reader<'_, C>, place: usize)
     requires within { place ≤ length reader.old.text }
     requires next { IsFilling reader.old reader.old.text place 317 }
-    ensures { IsFilling reader.new reader.old.text place 321 }
+    ensures { IsFilling reader.new reader.old.text place 325 }
 {
     fill_cell(reader, Rule(OPT_DOCSTRING), place);
     fill_cell(reader, Rule(OPT_IDENTIFIER), place);
     fill_cell(reader, Rule(OPT_READ_ONLY), place);
     fill_cell(reader, Rule(KEY_AND_VALUE_TYPES), place);
-}
-
-#[inline(always)]
-fn fill_from_321<C: Cell>(reader: &mut Reader<'_, C>, place: usize)
-    requires within { place ≤ length reader.old.text }
-    requires next { IsFilling reader.old reader.old.text place 321 }
-    ensures { IsFilling reader.new reader.old.text place 325 }
-{
     fill_cell(reader, Rule(GENERICS_ATTRIBUTED_TYPE), place);
     fill_cell(reader, Rule(GENERICS_KEY_AND_VALUE_TYPES), place);
     fill_cell(reader, Rule(INHERITANCE), place);
@@ -67,20 +55,12 @@ fn fill_from_321<C: Cell>(reader: &mut Reader<'_, C>, place: usize)
 fn fill_from_325<C: Cell>(reader: &mut Reader<'_, C>, place: usize)
     requires within { place ≤ length reader.old.text }
     requires next { IsFilling reader.old reader.old.text place 325 }
-    ensures { IsFilling reader.new reader.old.text place 329 }
+    ensures { IsFilling reader.new reader.old.text place 333 }
 {
     fill_cell(reader, Rule(SPECIAL), place);
     fill_cell(reader, Rule(OPT_SPECIAL), place);
     fill_cell(reader, Rule(STRINGIFIER_OR_INHERIT_OR_STATIC), place);
     fill_cell(reader, Rule(OPT_STRINGIFIER_OR_INHERIT_OR_STATIC), place);
-}
-
-#[inline(always)]
-fn fill_from_329<C: Cell>(reader: &mut Reader<'_, C>, place: usize)
-    requires within { place ≤ length reader.old.text }
-    requires next { IsFilling reader.old reader.old.text place 329 }
-    ensures { IsFilling reader.new reader.old.text place 333 }
-{
     fill_cell(reader, Rule(STRINGIFIER_OR_STATIC), place);
     fill_cell(reader, Rule(OPT_STRINGIFIER_OR_STATIC), place);
     fill_cell(reader, Rule(CONST_MEMBER), place);
@@ -91,20 +71,12 @@ fn fill_from_329<C: Cell>(reader: &mut Reader<'_, C>, place: usize)
 fn fill_from_333<C: Cell>(reader: &mut Reader<'_, C>, place: usize)
     requires within { place ≤ length reader.old.text }
     requires next { IsFilling reader.old reader.old.text place 333 }
-    ensures { IsFilling reader.new reader.old.text place 337 }
+    ensures { IsFilling reader.new reader.old.text place 341 }
 {
     fill_cell(reader, Rule(CONSTRUCTOR_INTERFACE_MEMBER), place);
     fill_cell(reader, Rule(OPERATION_INTERFACE_MEMBER), place);
     fill_cell(reader, Rule(SINGLE_TYPED_ITERABLE), place);
     fill_cell(reader, Rule(DOUBLE_TYPED_ITERABLE), place);
-}
-
-#[inline(always)]
-fn fill_from_337<C: Cell>(reader: &mut Reader<'_, C>, place: usize)
-    requires within { place ≤ length reader.old.text }
-    requires next { IsFilling reader.old reader.old.text place 337 }
-    ensures { IsFilling reader.new reader.old.text place 341 }
-{
     fill_cell(reader, Rule(ITERABLE_INTERFACE_MEMBER), place);
     fill_cell(reader, Rule(ASYNC_ITERABLE), place);
     fill_cell(reader, Rule(OPT_PARENTHESIZED_ARGUMENT_LIST), place);
@@ -115,20 +87,12 @@ fn fill_from_337<C: Cell>(reader: &mut Reader<'_, C>, place: usize)
 fn fill_from_341<C: Cell>(reader: &mut Reader<'_, C>, place: usize)
     requires within { place ≤ length reader.old.text }
     requires next { IsFilling reader.old reader.old.text place 341 }
-    ensures { IsFilling reader.new reader.old.text place 345 }
+    ensures { IsFilling reader.new reader.old.text place 349 }
 {
     fill_cell(reader, Rule(DOUBLE_TYPED_ASYNC_ITERABLE), place);
     fill_cell(reader, Rule(ASYNC_ITERABLE_INTERFACE_MEMBER), place);
     fill_cell(reader, Rule(MAPLIKE_INTERFACE_MEMBER), place);
     fill_cell(reader, Rule(SETLIKE_INTERFACE_MEMBER), place);
-}
-
-#[inline(always)]
-fn fill_from_345<C: Cell>(reader: &mut Reader<'_, C>, place: usize)
-    requires within { place ≤ length reader.old.text }
-    requires next { IsFilling reader.old reader.old.text place 345 }
-    ensures { IsFilling reader.new reader.old.text place 349 }
-{
     fill_cell(reader, Rule(STRINGIFIER_MEMBER), place);
     fill_cell(reader, Rule(INTERFACE_MEMBER), place);
     fill_cell(reader, Rule(INTERFACE_MEMBERS), place);

@@ -33,49 +33,29 @@ pub(super) fn fill<C: Cell>(reader: &mut Reader<'_, C>, place: usize)
     ensures { IsFilling reader.new reader.old.text place 140 }
 {
     fill_from_47(reader, place);
-    fill_from_51(reader, place);
     fill_from_55(reader, place);
-    fill_from_59(reader, place);
     fill_from_63(reader, place);
-    fill_from_67(reader, place);
     fill_from_71(reader, place);
-    fill_from_75(reader, place);
     fill_from_79(reader, place);
-    fill_from_83(reader, place);
     fill_from_87(reader, place);
-    fill_from_91(reader, place);
     fill_from_95(reader, place);
-    fill_from_99(reader, place);
     fill_from_103(reader, place);
-    fill_from_107(reader, place);
     fill_from_111(reader, place);
-    fill_from_115(reader, place);
     fill_from_119(reader, place);
-    fill_from_123(reader, place);
     fill_from_127(reader, place);
-    fill_from_131(reader, place);
     fill_from_135(reader, place);
-    fill_from_139(reader, place);
 }
 
 #[inline(always)]
 fn fill_from_47<C: Cell>(reader: &mut Reader<'_, C>, place: usize)
     requires within { place ≤ length reader.old.text }
     requires next { IsFilling reader.old reader.old.text place 47 }
-    ensures { IsFilling reader.new reader.old.text place 51 }
+    ensures { IsFilling reader.new reader.old.text place 55 }
 {
     fill_cell(reader, Rule(BYTES_OR), place);
     fill_cell(reader, Rule(NOT_NEXT_NAME), place);
     fill_cell(reader, Rule(OR), place);
     fill_cell(reader, Rule(BYTES_OPTIONAL), place);
-}
-
-#[inline(always)]
-fn fill_from_51<C: Cell>(reader: &mut Reader<'_, C>, place: usize)
-    requires within { place ≤ length reader.old.text }
-    requires next { IsFilling reader.old reader.old.text place 51 }
-    ensures { IsFilling reader.new reader.old.text place 55 }
-{
     fill_cell(reader, Rule(OPTIONAL), place);
     fill_cell(reader, Rule(BYTES_ASYNC), place);
     fill_cell(reader, Rule(ASYNC), place);
@@ -86,20 +66,12 @@ fn fill_from_51<C: Cell>(reader: &mut Reader<'_, C>, place: usize)
 fn fill_from_55<C: Cell>(reader: &mut Reader<'_, C>, place: usize)
     requires within { place ≤ length reader.old.text }
     requires next { IsFilling reader.old reader.old.text place 55 }
-    ensures { IsFilling reader.new reader.old.text place 59 }
+    ensures { IsFilling reader.new reader.old.text place 63 }
 {
     fill_cell(reader, Rule(ATTRIBUTE), place);
     fill_cell(reader, Rule(BYTES_CALLBACK), place);
     fill_cell(reader, Rule(CALLBACK), place);
     fill_cell(reader, Rule(BYTES_CONST), place);
-}
-
-#[inline(always)]
-fn fill_from_59<C: Cell>(reader: &mut Reader<'_, C>, place: usize)
-    requires within { place ≤ length reader.old.text }
-    requires next { IsFilling reader.old reader.old.text place 59 }
-    ensures { IsFilling reader.new reader.old.text place 63 }
-{
     fill_cell(reader, Rule(CONST), place);
     fill_cell(reader, Rule(BYTES_DELETER), place);
     fill_cell(reader, Rule(DELETER), place);
@@ -110,20 +82,12 @@ fn fill_from_59<C: Cell>(reader: &mut Reader<'_, C>, place: usize)
 fn fill_from_63<C: Cell>(reader: &mut Reader<'_, C>, place: usize)
     requires within { place ≤ length reader.old.text }
     requires next { IsFilling reader.old reader.old.text place 63 }
-    ensures { IsFilling reader.new reader.old.text place 67 }
+    ensures { IsFilling reader.new reader.old.text place 71 }
 {
     fill_cell(reader, Rule(DICTIONARY), place);
     fill_cell(reader, Rule(BYTES_ENUM), place);
     fill_cell(reader, Rule(ENUM), place);
     fill_cell(reader, Rule(BYTES_GETTER), place);
-}
-
-#[inline(always)]
-fn fill_from_67<C: Cell>(reader: &mut Reader<'_, C>, place: usize)
-    requires within { place ≤ length reader.old.text }
-    requires next { IsFilling reader.old reader.old.text place 67 }
-    ensures { IsFilling reader.new reader.old.text place 71 }
-{
     fill_cell(reader, Rule(GETTER), place);
     fill_cell(reader, Rule(BYTES_INCLUDES), place);
     fill_cell(reader, Rule(INCLUDES), place);
@@ -134,20 +98,12 @@ fn fill_from_67<C: Cell>(reader: &mut Reader<'_, C>, place: usize)
 fn fill_from_71<C: Cell>(reader: &mut Reader<'_, C>, place: usize)
     requires within { place ≤ length reader.old.text }
     requires next { IsFilling reader.old reader.old.text place 71 }
-    ensures { IsFilling reader.new reader.old.text place 75 }
+    ensures { IsFilling reader.new reader.old.text place 79 }
 {
     fill_cell(reader, Rule(INHERIT), place);
     fill_cell(reader, Rule(BYTES_INTERFACE), place);
     fill_cell(reader, Rule(INTERFACE), place);
     fill_cell(reader, Rule(BYTES_ITERABLE), place);
-}
-
-#[inline(always)]
-fn fill_from_75<C: Cell>(reader: &mut Reader<'_, C>, place: usize)
-    requires within { place ≤ length reader.old.text }
-    requires next { IsFilling reader.old reader.old.text place 75 }
-    ensures { IsFilling reader.new reader.old.text place 79 }
-{
     fill_cell(reader, Rule(ITERABLE), place);
     fill_cell(reader, Rule(BYTES_MAPLIKE), place);
     fill_cell(reader, Rule(MAPLIKE), place);
@@ -158,20 +114,12 @@ fn fill_from_75<C: Cell>(reader: &mut Reader<'_, C>, place: usize)
 fn fill_from_79<C: Cell>(reader: &mut Reader<'_, C>, place: usize)
     requires within { place ≤ length reader.old.text }
     requires next { IsFilling reader.old reader.old.text place 79 }
-    ensures { IsFilling reader.new reader.old.text place 83 }
+    ensures { IsFilling reader.new reader.old.text place 87 }
 {
     fill_cell(reader, Rule(NAMESPACE), place);
     fill_cell(reader, Rule(BYTES_PARTIAL), place);
     fill_cell(reader, Rule(PARTIAL), place);
     fill_cell(reader, Rule(BYTES_REQUIRED), place);
-}
-
-#[inline(always)]
-fn fill_from_83<C: Cell>(reader: &mut Reader<'_, C>, place: usize)
-    requires within { place ≤ length reader.old.text }
-    requires next { IsFilling reader.old reader.old.text place 83 }
-    ensures { IsFilling reader.new reader.old.text place 87 }
-{
     fill_cell(reader, Rule(REQUIRED), place);
     fill_cell(reader, Rule(BYTES_SETLIKE), place);
     fill_cell(reader, Rule(SETLIKE), place);
@@ -182,20 +130,12 @@ fn fill_from_83<C: Cell>(reader: &mut Reader<'_, C>, place: usize)
 fn fill_from_87<C: Cell>(reader: &mut Reader<'_, C>, place: usize)
     requires within { place ≤ length reader.old.text }
     requires next { IsFilling reader.old reader.old.text place 87 }
-    ensures { IsFilling reader.new reader.old.text place 91 }
+    ensures { IsFilling reader.new reader.old.text place 95 }
 {
     fill_cell(reader, Rule(SETTER), place);
     fill_cell(reader, Rule(BYTES_STATIC), place);
     fill_cell(reader, Rule(STATIC), place);
     fill_cell(reader, Rule(BYTES_STRINGIFIER), place);
-}
-
-#[inline(always)]
-fn fill_from_91<C: Cell>(reader: &mut Reader<'_, C>, place: usize)
-    requires within { place ≤ length reader.old.text }
-    requires next { IsFilling reader.old reader.old.text place 91 }
-    ensures { IsFilling reader.new reader.old.text place 95 }
-{
     fill_cell(reader, Rule(STRINGIFIER), place);
     fill_cell(reader, Rule(BYTES_TYPEDEF), place);
     fill_cell(reader, Rule(TYPEDEF), place);
@@ -206,20 +146,12 @@ fn fill_from_91<C: Cell>(reader: &mut Reader<'_, C>, place: usize)
 fn fill_from_95<C: Cell>(reader: &mut Reader<'_, C>, place: usize)
     requires within { place ≤ length reader.old.text }
     requires next { IsFilling reader.old reader.old.text place 95 }
-    ensures { IsFilling reader.new reader.old.text place 99 }
+    ensures { IsFilling reader.new reader.old.text place 103 }
 {
     fill_cell(reader, Rule(UNRESTRICTED), place);
     fill_cell(reader, Rule(BYTES_SYMBOL), place);
     fill_cell(reader, Rule(SYMBOL), place);
     fill_cell(reader, Rule(BYTES_ANY), place);
-}
-
-#[inline(always)]
-fn fill_from_99<C: Cell>(reader: &mut Reader<'_, C>, place: usize)
-    requires within { place ≤ length reader.old.text }
-    requires next { IsFilling reader.old reader.old.text place 99 }
-    ensures { IsFilling reader.new reader.old.text place 103 }
-{
     fill_cell(reader, Rule(ANY), place);
     fill_cell(reader, Rule(BYTES_BOOLEAN), place);
     fill_cell(reader, Rule(BOOLEAN), place);
@@ -230,20 +162,12 @@ fn fill_from_99<C: Cell>(reader: &mut Reader<'_, C>, place: usize)
 fn fill_from_103<C: Cell>(reader: &mut Reader<'_, C>, place: usize)
     requires within { place ≤ length reader.old.text }
     requires next { IsFilling reader.old reader.old.text place 103 }
-    ensures { IsFilling reader.new reader.old.text place 107 }
+    ensures { IsFilling reader.new reader.old.text place 111 }
 {
     fill_cell(reader, Rule(BYTE), place);
     fill_cell(reader, Rule(BYTES_DOUBLE), place);
     fill_cell(reader, Rule(DOUBLE), place);
     fill_cell(reader, Rule(BYTES_FALSE), place);
-}
-
-#[inline(always)]
-fn fill_from_107<C: Cell>(reader: &mut Reader<'_, C>, place: usize)
-    requires within { place ≤ length reader.old.text }
-    requires next { IsFilling reader.old reader.old.text place 107 }
-    ensures { IsFilling reader.new reader.old.text place 111 }
-{
     fill_cell(reader, Rule(FALSE), place);
     fill_cell(reader, Rule(BYTES_FLOAT), place);
     fill_cell(reader, Rule(FLOAT), place);
@@ -254,20 +178,12 @@ fn fill_from_107<C: Cell>(reader: &mut Reader<'_, C>, place: usize)
 fn fill_from_111<C: Cell>(reader: &mut Reader<'_, C>, place: usize)
     requires within { place ≤ length reader.old.text }
     requires next { IsFilling reader.old reader.old.text place 111 }
-    ensures { IsFilling reader.new reader.old.text place 115 }
+    ensures { IsFilling reader.new reader.old.text place 119 }
 {
     fill_cell(reader, Rule(LONG), place);
     fill_cell(reader, Rule(BYTES_NULL), place);
     fill_cell(reader, Rule(NULL), place);
     fill_cell(reader, Rule(BYTES_OBJECT), place);
-}
-
-#[inline(always)]
-fn fill_from_115<C: Cell>(reader: &mut Reader<'_, C>, place: usize)
-    requires within { place ≤ length reader.old.text }
-    requires next { IsFilling reader.old reader.old.text place 115 }
-    ensures { IsFilling reader.new reader.old.text place 119 }
-{
     fill_cell(reader, Rule(OBJECT), place);
     fill_cell(reader, Rule(BYTES_OCTET), place);
     fill_cell(reader, Rule(OCTET), place);
@@ -278,20 +194,12 @@ fn fill_from_115<C: Cell>(reader: &mut Reader<'_, C>, place: usize)
 fn fill_from_119<C: Cell>(reader: &mut Reader<'_, C>, place: usize)
     requires within { place ≤ length reader.old.text }
     requires next { IsFilling reader.old reader.old.text place 119 }
-    ensures { IsFilling reader.new reader.old.text place 123 }
+    ensures { IsFilling reader.new reader.old.text place 127 }
 {
     fill_cell(reader, Rule(SEQUENCE), place);
     fill_cell(reader, Rule(BYTES_SHORT), place);
     fill_cell(reader, Rule(SHORT), place);
     fill_cell(reader, Rule(BYTES_TRUE), place);
-}
-
-#[inline(always)]
-fn fill_from_123<C: Cell>(reader: &mut Reader<'_, C>, place: usize)
-    requires within { place ≤ length reader.old.text }
-    requires next { IsFilling reader.old reader.old.text place 123 }
-    ensures { IsFilling reader.new reader.old.text place 127 }
-{
     fill_cell(reader, Rule(TRUE), place);
     fill_cell(reader, Rule(BYTES_UNSIGNED), place);
     fill_cell(reader, Rule(UNSIGNED), place);
@@ -302,20 +210,12 @@ fn fill_from_123<C: Cell>(reader: &mut Reader<'_, C>, place: usize)
 fn fill_from_127<C: Cell>(reader: &mut Reader<'_, C>, place: usize)
     requires within { place ≤ length reader.old.text }
     requires next { IsFilling reader.old reader.old.text place 127 }
-    ensures { IsFilling reader.new reader.old.text place 131 }
+    ensures { IsFilling reader.new reader.old.text place 135 }
 {
     fill_cell(reader, Rule(UNDEFINED), place);
     fill_cell(reader, Rule(BYTES_RECORD), place);
     fill_cell(reader, Rule(RECORD), place);
     fill_cell(reader, Rule(BYTES_READ_ONLY), place);
-}
-
-#[inline(always)]
-fn fill_from_131<C: Cell>(reader: &mut Reader<'_, C>, place: usize)
-    requires within { place ≤ length reader.old.text }
-    requires next { IsFilling reader.old reader.old.text place 131 }
-    ensures { IsFilling reader.new reader.old.text place 135 }
-{
     fill_cell(reader, Rule(READ_ONLY), place);
     fill_cell(reader, Rule(BYTES_MIXIN), place);
     fill_cell(reader, Rule(MIXIN), place);
@@ -326,19 +226,11 @@ fn fill_from_131<C: Cell>(reader: &mut Reader<'_, C>, place: usize)
 fn fill_from_135<C: Cell>(reader: &mut Reader<'_, C>, place: usize)
     requires within { place ≤ length reader.old.text }
     requires next { IsFilling reader.old reader.old.text place 135 }
-    ensures { IsFilling reader.new reader.old.text place 139 }
+    ensures { IsFilling reader.new reader.old.text place 140 }
 {
     fill_cell(reader, Rule(IMPLEMENTS), place);
     fill_cell(reader, Rule(BYTES_LEGACY_CALLER), place);
     fill_cell(reader, Rule(LEGACY_CALLER), place);
     fill_cell(reader, Rule(BYTES_CONSTRUCTOR), place);
-}
-
-#[inline(always)]
-fn fill_from_139<C: Cell>(reader: &mut Reader<'_, C>, place: usize)
-    requires within { place ≤ length reader.old.text }
-    requires next { IsFilling reader.old reader.old.text place 139 }
-    ensures { IsFilling reader.new reader.old.text place 140 }
-{
     fill_cell(reader, Rule(CONSTRUCTOR), place);
 }

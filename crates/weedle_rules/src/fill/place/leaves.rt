@@ -27,15 +27,10 @@ pub(super) fn fill<C: Cell>(reader: &mut Reader<'_, C>, place: usize)
     ensures { IsFilling reader.new reader.old.text place 227 }
 {
     fill_from_184(reader, place);
-    fill_from_188(reader, place);
     fill_from_192(reader, place);
-    fill_from_196(reader, place);
     fill_from_200(reader, place);
-    fill_from_204(reader, place);
     fill_from_208(reader, place);
-    fill_from_212(reader, place);
     fill_from_216(reader, place);
-    fill_from_220(reader, place);
     fill_from_224(reader, place);
 }
 
@@ -43,20 +38,12 @@ pub(super) fn fill<C: Cell>(reader: &mut Reader<'_, C>, place: usize)
 fn fill_from_184<C: Cell>(reader: &mut Reader<'_, C>, place: usize)
     requires within { place ≤ length reader.old.text }
     requires next { IsFilling reader.old reader.old.text place 184 }
-    ensures { IsFilling reader.new reader.old.text place 188 }
+    ensures { IsFilling reader.new reader.old.text place 192 }
 {
     fill_cell(reader, Rule(BYTES_UNDERSCORE), place);
     fill_cell(reader, Rule(OPT_BYTES_UNDERSCORE), place);
     fill_cell(reader, Rule(ONE_OF_LETTER), place);
     fill_cell(reader, Rule(RUN_NAME), place);
-}
-
-#[inline(always)]
-fn fill_from_188<C: Cell>(reader: &mut Reader<'_, C>, place: usize)
-    requires within { place ≤ length reader.old.text }
-    requires next { IsFilling reader.old reader.old.text place 188 }
-    ensures { IsFilling reader.new reader.old.text place 192 }
-{
     fill_cell(reader, Rule(IDENTIFIER_TEXT), place);
     fill_cell(reader, Rule(IDENTIFIER), place);
     fill_cell(reader, Rule(OPT_BYTES_MINUS), place);
@@ -67,20 +54,12 @@ fn fill_from_188<C: Cell>(reader: &mut Reader<'_, C>, place: usize)
 fn fill_from_192<C: Cell>(reader: &mut Reader<'_, C>, place: usize)
     requires within { place ≤ length reader.old.text }
     requires next { IsFilling reader.old reader.old.text place 192 }
-    ensures { IsFilling reader.new reader.old.text place 196 }
+    ensures { IsFilling reader.new reader.old.text place 200 }
 {
     fill_cell(reader, Rule(RUN_DIGIT), place);
     fill_cell(reader, Rule(DEC_LIT_TEXT), place);
     fill_cell(reader, Rule(DEC_LIT), place);
     fill_cell(reader, Rule(BYTES_ZERO), place);
-}
-
-#[inline(always)]
-fn fill_from_196<C: Cell>(reader: &mut Reader<'_, C>, place: usize)
-    requires within { place ≤ length reader.old.text }
-    requires next { IsFilling reader.old reader.old.text place 196 }
-    ensures { IsFilling reader.new reader.old.text place 200 }
-{
     fill_cell(reader, Rule(ONE_OF_X_LETTER), place);
     fill_cell(reader, Rule(ONE_OF_HEX), place);
     fill_cell(reader, Rule(RUN_HEX), place);
@@ -91,20 +70,12 @@ fn fill_from_196<C: Cell>(reader: &mut Reader<'_, C>, place: usize)
 fn fill_from_200<C: Cell>(reader: &mut Reader<'_, C>, place: usize)
     requires within { place ≤ length reader.old.text }
     requires next { IsFilling reader.old reader.old.text place 200 }
-    ensures { IsFilling reader.new reader.old.text place 204 }
+    ensures { IsFilling reader.new reader.old.text place 208 }
 {
     fill_cell(reader, Rule(HEX_LIT), place);
     fill_cell(reader, Rule(RUN_OCTAL), place);
     fill_cell(reader, Rule(OCT_LIT_TEXT), place);
     fill_cell(reader, Rule(OCT_LIT), place);
-}
-
-#[inline(always)]
-fn fill_from_204<C: Cell>(reader: &mut Reader<'_, C>, place: usize)
-    requires within { place ≤ length reader.old.text }
-    requires next { IsFilling reader.old reader.old.text place 204 }
-    ensures { IsFilling reader.new reader.old.text place 208 }
-{
     fill_cell(reader, Rule(ONE_OF_DIGIT), place);
     fill_cell(reader, Rule(DIGITS), place);
     fill_cell(reader, Rule(ONE_OF_E_LETTER), place);
@@ -115,20 +86,12 @@ fn fill_from_204<C: Cell>(reader: &mut Reader<'_, C>, place: usize)
 fn fill_from_208<C: Cell>(reader: &mut Reader<'_, C>, place: usize)
     requires within { place ≤ length reader.old.text }
     requires next { IsFilling reader.old reader.old.text place 208 }
-    ensures { IsFilling reader.new reader.old.text place 212 }
+    ensures { IsFilling reader.new reader.old.text place 216 }
 {
     fill_cell(reader, Rule(OPT_ONE_OF_SIGN), place);
     fill_cell(reader, Rule(EXPONENT), place);
     fill_cell(reader, Rule(POINT_AFTER_DIGITS), place);
     fill_cell(reader, Rule(POINT_BEFORE_DIGITS), place);
-}
-
-#[inline(always)]
-fn fill_from_212<C: Cell>(reader: &mut Reader<'_, C>, place: usize)
-    requires within { place ≤ length reader.old.text }
-    requires next { IsFilling reader.old reader.old.text place 212 }
-    ensures { IsFilling reader.new reader.old.text place 216 }
-{
     fill_cell(reader, Rule(POINT), place);
     fill_cell(reader, Rule(OPT_EXPONENT), place);
     fill_cell(reader, Rule(POINT_FORM), place);
@@ -139,20 +102,12 @@ fn fill_from_212<C: Cell>(reader: &mut Reader<'_, C>, place: usize)
 fn fill_from_216<C: Cell>(reader: &mut Reader<'_, C>, place: usize)
     requires within { place ≤ length reader.old.text }
     requires next { IsFilling reader.old reader.old.text place 216 }
-    ensures { IsFilling reader.new reader.old.text place 220 }
+    ensures { IsFilling reader.new reader.old.text place 224 }
 {
     fill_cell(reader, Rule(FLOAT_FORM), place);
     fill_cell(reader, Rule(FLOAT_VALUE_LIT_TEXT), place);
     fill_cell(reader, Rule(FLOAT_VALUE_LIT), place);
     fill_cell(reader, Rule(BYTES_QUOTE), place);
-}
-
-#[inline(always)]
-fn fill_from_220<C: Cell>(reader: &mut Reader<'_, C>, place: usize)
-    requires within { place ≤ length reader.old.text }
-    requires next { IsFilling reader.old reader.old.text place 220 }
-    ensures { IsFilling reader.new reader.old.text place 224 }
-{
     fill_cell(reader, Rule(RUN_NOT_QUOTE), place);
     fill_cell(reader, Rule(STRING_LIT), place);
     fill_cell(reader, Rule(BYTES_THREE_SLASHES), place);

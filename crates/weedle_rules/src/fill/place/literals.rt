@@ -22,27 +22,18 @@ pub(super) fn fill<C: Cell>(reader: &mut Reader<'_, C>, place: usize)
     ensures { IsFilling reader.new reader.old.text place 235 }
 {
     fill_from_227(reader, place);
-    fill_from_231(reader, place);
 }
 
 #[inline(always)]
 fn fill_from_227<C: Cell>(reader: &mut Reader<'_, C>, place: usize)
     requires within { place ≤ length reader.old.text }
     requires next { IsFilling reader.old reader.old.text place 227 }
-    ensures { IsFilling reader.new reader.old.text place 231 }
+    ensures { IsFilling reader.new reader.old.text place 235 }
 {
     fill_cell(reader, Rule(BOOLEAN_LIT), place);
     fill_cell(reader, Rule(INTEGER_LIT), place);
     fill_cell(reader, Rule(FLOAT_LIT), place);
     fill_cell(reader, Rule(EMPTY_ARRAY_LIT), place);
-}
-
-#[inline(always)]
-fn fill_from_231<C: Cell>(reader: &mut Reader<'_, C>, place: usize)
-    requires within { place ≤ length reader.old.text }
-    requires next { IsFilling reader.old reader.old.text place 231 }
-    ensures { IsFilling reader.new reader.old.text place 235 }
-{
     fill_cell(reader, Rule(EMPTY_DICTIONARY_LIT), place);
     fill_cell(reader, Rule(DEFAULT_VALUE), place);
     fill_cell(reader, Rule(CONST_VALUE), place);

@@ -25,31 +25,20 @@ pub(super) fn fill<C: Cell>(reader: &mut Reader<'_, C>, place: usize)
     ensures { IsFilling reader.new reader.old.text place 370 }
 {
     fill_from_349(reader, place);
-    fill_from_353(reader, place);
     fill_from_357(reader, place);
-    fill_from_361(reader, place);
     fill_from_365(reader, place);
-    fill_from_369(reader, place);
 }
 
 #[inline(always)]
 fn fill_from_349<C: Cell>(reader: &mut Reader<'_, C>, place: usize)
     requires within { place ≤ length reader.old.text }
     requires next { IsFilling reader.old reader.old.text place 349 }
-    ensures { IsFilling reader.new reader.old.text place 353 }
+    ensures { IsFilling reader.new reader.old.text place 357 }
 {
     fill_cell(reader, Rule(OPT_STRINGIFIER), place);
     fill_cell(reader, Rule(OPERATION_MIXIN_MEMBER), place);
     fill_cell(reader, Rule(ATTRIBUTE_MIXIN_MEMBER), place);
     fill_cell(reader, Rule(MIXIN_MEMBER), place);
-}
-
-#[inline(always)]
-fn fill_from_353<C: Cell>(reader: &mut Reader<'_, C>, place: usize)
-    requires within { place ≤ length reader.old.text }
-    requires next { IsFilling reader.old reader.old.text place 353 }
-    ensures { IsFilling reader.new reader.old.text place 357 }
-{
     fill_cell(reader, Rule(MIXIN_MEMBERS), place);
     fill_cell(reader, Rule(BRACED_MIXIN_MEMBERS), place);
     fill_cell(reader, Rule(OPERATION_NAMESPACE_MEMBER), place);
@@ -60,20 +49,12 @@ fn fill_from_353<C: Cell>(reader: &mut Reader<'_, C>, place: usize)
 fn fill_from_357<C: Cell>(reader: &mut Reader<'_, C>, place: usize)
     requires within { place ≤ length reader.old.text }
     requires next { IsFilling reader.old reader.old.text place 357 }
-    ensures { IsFilling reader.new reader.old.text place 361 }
+    ensures { IsFilling reader.new reader.old.text place 365 }
 {
     fill_cell(reader, Rule(NAMESPACE_MEMBER), place);
     fill_cell(reader, Rule(NAMESPACE_MEMBERS), place);
     fill_cell(reader, Rule(BRACED_NAMESPACE_MEMBERS), place);
     fill_cell(reader, Rule(OPT_REQUIRED), place);
-}
-
-#[inline(always)]
-fn fill_from_361<C: Cell>(reader: &mut Reader<'_, C>, place: usize)
-    requires within { place ≤ length reader.old.text }
-    requires next { IsFilling reader.old reader.old.text place 361 }
-    ensures { IsFilling reader.new reader.old.text place 365 }
-{
     fill_cell(reader, Rule(DICTIONARY_MEMBER), place);
     fill_cell(reader, Rule(DICTIONARY_MEMBERS), place);
     fill_cell(reader, Rule(BRACED_DICTIONARY_MEMBERS), place);
@@ -84,19 +65,11 @@ fn fill_from_361<C: Cell>(reader: &mut Reader<'_, C>, place: usize)
 fn fill_from_365<C: Cell>(reader: &mut Reader<'_, C>, place: usize)
     requires within { place ≤ length reader.old.text }
     requires next { IsFilling reader.old reader.old.text place 365 }
-    ensures { IsFilling reader.new reader.old.text place 369 }
+    ensures { IsFilling reader.new reader.old.text place 370 }
 {
     fill_cell(reader, Rule(TAIL_ENUM_VARIANT_COMMA), place);
     fill_cell(reader, Rule(LIST1_ENUM_VARIANT_COMMA), place);
     fill_cell(reader, Rule(OPT_COMMA), place);
     fill_cell(reader, Rule(ENUM_VALUE_LIST), place);
-}
-
-#[inline(always)]
-fn fill_from_369<C: Cell>(reader: &mut Reader<'_, C>, place: usize)
-    requires within { place ≤ length reader.old.text }
-    requires next { IsFilling reader.old reader.old.text place 369 }
-    ensures { IsFilling reader.new reader.old.text place 370 }
-{
     fill_cell(reader, Rule(BRACED_ENUM_VALUE_LIST), place);
 }

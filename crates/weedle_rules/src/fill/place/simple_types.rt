@@ -25,31 +25,20 @@ pub(super) fn fill<C: Cell>(reader: &mut Reader<'_, C>, place: usize)
     ensures { IsFilling reader.new reader.old.text place 256 }
 {
     fill_from_235(reader, place);
-    fill_from_239(reader, place);
     fill_from_243(reader, place);
-    fill_from_247(reader, place);
     fill_from_251(reader, place);
-    fill_from_255(reader, place);
 }
 
 #[inline(always)]
 fn fill_from_235<C: Cell>(reader: &mut Reader<'_, C>, place: usize)
     requires within { place ≤ length reader.old.text }
     requires next { IsFilling reader.old reader.old.text place 235 }
-    ensures { IsFilling reader.new reader.old.text place 239 }
+    ensures { IsFilling reader.new reader.old.text place 243 }
 {
     fill_cell(reader, Rule(OPT_UNSIGNED), place);
     fill_cell(reader, Rule(LONG_LONG), place);
     fill_cell(reader, Rule(LONG_LONG_TYPE), place);
     fill_cell(reader, Rule(LONG_TYPE), place);
-}
-
-#[inline(always)]
-fn fill_from_239<C: Cell>(reader: &mut Reader<'_, C>, place: usize)
-    requires within { place ≤ length reader.old.text }
-    requires next { IsFilling reader.old reader.old.text place 239 }
-    ensures { IsFilling reader.new reader.old.text place 243 }
-{
     fill_cell(reader, Rule(SHORT_TYPE), place);
     fill_cell(reader, Rule(INTEGER_TYPE), place);
     fill_cell(reader, Rule(OPT_UNRESTRICTED), place);
@@ -60,20 +49,12 @@ fn fill_from_239<C: Cell>(reader: &mut Reader<'_, C>, place: usize)
 fn fill_from_243<C: Cell>(reader: &mut Reader<'_, C>, place: usize)
     requires within { place ≤ length reader.old.text }
     requires next { IsFilling reader.old reader.old.text place 243 }
-    ensures { IsFilling reader.new reader.old.text place 247 }
+    ensures { IsFilling reader.new reader.old.text place 251 }
 {
     fill_cell(reader, Rule(DOUBLE_TYPE), place);
     fill_cell(reader, Rule(FLOATING_POINT_TYPE), place);
     fill_cell(reader, Rule(OPT_Q_MARK), place);
     fill_cell(reader, Rule(MAY_BE_NULL_INTEGER_TYPE), place);
-}
-
-#[inline(always)]
-fn fill_from_247<C: Cell>(reader: &mut Reader<'_, C>, place: usize)
-    requires within { place ≤ length reader.old.text }
-    requires next { IsFilling reader.old reader.old.text place 247 }
-    ensures { IsFilling reader.new reader.old.text place 251 }
-{
     fill_cell(reader, Rule(MAY_BE_NULL_FLOATING_POINT_TYPE), place);
     fill_cell(reader, Rule(MAY_BE_NULL_BOOLEAN), place);
     fill_cell(reader, Rule(MAY_BE_NULL_BYTE), place);
@@ -84,19 +65,11 @@ fn fill_from_247<C: Cell>(reader: &mut Reader<'_, C>, place: usize)
 fn fill_from_251<C: Cell>(reader: &mut Reader<'_, C>, place: usize)
     requires within { place ≤ length reader.old.text }
     requires next { IsFilling reader.old reader.old.text place 251 }
-    ensures { IsFilling reader.new reader.old.text place 255 }
+    ensures { IsFilling reader.new reader.old.text place 256 }
 {
     fill_cell(reader, Rule(MAY_BE_NULL_IDENTIFIER), place);
     fill_cell(reader, Rule(CONST_TYPE), place);
     fill_cell(reader, Rule(TAIL_IDENTIFIER_COMMA), place);
     fill_cell(reader, Rule(IDENTIFIER_LIST), place);
-}
-
-#[inline(always)]
-fn fill_from_255<C: Cell>(reader: &mut Reader<'_, C>, place: usize)
-    requires within { place ≤ length reader.old.text }
-    requires next { IsFilling reader.old reader.old.text place 255 }
-    ensures { IsFilling reader.new reader.old.text place 256 }
-{
     fill_cell(reader, Rule(PARENTHESIZED_IDENTIFIER_LIST), place);
 }

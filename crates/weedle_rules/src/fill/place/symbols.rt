@@ -25,33 +25,21 @@ pub(super) fn fill<C: Cell>(reader: &mut Reader<'_, C>, place: usize)
     ensures { IsFilling reader.new reader.old.text place 47 }
 {
     fill_from_15(reader, place);
-    fill_from_19(reader, place);
     fill_from_23(reader, place);
-    fill_from_27(reader, place);
     fill_from_31(reader, place);
-    fill_from_35(reader, place);
     fill_from_39(reader, place);
-    fill_from_43(reader, place);
 }
 
 #[inline(always)]
 fn fill_from_15<C: Cell>(reader: &mut Reader<'_, C>, place: usize)
     requires within { place ≤ length reader.old.text }
     requires next { IsFilling reader.old reader.old.text place 15 }
-    ensures { IsFilling reader.new reader.old.text place 19 }
+    ensures { IsFilling reader.new reader.old.text place 23 }
 {
     fill_cell(reader, Rule(BYTES_OPEN_PAREN), place);
     fill_cell(reader, Rule(OPEN_PAREN), place);
     fill_cell(reader, Rule(BYTES_CLOSE_PAREN), place);
     fill_cell(reader, Rule(CLOSE_PAREN), place);
-}
-
-#[inline(always)]
-fn fill_from_19<C: Cell>(reader: &mut Reader<'_, C>, place: usize)
-    requires within { place ≤ length reader.old.text }
-    requires next { IsFilling reader.old reader.old.text place 19 }
-    ensures { IsFilling reader.new reader.old.text place 23 }
-{
     fill_cell(reader, Rule(BYTES_OPEN_BRACKET), place);
     fill_cell(reader, Rule(OPEN_BRACKET), place);
     fill_cell(reader, Rule(BYTES_CLOSE_BRACKET), place);
@@ -62,20 +50,12 @@ fn fill_from_19<C: Cell>(reader: &mut Reader<'_, C>, place: usize)
 fn fill_from_23<C: Cell>(reader: &mut Reader<'_, C>, place: usize)
     requires within { place ≤ length reader.old.text }
     requires next { IsFilling reader.old reader.old.text place 23 }
-    ensures { IsFilling reader.new reader.old.text place 27 }
+    ensures { IsFilling reader.new reader.old.text place 31 }
 {
     fill_cell(reader, Rule(BYTES_OPEN_BRACE), place);
     fill_cell(reader, Rule(OPEN_BRACE), place);
     fill_cell(reader, Rule(BYTES_CLOSE_BRACE), place);
     fill_cell(reader, Rule(CLOSE_BRACE), place);
-}
-
-#[inline(always)]
-fn fill_from_27<C: Cell>(reader: &mut Reader<'_, C>, place: usize)
-    requires within { place ≤ length reader.old.text }
-    requires next { IsFilling reader.old reader.old.text place 27 }
-    ensures { IsFilling reader.new reader.old.text place 31 }
-{
     fill_cell(reader, Rule(BYTES_COMMA), place);
     fill_cell(reader, Rule(COMMA), place);
     fill_cell(reader, Rule(BYTES_MINUS), place);
@@ -86,20 +66,12 @@ fn fill_from_27<C: Cell>(reader: &mut Reader<'_, C>, place: usize)
 fn fill_from_31<C: Cell>(reader: &mut Reader<'_, C>, place: usize)
     requires within { place ≤ length reader.old.text }
     requires next { IsFilling reader.old reader.old.text place 31 }
-    ensures { IsFilling reader.new reader.old.text place 35 }
+    ensures { IsFilling reader.new reader.old.text place 39 }
 {
     fill_cell(reader, Rule(BYTES_DOT), place);
     fill_cell(reader, Rule(DOT), place);
     fill_cell(reader, Rule(BYTES_ELLIPSIS), place);
     fill_cell(reader, Rule(ELLIPSIS), place);
-}
-
-#[inline(always)]
-fn fill_from_35<C: Cell>(reader: &mut Reader<'_, C>, place: usize)
-    requires within { place ≤ length reader.old.text }
-    requires next { IsFilling reader.old reader.old.text place 35 }
-    ensures { IsFilling reader.new reader.old.text place 39 }
-{
     fill_cell(reader, Rule(BYTES_COLON), place);
     fill_cell(reader, Rule(COLON), place);
     fill_cell(reader, Rule(BYTES_SEMI_COLON), place);
@@ -110,20 +82,12 @@ fn fill_from_35<C: Cell>(reader: &mut Reader<'_, C>, place: usize)
 fn fill_from_39<C: Cell>(reader: &mut Reader<'_, C>, place: usize)
     requires within { place ≤ length reader.old.text }
     requires next { IsFilling reader.old reader.old.text place 39 }
-    ensures { IsFilling reader.new reader.old.text place 43 }
+    ensures { IsFilling reader.new reader.old.text place 47 }
 {
     fill_cell(reader, Rule(BYTES_LESS_THAN), place);
     fill_cell(reader, Rule(LESS_THAN), place);
     fill_cell(reader, Rule(BYTES_ASSIGN), place);
     fill_cell(reader, Rule(ASSIGN), place);
-}
-
-#[inline(always)]
-fn fill_from_43<C: Cell>(reader: &mut Reader<'_, C>, place: usize)
-    requires within { place ≤ length reader.old.text }
-    requires next { IsFilling reader.old reader.old.text place 43 }
-    ensures { IsFilling reader.new reader.old.text place 47 }
-{
     fill_cell(reader, Rule(BYTES_GREATER_THAN), place);
     fill_cell(reader, Rule(GREATER_THAN), place);
     fill_cell(reader, Rule(BYTES_Q_MARK), place);

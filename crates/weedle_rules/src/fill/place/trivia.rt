@@ -23,29 +23,19 @@ pub(super) fn fill<C: Cell>(reader: &mut Reader<'_, C>, place: usize)
     ensures { IsFilling reader.new reader.old.text place 15 }
 {
     fill_from_0(reader, place);
-    fill_from_4(reader, place);
     fill_from_8(reader, place);
-    fill_from_12(reader, place);
 }
 
 #[inline(always)]
 fn fill_from_0<C: Cell>(reader: &mut Reader<'_, C>, place: usize)
     requires within { place ≤ length reader.old.text }
     requires next { IsFilling reader.old reader.old.text place 0 }
-    ensures { IsFilling reader.new reader.old.text place 4 }
+    ensures { IsFilling reader.new reader.old.text place 8 }
 {
     fill_cell(reader, Rule(BYTES_LF), place);
     fill_cell(reader, Rule(NOT_NEXT_ANY), place);
     fill_cell(reader, Rule(LINE_END), place);
     fill_cell(reader, Rule(BYTES_SLASH_SLASH), place);
-}
-
-#[inline(always)]
-fn fill_from_4<C: Cell>(reader: &mut Reader<'_, C>, place: usize)
-    requires within { place ≤ length reader.old.text }
-    requires next { IsFilling reader.old reader.old.text place 4 }
-    ensures { IsFilling reader.new reader.old.text place 8 }
-{
     fill_cell(reader, Rule(NOT_NEXT_SLASH), place);
     fill_cell(reader, Rule(RUN_NOT_LINE_FEED), place);
     fill_cell(reader, Rule(LINE_COMMENT), place);
@@ -56,20 +46,12 @@ fn fill_from_4<C: Cell>(reader: &mut Reader<'_, C>, place: usize)
 fn fill_from_8<C: Cell>(reader: &mut Reader<'_, C>, place: usize)
     requires within { place ≤ length reader.old.text }
     requires next { IsFilling reader.old reader.old.text place 8 }
-    ensures { IsFilling reader.new reader.old.text place 12 }
+    ensures { IsFilling reader.new reader.old.text place 15 }
 {
     fill_cell(reader, Rule(RUN_BLANK), place);
     fill_cell(reader, Rule(BLANKS), place);
     fill_cell(reader, Rule(BYTES_SLASH_STAR), place);
     fill_cell(reader, Rule(PAST_STAR_SLASH), place);
-}
-
-#[inline(always)]
-fn fill_from_12<C: Cell>(reader: &mut Reader<'_, C>, place: usize)
-    requires within { place ≤ length reader.old.text }
-    requires next { IsFilling reader.old reader.old.text place 12 }
-    ensures { IsFilling reader.new reader.old.text place 15 }
-{
     fill_cell(reader, Rule(BLOCK_COMMENT), place);
     fill_cell(reader, Rule(PIECE), place);
     fill_cell(reader, Rule(TRIVIA), place);

@@ -36,41 +36,25 @@ pub(super) fn fill<C: Cell>(reader: &mut Reader<'_, C>, place: usize)
     ensures { IsFilling reader.new reader.old.text place 317 }
 {
     fill_from_256(reader, place);
-    fill_from_260(reader, place);
     fill_from_264(reader, place);
-    fill_from_268(reader, place);
     fill_from_272(reader, place);
-    fill_from_276(reader, place);
     fill_from_280(reader, place);
-    fill_from_284(reader, place);
     fill_from_288(reader, place);
-    fill_from_292(reader, place);
     fill_from_296(reader, place);
-    fill_from_300(reader, place);
     fill_from_304(reader, place);
-    fill_from_308(reader, place);
     fill_from_312(reader, place);
-    fill_from_316(reader, place);
 }
 
 #[inline(always)]
 fn fill_from_256<C: Cell>(reader: &mut Reader<'_, C>, place: usize)
     requires within { place ≤ length reader.old.text }
     requires next { IsFilling reader.old reader.old.text place 256 }
-    ensures { IsFilling reader.new reader.old.text place 260 }
+    ensures { IsFilling reader.new reader.old.text place 264 }
 {
     fill_cell(reader, Rule(GENERICS_TYPE), place);
     fill_cell(reader, Rule(SEQUENCE_TYPE), place);
     fill_cell(reader, Rule(FROZEN_ARRAY_TYPE), place);
     fill_cell(reader, Rule(GENERICS_RETURN_TYPE), place);
-}
-
-#[inline(always)]
-fn fill_from_260<C: Cell>(reader: &mut Reader<'_, C>, place: usize)
-    requires within { place ≤ length reader.old.text }
-    requires next { IsFilling reader.old reader.old.text place 260 }
-    ensures { IsFilling reader.new reader.old.text place 264 }
-{
     fill_cell(reader, Rule(PROMISE_TYPE), place);
     fill_cell(reader, Rule(GENERICS_RECORD_TYPES), place);
     fill_cell(reader, Rule(RECORD_TYPE), place);
@@ -81,20 +65,12 @@ fn fill_from_260<C: Cell>(reader: &mut Reader<'_, C>, place: usize)
 fn fill_from_264<C: Cell>(reader: &mut Reader<'_, C>, place: usize)
     requires within { place ≤ length reader.old.text }
     requires next { IsFilling reader.old reader.old.text place 264 }
-    ensures { IsFilling reader.new reader.old.text place 268 }
+    ensures { IsFilling reader.new reader.old.text place 272 }
 {
     fill_cell(reader, Rule(MAY_BE_NULL_UNION_TYPE), place);
     fill_cell(reader, Rule(MAY_BE_NULL_BYTE_STRING), place);
     fill_cell(reader, Rule(MAY_BE_NULL_DOM_STRING), place);
     fill_cell(reader, Rule(MAY_BE_NULL_USV_STRING), place);
-}
-
-#[inline(always)]
-fn fill_from_268<C: Cell>(reader: &mut Reader<'_, C>, place: usize)
-    requires within { place ≤ length reader.old.text }
-    requires next { IsFilling reader.old reader.old.text place 268 }
-    ensures { IsFilling reader.new reader.old.text place 272 }
-{
     fill_cell(reader, Rule(MAY_BE_NULL_SEQUENCE_TYPE), place);
     fill_cell(reader, Rule(MAY_BE_NULL_OBJECT), place);
     fill_cell(reader, Rule(MAY_BE_NULL_SYMBOL), place);
@@ -105,20 +81,12 @@ fn fill_from_268<C: Cell>(reader: &mut Reader<'_, C>, place: usize)
 fn fill_from_272<C: Cell>(reader: &mut Reader<'_, C>, place: usize)
     requires within { place ≤ length reader.old.text }
     requires next { IsFilling reader.old reader.old.text place 272 }
-    ensures { IsFilling reader.new reader.old.text place 276 }
+    ensures { IsFilling reader.new reader.old.text place 280 }
 {
     fill_cell(reader, Rule(MAY_BE_NULL_ARRAY_BUFFER), place);
     fill_cell(reader, Rule(MAY_BE_NULL_DATA_VIEW), place);
     fill_cell(reader, Rule(MAY_BE_NULL_INT8_ARRAY), place);
     fill_cell(reader, Rule(MAY_BE_NULL_INT16_ARRAY), place);
-}
-
-#[inline(always)]
-fn fill_from_276<C: Cell>(reader: &mut Reader<'_, C>, place: usize)
-    requires within { place ≤ length reader.old.text }
-    requires next { IsFilling reader.old reader.old.text place 276 }
-    ensures { IsFilling reader.new reader.old.text place 280 }
-{
     fill_cell(reader, Rule(MAY_BE_NULL_INT32_ARRAY), place);
     fill_cell(reader, Rule(MAY_BE_NULL_UINT8_ARRAY), place);
     fill_cell(reader, Rule(MAY_BE_NULL_UINT16_ARRAY), place);
@@ -129,20 +97,12 @@ fn fill_from_276<C: Cell>(reader: &mut Reader<'_, C>, place: usize)
 fn fill_from_280<C: Cell>(reader: &mut Reader<'_, C>, place: usize)
     requires within { place ≤ length reader.old.text }
     requires next { IsFilling reader.old reader.old.text place 280 }
-    ensures { IsFilling reader.new reader.old.text place 284 }
+    ensures { IsFilling reader.new reader.old.text place 288 }
 {
     fill_cell(reader, Rule(MAY_BE_NULL_UINT8_CLAMPED_ARRAY), place);
     fill_cell(reader, Rule(MAY_BE_NULL_FLOAT32_ARRAY), place);
     fill_cell(reader, Rule(MAY_BE_NULL_FLOAT64_ARRAY), place);
     fill_cell(reader, Rule(MAY_BE_NULL_ARRAY_BUFFER_VIEW), place);
-}
-
-#[inline(always)]
-fn fill_from_284<C: Cell>(reader: &mut Reader<'_, C>, place: usize)
-    requires within { place ≤ length reader.old.text }
-    requires next { IsFilling reader.old reader.old.text place 284 }
-    ensures { IsFilling reader.new reader.old.text place 288 }
-{
     fill_cell(reader, Rule(MAY_BE_NULL_BUFFER_SOURCE), place);
     fill_cell(reader, Rule(MAY_BE_NULL_FROZEN_ARRAY_TYPE), place);
     fill_cell(reader, Rule(MAY_BE_NULL_RECORD_TYPE), place);
@@ -153,20 +113,12 @@ fn fill_from_284<C: Cell>(reader: &mut Reader<'_, C>, place: usize)
 fn fill_from_288<C: Cell>(reader: &mut Reader<'_, C>, place: usize)
     requires within { place ≤ length reader.old.text }
     requires next { IsFilling reader.old reader.old.text place 288 }
-    ensures { IsFilling reader.new reader.old.text place 292 }
+    ensures { IsFilling reader.new reader.old.text place 296 }
 {
     fill_cell(reader, Rule(RECORD_KEY_TYPE), place);
     fill_cell(reader, Rule(RECORD_TYPES), place);
     fill_cell(reader, Rule(SINGLE_TYPE), place);
     fill_cell(reader, Rule(TYPE), place);
-}
-
-#[inline(always)]
-fn fill_from_292<C: Cell>(reader: &mut Reader<'_, C>, place: usize)
-    requires within { place ≤ length reader.old.text }
-    requires next { IsFilling reader.old reader.old.text place 292 }
-    ensures { IsFilling reader.new reader.old.text place 296 }
-{
     fill_cell(reader, Rule(RETURN_TYPE), place);
     fill_cell(reader, Rule(EXTENDED_ATTRIBUTE_LIST), place);
     fill_cell(reader, Rule(OPT_EXTENDED_ATTRIBUTE_LIST), place);
@@ -177,20 +129,12 @@ fn fill_from_292<C: Cell>(reader: &mut Reader<'_, C>, place: usize)
 fn fill_from_296<C: Cell>(reader: &mut Reader<'_, C>, place: usize)
     requires within { place ≤ length reader.old.text }
     requires next { IsFilling reader.old reader.old.text place 296 }
-    ensures { IsFilling reader.new reader.old.text place 300 }
+    ensures { IsFilling reader.new reader.old.text place 304 }
 {
     fill_cell(reader, Rule(ATTRIBUTED_NON_ANY_TYPE), place);
     fill_cell(reader, Rule(UNION_MEMBER_TYPE), place);
     fill_cell(reader, Rule(TAIL_UNION_MEMBER_TYPE_OR), place);
     fill_cell(reader, Rule(LIST_UNION_MEMBER_TYPE_OR), place);
-}
-
-#[inline(always)]
-fn fill_from_300<C: Cell>(reader: &mut Reader<'_, C>, place: usize)
-    requires within { place ≤ length reader.old.text }
-    requires next { IsFilling reader.old reader.old.text place 300 }
-    ensures { IsFilling reader.new reader.old.text place 304 }
-{
     fill_cell(reader, Rule(OPT_OPTIONAL), place);
     fill_cell(reader, Rule(OPT_DEFAULT), place);
     fill_cell(reader, Rule(SINGLE_ARGUMENT), place);
@@ -201,20 +145,12 @@ fn fill_from_300<C: Cell>(reader: &mut Reader<'_, C>, place: usize)
 fn fill_from_304<C: Cell>(reader: &mut Reader<'_, C>, place: usize)
     requires within { place ≤ length reader.old.text }
     requires next { IsFilling reader.old reader.old.text place 304 }
-    ensures { IsFilling reader.new reader.old.text place 308 }
+    ensures { IsFilling reader.new reader.old.text place 312 }
 {
     fill_cell(reader, Rule(ARGUMENT), place);
     fill_cell(reader, Rule(TAIL_ARGUMENT_COMMA), place);
     fill_cell(reader, Rule(ARGUMENT_LIST), place);
     fill_cell(reader, Rule(PARENTHESIZED_ARGUMENT_LIST), place);
-}
-
-#[inline(always)]
-fn fill_from_308<C: Cell>(reader: &mut Reader<'_, C>, place: usize)
-    requires within { place ≤ length reader.old.text }
-    requires next { IsFilling reader.old reader.old.text place 308 }
-    ensures { IsFilling reader.new reader.old.text place 312 }
-{
     fill_cell(reader, Rule(EXTENDED_ATTRIBUTE_ARG_LIST), place);
     fill_cell(reader, Rule(EXTENDED_ATTRIBUTE_NAMED_ARG_LIST), place);
     fill_cell(reader, Rule(EXTENDED_ATTRIBUTE_IDENT_LIST), place);
@@ -225,19 +161,11 @@ fn fill_from_308<C: Cell>(reader: &mut Reader<'_, C>, place: usize)
 fn fill_from_312<C: Cell>(reader: &mut Reader<'_, C>, place: usize)
     requires within { place ≤ length reader.old.text }
     requires next { IsFilling reader.old reader.old.text place 312 }
-    ensures { IsFilling reader.new reader.old.text place 316 }
+    ensures { IsFilling reader.new reader.old.text place 317 }
 {
     fill_cell(reader, Rule(EXTENDED_ATTRIBUTE_IDENT), place);
     fill_cell(reader, Rule(EXTENDED_ATTRIBUTE_NO_ARGS), place);
     fill_cell(reader, Rule(EXTENDED_ATTRIBUTE), place);
     fill_cell(reader, Rule(TAIL_EXTENDED_ATTRIBUTE_COMMA), place);
-}
-
-#[inline(always)]
-fn fill_from_316<C: Cell>(reader: &mut Reader<'_, C>, place: usize)
-    requires within { place ≤ length reader.old.text }
-    requires next { IsFilling reader.old reader.old.text place 316 }
-    ensures { IsFilling reader.new reader.old.text place 317 }
-{
     fill_cell(reader, Rule(LIST_EXTENDED_ATTRIBUTE_COMMA), place);
 }
