@@ -14,8 +14,8 @@ use Rattle.weedle_base.specs.Rules.{IsRule}
 use Rattle.weedle_base.specs.Runs.{run_reading, vec_step}
 use Rattle.weedle_base.specs.declared.fault.Err.{Err as Fault}
 use Rattle.weedle_base.specs.declared.fault.Error.{Error}
-use Rattle.weedle_base.specs.declared.term.definition_keywords.Interface.{Interface}
-use Rattle.weedle_base.specs.declared.term.symbols.SemiColon.{SemiColon}
+use Rattle.weedle_term.specs.declared.definition_keywords.Interface.{Interface}
+use Rattle.weedle_term.specs.declared.symbols.SemiColon.{SemiColon}
 use Rattle.weedle_rules.specs.Table.FirstPath.{FIRST_MEMBER, FIRST_MEMBERS, BRACED_FIRST_MEMBERS, FIRST_INTERFACE, FIRST_DEFINITION}
 use Rattle.weedle_rules.specs.Table.Keywords.{INTERFACE}
 use Rattle.weedle_rules.specs.Table.Leaves.{IDENTIFIER}

@@ -11,9 +11,9 @@ use Rattle.weedle_base.specs.Reading.{Reading, Got, Faults}
 use Rattle.weedle_base.specs.Rules.{IsRule, option_tree}
 use Rattle.weedle_base.specs.declared.fault.Err.{Err as Fault}
 use Rattle.weedle_base.specs.declared.fault.Error.{Error}
-use Rattle.weedle_base.specs.declared.term.definition_keywords.Attribute.{Attribute}
-use Rattle.weedle_base.specs.declared.term.definition_keywords.ReadOnly.{ReadOnly}
-use Rattle.weedle_base.specs.declared.term.symbols.SemiColon.{SemiColon}
+use Rattle.weedle_term.specs.declared.definition_keywords.Attribute.{Attribute}
+use Rattle.weedle_term.specs.declared.definition_keywords.ReadOnly.{ReadOnly}
+use Rattle.weedle_term.specs.declared.symbols.SemiColon.{SemiColon}
 use Rattle.weedle_rules.specs.Table.FirstPath.{FIRST_ATTRIBUTE, FIRST_MEMBER}
 use Rattle.weedle_rules.specs.Table.InterfaceMembers.{OPT_READ_ONLY}
 use Rattle.weedle_rules.specs.Table.Keywords.{ATTRIBUTE, READ_ONLY}

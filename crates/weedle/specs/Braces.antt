@@ -2,8 +2,8 @@
 use Rattle.weedle_base.specs.Generic.{pair_reading, seen_reading}
 use Rattle.weedle_base.specs.Own.{own}
 use Rattle.weedle_base.specs.Reading.{Reading}
-use Rattle.weedle_base.specs.declared.term.symbols.CloseBrace.{CloseBrace}
-use Rattle.weedle_base.specs.declared.term.symbols.OpenBrace.{OpenBrace}
+use Rattle.weedle_term.specs.declared.symbols.CloseBrace.{CloseBrace}
+use Rattle.weedle_term.specs.declared.symbols.OpenBrace.{OpenBrace}
 use Rattle.weedle_rules.specs.Table.Symbols.{OPEN_BRACE, CLOSE_BRACE}
 use Rattle.weedle_rules.specs.Trees.{Mark}
 use Rattle.weedle.specs.declared.common.Braced.{Braced}

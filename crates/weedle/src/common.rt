@@ -8,8 +8,8 @@ ghost use Rattle.weedle.specs.BraceLaws.{braced_lawful};
 ghost use Rattle.weedle.specs.ValueTrees.{identifier_tree};
 
 use std::alloc::Global;
-use weedle_base::term::{CloseBrace, OpenBrace};
 use weedle_base::{IResult, Parse, mismatch, scan};
+use weedle_term::{CloseBrace, OpenBrace};
 
 /// A name, as `sessionStorage`. It is `interface` for `_interface`, since one underscore may lead
 /// a name and is no part of it.

@@ -10,8 +10,8 @@ ghost use Rattle.weedle.specs.ValueTrees.{interface_definition_tree, definition_
 use crate::common::{Braced, Identifier};
 use crate::interface::InterfaceMembers;
 use std::alloc::Global;
-use weedle_base::term::{Interface, SemiColon};
 use weedle_base::{IResult, Parse};
+use weedle_term::{Interface, SemiColon};
 
 /// Definitions one after another, as `interface A {}; interface B {};`.
 pub type Definitions<'a> = Vec<Definition<'a>>;

@@ -7,8 +7,8 @@ ghost use Rattle.weedle.specs.ValueTrees.{attribute_member_tree, interface_membe
 
 use crate::common::Identifier;
 use std::alloc::Global;
-use weedle_base::term::{Attribute, ReadOnly, SemiColon};
 use weedle_base::{IResult, Parse};
+use weedle_term::{Attribute, ReadOnly, SemiColon};
 
 /// The members of an interface, as `attribute long width; attribute long height;`.
 pub type InterfaceMembers<'a> = Vec<InterfaceMember<'a>>;

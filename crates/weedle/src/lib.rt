@@ -26,4 +26,5 @@ mod reader;
 pub use definition::{Definition, Definitions, InterfaceDefinition, kind_of, name_of};
 pub use program::{RunFault, Status, run};
 pub use reader::parse;
-pub use weedle_base::{Err, Error, ErrorKind, IResult, Parse, term};
+pub use weedle_base::{Err, Error, ErrorKind, IResult, Parse};
+pub use weedle_term as term;

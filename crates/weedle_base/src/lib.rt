@@ -1,4 +1,4 @@
-//! The ground of the parser: faults, the trait [`Parse`] with its meaning and laws, trivia and the 84 terminals.
+//! The ground of the parser: faults, the trait [`Parse`] with its meaning and laws, trivia and words.
 #![tactic(auto)]
 
 mod doc_lines;
@@ -8,7 +8,6 @@ mod names;
 mod parse;
 pub mod scan;
 mod standard;
-pub mod term;
 mod token;
 mod trivia;
 mod try_clone;
@@ -17,5 +16,6 @@ pub use doc_lines::docstring;
 pub use fault::{Err, Error, ErrorKind, IResult, mismatch, out_of_memory};
 pub use names::{ident_tag, is_alphanum_underscore_dash};
 pub use parse::Parse;
+pub use token::{keyword, symbol};
 pub use trivia::sp;
 pub use try_clone::TryClone;

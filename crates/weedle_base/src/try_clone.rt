@@ -4,7 +4,6 @@ ghost use Rattle.std.specs.Prelude.{◌≡◌, IfOk, string_bytes};
 ghost use Rattle.weedle_base.specs.Alike.{IsEquivalence, option_alike, all_alike};
 ghost use Rattle.weedle_base.specs.AlikeLaws.{equal_equivalence, seen_equivalence, option_equivalence, pair_equivalence, all_equivalence};
 
-use crate::term::{Comma, Or};
 use std::alloc::{AllocError, Global};
 
 /// A type whose values can be copied, where a copy may want memory.
@@ -30,26 +29,6 @@ impl TryClone for String {
     }
 
     ghost equivalence = { seen_equivalence string_bytes equal_equivalence };
-}
-
-impl TryClone for Comma {
-    ghost alike = { λ a b. a ≡ b };
-
-    fn try_clone(&self, _alloc: Global) -> Result<Comma, AllocError> {
-        Ok(*self)
-    }
-
-    ghost equivalence = { equal_equivalence };
-}
-
-impl TryClone for Or {
-    ghost alike = { λ a b. a ≡ b };
-
-    fn try_clone(&self, _alloc: Global) -> Result<Or, AllocError> {
-        Ok(*self)
-    }
-
-    ghost equivalence = { equal_equivalence };
 }
 
 impl<T: TryClone> TryClone for Option<T> {

@@ -1,14 +1,14 @@
 //! Names, numbers, strings, docstrings and values.
 
-use crate::answers::is_mismatch;
 use std::test::Fail;
-use weedle_base::term::{Assign, CloseBracket, NegInfinity, Null, OpenBracket};
+use weedle_answers::is_mismatch;
 use weedle_base::{Parse, TryClone};
-use weedle_parts::common::{Default, Docstring, Identifier};
-use weedle_parts::literal::{
-    BooleanLit, ConstValue, DecLit, DefaultValue, EmptyArrayLit, EmptyDictionaryLit, FloatLit,
-    FloatValueLit, HexLit, IntegerLit, OctLit, StringLit,
+use weedle_literal::{
+    BooleanLit, ConstValue, DecLit, Default, DefaultValue, EmptyArrayLit, EmptyDictionaryLit,
+    FloatLit, FloatValueLit, HexLit, IntegerLit, OctLit, StringLit,
 };
+use weedle_parts::common::{Docstring, Identifier};
+use weedle_term::{Assign, CloseBracket, NegInfinity, Null, OpenBracket};
 
 #[test]
 fn a_name_is_kept_without_its_underscore(rt: HostRuntime) {

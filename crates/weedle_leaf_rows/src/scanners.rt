@@ -1,10 +1,10 @@
 //! The scanners, and terminals that stand beside others.
 
-use crate::answers::is_mismatch;
 use std::alloc::Global;
 use std::test::Fail;
-use weedle_base::term::{Dot, Ellipsis, Long, NegInfinity, OpenParen};
+use weedle_answers::is_mismatch;
 use weedle_base::{Parse, docstring, ident_tag, is_alphanum_underscore_dash, sp};
+use weedle_term::{Dot, Ellipsis, Long, NegInfinity, OpenParen};
 
 #[test]
 fn trivia_is_comments_and_blanks(rt: HostRuntime) {

@@ -5,7 +5,7 @@
 use std::alloc::Global;
 use std::process::Abort;
 use weedle_base::Parse;
-use weedle_base::term::*;
+use weedle_term::*;
 
 /// Reads a terminal that stands between blanks and before `anything`: with all of it, and alone,
 /// with the blanks before it, with those behind it, and with both.

@@ -1,13 +1,13 @@
 //! Types of numbers and of constants.
 
-use crate::answers::is_mismatch;
+use weedle_answers::is_mismatch;
 use weedle_base::Parse;
-use weedle_base::term::{Boolean, Double, Float, Long, QMark, Short, Unrestricted, Unsigned};
 use weedle_parts::common::Identifier;
 use weedle_parts::types::{
     ConstType, DoubleType, FloatType, FloatingPointType, IntegerType, LongLongType, LongType,
     MayBeNull, ShortType,
 };
+use weedle_term::{Boolean, Double, Float, Long, QMark, Short, Unrestricted, Unsigned};
 
 const LONG: IntegerType = IntegerType::Long(LongType {
     unsigned: None,

@@ -7,15 +7,15 @@ use Rattle.weedle_rules.specs.Table.Keywords.{TRUE, FALSE}
 use Rattle.weedle_rules.specs.Table.Literals.{BOOLEAN_LIT}
 use Rattle.weedle_base.specs.declared.fault.Error.{Error}
 use Rattle.weedle_base.specs.declared.fault.Err.{Err as Fault}
-use Rattle.weedle_base.specs.declared.term.type_keywords.True.{True}
-use Rattle.weedle_base.specs.declared.term.type_keywords.False.{False}
+use Rattle.weedle_term.specs.declared.type_keywords.True.{True}
+use Rattle.weedle_term.specs.declared.type_keywords.False.{False}
 use Rattle.weedle_base.specs.Reading.{Reading, Got, Faults}
 use Rattle.weedle_base.specs.Generic.{option_reading}
 use Rattle.weedle_base.proofs.Choice.{choice_reading, choice_tree, choose_left, choose_right, end_left, end_right, first_last, first_more, first_rule}
 use Rattle.weedle_base.specs.Own.{own}
 use Rattle.weedle_base.specs.Rules.{IsRule}
 use Rattle.weedle_base.proofs.RuleFacts.{own_rule, got_rule, fault_rule}
-use Rattle.weedle_parts.specs.LiteralTrees.{boolean_tree}
+use Rattle.weedle_literal.specs.LiteralTrees.{boolean_tree}
 
 abbrev pub boolean_parts : Reading (True ⊎ False)
 boolean_parts = choice_reading (own TRUE (λ v. Mark) ⊥) (own FALSE (λ v. Mark) ⊥)

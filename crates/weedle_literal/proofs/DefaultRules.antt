@@ -7,15 +7,15 @@ use Rattle.weedle_rules.specs.Table.Symbols.{ASSIGN}
 use Rattle.weedle_rules.specs.Table.Literals.{DEFAULT_VALUE, DEFAULT}
 use Rattle.weedle_base.specs.declared.fault.Err.{Err as Fault}
 use Rattle.weedle_base.specs.declared.fault.Error.{Error}
-use Rattle.weedle_base.specs.declared.term.symbols.Assign.{Assign}
+use Rattle.weedle_term.specs.declared.symbols.Assign.{Assign}
 use Rattle.weedle_base.specs.Own.{own}
 use Rattle.weedle_base.specs.Reading.{Reading, Got, Faults}
 use Rattle.weedle_base.specs.Rules.{IsRule}
 use Rattle.weedle_base.specs.Generic.{pair_reading}
 use Rattle.weedle_base.proofs.Steps.{part_steps}
 use Rattle.weedle_base.proofs.RuleFacts.{own_rule, pair_rule, got_rule, fault_rule}
-use Rattle.weedle_parts.specs.declared.literal.value.DefaultValue.{DefaultValue}
-use Rattle.weedle_parts.specs.LiteralTrees.{default_value_tree, default_tree}
+use Rattle.weedle_literal.specs.declared.value.DefaultValue.{DefaultValue}
+use Rattle.weedle_literal.specs.LiteralTrees.{default_value_tree, default_tree}
 
 abbrev pub default_parts : Reading (Assign × DefaultValue)
 default_parts = pair_reading (own ASSIGN (λ v. Mark) ⊥) (own DEFAULT_VALUE default_value_tree ⊥)

@@ -7,17 +7,17 @@ use Rattle.weedle_rules.specs.Table.Symbols.{OPEN_BRACKET, CLOSE_BRACKET, OPEN_B
 use Rattle.weedle_rules.specs.Table.Literals.{EMPTY_ARRAY_LIT, EMPTY_DICTIONARY_LIT}
 use Rattle.weedle_base.specs.declared.fault.Err.{Err as Fault}
 use Rattle.weedle_base.specs.declared.fault.Error.{Error}
-use Rattle.weedle_base.specs.declared.term.symbols.OpenBracket.{OpenBracket}
-use Rattle.weedle_base.specs.declared.term.symbols.CloseBracket.{CloseBracket}
-use Rattle.weedle_base.specs.declared.term.symbols.OpenBrace.{OpenBrace}
-use Rattle.weedle_base.specs.declared.term.symbols.CloseBrace.{CloseBrace}
+use Rattle.weedle_term.specs.declared.symbols.OpenBracket.{OpenBracket}
+use Rattle.weedle_term.specs.declared.symbols.CloseBracket.{CloseBracket}
+use Rattle.weedle_term.specs.declared.symbols.OpenBrace.{OpenBrace}
+use Rattle.weedle_term.specs.declared.symbols.CloseBrace.{CloseBrace}
 use Rattle.weedle_base.specs.Own.{own}
 use Rattle.weedle_base.specs.Reading.{Reading, Got, Faults}
 use Rattle.weedle_base.specs.Rules.{IsRule}
 use Rattle.weedle_base.specs.Generic.{pair_reading}
 use Rattle.weedle_base.proofs.Steps.{part_steps}
 use Rattle.weedle_base.proofs.RuleFacts.{own_rule, pair_rule, got_rule, fault_rule}
-use Rattle.weedle_parts.specs.LiteralTrees.{empty_array_tree, empty_dictionary_tree}
+use Rattle.weedle_literal.specs.LiteralTrees.{empty_array_tree, empty_dictionary_tree}
 
 abbrev pub empty_array_parts : Reading (OpenBracket × CloseBracket)
 empty_array_parts = pair_reading (own OPEN_BRACKET (λ v. Mark) ⊥) (own CLOSE_BRACKET (λ v. Mark) ⊥)

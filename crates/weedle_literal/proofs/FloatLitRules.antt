@@ -8,18 +8,18 @@ use Rattle.weedle_rules.specs.Table.Leaves.{FLOAT_VALUE_LIT}
 use Rattle.weedle_rules.specs.Table.Literals.{FLOAT_LIT}
 use Rattle.weedle_base.specs.declared.fault.Err.{Err as Fault}
 use Rattle.weedle_base.specs.declared.fault.Error.{Error}
-use Rattle.weedle_base.specs.declared.term.capitalized_keywords.Infinity.{Infinity}
-use Rattle.weedle_base.specs.declared.term.capitalized_keywords.NaN.{NaN}
-use Rattle.weedle_base.specs.declared.term.capitalized_keywords.NegInfinity.{NegInfinity}
+use Rattle.weedle_term.specs.declared.capitalized_keywords.Infinity.{Infinity}
+use Rattle.weedle_term.specs.declared.capitalized_keywords.NaN.{NaN}
+use Rattle.weedle_term.specs.declared.capitalized_keywords.NegInfinity.{NegInfinity}
 use Rattle.weedle_base.specs.Own.{own}
 use Rattle.weedle_base.specs.Reading.{Reading, Got, Faults}
 use Rattle.weedle_base.specs.Rules.{IsRule}
 use Rattle.weedle_base.proofs.Choice.{choice_reading, choice_tree, first_last, first_more, first_rule, choice_steps}
 use Rattle.weedle_base.proofs.RuleFacts.{own_rule, got_rule, fault_rule}
-use Rattle.weedle_parts.specs.declared.literal.float.FloatValueLit.{FloatValueLit}
-use Rattle.weedle_parts.specs.declared.literal.float.FloatLit.{FloatLit}
-use Rattle.weedle_parts.specs.declared.literal.float.FloatLit.TheVariants.{Value, NegInfinity as IsNegInfinity, Infinity as IsInfinity, NaN as IsNaN}
-use Rattle.weedle_parts.specs.LiteralTrees.{float_value_tree, float_tree}
+use Rattle.weedle_literal.specs.declared.float.FloatValueLit.{FloatValueLit}
+use Rattle.weedle_literal.specs.declared.float.FloatLit.{FloatLit}
+use Rattle.weedle_literal.specs.declared.float.FloatLit.TheVariants.{Value, NegInfinity as IsNegInfinity, Infinity as IsInfinity, NaN as IsNaN}
+use Rattle.weedle_literal.specs.LiteralTrees.{float_value_tree, float_tree}
 
 abbrev pub float_parts : Reading (FloatValueLit ⊎ (NegInfinity ⊎ (Infinity ⊎ NaN)))
 float_parts =

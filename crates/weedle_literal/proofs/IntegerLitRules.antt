@@ -12,12 +12,12 @@ use Rattle.weedle_base.specs.Reading.{Reading, Got, Faults}
 use Rattle.weedle_base.specs.Rules.{IsRule}
 use Rattle.weedle_base.proofs.Choice.{choice_reading, choice_tree, first_last, first_more, first_rule, choice_steps}
 use Rattle.weedle_base.proofs.RuleFacts.{own_rule, got_rule, fault_rule}
-use Rattle.weedle_parts.specs.declared.literal.integer.DecLit.{DecLit}
-use Rattle.weedle_parts.specs.declared.literal.integer.HexLit.{HexLit}
-use Rattle.weedle_parts.specs.declared.literal.integer.OctLit.{OctLit}
-use Rattle.weedle_parts.specs.declared.literal.integer.IntegerLit.{IntegerLit}
-use Rattle.weedle_parts.specs.declared.literal.integer.IntegerLit.TheVariants.{Dec, Hex, Oct}
-use Rattle.weedle_parts.specs.LiteralTrees.{dec_tree, hex_tree, oct_tree, integer_tree}
+use Rattle.weedle_literal.specs.declared.integer.DecLit.{DecLit}
+use Rattle.weedle_literal.specs.declared.integer.HexLit.{HexLit}
+use Rattle.weedle_literal.specs.declared.integer.OctLit.{OctLit}
+use Rattle.weedle_literal.specs.declared.integer.IntegerLit.{IntegerLit}
+use Rattle.weedle_literal.specs.declared.integer.IntegerLit.TheVariants.{Dec, Hex, Oct}
+use Rattle.weedle_literal.specs.LiteralTrees.{dec_tree, hex_tree, oct_tree, integer_tree}
 
 abbrev pub integer_parts : Reading (DecLit ⊎ (HexLit ⊎ OctLit))
 integer_parts = choice_reading (own DEC_LIT dec_tree ⊥) (choice_reading (own HEX_LIT hex_tree ⊥) (own OCT_LIT oct_tree ⊥))

@@ -8,23 +8,23 @@ use Rattle.weedle_rules.specs.Table.Leaves.{STRING_LIT}
 use Rattle.weedle_rules.specs.Table.Literals.{BOOLEAN_LIT, INTEGER_LIT, FLOAT_LIT, EMPTY_ARRAY_LIT, EMPTY_DICTIONARY_LIT, DEFAULT_VALUE, CONST_VALUE}
 use Rattle.weedle_base.specs.declared.fault.Err.{Err as Fault}
 use Rattle.weedle_base.specs.declared.fault.Error.{Error}
-use Rattle.weedle_base.specs.declared.term.type_keywords.Null.{Null}
+use Rattle.weedle_term.specs.declared.type_keywords.Null.{Null}
 use Rattle.weedle_base.specs.Own.{own}
 use Rattle.weedle_base.specs.Reading.{Reading, Got, Faults}
 use Rattle.weedle_base.specs.Rules.{IsRule}
 use Rattle.weedle_base.proofs.Choice.{choice_reading, choice_tree, first_last, first_more, first_rule, choice_steps}
 use Rattle.weedle_base.proofs.RuleFacts.{own_rule, got_rule, fault_rule}
-use Rattle.weedle_parts.specs.declared.literal.boolean.BooleanLit.{BooleanLit}
-use Rattle.weedle_parts.specs.declared.literal.empty.EmptyArrayLit.{EmptyArrayLit}
-use Rattle.weedle_parts.specs.declared.literal.empty.EmptyDictionaryLit.{EmptyDictionaryLit}
-use Rattle.weedle_parts.specs.declared.literal.float.FloatLit.{FloatLit}
-use Rattle.weedle_parts.specs.declared.literal.integer.IntegerLit.{IntegerLit}
-use Rattle.weedle_parts.specs.declared.literal.string.StringLit.{StringLit}
-use Rattle.weedle_parts.specs.declared.literal.value.DefaultValue.{DefaultValue}
-use Rattle.weedle_parts.specs.declared.literal.value.DefaultValue.TheVariants.{Boolean as DefaultBoolean, EmptyArray, EmptyDictionary, Float as DefaultFloat, Integer as DefaultInteger, Null as DefaultNull, String as DefaultString}
-use Rattle.weedle_parts.specs.declared.literal.value.ConstValue.{ConstValue}
-use Rattle.weedle_parts.specs.declared.literal.value.ConstValue.TheVariants.{Boolean as ConstBoolean, Float as ConstFloat, Integer as ConstInteger, Null as ConstNull}
-use Rattle.weedle_parts.specs.LiteralTrees.{boolean_tree, empty_array_tree, empty_dictionary_tree, float_tree, integer_tree, string_tree, default_value_tree, const_value_tree}
+use Rattle.weedle_literal.specs.declared.boolean.BooleanLit.{BooleanLit}
+use Rattle.weedle_literal.specs.declared.empty.EmptyArrayLit.{EmptyArrayLit}
+use Rattle.weedle_literal.specs.declared.empty.EmptyDictionaryLit.{EmptyDictionaryLit}
+use Rattle.weedle_literal.specs.declared.float.FloatLit.{FloatLit}
+use Rattle.weedle_literal.specs.declared.integer.IntegerLit.{IntegerLit}
+use Rattle.weedle_literal.specs.declared.string.StringLit.{StringLit}
+use Rattle.weedle_literal.specs.declared.value.DefaultValue.{DefaultValue}
+use Rattle.weedle_literal.specs.declared.value.DefaultValue.TheVariants.{Boolean as DefaultBoolean, EmptyArray, EmptyDictionary, Float as DefaultFloat, Integer as DefaultInteger, Null as DefaultNull, String as DefaultString}
+use Rattle.weedle_literal.specs.declared.value.ConstValue.{ConstValue}
+use Rattle.weedle_literal.specs.declared.value.ConstValue.TheVariants.{Boolean as ConstBoolean, Float as ConstFloat, Integer as ConstInteger, Null as ConstNull}
+use Rattle.weedle_literal.specs.LiteralTrees.{boolean_tree, empty_array_tree, empty_dictionary_tree, float_tree, integer_tree, string_tree, default_value_tree, const_value_tree}
 
 -- a default's value
 abbrev pub default_value_parts : Reading (BooleanLit ⊎ (EmptyArrayLit ⊎ (EmptyDictionaryLit ⊎ (FloatLit ⊎ (IntegerLit ⊎ (Null ⊎ StringLit))))))

@@ -3,12 +3,12 @@
 ghost use Rattle.weedle_rules.specs.Table.Literals.{DEFAULT};
 ghost use Rattle.weedle_base.specs.Own.{own};
 ghost use Rattle.weedle_base.specs.OwnLaws.{own_lawful};
-ghost use Rattle.weedle_parts.specs.LiteralTrees.{default_tree};
+ghost use Rattle.weedle_literal.specs.LiteralTrees.{default_tree};
 
-use crate::literal::DefaultValue;
+use crate::DefaultValue;
 use std::alloc::Global;
-use weedle_base::term::Assign;
 use weedle_base::{IResult, Parse};
+use weedle_term::Assign;
 
 /// A default, as `= 5` behind an argument's name. Without the `=`, or where no value follows it, it is
 /// a mismatch. It takes no memory and never gives a failure.

@@ -3,11 +3,11 @@
 ghost use Rattle.weedle_rules.specs.Table.Literals.{EMPTY_ARRAY_LIT, EMPTY_DICTIONARY_LIT};
 ghost use Rattle.weedle_base.specs.Own.{own};
 ghost use Rattle.weedle_base.specs.OwnLaws.{own_lawful};
-ghost use Rattle.weedle_parts.specs.LiteralTrees.{empty_array_tree, empty_dictionary_tree};
+ghost use Rattle.weedle_literal.specs.LiteralTrees.{empty_array_tree, empty_dictionary_tree};
 
 use std::alloc::Global;
-use weedle_base::term::{CloseBrace, CloseBracket, OpenBrace, OpenBracket};
 use weedle_base::{IResult, Parse};
+use weedle_term::{CloseBrace, CloseBracket, OpenBrace, OpenBracket};
 
 /// An empty list, as `[ ]`. Anything between the brackets but trivia is a mismatch.
 #[derive(Clone, Copy, Debug, Default, PartialEq, Eq, PartialOrd, Ord, Hash)]

@@ -6,14 +6,14 @@ ghost use Rattle.weedle_rules.specs.Table.Literals.{FLOAT_LIT};
 ghost use Rattle.weedle_base.specs.Own.{own};
 ghost use Rattle.weedle_base.specs.OwnLaws.{own_lawful};
 ghost use Rattle.weedle_base.specs.Trivia.{Took, Trial};
-ghost use Rattle.weedle_parts.specs.LiteralTrees.{float_value_tree, float_tree};
+ghost use Rattle.weedle_literal.specs.LiteralTrees.{float_value_tree, float_tree};
 
-use crate::literal::integer::skip_minus;
+use crate::integer::skip_minus;
 use std::alloc::Global;
 use weedle_base::scan::{after_one, after_run, after_word, skip_trivia, taken};
-use weedle_base::term::{Infinity, NaN, NegInfinity};
 use weedle_base::{IResult, Parse, mismatch};
 use weedle_rules::{Class, Rule};
+use weedle_term::{Infinity, NaN, NegInfinity};
 
 /// A number with a point or an exponent, as `-.5E+3`, `5.` or `1e3`. An exponent without digits is
 /// left, so `1.5e` is `1.5` and an `e` that stays unread. Without a point and an exponent it is a
@@ -74,7 +74,7 @@ impl<'a> Parse<'a> for FloatLit<'a> {
 }
 
 impl<'a> From<FloatValueLit<'a>> for FloatLit<'a> {
-    ghost use Rattle.weedle_parts.specs.declared.literal.float.FloatLit.TheVariants.{Value};
+    ghost use Rattle.weedle_literal.specs.declared.float.FloatLit.TheVariants.{Value};
 
     ghost from_gives = { λ value made. made ≡ Value value };
 
@@ -84,7 +84,7 @@ impl<'a> From<FloatValueLit<'a>> for FloatLit<'a> {
 }
 
 impl From<NegInfinity> for FloatLit<'_> {
-    ghost use Rattle.weedle_parts.specs.declared.literal.float.FloatLit.TheVariants.{NegInfinity};
+    ghost use Rattle.weedle_literal.specs.declared.float.FloatLit.TheVariants.{NegInfinity};
 
     ghost from_gives = { λ value made. made ≡ NegInfinity value };
 
@@ -94,7 +94,7 @@ impl From<NegInfinity> for FloatLit<'_> {
 }
 
 impl From<Infinity> for FloatLit<'_> {
-    ghost use Rattle.weedle_parts.specs.declared.literal.float.FloatLit.TheVariants.{Infinity};
+    ghost use Rattle.weedle_literal.specs.declared.float.FloatLit.TheVariants.{Infinity};
 
     ghost from_gives = { λ value made. made ≡ Infinity value };
 
@@ -104,7 +104,7 @@ impl From<Infinity> for FloatLit<'_> {
 }
 
 impl From<NaN> for FloatLit<'_> {
-    ghost use Rattle.weedle_parts.specs.declared.literal.float.FloatLit.TheVariants.{NaN};
+    ghost use Rattle.weedle_literal.specs.declared.float.FloatLit.TheVariants.{NaN};
 
     ghost from_gives = { λ value made. made ≡ NaN value };
 

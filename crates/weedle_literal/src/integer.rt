@@ -6,7 +6,7 @@ ghost use Rattle.weedle_rules.specs.Table.Literals.{INTEGER_LIT};
 ghost use Rattle.weedle_base.specs.Own.{own};
 ghost use Rattle.weedle_base.specs.OwnLaws.{own_lawful};
 ghost use Rattle.weedle_base.specs.Trivia.{Took, Trial};
-ghost use Rattle.weedle_parts.specs.LiteralTrees.{dec_tree, hex_tree, oct_tree, integer_tree};
+ghost use Rattle.weedle_literal.specs.LiteralTrees.{dec_tree, hex_tree, oct_tree, integer_tree};
 
 use std::alloc::Global;
 use weedle_base::scan::{after_one, after_run, after_word, skip_trivia, taken};
@@ -110,7 +110,7 @@ impl<'a> Parse<'a> for IntegerLit<'a> {
 }
 
 impl<'a> From<DecLit<'a>> for IntegerLit<'a> {
-    ghost use Rattle.weedle_parts.specs.declared.literal.integer.IntegerLit.TheVariants.{Dec};
+    ghost use Rattle.weedle_literal.specs.declared.integer.IntegerLit.TheVariants.{Dec};
 
     ghost from_gives = { λ value made. made ≡ Dec value };
 
@@ -120,7 +120,7 @@ impl<'a> From<DecLit<'a>> for IntegerLit<'a> {
 }
 
 impl<'a> From<HexLit<'a>> for IntegerLit<'a> {
-    ghost use Rattle.weedle_parts.specs.declared.literal.integer.IntegerLit.TheVariants.{Hex};
+    ghost use Rattle.weedle_literal.specs.declared.integer.IntegerLit.TheVariants.{Hex};
 
     ghost from_gives = { λ value made. made ≡ Hex value };
 
@@ -130,7 +130,7 @@ impl<'a> From<HexLit<'a>> for IntegerLit<'a> {
 }
 
 impl<'a> From<OctLit<'a>> for IntegerLit<'a> {
-    ghost use Rattle.weedle_parts.specs.declared.literal.integer.IntegerLit.TheVariants.{Oct};
+    ghost use Rattle.weedle_literal.specs.declared.integer.IntegerLit.TheVariants.{Oct};
 
     ghost from_gives = { λ value made. made ≡ Oct value };
 

@@ -3,7 +3,7 @@
 ghost use Rattle.weedle_rules.specs.Table.Leaves.{STRING_LIT};
 ghost use Rattle.weedle_base.specs.Own.{own};
 ghost use Rattle.weedle_base.specs.OwnLaws.{own_lawful};
-ghost use Rattle.weedle_parts.specs.LiteralTrees.{string_tree};
+ghost use Rattle.weedle_literal.specs.LiteralTrees.{string_tree};
 
 use memchr::memchr;
 use std::alloc::Global;

@@ -4,16 +4,16 @@ ghost use Rattle.std.specs.Prelude.{◌≡◌};
 ghost use Rattle.weedle_rules.specs.Table.Literals.{DEFAULT_VALUE, CONST_VALUE};
 ghost use Rattle.weedle_base.specs.Own.{own};
 ghost use Rattle.weedle_base.specs.OwnLaws.{own_lawful};
-ghost use Rattle.weedle_parts.specs.LiteralTrees.{default_value_tree, const_value_tree};
+ghost use Rattle.weedle_literal.specs.LiteralTrees.{default_value_tree, const_value_tree};
 
-use crate::literal::boolean::BooleanLit;
-use crate::literal::empty::{EmptyArrayLit, EmptyDictionaryLit};
-use crate::literal::float::FloatLit;
-use crate::literal::integer::IntegerLit;
-use crate::literal::string::StringLit;
+use crate::boolean::BooleanLit;
+use crate::empty::{EmptyArrayLit, EmptyDictionaryLit};
+use crate::float::FloatLit;
+use crate::integer::IntegerLit;
+use crate::string::StringLit;
 use std::alloc::Global;
-use weedle_base::term::Null;
 use weedle_base::{IResult, Parse};
+use weedle_term::Null;
 
 /// The value of a default, as `"blob"` or `[]`: the first of the seven forms that fits. Anything else
 /// is a mismatch, as `undefined` is. Up to thirteen literals and words are tried.
@@ -66,7 +66,7 @@ impl<'a> Parse<'a> for DefaultValue<'a> {
 }
 
 impl From<BooleanLit> for DefaultValue<'_> {
-    ghost use Rattle.weedle_parts.specs.declared.literal.value.DefaultValue.TheVariants.{Boolean};
+    ghost use Rattle.weedle_literal.specs.declared.value.DefaultValue.TheVariants.{Boolean};
 
     ghost from_gives = { λ value made. made ≡ Boolean value };
 
@@ -76,7 +76,7 @@ impl From<BooleanLit> for DefaultValue<'_> {
 }
 
 impl From<EmptyArrayLit> for DefaultValue<'_> {
-    ghost use Rattle.weedle_parts.specs.declared.literal.value.DefaultValue.TheVariants.{EmptyArray};
+    ghost use Rattle.weedle_literal.specs.declared.value.DefaultValue.TheVariants.{EmptyArray};
 
     ghost from_gives = { λ value made. made ≡ EmptyArray value };
 
@@ -86,7 +86,7 @@ impl From<EmptyArrayLit> for DefaultValue<'_> {
 }
 
 impl From<EmptyDictionaryLit> for DefaultValue<'_> {
-    ghost use Rattle.weedle_parts.specs.declared.literal.value.DefaultValue.TheVariants.{EmptyDictionary};
+    ghost use Rattle.weedle_literal.specs.declared.value.DefaultValue.TheVariants.{EmptyDictionary};
 
     ghost from_gives = { λ value made. made ≡ EmptyDictionary value };
 
@@ -96,7 +96,7 @@ impl From<EmptyDictionaryLit> for DefaultValue<'_> {
 }
 
 impl<'a> From<FloatLit<'a>> for DefaultValue<'a> {
-    ghost use Rattle.weedle_parts.specs.declared.literal.value.DefaultValue.TheVariants.{Float};
+    ghost use Rattle.weedle_literal.specs.declared.value.DefaultValue.TheVariants.{Float};
 
     ghost from_gives = { λ value made. made ≡ Float value };
 
@@ -106,7 +106,7 @@ impl<'a> From<FloatLit<'a>> for DefaultValue<'a> {
 }
 
 impl<'a> From<IntegerLit<'a>> for DefaultValue<'a> {
-    ghost use Rattle.weedle_parts.specs.declared.literal.value.DefaultValue.TheVariants.{Integer};
+    ghost use Rattle.weedle_literal.specs.declared.value.DefaultValue.TheVariants.{Integer};
 
     ghost from_gives = { λ value made. made ≡ Integer value };
 
@@ -116,7 +116,7 @@ impl<'a> From<IntegerLit<'a>> for DefaultValue<'a> {
 }
 
 impl From<Null> for DefaultValue<'_> {
-    ghost use Rattle.weedle_parts.specs.declared.literal.value.DefaultValue.TheVariants.{Null};
+    ghost use Rattle.weedle_literal.specs.declared.value.DefaultValue.TheVariants.{Null};
 
     ghost from_gives = { λ value made. made ≡ Null value };
 
@@ -126,7 +126,7 @@ impl From<Null> for DefaultValue<'_> {
 }
 
 impl<'a> From<StringLit<'a>> for DefaultValue<'a> {
-    ghost use Rattle.weedle_parts.specs.declared.literal.value.DefaultValue.TheVariants.{String};
+    ghost use Rattle.weedle_literal.specs.declared.value.DefaultValue.TheVariants.{String};
 
     ghost from_gives = { λ value made. made ≡ String value };
 
@@ -171,7 +171,7 @@ impl<'a> Parse<'a> for ConstValue<'a> {
 }
 
 impl From<BooleanLit> for ConstValue<'_> {
-    ghost use Rattle.weedle_parts.specs.declared.literal.value.ConstValue.TheVariants.{Boolean};
+    ghost use Rattle.weedle_literal.specs.declared.value.ConstValue.TheVariants.{Boolean};
 
     ghost from_gives = { λ value made. made ≡ Boolean value };
 
@@ -181,7 +181,7 @@ impl From<BooleanLit> for ConstValue<'_> {
 }
 
 impl<'a> From<FloatLit<'a>> for ConstValue<'a> {
-    ghost use Rattle.weedle_parts.specs.declared.literal.value.ConstValue.TheVariants.{Float};
+    ghost use Rattle.weedle_literal.specs.declared.value.ConstValue.TheVariants.{Float};
 
     ghost from_gives = { λ value made. made ≡ Float value };
 
@@ -191,7 +191,7 @@ impl<'a> From<FloatLit<'a>> for ConstValue<'a> {
 }
 
 impl<'a> From<IntegerLit<'a>> for ConstValue<'a> {
-    ghost use Rattle.weedle_parts.specs.declared.literal.value.ConstValue.TheVariants.{Integer};
+    ghost use Rattle.weedle_literal.specs.declared.value.ConstValue.TheVariants.{Integer};
 
     ghost from_gives = { λ value made. made ≡ Integer value };
 
@@ -201,7 +201,7 @@ impl<'a> From<IntegerLit<'a>> for ConstValue<'a> {
 }
 
 impl From<Null> for ConstValue<'_> {
-    ghost use Rattle.weedle_parts.specs.declared.literal.value.ConstValue.TheVariants.{Null};
+    ghost use Rattle.weedle_literal.specs.declared.value.ConstValue.TheVariants.{Null};
 
     ghost from_gives = { λ value made. made ≡ Null value };
 

@@ -3,14 +3,14 @@ use Rattle.std.specs.Prelude.{ℕ}
 use Rattle.weedle_base.specs.Generic.{pair_reading, seen_reading}
 use Rattle.weedle_base.specs.Own.{own}
 use Rattle.weedle_base.specs.Reading.{Reading}
-use Rattle.weedle_base.specs.declared.term.symbols.CloseBrace.{CloseBrace}
-use Rattle.weedle_base.specs.declared.term.symbols.CloseBracket.{CloseBracket}
-use Rattle.weedle_base.specs.declared.term.symbols.CloseParen.{CloseParen}
-use Rattle.weedle_base.specs.declared.term.symbols.GreaterThan.{GreaterThan}
-use Rattle.weedle_base.specs.declared.term.symbols.LessThan.{LessThan}
-use Rattle.weedle_base.specs.declared.term.symbols.OpenBrace.{OpenBrace}
-use Rattle.weedle_base.specs.declared.term.symbols.OpenBracket.{OpenBracket}
-use Rattle.weedle_base.specs.declared.term.symbols.OpenParen.{OpenParen}
+use Rattle.weedle_term.specs.declared.symbols.CloseBrace.{CloseBrace}
+use Rattle.weedle_term.specs.declared.symbols.CloseBracket.{CloseBracket}
+use Rattle.weedle_term.specs.declared.symbols.CloseParen.{CloseParen}
+use Rattle.weedle_term.specs.declared.symbols.GreaterThan.{GreaterThan}
+use Rattle.weedle_term.specs.declared.symbols.LessThan.{LessThan}
+use Rattle.weedle_term.specs.declared.symbols.OpenBrace.{OpenBrace}
+use Rattle.weedle_term.specs.declared.symbols.OpenBracket.{OpenBracket}
+use Rattle.weedle_term.specs.declared.symbols.OpenParen.{OpenParen}
 use Rattle.weedle_parts.specs.declared.common.brackets.Parenthesized.{Parenthesized}
 use Rattle.weedle_parts.specs.declared.common.brackets.Bracketed.{Bracketed}
 use Rattle.weedle_parts.specs.declared.common.brackets.Braced.{Braced}

@@ -1,10 +1,10 @@
 //! What the types and definitions of the grammar share: brackets, lists with separators, names,
-//! literals and the types that hold no other type.
+//! docstrings and the types that hold no other type.
 //!
 //! ```rust
 //! use weedle_parts::common::{Identifier, Parenthesized, Punctuated};
 //! use weedle_base::Parse;
-//! use weedle_base::term::Comma;
+//! use weedle_term::Comma;
 //!
 //! let text = "(a, b) c";
 //! let (rest, names) = Parenthesized::<Punctuated<Identifier, Comma>>::parse(rt.alloc(), text).expect(rt, "names");
@@ -14,5 +14,4 @@
 
 pub mod common;
 pub mod laws;
-pub mod literal;
 pub mod types;

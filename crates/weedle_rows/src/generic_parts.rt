@@ -1,15 +1,15 @@
 //! Brackets, lists with separators and what may be null.
 
-use crate::answers::{is_failure, is_mismatch};
 use crate::users::Fuse;
 use std::alloc::Global;
 use std::test::Fail;
-use weedle_base::term::{Comma, Dot, QMark, SemiColon};
+use weedle_answers::{is_failure, is_mismatch};
 use weedle_base::{IResult, Parse, TryClone};
 use weedle_parts::common::{
     Braced, Bracketed, Generics, Identifier, Parenthesized, Punctuated, PunctuatedNonEmpty,
 };
 use weedle_parts::types::MayBeNull;
+use weedle_term::{Comma, Dot, QMark, SemiColon};
 
 /// What follows a list, and its names joined by blanks, or None where there is no list.
 fn names<'a>(

@@ -3,9 +3,9 @@
 use std::alloc::Global;
 use std::test::Fail;
 use weedle::{Definition, Err, parse};
-use weedle_base::term::Comma;
 use weedle_base::{IResult, Parse};
 use weedle_parts::common::{Identifier, Punctuated};
+use weedle_term::Comma;
 
 /// The names of a text's definitions, or where the text is unread, or that memory was refused.
 fn describe<'a>(alloc: Global, text: &'a str) -> &'a str {

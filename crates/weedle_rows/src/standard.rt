@@ -1,10 +1,10 @@
 //! `Parse` and `TryClone` for the standard library's types.
 
-use crate::answers::{is_failure, is_mismatch};
 use crate::users::{Fuse, Nothing};
 use std::test::Fail;
-use weedle_base::term::{Comma, Dot, Or};
+use weedle_answers::{is_failure, is_mismatch};
 use weedle_base::{Parse, TryClone};
+use weedle_term::{Comma, Dot, Or};
 
 #[test]
 fn an_option_takes_nothing_where_its_value_is_refused(rt: HostRuntime) {

@@ -7,10 +7,8 @@ ghost use Rattle.weedle_rules.specs.Table.Keywords.{ASYNC, ATTRIBUTE, CALLBACK, 
 ghost use Rattle.weedle_base.specs.Own.{own};
 ghost use Rattle.weedle_base.specs.OwnLaws.{own_lawful};
 
-use crate::fault::IResult;
-use crate::parse::Parse;
-use crate::token::keyword;
 use std::alloc::Global;
+use weedle_base::{IResult, Parse, keyword};
 use weedle_rules::Rule;
 
 /// The keyword `async`, with the trivia around it.

@@ -7,10 +7,8 @@ ghost use Rattle.weedle_rules.specs.Table.Symbols.{OPEN_PAREN, CLOSE_PAREN, OPEN
 ghost use Rattle.weedle_base.specs.Own.{own};
 ghost use Rattle.weedle_base.specs.OwnLaws.{own_lawful};
 
-use crate::fault::IResult;
-use crate::parse::Parse;
-use crate::token::symbol;
 use std::alloc::Global;
+use weedle_base::{IResult, Parse, symbol};
 use weedle_rules::Rule;
 
 /// The symbol `(`, with the trivia around it.

@@ -7,10 +7,8 @@ ghost use Rattle.weedle_rules.specs.Table.Keywords.{OR, OPTIONAL, UNRESTRICTED, 
 ghost use Rattle.weedle_base.specs.Own.{own};
 ghost use Rattle.weedle_base.specs.OwnLaws.{own_lawful};
 
-use crate::fault::IResult;
-use crate::parse::Parse;
-use crate::token::keyword;
 use std::alloc::Global;
+use weedle_base::{IResult, Parse, keyword};
 use weedle_rules::Rule;
 
 /// The keyword `or`, with the trivia around it.

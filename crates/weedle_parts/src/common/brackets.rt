@@ -6,10 +6,10 @@ ghost use Rattle.weedle_parts.specs.PartLaws.{bracket_lawful};
 ghost use Rattle.weedle_parts.specs.Brackets.{parenthesized_view, parenthesized_reading, bracketed_view, bracketed_reading, braced_view, braced_reading, generics_view, generics_reading};
 
 use std::alloc::{AllocError, Global};
-use weedle_base::term::{
+use weedle_base::{IResult, Parse, TryClone};
+use weedle_term::{
     CloseBrace, CloseBracket, CloseParen, GreaterThan, LessThan, OpenBrace, OpenBracket, OpenParen,
 };
-use weedle_base::{IResult, Parse, TryClone};
 
 /// A body in parentheses, as `(a, b)`: `(`, what the body reads, `)`. Where one of the three isn't there it
 /// is a mismatch. It takes the memory that the body takes.

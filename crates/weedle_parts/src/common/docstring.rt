@@ -5,7 +5,7 @@ ghost use Rattle.weedle_rules.specs.Table.Leaves.{DOCSTRING};
 ghost use Rattle.weedle_base.specs.Own.{own};
 ghost use Rattle.weedle_base.specs.OwnLaws.{own_lawful};
 ghost use Rattle.weedle_base.specs.AlikeLaws.{equal_equivalence, seen_equivalence};
-ghost use Rattle.weedle_parts.specs.LiteralTrees.{docstring_tree};
+ghost use Rattle.weedle_parts.specs.ValueTrees.{docstring_tree};
 
 use std::alloc::{AllocError, Global};
 use weedle_base::{IResult, Parse, TryClone, docstring};

@@ -7,8 +7,8 @@ ghost use Rattle.weedle_base.specs.OwnLaws.{own_lawful};
 ghost use Rattle.weedle_parts.specs.ValueTrees.{float_type_tree, double_type_tree, floating_point_type_tree};
 
 use std::alloc::Global;
-use weedle_base::term::{Double, Float, Unrestricted};
 use weedle_base::{IResult, Parse};
+use weedle_term::{Double, Float, Unrestricted};
 
 /// `float` or `unrestricted float`.
 #[derive(Clone, Copy, Debug, PartialEq, Eq, PartialOrd, Ord, Hash)]

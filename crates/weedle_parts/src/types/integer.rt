@@ -7,8 +7,8 @@ ghost use Rattle.weedle_base.specs.OwnLaws.{own_lawful};
 ghost use Rattle.weedle_parts.specs.ValueTrees.{long_long_type_tree, long_type_tree, short_type_tree, integer_type_tree};
 
 use std::alloc::Global;
-use weedle_base::term::{Long, Short, Unsigned};
 use weedle_base::{IResult, Parse};
+use weedle_term::{Long, Short, Unsigned};
 
 /// `long long` or `unsigned long long`.
 #[derive(Clone, Copy, Debug, PartialEq, Eq, PartialOrd, Ord, Hash)]

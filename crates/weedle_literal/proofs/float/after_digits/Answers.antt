@@ -2,7 +2,7 @@ use Rattle.std.proofs.Common.{refl}
 use Rattle.weedle_rules.specs.Table.Leaves.{DIGITS}
 use Rattle.weedle_rules.proofs.Suffix.{fails, no_node}
 use Rattle.weedle_base.proofs.SilentRules.{exit, along, last, took_seq}
-use Rattle.weedle_parts.proofs.literal.float.after_digits.Goals as goal
+use Rattle.weedle_literal.proofs.float.after_digits.Goals as goal
 
 pub returns-in_err-first : goal.returns-in_err-first
 returns-in_err-first c = exit DIGITS c.from_residual.ensures (no_node refl (fails c.in_err-first.ensures))

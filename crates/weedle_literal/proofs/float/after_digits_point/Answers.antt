@@ -2,7 +2,7 @@ use Rattle.std.proofs.Common.{refl}
 use Rattle.weedle_rules.specs.Table.Leaves.{POINT_AFTER_DIGITS}
 use Rattle.weedle_rules.proofs.Suffix.{fails, no_node}
 use Rattle.weedle_base.proofs.SilentRules.{exit, along, last, lost, took_seq}
-use Rattle.weedle_parts.proofs.literal.float.after_digits_point.Goals as goal
+use Rattle.weedle_literal.proofs.float.after_digits_point.Goals as goal
 
 pub returns-in_err-whole : goal.returns-in_err-whole
 returns-in_err-whole c = exit POINT_AFTER_DIGITS c.from_residual.ensures (no_node refl (fails c.in_err-whole.ensures))

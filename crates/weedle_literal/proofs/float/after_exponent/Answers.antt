@@ -2,7 +2,7 @@ use Rattle.std.proofs.Common.{refl}
 use Rattle.weedle_rules.proofs.Suffix.{fails, no_node}
 use Rattle.weedle_rules.specs.Table.Leaves.{DIGITS, EXPONENT}
 use Rattle.weedle_base.proofs.SilentRules.{exit, along, last, lost, took_seq, decided}
-use Rattle.weedle_parts.proofs.literal.float.after_exponent.Goals as goal
+use Rattle.weedle_literal.proofs.float.after_exponent.Goals as goal
 
 pub returns-in_err-letter : goal.returns-in_err-letter
 returns-in_err-letter c = exit EXPONENT c.from_residual.ensures (no_node refl (fails c.in_err-letter.ensures))

@@ -1,7 +1,7 @@
 use Rattle.std.proofs.Common.{refl}
 use Rattle.weedle_rules.specs.Table.Leaves.{FLOAT_FORM, EXPONENT_FORM}
 use Rattle.weedle_base.proofs.SilentRules.{took_first, took_second, no_first, decided}
-use Rattle.weedle_parts.proofs.literal.float.after_float_form.Goals as goal
+use Rattle.weedle_literal.proofs.float.after_float_form.Goals as goal
 
 pub returns-in-Some : goal.returns-in-Some
 returns-in-Some c = took_first refl refl c.in-Some.ensures

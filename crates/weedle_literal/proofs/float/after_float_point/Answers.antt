@@ -2,7 +2,7 @@ use Rattle.std.proofs.Common.{refl}
 use Rattle.weedle_rules.specs.Table.Leaves.{POINT_FORM}
 use Rattle.weedle_rules.proofs.Suffix.{fails, no_node}
 use Rattle.weedle_base.proofs.SilentRules.{exit, along, last, took_seq}
-use Rattle.weedle_parts.proofs.literal.float.after_float_point.Goals as goal
+use Rattle.weedle_literal.proofs.float.after_float_point.Goals as goal
 
 pub returns-in_err-number : goal.returns-in_err-number
 returns-in_err-number c = exit POINT_FORM c.from_residual.ensures (no_node refl (fails c.in_err-number.ensures))

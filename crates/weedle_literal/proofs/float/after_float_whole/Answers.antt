@@ -2,7 +2,7 @@ use Rattle.std.proofs.Common.{refl}
 use Rattle.weedle_rules.proofs.Suffix.{fails, no_node}
 use Rattle.weedle_rules.specs.Table.Leaves.{EXPONENT, EXPONENT_FORM}
 use Rattle.weedle_base.proofs.SilentRules.{exit, along, last, lost, took_seq, decided}
-use Rattle.weedle_parts.proofs.literal.float.after_float_whole.Goals as goal
+use Rattle.weedle_literal.proofs.float.after_float_whole.Goals as goal
 
 pub returns-in_err-whole : goal.returns-in_err-whole
 returns-in_err-whole c = exit EXPONENT_FORM c.from_residual.ensures (no_node refl (fails c.in_err-whole.ensures))

@@ -1,7 +1,7 @@
 use Rattle.std.proofs.Common.{refl}
 use Rattle.weedle_rules.specs.Table.Leaves.{POINT, POINT_BEFORE_DIGITS}
 use Rattle.weedle_base.proofs.SilentRules.{took_first, took_second, no_first, decided}
-use Rattle.weedle_parts.proofs.literal.float.after_point.Goals as goal
+use Rattle.weedle_literal.proofs.float.after_point.Goals as goal
 
 pub returns-in-Some : goal.returns-in-Some
 returns-in-Some c = took_first refl refl c.in-Some.ensures

@@ -2,7 +2,7 @@ use Rattle.std.proofs.Common.{refl}
 use Rattle.weedle_rules.proofs.Suffix.{fails, no_node}
 use Rattle.weedle_rules.specs.Table.Leaves.{DIGITS, POINT_BEFORE_DIGITS}
 use Rattle.weedle_base.proofs.SilentRules.{exit, along, last, lost, took_seq, decided}
-use Rattle.weedle_parts.proofs.literal.float.after_point_digits.Goals as goal
+use Rattle.weedle_literal.proofs.float.after_point_digits.Goals as goal
 
 pub returns-in_err-point : goal.returns-in_err-point
 returns-in_err-point c = exit POINT_BEFORE_DIGITS c.from_residual.ensures (no_node refl (lost c.after_run-whole.ensures (fails c.in_err-point.ensures)))

@@ -1,8 +1,8 @@
 use Rattle.std.proofs.Common.{refl}
 use Rattle.weedle_rules.specs.Trees.{Text}
 use Rattle.weedle_base.proofs.TokenFacts.{got_own, fault_own}
-use Rattle.weedle_parts.proofs.KeptFacts.{kept_reads, no_kept}
-use Rattle.weedle_parts.proofs.literal.float.FloatValueLitParse.parse.Goals as goal
+use Rattle.weedle_literal.proofs.KeptFacts.{kept_reads, no_kept}
+use Rattle.weedle_literal.proofs.float.FloatValueLitParse.parse.Goals as goal
 
 pub returns-in-Some : goal.returns-in-Some
 returns-in-Some c = got_own (λ v. Text v.0.now) ⊥ _ (kept_reads c.skip_trivia-start.ensures refl refl c.taken.ensures c.skip_trivia.ensures) refl c.utf8.input c.skip_trivia.utf8

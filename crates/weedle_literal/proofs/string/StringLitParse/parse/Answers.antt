@@ -3,8 +3,8 @@ use Rattle.memchr.specs.Find.{IsFirstByte, is_byte}
 use Rattle.weedle_rules.specs.Trees.{Text}
 use Rattle.weedle_base.proofs.TokenFacts.{got_own, fault_own}
 use Rattle.weedle_base.proofs.FindFacts.{behind_cut}
-use Rattle.weedle_parts.proofs.QuoteFacts.{no_quote, open_quote, quoted}
-use Rattle.weedle_parts.proofs.literal.string.StringLitParse.parse.Goals as goal
+use Rattle.weedle_literal.proofs.QuoteFacts.{no_quote, open_quote, quoted}
+use Rattle.weedle_literal.proofs.string.StringLitParse.parse.Goals as goal
 
 pub returns-in_default : goal.returns-in_default
 returns-in_default c = fault_own (λ v. Text v.0.now) ⊥ (no_quote c.skip_trivia-start.ensures c.in_default.ensures) c.utf8.input c.mismatch.ensures
