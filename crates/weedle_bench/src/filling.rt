@@ -5,13 +5,13 @@ use std::fmt::{self, Display, Formatter, Write};
 use std::time::Instant;
 use weedle_rules::{Cell, Ends, Narrow, RULES, Rule};
 
-/// Fills the table and prints what it holds.
-pub fn count(rt: &HostRuntime, text: &str) -> anyhow::Result<()> {
-    let ends = Ends::new(rt.alloc(), text)?;
+/// Prints what a table holds.
+pub fn count(rt: &HostRuntime, ends: &Ends<'_>) -> anyhow::Result<()> {
     let end = ends.end(Rule::DEFINITIONS, 0);
+    let width = if ends.is_narrow() { "narrow" } else { "wide" };
     println!(rt;
-        "{} bytes, {} cells, definitions to {end:?}",
-        text.len(),
+        "{} bytes, {} {width} cells, definitions to {end:?}",
+        ends.text().len(),
         ends.workings()
     )?;
     Ok(())
@@ -19,7 +19,7 @@ pub fn count(rt: &HostRuntime, text: &str) -> anyhow::Result<()> {
 
 /// Times the filling, and the laying down of as many cells, a few times.
 pub fn time(rt: &HostRuntime, text: &str) -> anyhow::Result<()> {
-    count(rt, text)?;
+    count(rt, &Ends::new(rt.alloc(), text)?)?;
     let bytes = text.len() as u128;
     for _ in 0..5 {
         let start = Instant::now(rt)?;

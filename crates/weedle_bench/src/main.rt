@@ -7,7 +7,8 @@
 //! rt run -- 1000000
 //! ```
 //!
-//! With no argument it fills the tables of a few small texts and says what they hold.
+//! With no argument it fills the tables of a few small texts, with narrow and with wide cells, and
+//! says what they hold.
 #![tactic(auto)]
 
 mod filling;
@@ -15,6 +16,7 @@ mod random;
 mod text;
 
 use anyhow::anyhow;
+use weedle_rules::Ends;
 
 const SEED: u64 = 7;
 
@@ -28,7 +30,9 @@ fn main(rt: HostRuntime) -> anyhow::Result<()> {
         }
         None => {
             for size in [0, 1_000, 10_000] {
-                filling::count(&rt, &text::definitions(rt.alloc(), SEED, size)?)?;
+                let text = text::definitions(rt.alloc(), SEED, size)?;
+                filling::count(&rt, &Ends::new(rt.alloc(), &text)?)?;
+                filling::count(&rt, &Ends::new_wide(rt.alloc(), &text)?)?;
             }
             Ok(())
         }
