@@ -4,8 +4,6 @@ use Rattle.std.proofs.lemmas.List.{length-drop}
 use Rattle.std.specs.Borrow.{Bor}
 use Rattle.std.specs.Global.{Vec}
 use Rattle.std.specs.Prelude.{◌≡◌, ℕ, ◌<◌, ◌==◌, false, List, [], ◌∷◌, length, drop, Err as Failed}
-use Rattle.weedle_base.proofs.RuleFacts.{own_rule}
-use Rattle.weedle_base.proofs.RunRules.{run_rule}
 use Rattle.weedle_base.proofs.TakesFacts.{own_takes, never_refused}
 use Rattle.weedle_base.specs.Faults.{IsOutOfMemory}
 use Rattle.weedle_base.specs.Own.{own}
@@ -18,13 +16,11 @@ use Rattle.weedle_rules.proofs.Unique.{one_outcome}
 use Rattle.weedle_rules.specs.Table.{Reads}
 use Rattle.weedle_rules.specs.Table.FirstPath.{FIRST_DEFINITION, FIRST_DEFINITIONS}
 use Rattle.weedle_rules.specs.Trees.{Tree, Gives}
-use Rattle.weedle.specs.Laws.{definitions_reading, ReadsDefinitions}
-use Rattle.weedle.specs.ValueTrees.{definition_tree, definitions_tree}
+use Rattle.weedle_first_path.proofs.DefinitionFacts.{reads_definitions}
+use Rattle.weedle_first_path.specs.Laws.{definitions_reading}
+use Rattle.weedle_first_path.specs.ValueTrees.{definition_tree, definitions_tree}
 use Rattle.weedle.specs.Whole.{IsWhole, IsLeft, LeavesRest, ParseAnswers}
-use Rattle.weedle.specs.declared.definition.Definition.{Definition}
-
-pub reads_definitions : ReadsDefinitions
-reads_definitions = run_rule (own_rule FIRST_DEFINITION definition_tree (Unit {0})) (λ v. v.items) FIRST_DEFINITIONS refl refl tt
+use Rattle.weedle_first_path.specs.declared.definition.Definition.{Definition}
 
 -- a list of definitions is read from any text
 pub never_left : {raw : List ℕ} {e : Error (Bor (List ℕ))} → Faults definitions_reading raw (Stopped e) → ⊥

@@ -9,8 +9,8 @@ use Rattle.weedle_base.specs.declared.fault.ErrorKind.TheVariants.{Unread, Memor
 use Rattle.weedle_rules.specs.Table.{Reads}
 use Rattle.weedle_rules.specs.Table.FirstPath.{FIRST_DEFINITIONS}
 use Rattle.weedle_rules.specs.Trees.{Tree, Gives}
-use Rattle.weedle.specs.ValueTrees.{definitions_tree}
-use Rattle.weedle.specs.declared.definition.Definition.{Definition}
+use Rattle.weedle_first_path.specs.ValueTrees.{definitions_tree}
+use Rattle.weedle_first_path.specs.declared.definition.Definition.{Definition}
 
 -- the grammar reads the whole text as these definitions
 unfoldable pub IsWhole : List ℕ → List Definition → Type 0

@@ -12,19 +12,18 @@
 //! }
 //! ```
 //!
-//! What the grammar reads of a text is said in the crate `weedle_rules`, and in
-//! `specs/ValueTrees.antt` which of its trees each value stands for.
+//! The types stand in `weedle_first_path`. What the grammar reads of a text is said in the crate
+//! `weedle_rules`, and in `specs/ValueTrees.antt` of the types which of its trees each value stands
+//! for.
 #![tactic(auto)]
 
-pub mod common;
-mod definition;
-pub mod interface;
-pub mod laws;
 mod program;
 mod reader;
 
-pub use definition::{Definition, Definitions, InterfaceDefinition, kind_of, name_of};
 pub use program::{RunFault, Status, run};
 pub use reader::parse;
 pub use weedle_base::{Err, Error, ErrorKind, IResult, Parse};
+pub use weedle_first_path::{
+    Definition, Definitions, InterfaceDefinition, common, interface, kind_of, laws, name_of,
+};
 pub use weedle_term as term;

@@ -5,7 +5,7 @@ use Rattle.weedle_base.specs.OwnLaws.{own_lawful}
 use Rattle.weedle_base.specs.Reading.{Reading, IsLawful}
 use Rattle.weedle_rules.specs.Table.Symbols.{OPEN_BRACE, CLOSE_BRACE}
 use Rattle.weedle_rules.specs.Trees.{Mark}
-use Rattle.weedle.specs.Braces.{braced_view, open_reading, close_reading, braced_parts, braced_reading}
+use Rattle.weedle_first_path.specs.Braces.{braced_view, open_reading, close_reading, braced_parts, braced_reading}
 
 -- the law of `Braced`
 pub braced_lawful : {T : Type 0} (R : Reading T) → IsLawful R → IsLawful (braced_reading R)

@@ -3,9 +3,9 @@
 ghost use Rattle.weedle_base.specs.Own.{own};
 ghost use Rattle.weedle_base.specs.OwnLaws.{own_lawful};
 ghost use Rattle.weedle_rules.specs.Table.Leaves.{IDENTIFIER};
-ghost use Rattle.weedle.specs.Braces.{braced_reading};
-ghost use Rattle.weedle.specs.BraceLaws.{braced_lawful};
-ghost use Rattle.weedle.specs.ValueTrees.{identifier_tree};
+ghost use Rattle.weedle_first_path.specs.Braces.{braced_reading};
+ghost use Rattle.weedle_first_path.specs.BraceLaws.{braced_lawful};
+ghost use Rattle.weedle_first_path.specs.ValueTrees.{identifier_tree};
 
 use std::alloc::Global;
 use weedle_base::{IResult, Parse, mismatch, scan};

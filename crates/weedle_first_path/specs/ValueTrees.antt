@@ -3,14 +3,14 @@ use Rattle.std.specs.Global.{Vec}
 use Rattle.std.specs.Prelude.{List, [], ◌∷◌}
 use Rattle.weedle_base.specs.Rules.{option_tree, items_tree}
 use Rattle.weedle_rules.specs.Trees.{Tree, Mark, Text, Node, Alt, trees}
-use Rattle.weedle.specs.declared.common.Braced.{Braced}
-use Rattle.weedle.specs.declared.common.Identifier.{Identifier}
-use Rattle.weedle.specs.declared.definition.Definition.{Definition}
-use Rattle.weedle.specs.declared.definition.Definition.TheVariants.{Interface as IsInterface}
-use Rattle.weedle.specs.declared.definition.InterfaceDefinition.{InterfaceDefinition}
-use Rattle.weedle.specs.declared.interface.AttributeInterfaceMember.{AttributeInterfaceMember}
-use Rattle.weedle.specs.declared.interface.InterfaceMember.{InterfaceMember}
-use Rattle.weedle.specs.declared.interface.InterfaceMember.TheVariants.{Attribute as IsAttribute}
+use Rattle.weedle_first_path.specs.declared.common.Braced.{Braced}
+use Rattle.weedle_first_path.specs.declared.common.Identifier.{Identifier}
+use Rattle.weedle_first_path.specs.declared.definition.Definition.{Definition}
+use Rattle.weedle_first_path.specs.declared.definition.Definition.TheVariants.{Interface as IsInterface}
+use Rattle.weedle_first_path.specs.declared.definition.InterfaceDefinition.{InterfaceDefinition}
+use Rattle.weedle_first_path.specs.declared.interface.AttributeInterfaceMember.{AttributeInterfaceMember}
+use Rattle.weedle_first_path.specs.declared.interface.InterfaceMember.{InterfaceMember}
+use Rattle.weedle_first_path.specs.declared.interface.InterfaceMember.TheVariants.{Attribute as IsAttribute}
 
 -- a name: its text
 abbrev pub identifier_tree : Identifier → Tree

@@ -20,10 +20,10 @@ use Rattle.weedle_rules.specs.Table.Keywords.{ATTRIBUTE, READ_ONLY}
 use Rattle.weedle_rules.specs.Table.Leaves.{IDENTIFIER}
 use Rattle.weedle_rules.specs.Table.Symbols.{SEMI_COLON}
 use Rattle.weedle_rules.specs.Trees.{Mark, Node, Alt, trees}
-use Rattle.weedle.specs.ValueTrees.{identifier_tree, attribute_member_tree, interface_member_tree}
-use Rattle.weedle.specs.declared.common.Identifier.{Identifier}
-use Rattle.weedle.specs.declared.interface.AttributeInterfaceMember.{AttributeInterfaceMember}
-use Rattle.weedle.specs.declared.interface.InterfaceMember.TheVariants.{Attribute as IsAttribute}
+use Rattle.weedle_first_path.specs.ValueTrees.{identifier_tree, attribute_member_tree, interface_member_tree}
+use Rattle.weedle_first_path.specs.declared.common.Identifier.{Identifier}
+use Rattle.weedle_first_path.specs.declared.interface.AttributeInterfaceMember.{AttributeInterfaceMember}
+use Rattle.weedle_first_path.specs.declared.interface.InterfaceMember.TheVariants.{Attribute as IsAttribute}
 
 abbrev read_only : Reading ReadOnly
 read_only = own READ_ONLY (λ v. Mark) ⊥

@@ -8,7 +8,7 @@ use Rattle.weedle_rules.specs.Rows.{Seq}
 use Rattle.weedle_rules.specs.Table.{row_of, shape_of}
 use Rattle.weedle_rules.specs.Table.Symbols.{OPEN_BRACE, CLOSE_BRACE}
 use Rattle.weedle_rules.specs.Trees.{Tree, Mark, Node, trees}
-use Rattle.weedle.specs.Braces.{braced_view, braced_reading}
+use Rattle.weedle_first_path.specs.Braces.{braced_view, braced_reading}
 
 pub braced_rule : {T : Type 0} {R : Reading T} {x : ℕ} {tree : T → Tree} {grows : Type 0} → IsRule R x tree grows
     → (r : ℕ) → row_of r ≡ Seq (OPEN_BRACE ∷ x ∷ CLOSE_BRACE ∷ []) → shape_of r ≡ Plain

@@ -1,7 +1,7 @@
 -- The kind and the name of a definition.
 use Rattle.std.specs.Prelude.{ℕ, List, codes}
-use Rattle.weedle.specs.declared.definition.Definition.{Definition}
-use Rattle.weedle.specs.declared.definition.Definition.TheVariants.{Interface as IsInterface}
+use Rattle.weedle_first_path.specs.declared.definition.Definition.{Definition}
+use Rattle.weedle_first_path.specs.declared.definition.Definition.TheVariants.{Interface as IsInterface}
 
 -- the word for the kind of a definition
 abbrev pub kind_text : Definition → List ℕ

@@ -16,19 +16,20 @@ use Rattle.weedle_base.specs.declared.fault.Err.{Err as Fault}
 use Rattle.weedle_base.specs.declared.fault.Error.{Error}
 use Rattle.weedle_term.specs.declared.definition_keywords.Interface.{Interface}
 use Rattle.weedle_term.specs.declared.symbols.SemiColon.{SemiColon}
-use Rattle.weedle_rules.specs.Table.FirstPath.{FIRST_MEMBER, FIRST_MEMBERS, BRACED_FIRST_MEMBERS, FIRST_INTERFACE, FIRST_DEFINITION}
+use Rattle.weedle_rules.specs.Table.FirstPath.{FIRST_MEMBER, FIRST_MEMBERS, BRACED_FIRST_MEMBERS, FIRST_INTERFACE, FIRST_DEFINITION, FIRST_DEFINITIONS}
 use Rattle.weedle_rules.specs.Table.Keywords.{INTERFACE}
 use Rattle.weedle_rules.specs.Table.Leaves.{IDENTIFIER}
 use Rattle.weedle_rules.specs.Table.Symbols.{SEMI_COLON}
 use Rattle.weedle_rules.specs.Trees.{Mark, Node, Alt, trees}
-use Rattle.weedle.proofs.BraceFacts.{braced_rule}
-use Rattle.weedle.specs.Braces.{braced_reading}
-use Rattle.weedle.specs.ValueTrees.{identifier_tree, interface_member_tree, interface_members_tree, members_tree, interface_definition_tree, definition_tree}
-use Rattle.weedle.specs.declared.common.Braced.{Braced}
-use Rattle.weedle.specs.declared.common.Identifier.{Identifier}
-use Rattle.weedle.specs.declared.definition.Definition.TheVariants.{Interface as IsInterface}
-use Rattle.weedle.specs.declared.definition.InterfaceDefinition.{InterfaceDefinition}
-use Rattle.weedle.specs.declared.interface.InterfaceMember.{InterfaceMember}
+use Rattle.weedle_first_path.proofs.BraceFacts.{braced_rule}
+use Rattle.weedle_first_path.specs.Braces.{braced_reading}
+use Rattle.weedle_first_path.specs.Laws.{ReadsDefinitions}
+use Rattle.weedle_first_path.specs.ValueTrees.{identifier_tree, interface_member_tree, interface_members_tree, members_tree, interface_definition_tree, definition_tree}
+use Rattle.weedle_first_path.specs.declared.common.Braced.{Braced}
+use Rattle.weedle_first_path.specs.declared.common.Identifier.{Identifier}
+use Rattle.weedle_first_path.specs.declared.definition.Definition.TheVariants.{Interface as IsInterface}
+use Rattle.weedle_first_path.specs.declared.definition.InterfaceDefinition.{InterfaceDefinition}
+use Rattle.weedle_first_path.specs.declared.interface.InterfaceMember.{InterfaceMember}
 
 abbrev pub members_reading : Reading (Vec InterfaceMember)
 members_reading = run_reading (λ v. v.items) (vec_step (own FIRST_MEMBER interface_member_tree ⊥))
@@ -54,6 +55,9 @@ interface_own = own FIRST_INTERFACE interface_definition_tree (Unit {0})
 
 one_definition_rule : IsRule interface_own FIRST_DEFINITION (λ v. Alt 0 (interface_definition_tree v)) (Unit {0})
 one_definition_rule = first_rule (first_last 0 (own_rule FIRST_INTERFACE interface_definition_tree (Unit {0}))) FIRST_DEFINITION refl refl
+
+pub reads_definitions : ReadsDefinitions
+reads_definitions = run_rule (own_rule FIRST_DEFINITION definition_tree (Unit {0})) (λ v. v.items) FIRST_DEFINITIONS refl refl tt
 
 module _ {s : List ℕ} where
   module _ {rest : List ℕ} where

@@ -6,7 +6,7 @@ use Rattle.weedle_term.specs.declared.symbols.CloseBrace.{CloseBrace}
 use Rattle.weedle_term.specs.declared.symbols.OpenBrace.{OpenBrace}
 use Rattle.weedle_rules.specs.Table.Symbols.{OPEN_BRACE, CLOSE_BRACE}
 use Rattle.weedle_rules.specs.Trees.{Mark}
-use Rattle.weedle.specs.declared.common.Braced.{Braced}
+use Rattle.weedle_first_path.specs.declared.common.Braced.{Braced}
 
 -- the three parts, one after another
 abbrev pub braced_view : {T : Type 0} → Braced T → OpenBrace × (T × CloseBrace)
