@@ -1,0 +1,12 @@
+pub mod AliasRules
+pub mod ArgumentRules
+pub mod AttributeRules
+pub mod Direct
+pub mod GenericTypeRules
+pub mod IfRows
+pub mod PlainAttributeRules
+pub mod PlainTypeRules
+pub mod Smaller
+pub mod TreeLaws
+pub mod TypeRules
+pub mod UnionRules

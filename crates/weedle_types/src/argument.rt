@@ -1,0 +1,65 @@
+//! Arguments, as `optional long x = 5`.
+//!
+//! A list of arguments ends behind its last argument: of `long x, long` the rest is `, long`. Attributes and
+//! types ask for memory: where it is refused, the call ends at once with a failure of code `Memory`.
+
+ghost use Rattle.std.specs.Prelude.{◌≡◌};
+
+use crate::attribute::ExtendedAttributeList;
+use crate::types::{AttributedType, Type};
+use weedle_literal::Default;
+use weedle_parts::common::{Identifier, Punctuated};
+use weedle_term::{Comma, Ellipsis, Optional};
+
+/// Arguments, as `long x, long y`, none included.
+pub type ArgumentList<'a> = Punctuated<Argument<'a>, Comma>;
+
+/// An argument, as `long x`, or `long... xs` for any number of them.
+#[cycle(types)]
+#[derive(Debug, PartialEq, Eq, PartialOrd, Ord, Hash, Drop)]
+pub enum Argument<'a> {
+    Single(SingleArgument<'a>),
+    Variadic(VariadicArgument<'a>),
+}
+
+/// An argument, as `optional long x = 5`. A default is read only behind `optional`: of `long x = 5` the rest
+/// is `= 5`. The attributes that stand first are the argument's, and those behind them its type's.
+#[cycle(types)]
+#[derive(Debug, PartialEq, Eq, PartialOrd, Ord, Hash, Drop)]
+pub struct SingleArgument<'a> {
+    pub attributes: Option<ExtendedAttributeList<'a>>,
+    pub optional: Option<Optional>,
+    pub type_: AttributedType<'a>,
+    pub identifier: Identifier<'a>,
+    pub default: Option<Default<'a>>,
+}
+
+/// Any number of arguments, as `long... xs`.
+#[cycle(types)]
+#[derive(Debug, PartialEq, Eq, PartialOrd, Ord, Hash, Drop)]
+pub struct VariadicArgument<'a> {
+    pub attributes: Option<ExtendedAttributeList<'a>>,
+    pub type_: Type<'a>,
+    pub ellipsis: Ellipsis,
+    pub identifier: Identifier<'a>,
+}
+
+impl<'a> From<SingleArgument<'a>> for Argument<'a> {
+    ghost use Rattle.weedle_types.specs.declared.argument.Argument.TheVariants.{Single};
+
+    ghost from_gives = { λ v e. e ≡ Single v };
+
+    fn from(value: SingleArgument<'a>) -> Self {
+        Argument::Single(value)
+    }
+}
+
+impl<'a> From<VariadicArgument<'a>> for Argument<'a> {
+    ghost use Rattle.weedle_types.specs.declared.argument.Argument.TheVariants.{Variadic};
+
+    ghost from_gives = { λ v e. e ≡ Variadic v };
+
+    fn from(value: VariadicArgument<'a>) -> Self {
+        Argument::Variadic(value)
+    }
+}

@@ -1,0 +1,202 @@
+//! Attributes, as `[Exposed=(Window, Worker), SecureContext]`.
+//!
+//! A list without its closing bracket, or with a comma at its end, is a mismatch. Lists ask for memory: where it
+//! is refused, the call ends at once with a failure of code `Memory`.
+
+ghost use Rattle.std.specs.Prelude.{◌≡◌};
+ghost use Rattle.weedle_base.specs.Own.{own};
+ghost use Rattle.weedle_base.specs.OwnLaws.{own_lawful};
+ghost use Rattle.weedle_rules.specs.Table.Types.{EXTENDED_ATTRIBUTE_IDENT, EXTENDED_ATTRIBUTE_IDENT_LIST, EXTENDED_ATTRIBUTE_NO_ARGS, IDENTIFIER_OR_STRING};
+ghost use Rattle.weedle_types.specs.Trees.{extended_attribute_ident_list_tree, extended_attribute_ident_tree, extended_attribute_no_args_tree, identifier_or_string_tree};
+
+use crate::argument::Argument;
+use crate::formers;
+use std::alloc::Global;
+use weedle_base::{IResult, Parse};
+use weedle_literal::StringLit;
+use weedle_parts::common::{Bracketed, Identifier, Parenthesized, Punctuated};
+use weedle_term::{Assign, Comma};
+
+/// Attributes in brackets, as `[Exposed=Window, SecureContext]`; `[]` too.
+pub type ExtendedAttributeList<'a> = Bracketed<Punctuated<ExtendedAttribute<'a>, Comma>>;
+
+/// Names, as `Window, Worker`, none included.
+pub type IdentifierList<'a> = Punctuated<Identifier<'a>, Comma>;
+
+/// An attribute, as `Exposed=Window` or `Constructor(long x)`.
+pub type ExtendedAttribute<'a> = formers::ExtendedAttribute<'a, Argument<'a>>;
+
+/// An attribute with arguments, as `Constructor(long x)`.
+pub type ExtendedAttributeArgList<'a> = formers::ExtendedAttributeArgList<'a, Argument<'a>>;
+
+/// An attribute with a name and arguments, as `NamedConstructor=Image(long x)`.
+pub type ExtendedAttributeNamedArgList<'a> = formers::ExtendedAttributeNamedArgList<
+    'a,
+    Argument<'a>,
+>;
+
+/// An attribute with names, as `Exposed=(Window, Worker)`.
+#[derive(Debug, PartialEq, Eq, PartialOrd, Ord, Hash, Drop)]
+pub struct ExtendedAttributeIdentList<'a> {
+    pub identifier: Identifier<'a>,
+    pub assign: Assign,
+    pub list: Parenthesized<IdentifierList<'a>>,
+}
+
+/// An attribute with a name or a string, as `PutForwards=name`. It takes no memory.
+#[derive(Clone, Copy, Debug, PartialEq, Eq, PartialOrd, Ord, Hash)]
+pub struct ExtendedAttributeIdent<'a> {
+    pub lhs_identifier: Identifier<'a>,
+    pub assign: Assign,
+    pub rhs: IdentifierOrString<'a>,
+}
+
+/// An attribute that is a name alone, as `Replaceable`. It takes no memory.
+#[derive(Clone, Copy, Debug, PartialEq, Eq, PartialOrd, Ord, Hash)]
+pub struct ExtendedAttributeNoArgs<'a>(pub Identifier<'a>);
+
+/// A name or a string, as `name` or `"name"`. It takes no memory.
+#[derive(Clone, Copy, Debug, PartialEq, Eq, PartialOrd, Ord, Hash)]
+pub enum IdentifierOrString<'a> {
+    Identifier(Identifier<'a>),
+    String(StringLit<'a>),
+}
+
+#[tactic(auto, using(crate::proofs::PlainAttributeRules::extended_attribute_ident_list_steps))]
+impl<'a> Parse<'a> for ExtendedAttributeIdentList<'a> {
+    ghost reading = { own EXTENDED_ATTRIBUTE_IDENT_LIST extended_attribute_ident_list_tree (Unit {0}) };
+
+    fn parse(alloc: Global, input: &'a str) -> IResult<&'a str, Self> {
+        let (rest, identifier) = Parse::parse(alloc, input)?;
+        let (rest, assign) = Parse::parse(alloc, rest)?;
+        let (rest, list) = Parse::parse(alloc, rest)?;
+        Ok((
+            rest,
+            ExtendedAttributeIdentList {
+                identifier,
+                assign,
+                list,
+            },
+        ))
+    }
+
+    ghost lawful = { own_lawful EXTENDED_ATTRIBUTE_IDENT_LIST extended_attribute_ident_list_tree (Unit {0}) };
+}
+
+#[tactic(auto, using(crate::proofs::PlainAttributeRules::extended_attribute_ident_steps))]
+impl<'a> Parse<'a> for ExtendedAttributeIdent<'a> {
+    ghost reading = { own EXTENDED_ATTRIBUTE_IDENT extended_attribute_ident_tree ⊥ };
+
+    fn parse(alloc: Global, input: &'a str) -> IResult<&'a str, Self> {
+        let (rest, lhs_identifier) = Parse::parse(alloc, input)?;
+        let (rest, assign) = Parse::parse(alloc, rest)?;
+        let (rest, rhs) = Parse::parse(alloc, rest)?;
+        Ok((
+            rest,
+            ExtendedAttributeIdent {
+                lhs_identifier,
+                assign,
+                rhs,
+            },
+        ))
+    }
+
+    ghost lawful = { own_lawful EXTENDED_ATTRIBUTE_IDENT extended_attribute_ident_tree ⊥ };
+}
+
+#[tactic(auto, using(crate::proofs::PlainAttributeRules::extended_attribute_no_args_steps))]
+impl<'a> Parse<'a> for ExtendedAttributeNoArgs<'a> {
+    ghost reading = { own EXTENDED_ATTRIBUTE_NO_ARGS extended_attribute_no_args_tree ⊥ };
+
+    fn parse(alloc: Global, input: &'a str) -> IResult<&'a str, Self> {
+        let (rest, identifier) = Parse::parse(alloc, input)?;
+        Ok((rest, ExtendedAttributeNoArgs(identifier)))
+    }
+
+    ghost lawful = { own_lawful EXTENDED_ATTRIBUTE_NO_ARGS extended_attribute_no_args_tree ⊥ };
+}
+
+#[tactic(auto, using(crate::proofs::PlainAttributeRules::identifier_or_string_steps))]
+impl<'a> Parse<'a> for IdentifierOrString<'a> {
+    ghost reading = { own IDENTIFIER_OR_STRING identifier_or_string_tree ⊥ };
+
+    fn parse(alloc: Global, input: &'a str) -> IResult<&'a str, Self> {
+        if let (rest, Some(member)) = Option::parse(alloc, input)? {
+            return Ok((rest, IdentifierOrString::Identifier(member)));
+        }
+        let (rest, member) = Parse::parse(alloc, input)?;
+        Ok((rest, IdentifierOrString::String(member)))
+    }
+
+    ghost lawful = { own_lawful IDENTIFIER_OR_STRING identifier_or_string_tree ⊥ };
+}
+
+impl<'a> From<ExtendedAttributeArgList<'a>> for ExtendedAttribute<'a> {
+    ghost use Rattle.weedle_types.specs.declared.formers.ExtendedAttribute.TheVariants.{ArgList};
+
+    ghost from_gives = { λ v e. e ≡ ArgList v };
+
+    fn from(value: ExtendedAttributeArgList<'a>) -> Self {
+        ExtendedAttribute::ArgList(value)
+    }
+}
+
+impl<'a> From<ExtendedAttributeNamedArgList<'a>> for ExtendedAttribute<'a> {
+    ghost use Rattle.weedle_types.specs.declared.formers.ExtendedAttribute.TheVariants.{NamedArgList};
+
+    ghost from_gives = { λ v e. e ≡ NamedArgList v };
+
+    fn from(value: ExtendedAttributeNamedArgList<'a>) -> Self {
+        ExtendedAttribute::NamedArgList(value)
+    }
+}
+
+impl<'a> From<ExtendedAttributeIdentList<'a>> for ExtendedAttribute<'a> {
+    ghost use Rattle.weedle_types.specs.declared.formers.ExtendedAttribute.TheVariants.{IdentList};
+
+    ghost from_gives = { λ v e. e ≡ IdentList v };
+
+    fn from(value: ExtendedAttributeIdentList<'a>) -> Self {
+        ExtendedAttribute::IdentList(value)
+    }
+}
+
+impl<'a> From<ExtendedAttributeIdent<'a>> for ExtendedAttribute<'a> {
+    ghost use Rattle.weedle_types.specs.declared.formers.ExtendedAttribute.TheVariants.{Ident};
+
+    ghost from_gives = { λ v e. e ≡ Ident v };
+
+    fn from(value: ExtendedAttributeIdent<'a>) -> Self {
+        ExtendedAttribute::Ident(value)
+    }
+}
+
+impl<'a> From<ExtendedAttributeNoArgs<'a>> for ExtendedAttribute<'a> {
+    ghost use Rattle.weedle_types.specs.declared.formers.ExtendedAttribute.TheVariants.{NoArgs};
+
+    ghost from_gives = { λ v e. e ≡ NoArgs v };
+
+    fn from(value: ExtendedAttributeNoArgs<'a>) -> Self {
+        ExtendedAttribute::NoArgs(value)
+    }
+}
+
+impl<'a> From<Identifier<'a>> for IdentifierOrString<'a> {
+    ghost use Rattle.weedle_types.specs.declared.attribute.IdentifierOrString.TheVariants.{Identifier};
+
+    ghost from_gives = { λ v e. e ≡ Identifier v };
+
+    fn from(value: Identifier<'a>) -> Self {
+        IdentifierOrString::Identifier(value)
+    }
+}
+
+impl<'a> From<StringLit<'a>> for IdentifierOrString<'a> {
+    ghost use Rattle.weedle_types.specs.declared.attribute.IdentifierOrString.TheVariants.{String};
+
+    ghost from_gives = { λ v e. e ≡ String v };
+
+    fn from(value: StringLit<'a>) -> Self {
+        IdentifierOrString::String(value)
+    }
+}

@@ -1,0 +1,116 @@
+//! Types, as `sequence<(long or DOMString)>?`.
+//!
+//! A type is read whole, with no limit on how deep types stand in one another. What follows it is the rest:
+//! `Promise<long>?` is a promise and `?`, since a promise is never null. A text that begins with no type is a
+//! mismatch. Boxes, unions and attributes ask for memory: where it is refused, the call ends at once with a
+//! failure of code `Memory`.
+
+mod from;
+mod from_non_any;
+
+use crate::attribute::ExtendedAttributeList;
+use crate::formers;
+use weedle_parts::common::{Identifier, Parenthesized, Punctuated};
+use weedle_parts::types::{FloatingPointType, IntegerType, MayBeNull};
+use weedle_term::{
+    ArrayBuffer, ArrayBufferView, Boolean, BufferSource, Byte, ByteString, Comma, DOMString,
+    DataView, Error, Float32Array, Float64Array, Int8Array, Int16Array, Int32Array, Object, Octet,
+    Or, Symbol, USVString, Uint8Array, Uint8ClampedArray, Uint16Array, Uint32Array,
+};
+
+/// A type that is no union, as `any` or `long?`.
+pub type SingleType<'a> = formers::SingleType<NonAnyType<'a>>;
+
+/// A sequence, as `sequence<long>`.
+pub type SequenceType<'a> = formers::SequenceType<Type<'a>>;
+
+/// An array that can't change, as `FrozenArray<long>`.
+pub type FrozenArrayType<'a> = formers::FrozenArrayType<Type<'a>>;
+
+/// A promise, as `Promise<undefined>`.
+pub type PromiseType<'a> = formers::PromiseType<ReturnType<'a>>;
+
+/// A record, as `record<DOMString, long>`. Its types are a tuple struct, [`RecordTypes`].
+pub type RecordType<'a> = formers::RecordType<RecordTypes<'a>>;
+
+/// The type of a record's keys: `ByteString`, `DOMString`, `USVString` or any type but `any` and unions.
+pub type RecordKeyType<'a> = formers::RecordKeyType<NonAnyType<'a>>;
+
+/// The type of a result: `undefined`, or a type.
+pub type ReturnType<'a> = formers::ReturnType<Type<'a>>;
+
+/// A union, as `(long or [Clamp] octet)`; `()` too.
+pub type UnionType<'a> = Parenthesized<Punctuated<UnionMemberType<'a>, Or>>;
+
+/// A type, as `long`, `any` or `(long or DOMString)?`.
+#[cycle(types)]
+#[derive(Debug, PartialEq, Eq, PartialOrd, Ord, Hash, Drop)]
+pub enum Type<'a> {
+    Single(SingleType<'a>),
+    Union(MayBeNull<UnionType<'a>>),
+}
+
+/// A type that is neither `any` nor a union, as `long?`. A name that is no type of the grammar is an
+/// identifier.
+#[cycle(types)]
+#[derive(Debug, PartialEq, Eq, PartialOrd, Ord, Hash, Drop)]
+pub enum NonAnyType<'a> {
+    Promise(PromiseType<'a>),
+    Integer(MayBeNull<IntegerType>),
+    FloatingPoint(MayBeNull<FloatingPointType>),
+    Boolean(MayBeNull<Boolean>),
+    Byte(MayBeNull<Byte>),
+    Octet(MayBeNull<Octet>),
+    ByteString(MayBeNull<ByteString>),
+    DOMString(MayBeNull<DOMString>),
+    USVString(MayBeNull<USVString>),
+    Sequence(MayBeNull<SequenceType<'a>>),
+    Object(MayBeNull<Object>),
+    Symbol(MayBeNull<Symbol>),
+    Error(MayBeNull<Error>),
+    ArrayBuffer(MayBeNull<ArrayBuffer>),
+    DataView(MayBeNull<DataView>),
+    Int8Array(MayBeNull<Int8Array>),
+    Int16Array(MayBeNull<Int16Array>),
+    Int32Array(MayBeNull<Int32Array>),
+    Uint8Array(MayBeNull<Uint8Array>),
+    Uint16Array(MayBeNull<Uint16Array>),
+    Uint32Array(MayBeNull<Uint32Array>),
+    Uint8ClampedArray(MayBeNull<Uint8ClampedArray>),
+    Float32Array(MayBeNull<Float32Array>),
+    Float64Array(MayBeNull<Float64Array>),
+    ArrayBufferView(MayBeNull<ArrayBufferView>),
+    BufferSource(MayBeNull<BufferSource>),
+    FrozenArrayType(MayBeNull<FrozenArrayType<'a>>),
+    RecordType(MayBeNull<RecordType<'a>>),
+    Identifier(MayBeNull<Identifier<'a>>),
+}
+
+/// The types of a record, as `DOMString, long`: that of its keys, the comma, and that of its values.
+#[cycle(types)]
+#[derive(Debug, PartialEq, Eq, PartialOrd, Ord, Hash, Drop)]
+pub struct RecordTypes<'a>(pub Box<RecordKeyType<'a>>, pub Comma, pub Box<Type<'a>>);
+
+/// A member of a union, as `[Clamp] octet` or `(long or DOMString)`.
+#[cycle(types)]
+#[derive(Debug, PartialEq, Eq, PartialOrd, Ord, Hash, Drop)]
+pub enum UnionMemberType<'a> {
+    Single(AttributedNonAnyType<'a>),
+    Union(MayBeNull<UnionType<'a>>),
+}
+
+/// A type with the attributes that stand before it, as `[Clamp] octet`.
+#[cycle(types)]
+#[derive(Debug, PartialEq, Eq, PartialOrd, Ord, Hash, Drop)]
+pub struct AttributedType<'a> {
+    pub attributes: Option<ExtendedAttributeList<'a>>,
+    pub type_: Type<'a>,
+}
+
+/// The same where the type is neither `any` nor a union.
+#[cycle(types)]
+#[derive(Debug, PartialEq, Eq, PartialOrd, Ord, Hash, Drop)]
+pub struct AttributedNonAnyType<'a> {
+    pub attributes: Option<ExtendedAttributeList<'a>>,
+    pub type_: NonAnyType<'a>,
+}

@@ -1,0 +1,779 @@
+#!/usr/bin/env python3
+"""Writes proofs of the functions of crates/weedle_types/src/reading, which are written by hand.
+
+TABLE says of each function which rule it is and what its parts are, in their order. From this follow, in
+crates/weedle_types/proofs:
+
+- NAMERules.antt for each family NAME of functions: what the answers of the parts say of the rule, and for each
+  function the ruleset that its attribute names;
+- reading/+group/Invariants.antt: what falls from call to call, and what holds in the loops;
+- reading/+group/Answers.antt and reading/plain_types/*/Answers.antt: the goals that no search finds, most of
+  them that a mismatch of the alternatives before was a mismatch.
+
+Run it from the top of the repository.
+"""
+import re
+from pathlib import Path
+
+CRATES = Path("crates")
+OUT = CRATES / "weedle_types" / "proofs"
+GROWS = "(Unit {0})"
+
+# A part is a terminal or leaf by its type, Opt of one, Nullable of one, Call of a function of the group, or
+# Piece, a function of reading/plain_types.rt that reads some of the variants.
+
+
+class Opt(str):
+    pass
+
+
+class Nullable(str):
+    pass
+
+
+class Call(str):
+    pass
+
+
+class Piece(str):
+    pass
+
+
+def struct(family, type_, rule, tree, *fields, boxed=()):
+    return dict(kind="struct", family=family, type=type_, rule=rule, tree=tree, fields=fields, boxed=boxed)
+
+
+def enum(family, type_, rule, tree, *arms):
+    return dict(kind="enum", family=family, type=type_, rule=rule, tree=tree, arms=arms)
+
+
+def listed(family, type_, rule, tail, tree, item, separator, more):
+    return dict(kind="list", family=family, type=type_, rule=rule, tail=tail, tree=tree, item=item,
+                separator=separator, more=more)
+
+
+TYPES, GENERIC, UNIONS, ATTRIBUTES, ARGUMENTS = "Type", "GenericType", "Union", "Attribute", "Argument"
+FAMILIES = {
+    TYPES: "Types, and what follows from the answers of their parts.",
+    GENERIC: "Types over types in angle brackets, and what follows from the answers of their parts.",
+    UNIONS: "Unions, and what follows from the answers of their parts.",
+    ATTRIBUTES: "Attributes, and what follows from the answers of their parts.",
+    ARGUMENTS: "Arguments, and what follows from the answers of their parts.",
+}
+
+# the file of src/reading that has the functions of a family, by which the cycle's goals are named
+FILES = {TYPES: "types", GENERIC: "generic_types", UNIONS: "unions", ATTRIBUTES: "attributes", ARGUMENTS: "arguments"}
+
+# the public names of types that are made of others, in the logic's words
+ALIASES = {
+    "Type": "«Type»",
+    "SingleType": "SingleType NonAnyType",
+    "RecordKeyType": "RecordKeyType NonAnyType",
+    "RecordType": "RecordType RecordTypes",
+    "ReturnType": "ReturnType «Type»",
+    "PromiseType": "PromiseType (ReturnType «Type»)",
+    "FrozenArrayType": "FrozenArrayType «Type»",
+    "SequenceType": "SequenceType «Type»",
+    "UnionType": "Parenthesized (Punctuated UnionMemberType Or)",
+    "ExtendedAttribute": "ExtendedAttribute Argument",
+    "ExtendedAttributeNamedArgList": "ExtendedAttributeNamedArgList Argument",
+    "ExtendedAttributeArgList": "ExtendedAttributeArgList Argument",
+    "ExtendedAttributeList": "Bracketed (Punctuated (ExtendedAttribute Argument) Comma)",
+    "ArgumentList": "Punctuated Argument Comma",
+}
+
+
+def screaming(name):
+    name = re.sub(r"(?<=[a-z0-9])(?=[A-Z])", "_", name)
+    return re.sub(r"(?<=[A-Z])(?=[A-Z][a-z])", "_", name).upper()
+
+
+def own_enum(family, type_, tree, *arms):
+    return enum(family, type_, screaming(type_), tree, *arms)
+
+
+def generic(type_, word, field, body):
+    tree = screaming(type_).lower() + "_tree"
+    return struct(GENERIC, type_, screaming(type_), tree, (field, word), ("generics", Call(body)))
+
+
+def angle(type_, rule, tree, body, boxed=()):
+    return struct(GENERIC, f"Generics<{type_}>", rule, f"(generics_tree {tree})",
+                  ("open_angle", "LessThan"), ("body", Call(body)), ("close_angle", "GreaterThan"), boxed=boxed)
+
+
+def nullable(family, type_):
+    inner = screaming(type_).lower()
+    return struct(family, f"MayBeNull<{type_}>", f"MAY_BE_NULL_{screaming(type_)}", f"(may_be_null_tree {inner}_tree)",
+                  ("type_", Call(inner)), ("q_mark", Opt("QMark")))
+
+
+def enclosed(family, type_, rule, tree, opening, closing, field, body):
+    return struct(family, type_, rule, tree, (f"open_{field}", opening), ("body", Call(body)), (f"close_{field}", closing))
+
+
+TABLE = {
+    "type_": own_enum(TYPES, "Type", "type_tree", ("Single", Call("single_type")), ("Union", Call("nullable_union_type"))),
+    "single_type": own_enum(TYPES, "SingleType", "single_type_tree", ("Any", "Any"), ("NonAny", Call("non_any_type"))),
+    "non_any_type": own_enum(
+        TYPES, "NonAnyType", "non_any_type_tree",
+        ("Promise", Call("promise_type")),
+        (None, Piece("before_sequence")),
+        ("Sequence", Call("nullable_sequence_type")),
+        (None, Piece("after_sequence")),
+        ("FrozenArrayType", Call("nullable_frozen_array_type")),
+        ("RecordType", Call("nullable_record_type")),
+        ("Identifier", Nullable("Identifier")),
+    ),
+    "record_key_type": own_enum(TYPES, "RecordKeyType", "record_key_type_tree", ("Byte", "ByteString"), ("DOM", "DOMString"),
+                                ("USV", "USVString"), ("NonAny", Call("non_any_type"))),
+    "return_type": own_enum(TYPES, "ReturnType", "return_type_tree", ("Undefined", "Undefined"), ("Type_", Call("type_"))),
+    "attributed_type": struct(TYPES, "AttributedType", "ATTRIBUTED_TYPE", "attributed_type_tree",
+                              ("attributes", Call("attributes")), ("type_", Call("type_"))),
+    "attributed_non_any_type": struct(TYPES, "AttributedNonAnyType", "ATTRIBUTED_NON_ANY_TYPE", "attributed_non_any_type_tree",
+                                      ("attributes", Call("attributes")), ("type_", Call("non_any_type"))),
+    "sequence_type": generic("SequenceType", "Sequence", "sequence", "generics_type"),
+    "frozen_array_type": generic("FrozenArrayType", "FrozenArray", "frozen_array", "generics_type"),
+    "promise_type": generic("PromiseType", "Promise", "promise", "generics_return_type"),
+    "record_type": generic("RecordType", "Record", "record_", "generics_record_types"),
+    "nullable_sequence_type": nullable(GENERIC, "SequenceType"),
+    "nullable_frozen_array_type": nullable(GENERIC, "FrozenArrayType"),
+    "nullable_record_type": nullable(GENERIC, "RecordType"),
+    "generics_type": angle("Box<Type>", "GENERICS_TYPE", "boxed_type_tree", "type_", boxed=("body",)),
+    "generics_return_type": angle("Box<ReturnType>", "GENERICS_RETURN_TYPE", "boxed_return_type_tree", "return_type", boxed=("body",)),
+    "generics_record_types": angle("RecordTypes", "GENERICS_RECORD_TYPES", "record_types_tree", "record_types"),
+    "record_types": struct(GENERIC, "RecordTypes", "RECORD_TYPES", "record_types_tree",
+                           ("0", Call("record_key_type")), ("1", "Comma"), ("2", Call("type_")), boxed=("0", "2")),
+    "union_type": enclosed(UNIONS, "UnionType", "UNION_TYPE", "union_type_tree", "OpenParen", "CloseParen", "paren", "union_member_types"),
+    "nullable_union_type": nullable(UNIONS, "UnionType"),
+    "union_member_type": own_enum(UNIONS, "UnionMemberType", "union_member_type_tree",
+                                  ("Single", Call("attributed_non_any_type")), ("Union", Call("nullable_union_type"))),
+    "union_member_types": listed(UNIONS, "Punctuated<UnionMemberType, Or>", "LIST_UNION_MEMBER_TYPE_OR", "TAIL_UNION_MEMBER_TYPE_OR",
+                                 "union_member_types_tree", "union_member_type", "Or", "more_union_member_types"),
+    "attributes": dict(kind="option", family=ATTRIBUTES, type="Option<ExtendedAttributeList>", rule="OPT_EXTENDED_ATTRIBUTE_LIST",
+                       tree="(option_tree extended_attribute_list_tree)", inner="extended_attribute_list"),
+    "extended_attribute_list": enclosed(ATTRIBUTES, "ExtendedAttributeList", "EXTENDED_ATTRIBUTE_LIST", "extended_attribute_list_tree",
+                                        "OpenBracket", "CloseBracket", "bracket", "extended_attributes"),
+    "extended_attribute": own_enum(
+        ATTRIBUTES, "ExtendedAttribute", "extended_attribute_tree",
+        ("ArgList", Call("extended_attribute_arg_list")),
+        ("NamedArgList", Call("extended_attribute_named_arg_list")),
+        ("IdentList", "ExtendedAttributeIdentList"),
+        ("Ident", "ExtendedAttributeIdent"),
+        ("NoArgs", "ExtendedAttributeNoArgs"),
+    ),
+    "extended_attribute_arg_list": struct(ATTRIBUTES, "ExtendedAttributeArgList", "EXTENDED_ATTRIBUTE_ARG_LIST",
+                                          "extended_attribute_arg_list_tree", ("identifier", "Identifier"), ("args", Call("arguments"))),
+    "extended_attribute_named_arg_list": struct(
+        ATTRIBUTES, "ExtendedAttributeNamedArgList", "EXTENDED_ATTRIBUTE_NAMED_ARG_LIST", "extended_attribute_named_arg_list_tree",
+        ("lhs_identifier", "Identifier"), ("assign", "Assign"), ("rhs_identifier", "Identifier"), ("args", Call("arguments"))),
+    "extended_attributes": listed(ATTRIBUTES, "Punctuated<ExtendedAttribute, Comma>", "LIST_EXTENDED_ATTRIBUTE_COMMA",
+                                  "TAIL_EXTENDED_ATTRIBUTE_COMMA", "extended_attributes_tree", "extended_attribute", "Comma",
+                                  "more_extended_attributes"),
+    "argument": own_enum(ARGUMENTS, "Argument", "argument_tree", ("Single", Call("single_argument")), ("Variadic", Call("variadic_argument"))),
+    "single_argument": dict(kind="if", family=ARGUMENTS, type="SingleArgument", rule="SINGLE_ARGUMENT", tree="single_argument_tree",
+                            fields=(("attributes", Call("attributes")), ("optional", Opt("Optional")),
+                                    ("type_", Call("attributed_type")), ("identifier", "Identifier"))),
+    "variadic_argument": struct(ARGUMENTS, "VariadicArgument", "VARIADIC_ARGUMENT", "variadic_argument_tree",
+                                ("attributes", Call("attributes")), ("type_", Call("type_")), ("ellipsis", "Ellipsis"),
+                                ("identifier", "Identifier")),
+    "arguments": enclosed(ARGUMENTS, "Parenthesized<ArgumentList>", "PARENTHESIZED_ARGUMENT_LIST", "arguments_tree",
+                          "OpenParen", "CloseParen", "paren", "argument_list"),
+    "argument_list": listed(ARGUMENTS, "Punctuated<Argument, Comma>", "ARGUMENT_LIST", "TAIL_ARGUMENT_COMMA", "argument_list_tree",
+                            "argument", "Comma", "more_arguments"),
+}
+
+# the functions of plain_types.rt: the number of the first variant, and the variants with what may be null
+PIECES = {
+    "numbers": (1, (("Integer", "IntegerType"), ("FloatingPoint", "FloatingPointType"), "Boolean", "Byte")),
+    "strings": (5, ("Octet", "ByteString", "DOMString", "USVString")),
+    "objects": (10, ("Object", "Symbol", "Error", "ArrayBuffer")),
+    "signed_arrays": (14, ("DataView", "Int8Array", "Int16Array", "Int32Array")),
+    "unsigned_arrays": (18, ("Uint8Array", "Uint16Array", "Uint32Array", "Uint8ClampedArray")),
+    "float_arrays": (22, ("Float32Array", "Float64Array", "ArrayBufferView", "BufferSource")),
+}
+JOINED = {
+    "before_sequence": (1, ("numbers", "strings")),
+    "after_sequence": (10, ("objects", "signed_arrays", "unsigned_arrays", "float_arrays")),
+}
+
+# the trees of the leaves; a terminal's is a mark
+LEAF_TREES = {name: screaming(name).lower() + "_tree" for name in
+              ("Identifier", "IntegerType", "FloatingPointType", "ExtendedAttributeIdentList", "ExtendedAttributeIdent",
+               "ExtendedAttributeNoArgs")}
+# the one leaf that asks for memory
+GROWING = {"ExtendedAttributeIdentList"}
+
+# where a variant's tree isn't that of its value by computing: the lemma that says so
+TREE_LAWS = {
+    ("type_", "Single"): "single_type_of",
+    ("type_", "Union"): "union_of",
+    ("non_any_type", "Promise"): "promise_of",
+    ("non_any_type", "RecordType"): "record_of",
+    ("union_member_type", "Single"): "member_single_of",
+    ("union_member_type", "Union"): "member_union_of",
+    ("argument", "Single"): "argument_single_of",
+    ("argument", "Variadic"): "argument_variadic_of",
+}
+
+# Terms.
+
+
+def grouped(text):
+    return f"({text})" if " " in text and not text.startswith("(") else text
+
+
+def logic_type(text):
+    """a type of the program in the logic's words"""
+    found = re.fullmatch(r"(\w+)<(.*)>", text)
+    if not found:
+        return ALIASES.get(text, text)
+    parts, depth, part = [], 0, ""
+    for c in found.group(2):
+        depth += {"<": 1, ">": -1}.get(c, 0)
+        if c == "," and depth == 0:
+            parts.append(part)
+            part = ""
+        else:
+            part += c
+    parts.append(part)
+    return " ".join([found.group(1)] + [grouped(logic_type(p.strip())) for p in parts])
+
+
+def folded(operation, items):
+    return items[0] if len(items) == 1 else f"({operation} {items[0]} {folded(operation, items[1:])})"
+
+
+def between(operation, items):
+    return items[0] if len(items) == 1 else f"({items[0]} {operation} {between(operation, items[1:])})"
+
+
+def tupled(items):
+    return items[0] if len(items) == 1 else f"({items[0]}, {tupled(items[1:])})"
+
+
+def injected(k, count):
+    """value v as alternative k of so many"""
+    text = "inl v" if k < count - 1 else "v"
+    for _ in range(k):
+        text = f"inr ({text})" if " " in text else f"inr {text}"
+    return f"({text})"
+
+
+def own(name, bracketed=True):
+    entry = TABLE[name]
+    text = f"own {entry['rule']} {entry['tree']} {GROWS}"
+    return f"({text})" if bracketed else text
+
+
+def owned(name):
+    entry = TABLE[name]
+    return f"(own_rule {entry['rule']} {entry['tree']} {GROWS})"
+
+
+def leaf_tree(part):
+    return LEAF_TREES.get(part, "mark_tree")
+
+
+def reading(part):
+    if isinstance(part, Call):
+        return own(part)
+    if isinstance(part, Piece):
+        return f"(members {part}_rules {JOINED[part][0]} non_any_type_tree ⊥)"
+    if isinstance(part, Opt):
+        return f"(option_reading (mark {screaming(part)}))"
+    if isinstance(part, Nullable):
+        return f"(may_be_null_reading {reading(str(part))})"
+    if part in LEAF_TREES:
+        return f"(own {screaming(part)} {LEAF_TREES[part]} {GROWS if part in GROWING else '⊥'})"
+    return f"(mark {screaming(part)})"
+
+
+def still(part):
+    """that a leaf reads what its rule does"""
+    if part in LEAF_TREES:
+        return f"(own_rule {screaming(part)} {LEAF_TREES[part]} {GROWS if part in GROWING else '⊥'})"
+    return f"(mark_rule {screaming(part)})"
+
+
+def rule(part):
+    if isinstance(part, Call):
+        return owned(part)
+    if isinstance(part, Opt):
+        return f"(still_rule (option_rule {still(str(part))} OPT_{screaming(part)} refl refl))"
+    if isinstance(part, Nullable):
+        return f"(still_rule (may_be_null_rule {still(str(part))} MAY_BE_NULL_{screaming(part)} refl refl))"
+    return still(part) if part in GROWING else f"(still_rule {still(part)})"
+
+
+def value_type(part):
+    if isinstance(part, Call):
+        return grouped(logic_type(TABLE[part]["type"]))
+    if isinstance(part, Piece):
+        return "NonAnyType"
+    if isinstance(part, (Opt, Nullable)):
+        return f"({'Option' if isinstance(part, Opt) else 'MayBeNull'} {part})"
+    return grouped(logic_type(part))
+
+
+def tree(part):
+    if isinstance(part, Call):
+        return TABLE[part]["tree"]
+    if isinstance(part, Nullable):
+        return f"(may_be_null_tree {leaf_tree(part)})"
+    return leaf_tree(part)
+
+
+TEXT = "{s rest : List ℕ}"
+FAULT = "{s : List ℕ} {e : Fault (Error (Bor (List ℕ)))}"
+REFUSED = "{s : List ℕ} {f : Fault (Error (Bor (List ℕ)))} {e : Error (Bor (List ℕ))}"
+
+# What each kind of function is proved by.
+
+
+def in_order(fields):
+    parts = [part for _, part in fields]
+    text = f"(seq_last {rule(parts[-1])})"
+    for part in reversed(parts[:-1]):
+        text = f"(seq_next {rule(part)} {text})"
+    return text
+
+
+def parts_of(name, operation, combine, parts):
+    return [f"abbrev {name}_parts : Reading {between(operation, [value_type(p) for p in parts])}",
+            f"{name}_parts = {folded(combine, [reading(p) for p in parts])}", ""]
+
+
+def ruleset(name, steps):
+    return [f"pub ruleset {name}_steps = ({', '.join(steps)})", ""]
+
+
+def struct_rules(name):
+    entry = TABLE[name]
+    fields, boxed, whole = entry["fields"], entry["boxed"], own(name, False)
+    by = f"(seq_rule {in_order(fields)} {entry['rule']} refl refl) {entry['tree']}"
+    values = [f"v{f}" if f in boxed else f"x.{f}" for f, _ in fields]
+    held = "".join(f" {{v{f} : {value_type(p)}}}" for f, p in fields if f in boxed)
+    premises = "".join(f" → x.{f}.value ≡ v{f}" for f in boxed)
+    names = [f"e{f}" for f in boxed]
+    same = f"(rw {names[0] if len(names) == 1 else '(' + ', '.join(names) + ')'} refl)" if names else "refl"
+    lines = parts_of(name, "×", "pair_reading", [p for _, p in fields])
+    lines += [f"pub {name}_got : {TEXT}{held} (x : {logic_type(entry['type'])}) → Got {name}_parts s {tupled(values)} rest{premises} → Got ({whole}) s x rest",
+              f"{name}_got x h{''.join(' ' + n for n in names)} = got_rule {by} x h {same}", "",
+              f"pub {name}_fault : {FAULT} → Faults {name}_parts s e → Faults ({whole}) s e",
+              f"{name}_fault h = fault_rule {by} h", ""]
+    steps = ["part_steps", f"{name}_got", f"{name}_fault", "own_takes"]
+    if boxed:
+        lines += [f"pub {name}_memory : {FAULT} → OutOfMemory s e → Faults ({whole}) s e",
+                  f"{name}_memory {{s = s}} h = memory_fault s {entry['rule']} {entry['tree']} h", ""]
+        steps.append(f"{name}_memory")
+    return lines + ruleset(name, steps)
+
+
+def numbers_of(arms):
+    """the number of each arm among the rule's alternatives"""
+    numbers, number = [], 0
+    for _, part in arms:
+        numbers.append(number)
+        number += sum(len(PIECES[p][1]) for p in JOINED[part][1]) if isinstance(part, Piece) else 1
+    return numbers
+
+
+def enum_rules(name):
+    entry = TABLE[name]
+    arms, whole, shown = entry["arms"], own(name, False), entry["type"]
+    parts, numbers, count = [p for _, p in arms], numbers_of(arms), len(arms)
+    first = f"(first_last {numbers[-1]} {rule(parts[-1])})"
+    for k in reversed(range(count - 1)):
+        if isinstance(parts[k], Piece):
+            members = f"(still_first (members_first {parts[k]}_rules {numbers[k]} non_any_type_tree ⊥))"
+            first = f"(first_piece {numbers[k + 1]} {members} {first} refl)"
+        else:
+            first = f"(first_more {numbers[k]} {rule(parts[k])} {first})"
+    trees = ["non_any_type_tree" if isinstance(p, Piece) else f"(λ v. Alt {numbers[k]} ({tree(p)} v))" for k, p in enumerate(parts)]
+    lines = parts_of(name, "⊎", "choice_reading", parts)
+    lines += [f"{name}_rule : IsRule {name}_parts {entry['rule']} {folded('choice_tree', trees)} {GROWS}",
+              f"{name}_rule = first_rule {first} {entry['rule']} refl refl", ""]
+    for k, (variant, part) in enumerate(arms):
+        made = f"({shown}-{variant} v)" if variant else "v"
+        law = TREE_LAWS.get((name, variant))
+        lines += [f"pub {name}_got_{k} : {TEXT} {{v : {value_type(part)}}} → Got {name}_parts s {injected(k, count)} rest → Got ({whole}) s {made} rest",
+                  f"{name}_got_{k} {{v = v}} h = got_rule {name}_rule {entry['tree']} {made} h {f'(sym ({law} v))' if law else 'refl'}", ""]
+    lines += [f"pub {name}_fault : {FAULT} → Faults {name}_parts s e → Faults ({whole}) s e",
+              f"{name}_fault h = fault_rule {name}_rule {entry['tree']} h", ""]
+    return lines + ruleset(name, ["direct_choice"] + [f"{name}_got_{k}" for k in range(count)] + [f"{name}_fault", "own_takes", "pair_takes", "seen_takes"])
+
+
+def option_rules(name):
+    entry = TABLE[name]
+    inner, whole = own(entry["inner"]), own(name, False)
+    item = grouped(logic_type(TABLE[entry["inner"]]["type"]))
+    by = f"(option_rule {owned(entry['inner'])} {entry['rule']} refl refl) {entry['tree']}"
+    return [f"pub {name}_some : {TEXT} {{v : {item}}} → Got {inner} s v rest → Got ({whole}) s (Some v) rest",
+            f"{name}_some h = got_rule {by} _ (direct_some _ h) refl", "",
+            f"pub {name}_none : {REFUSED} → Faults {inner} s f → f ≡ Recoverable e → IsUtf8 s → Got ({whole}) s None s",
+            f"{name}_none h i u = got_rule {by} _ (direct_none _ h i u) refl", "",
+            f"pub {name}_fault : {REFUSED} → Faults {inner} s f → f ≡ Failure e → Faults ({whole}) s (Failure e)",
+            f"{name}_fault h i = fault_rule {by} (direct_stop _ h i)", ""] + ruleset(name, [f"{name}_some", f"{name}_none", f"{name}_fault"])
+
+
+def if_rules(name):
+    """a single argument: its default is read where `optional` was"""
+    entry = TABLE[name]
+    whole, type_, by = own(name, False), entry["type"], f"{name}_parts default_reading is_optional None"
+    parts = [p for _, p in entry["fields"]]
+    values = between("×", [value_type(p) for p in parts])
+    asked = f"(asked_last {rule(parts[-1])})"
+    for part in reversed(parts[:-1]):
+        asked = f"(asked_next {rule(part)} {asked})"
+    lines = parts_of(name, "×", "pair_reading", parts)
+    lines += ["abbrev default_reading : Reading (Option Default)", "default_reading = option_reading (own DEFAULT default_tree ⊥)", "",
+              f"abbrev is_optional : {values} → Bool", "is_optional x = is_some x.1.0", "",
+              f"is_asked : (v : {values}) → some_at 1 (option_tree extended_attribute_list_tree v.0 ∷ option_tree mark_tree v.1.0 ∷ attributed_type_tree v.1.1.0 ∷ identifier_tree v.1.1.1 ∷ []) ≡ is_optional v",
+              "is_asked v = present_some mark_tree v.1.0", "",
+              f"abbrev {name}_reading : Reading ({values} × Option Default)", f"{name}_reading = if_reading {by}", "",
+              f"{name}_rule : IsRule {name}_reading {entry['rule']} (λ x. Node (trees (option_tree extended_attribute_list_tree x.0.0 ∷ option_tree mark_tree x.0.1.0 ∷ attributed_type_tree x.0.1.1.0 ∷ identifier_tree x.0.1.1.1 ∷ option_tree default_tree x.1 ∷ []))) {GROWS}",
+              f"{name}_rule = if_rule {by} 1 {asked} (still_rule (option_rule (own_rule DEFAULT default_tree ⊥) OPT_DEFAULT refl refl)) is_asked refl {entry['rule']} refl refl", "",
+              f"pub {name}_unless : {TEXT} (x : {type_}) → Got {name}_parts s (x.attributes, (None, (x.type_, x.identifier))) rest → x.optional ≡ None → x.default ≡ None → Got ({whole}) s x rest",
+              f"{name}_unless x h e d = got_rule {name}_rule {entry['tree']} x (got_unless {by} h refl) (rw (e, d) refl)", "",
+              f"pub {name}_when : {{s rest end : List ℕ}} {{w : Optional}} (x : {type_}) → Got {name}_parts s (x.attributes, (Some w, (x.type_, x.identifier))) rest → x.optional ≡ Some w → Got default_reading rest x.default end → Got ({whole}) s x end",
+              f"{name}_when x h e d = got_rule {name}_rule {entry['tree']} x (got_when {by} h refl d) (rw e refl)", "",
+              f"pub {name}_fault : {FAULT} → Faults {name}_parts s e → Faults ({whole}) s e",
+              f"{name}_fault h = fault_rule {name}_rule {entry['tree']} (fault_parts {by} h)", "",
+              f"pub {name}_fault_when : {TEXT} {{w : Optional}} {{a : {value_type(parts[0])}}} {{t : {value_type(parts[2])}}} {{i : Identifier}} {{e : Fault (Error (Bor (List ℕ)))}} → Got {name}_parts s (a, (Some w, (t, i))) rest → Faults default_reading rest e → Faults ({whole}) s e",
+              f"{name}_fault_when h d = fault_rule {name}_rule {entry['tree']} (fault_when {by} h refl d)", ""]
+    return lines + ruleset(name, ["part_steps", f"{name}_unless", f"{name}_when", f"{name}_fault", f"{name}_fault_when", "own_takes"])
+
+
+def item_of(name):
+    """of a list: its item's type, its item's reading, its separator's reading"""
+    entry = TABLE[name]
+    separator = entry["separator"]
+    return grouped(logic_type(TABLE[entry["item"]]["type"])), own(entry["item"]), f"(mark {{V = {separator}}} {screaming(separator)})"
+
+
+def list_rules(name):
+    entry = TABLE[name]
+    whole, type_ = own(name, False), logic_type(entry["type"])
+    item, one, mark = item_of(name)
+    seen, known, items = "(λ p. p.list.items)", "(λ p. Unit {0})", f"(λ (l : Vec {item}). l.items)"
+    after = f"(after_first {one} {mark} {items} v)"
+    by = f"{name}_rule {entry['tree']}"
+    return [f"{name}_rule : IsRule (punctuated_reading {one} {mark} {seen} {known}) {entry['rule']} {entry['tree']} {GROWS}",
+            f"{name}_rule = punctuated_rule {owned(entry['item'])} (still_rule (mark_rule {screaming(entry['separator'])})) {entry['tail']} refl refl {seen} {known} {entry['rule']} refl refl tt", "",
+            f"pub {name}_none : {REFUSED} (x : {type_}) → Faults {one} s f → f ≡ Recoverable e → IsUtf8 s → x.list.items ≡ [] → Got ({whole}) s x s",
+            f"{name}_none {{s = s}} x h i u e = got_rule {by} x (got_none {one} {mark} {seen} {known} {items} s x u (refused_by _ h i) e tt) refl", "",
+            f"pub {name}_some : {{s rest end : List ℕ}} {{v : {item}}} (x : {type_}) → Got {one} s v rest → Got {after} rest x.list end → Got ({whole}) s x end",
+            f"{name}_some x a b = got_rule {by} x (got_some {one} {mark} {seen} {known} {items} x x.list a b refl tt) refl", "",
+            f"pub {name}_after : {TEXT} {{v : {item}}} {{e : Fault (Error (Bor (List ℕ)))}} → Got {one} s v rest → Faults {after} rest e → Faults ({whole}) s e",
+            f"{name}_after a h = fault_rule {by} (fault_some {one} {mark} {seen} {known} {items} a h)", "",
+            f"pub {name}_fault : {REFUSED} → Faults {one} s f → f ≡ Failure e → Faults ({whole}) s (Failure e)",
+            f"{name}_fault h i = fault_rule {by} (list_stop _ _ _ _ h i)", ""] + ruleset(name, [f"{name}_none", f"{name}_some", f"{name}_after", f"{name}_fault"])
+
+
+def variant(member):
+    return member if isinstance(member, tuple) else (member, member)
+
+
+def keyword(text):
+    """the terminal `Error` under another name than that of a fault's"""
+    return "ErrorKeyword" if text == "Error" else text
+
+
+def piece_rules(name):
+    start, members = PIECES[name]
+    count = len(members)
+    types = [variant(m)[1] for m in members]
+    values = [f"(MayBeNull {keyword(t)})" for t in types]
+    read = [f"(may_be_null_reading {reading(t) if t in LEAF_TREES else f'(mark {{V = {keyword(t)}}} {screaming(t)})'})" for t in types]
+    ruled = [f"(may_be_null_rule {still(t)} MAY_BE_NULL_{screaming(t)} refl refl)" for t in types]
+    first = f"(first_last {start + count - 1} {ruled[-1]})"
+    for k in reversed(range(count - 1)):
+        first = f"(first_more {start + k} {ruled[k]} {first})"
+    trees = [f"(λ v. Alt {start + k} (may_be_null_tree {leaf_tree(t)} v))" for k, t in enumerate(types)]
+    whole = f"(members {name}_rules {start} non_any_type_tree ⊥)"
+    lines = [f"-- `{name}`", f"abbrev {name}_parts : Reading {between('⊎', values)}", f"{name}_parts = {folded('choice_reading', read)}", "",
+             f"{name}_first : IsFirst {name}_parts {name}_rules {start} {folded('choice_tree', trees)} ⊥", f"{name}_first = {first}", ""]
+    for k, member in enumerate(members):
+        made = f"(NonAnyType-{variant(member)[0]} v)"
+        lines += [f"pub {name}_got_{k} : {TEXT} {{v : {values[k]}}} → Got {name}_parts s {injected(k, count)} rest → Got {whole} s {made} rest",
+                  f"{name}_got_{k} {{v = v}} h = got_members {name}_first non_any_type_tree {made} h refl", ""]
+    lines += [f"pub {name}_fault : {FAULT} → Faults {name}_parts s e → Faults {whole} s e", f"{name}_fault h = fault_members {name}_first non_any_type_tree h", ""]
+    return lines + ruleset(name, ["direct_choice"] + [f"{name}_got_{k}" for k in range(count)] + [f"{name}_fault", "own_takes", "pair_takes", "seen_takes"])
+
+
+def joined_rules(name):
+    start, pieces = JOINED[name]
+    count, starts = len(pieces), [PIECES[p][0] for p in pieces]
+    read = [f"(members {p}_rules {starts[k]} non_any_type_tree ⊥)" for k, p in enumerate(pieces)]
+    first = f"(members_first {pieces[-1]}_rules {starts[-1]} non_any_type_tree ⊥)"
+    for k in reversed(range(count - 1)):
+        first = f"(first_piece {starts[k + 1]} (members_first {pieces[k]}_rules {starts[k]} non_any_type_tree ⊥) {first} refl)"
+    whole = f"(members {name}_rules {start} non_any_type_tree ⊥)"
+    lines = [f"-- `{name}`", f"abbrev {name}_parts : Reading {between('⊎', ['NonAnyType'] * count)}", f"{name}_parts = {folded('choice_reading', read)}", "",
+             f"{name}_first : IsFirst {name}_parts {name}_rules {start} {folded('choice_tree', ['non_any_type_tree'] * count)} ⊥", f"{name}_first = {first}", ""]
+    for k in range(count):
+        lines += [f"pub {name}_got_{k} : {TEXT} {{v : NonAnyType}} → Got {name}_parts s {injected(k, count)} rest → Got {whole} s v rest",
+                  f"{name}_got_{k} {{v = v}} h = got_members {name}_first non_any_type_tree v h refl", ""]
+    lines += [f"pub {name}_fault : {FAULT} → Faults {name}_parts s e → Faults {whole} s e", f"{name}_fault h = fault_members {name}_first non_any_type_tree h", ""]
+    return lines + ruleset(name, ["direct_choice"] + [f"{name}_got_{k}" for k in range(count)] + [f"{name}_fault"])
+
+
+# Answers.
+
+
+def path(name):
+    """a function of the cycle, or the one for the items after the first, as the goals name it"""
+    entry = TABLE.get(name) or next(e for e in TABLE.values() if e.get("more") == name)
+    return f"{FILES[entry['family']]}::{name}"
+
+
+def labels(calls):
+    """how the names of the steps of these calls end"""
+    seen, found = {}, []
+    for k, call in enumerate(calls):
+        seen[call] = seen.get(call, 0) + (k > 0)
+        found.append("" if k == 0 else f"-{call}" if seen[call] == 1 else f"-{call}-{seen[call]}")
+    return found
+
+
+def choice_answers(name, calls, prefix, given):
+    """of calls one after another, the last with `?`"""
+    at, last, lines = labels(calls), len(calls) - 1, []
+
+    def behind(k, step, inner):
+        for j in reversed(range(k)):
+            inner = f"({step} _ _ c.in-Err-Error{at[j]}.ensures.reads c.in-Err-Error{at[j]}.field-0-is {inner})"
+        return inner
+
+    def answer(goal, term):
+        lines.extend([f"pub {prefix}{goal} : goal.{prefix}{goal}", f"{prefix}{goal} {given}c = {term}", ""])
+
+    for k in range(last):
+        ok, failure = f"c.in-Ok{at[k]}", f"c.in-Err-Failure{at[k]}"
+        answer(f"returns-in-Ok{at[k]}-clause-reads", f"{name}_got_{k} {behind(k, 'take_next', f'(take_first _ _ {ok}.ensures.reads)')}")
+        answer(f"returns-in-Err-Failure{at[k]}-clause-reads",
+               f"{name}_fault {behind(k, 'stop_next', f'(stop_first _ _ {failure}.ensures.reads {failure}.field-0-is)')}")
+    answer("returns-clause-reads", f"{name}_got_{last} {behind(last, 'take_next', 'c.in_ok-rest.ensures.reads')}")
+    answer("returns-in_err-rest-clause-reads",
+           f"exit_answers c.from_residual.result ({name}_fault {behind(last, 'stop_next', 'c.in_err-rest.ensures.reads')}) c.from_residual.ensures.1")
+    return lines
+
+
+def list_answers(name):
+    entry = TABLE[name]
+    more, call = entry["more"], entry["item"]
+    item, one, mark = item_of(name)
+    known, lines = "c.items.invariant", []
+
+    def answer(function, goal, term):
+        at = f"{path(function)}-{goal}"
+        lines.extend([f"pub {at} : goal.{at}", f"{at} t c = {term}", ""])
+
+    so_far = f"{one} {mark} (λ (l : Vec {item} Global). l.items) c.args.first {known}.2.2"
+    took = "(λ e. omega (arith, e, c.in-Ok.ensures.shorter))"
+    read, refused, stopped = f"c.in-Ok-{call}", f"c.in-Err-Error-{call}", f"c.in-Err-Failure-{call}"
+    answer(more, "items-init", f"""
+    let pushed : c.push.new.self.items ≡ c.new-list.result.items ++ (c.args.first ∷ []) = rw c.if-is_err.ensures.negation at c.push.ensures.items in
+    let one : c.push.new.self.items ≡ c.args.first ∷ [] = pushed ∙ ap (λ (l : List {item}). l ++ (c.args.first ∷ [])) c.new-list.ensures.items in
+    (search rules, omega arith, ([], one, reached_none (next_step {one} {mark}) c.args.input.now (search rules)))""")
+    first = f"{one} {mark} (λ (l : Vec {item} Global). l.items) c.args.first (reached_none (next_step {one} {mark}) c.args.input.now (search rules))"
+    answer(more, "returns-then-is_err-clause-reads", f"list_full {first} c.out_of_memory.ensures")
+    answer(more, f"returns-then-is_err-2-clause-reads", f"list_full {so_far} c.out_of_memory-then-is_err-2.ensures")
+    answer(more, "returns-in-Err-Error-clause-reads", f"list_ends {so_far} c.items.list {known}.2.1 (inl (refused_by _ c.in-Err-Error.ensures.reads c.in-Err-Error.field-0-is))")
+    answer(more, "returns-in-Err-Failure-clause-reads", f"rw c.in-Err-Failure.field-0-is (separator_fault {so_far} (direct_stop _ c.in-Err-Failure.ensures.reads c.in-Err-Failure.field-0-is))")
+    answer(more, f"returns-in-Err-Error-{call}-clause-reads", f"list_ends {so_far} c.items.list {known}.2.1 (ends_behind {one} {mark} c.in-Ok.ensures.reads {took} (refused_by _ {refused}.ensures.reads {refused}.field-0-is))")
+    answer(more, f"returns-in-Err-Failure-{call}-clause-reads", f"rw {stopped}.field-0-is (item_fault {so_far} c.in-Ok.ensures.reads {took} (direct_stop _ {stopped}.ensures.reads {stopped}.field-0-is))")
+    answer(more, "items-preserved", f"""
+    let pushed : c.push-in-Ok-{call}.new.self.items ≡ c.items.list.items ++ ({read}.item ∷ []) = rw c.if-is_err-2.ensures.negation at c.push-in-Ok-{call}.ensures.items in
+    let next = reached_next {one} {mark} {known}.2.2 c.in-Ok.ensures.reads {took} {read}.ensures.reads in
+    (search rules, omega (arith, {known}.1, c.in-Ok.ensures.shorter, {read}.ensures.shorter), ({known}.2.0 ++ ({read}.item ∷ []), pushed ∙ ap (λ (l : List {item}). l ++ ({read}.item ∷ [])) {known}.2.1, next))""")
+    answer(name, "returns-in-Err-Error-clause-reads", f"{name}_none _ c.in-Err-Error.ensures.reads c.in-Err-Error.field-0-is (search rules) c.new-list.ensures.items")
+    answer(name, "returns-in-Err-Failure-clause-reads", f"{name}_fault c.in-Err-Failure.ensures.reads c.in-Err-Failure.field-0-is")
+    return lines
+
+
+OPTION_ANSWERS = """\
+pub attributes::attributes-returns-in-Ok-clause-reads : goal.attributes::attributes-returns-in-Ok-clause-reads
+attributes::attributes-returns-in-Ok-clause-reads t c = attributes_some c.in-Ok.ensures.reads
+
+pub attributes::attributes-returns-in-Err-Error-clause-reads : goal.attributes::attributes-returns-in-Err-Error-clause-reads
+attributes::attributes-returns-in-Err-Error-clause-reads t c = attributes_none c.in-Err-Error.ensures.reads c.in-Err-Error.field-0-is (search rules)
+
+pub attributes::attributes-returns-in-Err-Failure-clause-reads : goal.attributes::attributes-returns-in-Err-Failure-clause-reads
+attributes::attributes-returns-in-Err-Failure-clause-reads t c = attributes_fault c.in-Err-Failure.ensures.reads c.in-Err-Failure.field-0-is
+"""
+
+IF_ANSWERS = """\
+pub arguments::single_argument-returns-in_ok-rest-in-Some-clause-reads : goal.arguments::single_argument-returns-in_ok-rest-in-Some-clause-reads
+arguments::single_argument-returns-in_ok-rest-in-Some-clause-reads t c =
+    single_argument_when _ (got_pair _ _ c.in_ok-rest.ensures.reads (got_pair _ _ (rw c.in-Some.is at c.in_ok-rest-2.ensures.reads) (got_pair _ _ c.in_ok-rest-3.ensures.reads c.in_ok-rest-4.ensures.reads))) refl c.in_ok-rest-in-Some.ensures.reads
+
+pub arguments::single_argument-returns-in_err-rest-in-Some-clause-reads : goal.arguments::single_argument-returns-in_err-rest-in-Some-clause-reads
+arguments::single_argument-returns-in_err-rest-in-Some-clause-reads t c =
+    exit_answers c.from_residual-in_err-rest-in-Some.result
+    (single_argument_fault_when (got_pair _ _ c.in_ok-rest.ensures.reads (got_pair _ _ (rw c.in-Some.is at c.in_ok-rest-2.ensures.reads) (got_pair _ _ c.in_ok-rest-3.ensures.reads c.in_ok-rest-4.ensures.reads))) c.in_err-rest-in-Some.ensures.reads)
+    c.from_residual-in_err-rest-in-Some.ensures.1
+"""
+
+
+def callee(part):
+    return str(part) if isinstance(part, (Call, Piece)) else "word"
+
+
+def group_answers():
+    lines = []
+    for name, entry in TABLE.items():
+        if entry["kind"] == "enum":
+            lines += choice_answers(name, [callee(p) for _, p in entry["arms"]], f"{path(name)}-", "t ")
+        elif entry["kind"] == "list":
+            lines += list_answers(name)
+        elif entry["kind"] == "option":
+            lines += OPTION_ANSWERS.split("\n")
+        elif entry["kind"] == "if":
+            lines += IF_ANSWERS.split("\n")
+    return lines
+
+
+def measures():
+    ranked = [(n, e["rule"]) for n, e in TABLE.items()] + [(e["more"], e["tail"]) for e in TABLE.values() if e["kind"] == "list"]
+    lines = []
+    for name, number in ranked:
+        at = f"decreases-{path(name)}"
+        lines += [f"abbrev pub {at} : goal.{at}", f"{at} l = length l.input.now * rule_count + {number}", ""]
+    for name, entry in TABLE.items():
+        if entry["kind"] == "list":
+            item, one, mark = item_of(name)
+            loop = f"{path(entry['more'])}-items"
+            lines += [f"abbrev pub invariant-{loop} : goal.invariant-{loop}",
+                      f"invariant-{loop} l = shadow (Utf8 l.rest) × (length l.rest ≤ length l.input) × ((vs : List {item}) × (l.list.items ≡ l.fn.first ∷ vs) × Reached (next_step {one} {mark}) l.input vs l.rest)", "",
+                      f"abbrev pub decreases-{loop} : goal.decreases-{loop}", f"decreases-{loop} l = length l.rest", ""]
+    return lines
+
+
+# Imports: every name is looked up in the files that say it.
+
+
+def declared():
+    """the types of the crates, with the modules that the logic has for them"""
+    found = {}
+    for crate in ("weedle_base", "weedle_term", "weedle_parts", "weedle_literal", "weedle_types"):
+        source = CRATES / crate / "src"
+        for path in sorted(source.rglob("*.rt")):
+            module = ".".join(path.relative_to(source).with_suffix("").parts)
+            for name in re.findall(r"^pub (?:struct|enum) (\w+)", path.read_text(), re.M):
+                logic = "«Type»" if name == "Type" else name
+                key = "ErrorKeyword" if name == "Error" and crate == "weedle_term" else logic
+                found[key] = (f"Rattle.{crate}.specs.declared.{module}.{logic}", logic)
+    return found
+
+
+def stated():
+    """the public definitions and lemmas of the crates, with their modules"""
+    found = {}
+    for crate in ("weedle_rules", "weedle_base", "weedle_term", "weedle_parts", "weedle_literal", "weedle_types"):
+        # (what the grammar's own crate proves of its table is cited by no answer)
+        for folder in ("specs",) if crate == "weedle_rules" else ("specs", "proofs"):
+            for path in sorted((CRATES / crate / folder).glob("*.antt")) + sorted((CRATES / crate / folder / "Table").glob("*.antt")):
+                if path.name == "Lib.antt" or path.stem in WRITTEN:
+                    continue
+                module = ".".join(("Rattle", crate, folder) + path.relative_to(CRATES / crate / folder).with_suffix("").parts)
+                for name in re.findall(r"^ *(?:abbrev |unfoldable )?pub (?:ruleset |record )?([\w-]+)", path.read_text(), re.M):
+                    found.setdefault(name, module)
+    return found
+
+
+WRITTEN = [f"{family}Rules" for family in FAMILIES] + ["PlainTypeRules"]
+# variables, which no file states
+BOUND = {"end", "first", "next", "one", "pushed", "rest", "x"}
+STANDARD = {
+    "Rattle.std.proofs.Common": ("refl", "inl", "inr", "sym", "ap", "arith", "rules", "Global", "◌∙◌"),
+    "Rattle.std.specs.Borrow": ("Bor",),
+    "Rattle.std.specs.Global": ("Box", "Vec"),
+    "Rattle.std.specs.Prelude": ("ℕ", "List", "[]", "Option", "Some", "None", "Bool", "length", "◌∷◌", "◌≡◌", "◌⊎◌", "◌++◌", "◌≤◌", "◌+◌", "◌*◌"),
+    "Rattle.std.specs.Str": ("IsUtf8",),
+    "Rattle.weedle_rules.specs.Trees": ("Tree", "Node", "Alt"),
+    "denote.Shadow": ("shadow",),
+    "denote.Text": ("Utf8",),
+}
+
+
+def imports(text, more=()):
+    words = set(re.findall(r"(?<![.\w-])[\w«»'-]+", re.sub(r"--.*", "", text))) - BOUND
+    local = set(re.findall(r"^(?:abbrev )?pub (?:ruleset )?([\w-]+)|^(?:abbrev )?([\w-]+) :", text, re.M))
+    local = {name for pair in local for name in pair}
+    wanted = {}
+    for module, names in STANDARD.items():
+        for name in names:
+            symbol = name.strip("◌")
+            if (symbol in text) if name.startswith("◌") or name == "[]" else (name in words):
+                # a `Vec` whose allocator is named is that of proofs
+                named = name == "Vec" and "Global" in words
+                wanted.setdefault("Rattle.std.proofs.Common" if named else module, set()).add(name)
+    for name, (module, logic) in declared().items():
+        if name == "Err" or name not in words:
+            continue
+        wanted.setdefault(module, set()).add(logic if logic == name else f"{logic} as {name}")
+    for shown, module in (("Type", "types.«Type»"), ("SingleType", "formers.SingleType"), ("RecordKeyType", "formers.RecordKeyType"),
+                          ("ReturnType", "formers.ReturnType"), ("UnionMemberType", "types.UnionMemberType"), ("NonAnyType", "types.NonAnyType"),
+                          ("ExtendedAttribute", "formers.ExtendedAttribute"), ("Argument", "argument.Argument")):
+        for name in set(re.findall(rf"\({shown}-(\w+)", text)):
+            wanted.setdefault(f"Rattle.weedle_types.specs.declared.{module}.TheVariants", set()).add(f"{name} as {shown}-{name}")
+    if "Fault" in words:
+        wanted.setdefault("Rattle.weedle_base.specs.declared.fault.Err", set()).add("Err as Fault")
+    for name, said in (("Recoverable", "Error as Recoverable"), ("Failure", "Failure")):
+        if name in words:
+            wanted.setdefault("Rattle.weedle_base.specs.declared.fault.Err.TheVariants", set()).add(said)
+    known = {name for names in STANDARD.values() for name in names} | set(declared())
+    for name, module in stated().items():
+        if name in words and name not in local and name not in known:
+            wanted.setdefault(module, set()).add(name)
+    lines = [f"use {module}.{{{', '.join(sorted(names))}}}" for module, names in wanted.items()]
+    return sorted(lines + list(more))
+
+
+def write(path, about, lines, more=()):
+    text = "\n".join(lines).strip("\n") + "\n"
+    path = OUT / path
+    path.parent.mkdir(parents=True, exist_ok=True)
+    head = [f"-- {about}", "--", "-- Written by tools/types_proofs.py."]
+    content = "\n".join(head + imports(text, more)) + "\n\n" + text
+    if not path.exists() or path.read_text() != content:
+        path.write_text(content)
+
+
+def main():
+    kinds = dict(struct=struct_rules, enum=enum_rules, option=option_rules, list=list_rules)
+    kinds["if"] = if_rules
+    cited = {}
+    for family, about in FAMILIES.items():
+        lines = []
+        for name, entry in TABLE.items():
+            if entry["family"] == family:
+                lines += [f"-- `{name}`"] + kinds[entry["kind"]](name)
+        write(f"{family}Rules.antt", about, lines)
+        cited.update({n: f"{family}Rules" for n in re.findall(r"^pub ([\w-]+) :", "\n".join(lines), re.M)})
+    lines = [line for name in PIECES for line in piece_rules(name)] + [line for name in JOINED for line in joined_rules(name)]
+    write("PlainTypeRules.antt", "Types that hold no other types, a few at a time.", lines)
+    cited.update({n: "PlainTypeRules" for n in re.findall(r"^pub ([\w-]+) :", "\n".join(lines), re.M)})
+
+    def citing(lines, goals):
+        words = set(re.findall(r"[\w-]+", "\n".join(lines)))
+        by_file = {}
+        for name, stem in cited.items():
+            if name in words:
+                by_file.setdefault(stem, []).append(name)
+        return [f"use Rattle.weedle_types.proofs.{stem}.{{{', '.join(sorted(names))}}}" for stem, names in by_file.items()] + [f"use {goals} as goal"]
+
+    for name, (_, members) in {**PIECES, **JOINED}.items():
+        lines = choice_answers(name, ["word"] * len(members) if name in PIECES else list(members), "", "")
+        write(f"reading/plain_types/{name}/Answers.antt", "Alternatives, each where those before it were a mismatch.", lines,
+              citing(lines, f"Rattle.weedle_types.proofs.reading.plain_types.{name}.Goals"))
+    lines = group_answers()
+    write("reading/+group/Answers.antt", "Alternatives, each where those before it were a mismatch; lists, and arguments with a default.", lines,
+          citing(lines, "Rattle.weedle_types.proofs.reading.+group.Goals"))
+    write("reading/+group/Invariants.antt", "Each call reads a shorter text, or the same text by a rule of a smaller number.", measures(),
+          ["use Rattle.weedle_types.proofs.reading.+group.Given as goal"])
+
+
+main()
