@@ -4,9 +4,7 @@ use Rattle.std.proofs.lemmas.List.{length-drop}
 use Rattle.std.specs.Borrow.{Bor}
 use Rattle.std.specs.Global.{Vec}
 use Rattle.std.specs.Prelude.{◌≡◌, ℕ, ◌<◌, ◌==◌, false, List, [], ◌∷◌, length, drop, Err as Failed}
-use Rattle.weedle_base.proofs.TakesFacts.{own_takes, never_refused}
 use Rattle.weedle_base.specs.Faults.{IsOutOfMemory}
-use Rattle.weedle_base.specs.Own.{own}
 use Rattle.weedle_base.specs.Reading.{Got, Faults}
 use Rattle.weedle_base.specs.declared.fault.Err.{Err as Fault}
 use Rattle.weedle_base.specs.declared.fault.Err.TheVariants.{Error as Stopped, Failure}
@@ -14,18 +12,16 @@ use Rattle.weedle_base.specs.declared.fault.Error.{Error}
 use Rattle.weedle_base.specs.declared.fault.ErrorKind.TheVariants.{Unread}
 use Rattle.weedle_rules.proofs.Unique.{one_outcome}
 use Rattle.weedle_rules.specs.Table.{Reads}
-use Rattle.weedle_rules.specs.Table.FirstPath.{FIRST_DEFINITION, FIRST_DEFINITIONS}
+use Rattle.weedle_rules.specs.Table.Definitions.{DEFINITIONS}
 use Rattle.weedle_rules.specs.Trees.{Tree, Gives}
-use Rattle.weedle_first_path.proofs.DefinitionFacts.{reads_definitions}
-use Rattle.weedle_first_path.specs.Laws.{definitions_reading}
-use Rattle.weedle_first_path.specs.ValueTrees.{definition_tree, definitions_tree}
+use Rattle.weedle_idl.proofs.DefinitionListRules.{definitions_reading, definitions_rule, definitions_never_refuse}
+use Rattle.weedle_idl.specs.DefinitionTrees.{definitions_tree}
 use Rattle.weedle.specs.Whole.{IsWhole, IsLeft, LeavesRest, ParseAnswers}
-use Rattle.weedle_first_path.specs.declared.definition.Definition.{Definition}
+use Rattle.weedle_idl.specs.declared.definition.Definition.{Definition}
 
 -- a list of definitions is read from any text
 pub never_left : {raw : List ℕ} {e : Error (Bor (List ℕ))} → Faults definitions_reading raw (Stopped e) → ⊥
-never_left h =
-    never_refused (λ v. v.items) (own FIRST_DEFINITION definition_tree (Unit {0})) (own_takes FIRST_DEFINITION definition_tree (Unit {0}) refl) h
+never_left {raw} h = definitions_never_refuse raw h.says.0
 
 -- where memory was refused, the fault has the text
 pub runs_out : (raw : List ℕ) (e : Fault (Error (Bor (List ℕ)))) → IsOutOfMemory raw e → ParseAnswers raw (Failed e)
@@ -37,8 +33,8 @@ not_empty [] e = cc
 not_empty (t ∷ rest) e = omega arith
 
 module _ {raw rest : List ℕ} {v : Vec Definition} (h : Got definitions_reading raw v rest) where
-  reads : Reads raw FIRST_DEFINITIONS 0 (Gives (definitions_tree v.items ∷ []) h.place)
-  reads = reads_definitions.gives raw v h.place h.gives
+  reads : Reads raw DEFINITIONS 0 (Gives (definitions_tree v.items ∷ []) h.place)
+  reads = definitions_rule.gives raw v h.place h.gives
 
   size : length rest ≡ length (drop h.place raw)
   size = ap length h.rest_is
@@ -47,7 +43,7 @@ module _ {raw rest : List ℕ} {v : Vec Definition} (h : Got definitions_reading
   unfolding IsWhole
   whole e =
       let place : h.place ≡ length raw = omega (arith, e, size, length-drop h.place raw, h.within) in
-      subst (λ (k : ℕ). Reads raw FIRST_DEFINITIONS 0 (Gives (definitions_tree v.items ∷ []) k)) place reads
+      subst (λ (k : ℕ). Reads raw DEFINITIONS 0 (Gives (definitions_tree v.items ∷ []) k)) place reads
 
   same_end : {t u : Tree} {k l : ℕ} → Gives (t ∷ []) k ≡ Gives (u ∷ []) l → k ≡ l
   same_end e = cc

@@ -79,6 +79,12 @@ fn reports_what_is_read_and_what_is_left(rt: HostRuntime) -> Result<(), Fail> {
             Status::Read,
             "interface A\ninterface B\ndefinitions 2\n",
         ),
+        (
+            "interface A {};\nenum E {\"a\"};",
+            Status::Read,
+            "interface A\nenum E\ndefinitions 2\n",
+        ),
+        ("A includes B;", Status::Read, "includes A\ndefinitions 1\n"),
         ("  ", Status::Unread, "unread at byte 0\n"),
         ("interface A {};}", Status::Unread, "unread at byte 15\n"),
         (

@@ -12,6 +12,7 @@ fn describe<'a>(alloc: Global, text: &'a str) -> &'a str {
     match parse(alloc, text) {
         Ok(definitions) => match definitions.first() {
             Some(Definition::Interface(interface)) => interface.identifier.0,
+            Some(_) => "something else",
             None => "nothing",
         },
         Err(Err::Error(left)) => left.input,
