@@ -4,9 +4,7 @@ use Rattle.std.proofs.lemmas.List.{length-drop}
 use Rattle.std.specs.Borrow.{Bor}
 use Rattle.std.specs.Global.{Vec}
 use Rattle.std.specs.Prelude.{◌≡◌, ℕ, ◌<◌, ◌==◌, false, List, [], ◌∷◌, length, drop, Err as Failed}
-use Rattle.weedle_base.proofs.TakesFacts.{own_takes, never_refused}
 use Rattle.weedle_base.specs.Faults.{IsOutOfMemory}
-use Rattle.weedle_base.specs.Own.{own}
 use Rattle.weedle_base.specs.Reading.{Got, Faults}
 use Rattle.weedle_base.specs.declared.fault.Err.{Err as Fault}
 use Rattle.weedle_base.specs.declared.fault.Err.TheVariants.{Error as Stopped, Failure}
@@ -14,18 +12,17 @@ use Rattle.weedle_base.specs.declared.fault.Error.{Error}
 use Rattle.weedle_base.specs.declared.fault.ErrorKind.TheVariants.{Unread}
 use Rattle.weedle_rules.proofs.Unique.{one_outcome}
 use Rattle.weedle_rules.specs.Table.{Reads}
-use Rattle.weedle_rules.specs.Table.FirstPath.{FIRST_DEFINITION, FIRST_DEFINITIONS}
+use Rattle.weedle_rules.specs.Table.Definitions.{DEFINITIONS}
 use Rattle.weedle_rules.specs.Trees.{Tree, Gives}
-use Rattle.weedle_first_path.proofs.DefinitionFacts.{reads_definitions}
-use Rattle.weedle_first_path.specs.Laws.{definitions_reading}
-use Rattle.weedle_first_path.specs.ValueTrees.{definition_tree, definitions_tree}
+use Rattle.weedle_idl.proofs.DefinitionListRules.{definitions_reading, definitions_rule, definitions_never_refuse}
+use Rattle.weedle_formers.specs.declared.definition.enums.EnumVariant.{EnumVariant}
+use Rattle.weedle_idl.specs.ListTrees.{Definition, definitions_tree}
+use Rattle.weedle_parts.specs.declared.common.punctuated.Punctuated.{Punctuated}
+use Rattle.weedle_parts.specs.declared.common.punctuated.PunctuatedNonEmpty.{PunctuatedNonEmpty}
+use Rattle.weedle_term.specs.declared.symbols.Comma.{Comma}
+use Rattle.weedle_types.specs.declared.argument.Argument.{Argument}
+use Rattle.weedle_types.specs.declared.formers.ExtendedAttribute.{ExtendedAttribute}
 use Rattle.weedle.specs.Whole.{IsWhole, IsLeft, LeavesRest, ParseAnswers}
-use Rattle.weedle_first_path.specs.declared.definition.Definition.{Definition}
-
--- a list of definitions is read from any text
-pub never_left : {raw : List ℕ} {e : Error (Bor (List ℕ))} → Faults definitions_reading raw (Stopped e) → ⊥
-never_left h =
-    never_refused (λ v. v.items) (own FIRST_DEFINITION definition_tree (Unit {0})) (own_takes FIRST_DEFINITION definition_tree (Unit {0}) refl) h
 
 -- where memory was refused, the fault has the text
 pub runs_out : (raw : List ℕ) (e : Fault (Error (Bor (List ℕ)))) → IsOutOfMemory raw e → ParseAnswers raw (Failed e)
@@ -36,37 +33,43 @@ pub not_empty : (rest : List ℕ) → false ≡ (length rest == 0) → 0 < lengt
 not_empty [] e = cc
 not_empty (t ∷ rest) e = omega arith
 
-module _ {raw rest : List ℕ} {v : Vec Definition} (h : Got definitions_reading raw v rest) where
-  reads : Reads raw FIRST_DEFINITIONS 0 (Gives (definitions_tree v.items ∷ []) h.place)
-  reads = reads_definitions.gives raw v h.place h.gives
+-- `k`, `m` and `n` are what is known of the separators of lists without reading.
+module _ (k : Punctuated (ExtendedAttribute Argument) Comma → Type 0) (m : Punctuated Argument Comma → Type 0) (n : PunctuatedNonEmpty EnumVariant Comma → Type 0) where
+  -- a list of definitions is read from any text
+  pub never_left : {raw : List ℕ} {e : Error (Bor (List ℕ))} → Faults (definitions_reading k m n) raw (Stopped e) → ⊥
+  never_left {raw} h = definitions_never_refuse k m n raw h.says.0
 
-  size : length rest ≡ length (drop h.place raw)
-  size = ap length h.rest_is
+  module _ {raw rest : List ℕ} {v : Vec Definition} (h : Got (definitions_reading k m n) raw v rest) where
+    reads : Reads raw DEFINITIONS 0 (Gives (definitions_tree v.items ∷ []) h.place)
+    reads = (definitions_rule k m n).gives raw v h.place h.gives
 
-  pub whole : length rest ≡ 0 → IsWhole raw v.items
-  unfolding IsWhole
-  whole e =
-      let place : h.place ≡ length raw = omega (arith, e, size, length-drop h.place raw, h.within) in
-      subst (λ (k : ℕ). Reads raw FIRST_DEFINITIONS 0 (Gives (definitions_tree v.items ∷ []) k)) place reads
+    size : length rest ≡ length (drop h.place raw)
+    size = ap length h.rest_is
 
-  same_end : {t u : Tree} {k l : ℕ} → Gives (t ∷ []) k ≡ Gives (u ∷ []) l → k ≡ l
-  same_end e = cc
+    pub whole : length rest ≡ 0 → IsWhole raw v.items
+    unfolding IsWhole
+    whole e =
+        let place : h.place ≡ length raw = omega (arith, e, size, length-drop h.place raw, h.within) in
+        subst (λ (i : ℕ). Reads raw DEFINITIONS 0 (Gives (definitions_tree v.items ∷ []) i)) place reads
 
-  not_whole : 0 < length rest → (definitions : List Definition) → ¬ IsWhole raw definitions
-  unfolding IsWhole
-  not_whole n definitions d =
-      let place : h.place ≡ length raw = same_end (one_outcome reads d refl) in
-      omega (arith, n, place, size, length-drop h.place raw)
+    same_end : {t u : Tree} {k l : ℕ} → Gives (t ∷ []) k ≡ Gives (u ∷ []) l → k ≡ l
+    same_end e = cc
 
-  is_left : IsLeft raw rest
-  unfolding IsLeft
-  is_left = (_, h.place, reads, h.rest_is)
+    not_whole : 0 < length rest → (definitions : List Definition) → ¬ IsWhole raw definitions
+    unfolding IsWhole
+    not_whole more definitions d =
+        let place : h.place ≡ length raw = same_end (one_outcome reads d refl) in
+        omega (arith, more, place, size, length-drop h.place raw)
 
-  pub leaves : 0 < length rest → {e : Error (Bor (List ℕ))} → e.code ≡ Unread → e.input.now ≡ rest → LeavesRest raw e
-  leaves n {e} code input = record {
-    refused = not_whole n;
-    code = code;
-    left = rw input is_left;
-    nonempty = rw input n;
-    within = omega (arith, ap length input, size, length-drop h.place raw);
-  }
+    is_left : IsLeft raw rest
+    unfolding IsLeft
+    is_left = (_, h.place, reads, h.rest_is)
+
+    pub leaves : 0 < length rest → {e : Error (Bor (List ℕ))} → e.code ≡ Unread → e.input.now ≡ rest → LeavesRest raw e
+    leaves more {e} code input = record {
+      refused = not_whole more;
+      code = code;
+      left = rw input is_left;
+      nonempty = rw input more;
+      within = omega (arith, ap length input, size, length-drop h.place raw);
+    }

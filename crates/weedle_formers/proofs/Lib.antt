@@ -1,0 +1,11 @@
+pub mod Direct
+pub mod Steps
+pub mod InheritanceRules
+pub mod ModifierRules
+pub mod EnumVariantRules
+pub mod PartRules
+pub mod InterfaceRules
+pub mod MixinRules
+pub mod NamespaceRules
+pub mod DictionaryRules
+pub mod DefinitionRules

@@ -1,0 +1,6 @@
+-- Parts one after another. Written by tools/idl_proofs.py.
+use Rattle.weedle_base.proofs.Steps.{got_pair, got_seen}
+use Rattle.weedle_formers.proofs.definition.interfaces.CallbackInterfaceDefinitionParse.parse.Goals as goal
+
+pub returns : goal.returns
+returns c d = got_seen _ _ _ (got_pair _ _ d.in_ok-rest.ensures (got_pair _ _ d.in_ok-rest-2.ensures (got_pair _ _ d.in_ok-rest-3.ensures (got_pair _ _ d.in_ok-rest-4.ensures (got_pair _ _ d.in_ok-rest-5.ensures (got_pair _ _ d.in_ok-rest-6.ensures (got_pair _ _ d.in_ok-rest-7.ensures d.in_ok-rest-8.ensures)))))))

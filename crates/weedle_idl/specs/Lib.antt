@@ -1,0 +1,2 @@
+pub mod ListTrees
+pub mod Laws
