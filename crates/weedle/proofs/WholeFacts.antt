@@ -3,9 +3,9 @@ use Rattle.std.proofs.Common.{refl, ap, subst, arith}
 use Rattle.std.proofs.lemmas.List.{length-drop}
 use Rattle.std.specs.Borrow.{Bor}
 use Rattle.std.specs.Global.{Vec}
-use Rattle.std.specs.Prelude.{◌≡◌, ℕ, ◌<◌, ◌==◌, false, List, [], ◌∷◌, length, drop, Err as Failed}
+use Rattle.std.specs.Prelude.{◌≡◌, ℕ, ◌<◌, ◌==◌, false, true, List, [], ◌∷◌, length, drop, Result, Ok, Err as Failed}
 use Rattle.weedle_base.specs.Faults.{IsOutOfMemory}
-use Rattle.weedle_base.specs.Reading.{Got, Faults}
+use Rattle.weedle_base.specs.Reading.{Reading, Got, Faults}
 use Rattle.weedle_base.specs.declared.fault.Err.{Err as Fault}
 use Rattle.weedle_base.specs.declared.fault.Err.TheVariants.{Error as Stopped, Failure}
 use Rattle.weedle_base.specs.declared.fault.Error.{Error}
@@ -23,6 +23,7 @@ use Rattle.weedle_term.specs.declared.symbols.Comma.{Comma}
 use Rattle.weedle_types.specs.declared.argument.Argument.{Argument}
 use Rattle.weedle_types.specs.declared.formers.ExtendedAttribute.{ExtendedAttribute}
 use Rattle.weedle.specs.Whole.{IsWhole, IsLeft, LeavesRest, ParseAnswers}
+use Rattle.weedle.specs.WholeOf.{LeavesOver, WholeAnswers}
 
 -- where memory was refused, the fault has the text
 pub runs_out : (raw : List ℕ) (e : Fault (Error (Bor (List ℕ)))) → IsOutOfMemory raw e → ParseAnswers raw (Failed e)
@@ -32,6 +33,16 @@ runs_out raw (Failure e) h = record { code = h.0; input = h.1 }
 pub not_empty : (rest : List ℕ) → false ≡ (length rest == 0) → 0 < length rest
 not_empty [] e = cc
 not_empty (t ∷ rest) e = omega arith
+
+module _ {V : Type 0} {R : Reading V} {raw : List ℕ} {v : V} where
+  -- nothing follows the value
+  pub nothing_left : (rest : List ℕ) → Got R raw v rest → true ≡ (length rest == 0) → Got R raw v []
+  nothing_left [] h e = h
+  nothing_left (t ∷ rest) h e = cc
+
+  -- something follows it
+  pub leaves_over : {rest : List ℕ} → Got R raw v rest → 0 < length rest → {e : Error (Bor (List ℕ))} → e.code ≡ Unread → e.input.now ≡ rest → LeavesOver R raw e
+  leaves_over h more code input = record { value = v; got = rw input h; code = code; nonempty = rw input more }
 
 -- `k`, `m` and `n` are what is known of the separators of lists without reading.
 module _ (k : Punctuated (ExtendedAttribute Argument) Comma → Type 0) (m : Punctuated Argument Comma → Type 0) (n : PunctuatedNonEmpty EnumVariant Comma → Type 0) where
@@ -73,3 +84,9 @@ module _ (k : Punctuated (ExtendedAttribute Argument) Comma → Type 0) (m : Pun
       nonempty = rw input more;
       within = omega (arith, ap length input, size, length-drop h.place raw);
     }
+
+  -- what a whole text is read as, by the rule of definitions
+  pub whole_parse : (raw : List ℕ) (r : Result (Vec Definition) (Fault (Error (Bor (List ℕ))))) → WholeAnswers (definitions_reading k m n) raw r → ParseAnswers raw r
+  whole_parse raw (Ok v) h = whole h refl
+  whole_parse raw (Failed (Stopped e)) h = leaves h.got h.nonempty h.code refl
+  whole_parse raw (Failed (Failure e)) h = record { code = h.0; input = h.1 }

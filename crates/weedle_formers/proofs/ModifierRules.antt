@@ -1,4 +1,4 @@
--- The words that may stand before a member. Written by tools/idl_proofs.py.
+-- The words that may stand before a member.
 use Rattle.std.proofs.Common.{inl, inr, refl}
 use Rattle.std.specs.Borrow.{Bor}
 use Rattle.std.specs.Prelude.{ℕ, List, ◌⊎◌}

@@ -11,7 +11,8 @@
 
 use anyhow::anyhow;
 use std::time::Instant;
-use weedle::{Definitions, Parse};
+use weedle_base::Parse;
+use weedle_idl::Definitions;
 use weedle_texts::definitions;
 
 const SEED: u64 = 7;
