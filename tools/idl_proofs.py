@@ -390,11 +390,11 @@ def equivalence(item, about):
 HOMES = {
     "Rattle.std.proofs.Common": "refl inl inr",
     "Rattle.std.specs.Global": "Vec",
-    f"{BASE}.proofs.Choice": "choice_reading choice_tree first_last first_more first_rule",
+    f"{BASE}.proofs.Choice": "choice_tree first_last first_more first_rule",
     f"{BASE}.proofs.RuleFacts": "own_rule still_rule option_rule seq_rule seq_next seq_last seen_rule mark_rule pair_rule",
     f"{BASE}.specs.Alike": "IsEquivalence option_alike all_alike",
     f"{BASE}.specs.AlikeLaws": "equal_equivalence seen_equivalence pair_equivalence option_equivalence all_equivalence",
-    f"{BASE}.specs.Generic": "pair_reading option_reading seen_reading",
+    f"{BASE}.specs.Generic": "pair_reading option_reading seen_reading choice_reading",
     f"{BASE}.specs.GenericLaws": "pair_lawful option_lawful seen_lawful",
     f"{BASE}.specs.Own": "own",
     f"{BASE}.specs.OwnLaws": "own_lawful",
@@ -493,7 +493,7 @@ def write_answers(item, lines, about):
     steps = [n for n in ("exit_answers", "fault_first", "fault_second", "fault_seen", "got_pair", "got_seen") if n in body]
     direct = [n for n in ("stop_first", "stop_next", "take_first", "take_next") if n in body]
     uses = [f"use {BASE}.proofs.Steps.{{{', '.join(steps)}}}"]
-    uses += [f"use {FORM}.proofs.Direct.{{{', '.join(direct)}}}"] if direct else []
+    uses += [f"use {BASE}.proofs.Direct.{{{', '.join(direct)}}}"] if direct else []
     uses.append(f"use {FORM}.proofs.{path}.Goals as goal")
     file = FORMERS / "proofs" / path.replace(".", "/") / "Answers.antt"
     file.parent.mkdir(parents=True, exist_ok=True)

@@ -1,4 +1,3 @@
-pub mod Direct
 pub mod Steps
 pub mod InheritanceRules
 pub mod ModifierRules

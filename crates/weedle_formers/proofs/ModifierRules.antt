@@ -2,7 +2,8 @@
 use Rattle.std.proofs.Common.{inl, inr, refl}
 use Rattle.std.specs.Borrow.{Bor}
 use Rattle.std.specs.Prelude.{ℕ, List, ◌⊎◌}
-use Rattle.weedle_base.proofs.Choice.{choice_reading, choice_steps, choice_tree, first_last, first_more, first_rule}
+use Rattle.weedle_base.proofs.Choice.{choice_steps, choice_tree, first_last, first_more, first_rule}
+use Rattle.weedle_base.specs.Generic.{choice_reading}
 use Rattle.weedle_base.proofs.RuleFacts.{fault_rule, got_rule, mark, mark_rule}
 use Rattle.weedle_base.specs.Own.{own}
 use Rattle.weedle_base.specs.Reading.{Faults, Got, Reading}

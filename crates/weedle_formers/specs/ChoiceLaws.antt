@@ -2,7 +2,7 @@
 use Rattle.std.specs.Prelude.{◌≡◌, ℕ, List, ◌⊎◌}
 use Rattle.std.proofs.Common.{inl, inr}
 use Rattle.std.specs.Str.{IsCharBoundary, IsUtf8}
-use Rattle.weedle_base.proofs.Choice.{choice_gives, choice_alike, choice_reading}
+use Rattle.weedle_base.specs.Generic.{choice_gives, choice_alike, choice_reading}
 use Rattle.weedle_base.specs.Alike.{IsEquivalence}
 use Rattle.weedle_base.specs.Reading.{Reading, IsLawful}
 use Rattle.weedle_base.specs.declared.fault.ErrorKind.{ErrorKind}

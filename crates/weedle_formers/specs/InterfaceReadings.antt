@@ -1,8 +1,7 @@
 -- What interfaces' members read: their parts in order, or the first of them that fits.
 use Rattle.std.proofs.Common.{inl, inr}
 use Rattle.std.specs.Prelude.{◌⊎◌, Option}
-use Rattle.weedle_base.proofs.Choice.{choice_reading}
-use Rattle.weedle_base.specs.Generic.{option_reading, pair_reading, seen_reading}
+use Rattle.weedle_base.specs.Generic.{choice_reading, option_reading, pair_reading, seen_reading}
 use Rattle.weedle_base.specs.Own.{own}
 use Rattle.weedle_base.specs.Reading.{Reading}
 use Rattle.weedle_formers.specs.ModifierTrees.{special_tree, stringifier_or_inherit_or_static_tree, stringifier_or_static_tree}

@@ -1,6 +1,6 @@
 -- Alternatives, each where those before it were a mismatch. Written by tools/idl_proofs.py.
 use Rattle.weedle_base.proofs.Steps.{exit_answers, fault_seen, got_seen}
-use Rattle.weedle_formers.proofs.Direct.{stop_first, stop_next, take_first, take_next}
+use Rattle.weedle_base.proofs.Direct.{stop_first, stop_next, take_first, take_next}
 use Rattle.weedle_formers.proofs.namespace.NamespaceMemberParse.parse.Goals as goal
 
 pub returns-in-Ok : goal.returns-in-Ok

@@ -2,7 +2,7 @@
 use Rattle.std.proofs.Common.{refl, subst, inl, inr}
 use Rattle.std.specs.Borrow.{Bor}
 use Rattle.std.specs.Prelude.{◌≡◌, List, ℕ}
-use Rattle.weedle_base.proofs.Choice.{choice_reading}
+use Rattle.weedle_base.specs.Generic.{choice_reading}
 use Rattle.weedle_base.proofs.Steps.{fault_along}
 use Rattle.weedle_base.specs.Reading.{Reading, Got, Faults}
 use Rattle.weedle_base.specs.declared.fault.Err.TheVariants.{Error as Recoverable, Failure}
