@@ -3,7 +3,7 @@ use Rattle.std.proofs.Common.{refl, ap, subst, arith}
 use Rattle.std.proofs.lemmas.List.{length-drop}
 use Rattle.std.specs.Borrow.{Bor}
 use Rattle.std.specs.Global.{Vec}
-use Rattle.std.specs.Prelude.{◌≡◌, ℕ, ◌<◌, ◌==◌, false, true, List, [], ◌∷◌, length, drop, Result, Ok, Err as Failed}
+use Rattle.std.specs.Prelude.{◌≡◌, ℕ, suc, ◌<◌, ◌==◌, false, true, List, [], ◌∷◌, length, drop, Result, Ok, Err as Failed}
 use Rattle.weedle_base.specs.Faults.{IsOutOfMemory}
 use Rattle.weedle_base.specs.Reading.{Reading, Got, Faults}
 use Rattle.weedle_base.specs.declared.fault.Err.{Err as Fault}
@@ -34,11 +34,19 @@ pub not_empty : (rest : List ℕ) → false ≡ (length rest == 0) → 0 < lengt
 not_empty [] e = cc
 not_empty (t ∷ rest) e = omega arith
 
+not_none : (n : ℕ) → true ≡ (suc n == 0) → ⊥
+not_none n e = let z : suc n ≡ 0 = cc in omega (arith, z)
+
+-- memory was refused
+pub out_of_memory : {V : Type 0} (R : Reading V) (raw : List ℕ) (e : Fault (Error (Bor (List ℕ)))) → IsOutOfMemory raw e → WholeAnswers R raw (Failed e)
+out_of_memory R raw (Stopped e) h = absurd h
+out_of_memory R raw (Failure e) h = h
+
 module _ {V : Type 0} {R : Reading V} {raw : List ℕ} {v : V} where
   -- nothing follows the value
   pub nothing_left : (rest : List ℕ) → Got R raw v rest → true ≡ (length rest == 0) → Got R raw v []
   nothing_left [] h e = h
-  nothing_left (t ∷ rest) h e = cc
+  nothing_left (t ∷ rest) h e = absurd (not_none (length rest) e)
 
   -- something follows it
   pub leaves_over : {rest : List ℕ} → Got R raw v rest → 0 < length rest → {e : Error (Bor (List ℕ))} → e.code ≡ Unread → e.input.now ≡ rest → LeavesOver R raw e

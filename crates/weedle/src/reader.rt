@@ -19,6 +19,7 @@ use weedle_base::{Err, Error, ErrorKind, Parse, out_of_memory};
 ///
 /// It takes memory for the list of definitions and for the list of members of each, and ends with
 /// [`Err::Failure`] where that is refused. Names aren't copied: each is a part of the text.
+#[tactic(auto, using(weedle_idl::proofs::DefinitionListRules::definitions_never_refuse))]
 pub fn parse(alloc: Global, raw: &str) -> Result<Definitions<'_>, Err<Error<&str>>>
     ensures { ParseAnswers raw.now result }
 {
