@@ -1,9 +1,9 @@
 -- What the answer of a list of definitions says of the whole text.
-use Rattle.std.proofs.Common.{refl, ap, subst, arith}
+use Rattle.std.proofs.Common.{inl, inr, refl, ap, subst, arith}
 use Rattle.std.proofs.lemmas.List.{length-drop}
 use Rattle.std.specs.Borrow.{Bor}
 use Rattle.std.specs.Global.{Vec}
-use Rattle.std.specs.Prelude.{◌≡◌, ℕ, suc, ◌<◌, ◌==◌, false, true, List, [], ◌∷◌, length, drop, Result, Ok, Err as Failed}
+use Rattle.std.specs.Prelude.{◌≡◌, ℕ, ◌<◌, ◌==◌, false, List, [], ◌∷◌, length, drop, Result, Ok, Err as Failed}
 use Rattle.weedle_base.specs.Faults.{IsOutOfMemory}
 use Rattle.weedle_base.specs.Reading.{Reading, Got, Faults}
 use Rattle.weedle_base.specs.declared.fault.Err.{Err as Fault}
@@ -34,30 +34,18 @@ pub not_empty : (rest : List ℕ) → false ≡ (length rest == 0) → 0 < lengt
 not_empty [] e = cc
 not_empty (t ∷ rest) e = omega arith
 
-not_none : (n : ℕ) → true ≡ (suc n == 0) → ⊥
-not_none n e = let z : suc n ≡ 0 = cc in omega (arith, z)
-
 -- memory was refused
 pub out_of_memory : {V : Type 0} (R : Reading V) (raw : List ℕ) (e : Fault (Error (Bor (List ℕ)))) → IsOutOfMemory raw e → WholeAnswers R raw (Failed e)
 out_of_memory R raw (Stopped e) h = absurd h
 out_of_memory R raw (Failure e) h = h
 
 module _ {V : Type 0} {R : Reading V} {raw : List ℕ} {v : V} where
-  -- nothing follows the value
-  pub nothing_left : (rest : List ℕ) → Got R raw v rest → true ≡ (length rest == 0) → Got R raw v []
-  nothing_left [] h e = h
-  nothing_left (t ∷ rest) h e = absurd (not_none (length rest) e)
-
   -- something follows it
   pub leaves_over : {rest : List ℕ} → Got R raw v rest → 0 < length rest → {e : Error (Bor (List ℕ))} → e.code ≡ Unread → e.input.now ≡ rest → LeavesOver R raw e
   leaves_over h more code input = record { value = v; got = rw input h; code = code; nonempty = rw input more }
 
 -- `k`, `m` and `n` are what is known of the separators of lists without reading.
 module _ (k : Punctuated (ExtendedAttribute Argument) Comma → Type 0) (m : Punctuated Argument Comma → Type 0) (n : PunctuatedNonEmpty EnumVariant Comma → Type 0) where
-  -- a list of definitions is read from any text
-  pub never_left : {raw : List ℕ} {e : Error (Bor (List ℕ))} → Faults (definitions_reading k m n) raw (Stopped e) → ⊥
-  never_left {raw} h = definitions_never_refuse k m n raw h.says.0
-
   module _ {raw rest : List ℕ} {v : Vec Definition} (h : Got (definitions_reading k m n) raw v rest) where
     reads : Reads raw DEFINITIONS 0 (Gives (definitions_tree v.items ∷ []) h.place)
     reads = (definitions_rule k m n).gives raw v h.place h.gives
@@ -95,6 +83,7 @@ module _ (k : Punctuated (ExtendedAttribute Argument) Comma → Type 0) (m : Pun
 
   -- what a whole text is read as, by the rule of definitions
   pub whole_parse : (raw : List ℕ) (r : Result (Vec Definition) (Fault (Error (Bor (List ℕ))))) → WholeAnswers (definitions_reading k m n) raw r → ParseAnswers raw r
-  whole_parse raw (Ok v) h = whole h refl
-  whole_parse raw (Failed (Stopped e)) h = leaves h.got h.nonempty h.code refl
+  whole_parse raw (Ok v) h = whole h.1 h.2
+  whole_parse raw (Failed (Stopped e)) (inl h) = leaves h.got h.nonempty h.code refl
+  whole_parse raw (Failed (Stopped e)) (inr h) = absurd (definitions_never_refuse k m n raw h)
   whole_parse raw (Failed (Failure e)) h = record { code = h.0; input = h.1 }

@@ -2,7 +2,6 @@
 
 ghost use Rattle.weedle.specs.Whole.{ParseAnswers};
 ghost use Rattle.weedle.specs.WholeOf.{WholeAnswers};
-ghost use Rattle.weedle_idl.specs.Laws.{NeverRefuses};
 
 use crate::Definitions;
 use std::alloc::Global;
@@ -19,16 +18,14 @@ use weedle_base::{Err, Error, ErrorKind, Parse, out_of_memory};
 ///
 /// It takes memory for the list of definitions and for the list of members of each, and ends with
 /// [`Err::Failure`] where that is refused. Names aren't copied: each is a part of the text.
-#[tactic(auto, using(weedle_idl::proofs::DefinitionListRules::definitions_never_refuse))]
 pub fn parse(alloc: Global, raw: &str) -> Result<Definitions<'_>, Err<Error<&str>>>
     ensures { ParseAnswers raw.now result }
 {
     whole(alloc, raw)
 }
 
-/// Reads a whole text as a value of a type that is read from any text, or says what is left of it.
+/// Reads a whole text as a value, or says what is left of it: all of it where it has no value.
 fn whole<'a, T: Parse<'a>>(alloc: Global, raw: &'a str) -> Result<T, Err<Error<&'a str>>>
-    requires never_refuses { NeverRefuses T.reading }
     ensures { WholeAnswers T.reading raw.now result }
 {
     match T::parse(alloc, raw) {
@@ -41,8 +38,10 @@ fn whole<'a, T: Parse<'a>>(alloc: Global, raw: &'a str) -> Result<T, Err<Error<&
                 code: ErrorKind::Unread,
             }))
         }
-        // The type is read from any text.
-        Err(Err::Error(_)) => unreachable!(),
+        Err(Err::Error(_)) => Err(Err::Error(Error {
+            input: raw,
+            code: ErrorKind::Unread,
+        })),
         Err(Err::Failure(_)) => Err(out_of_memory(raw)),
     }
 }
