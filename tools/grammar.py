@@ -386,16 +386,6 @@ first("DEFINITION", "CALLBACK_DEFINITION", "CALLBACK_INTERFACE_DEFINITION", "INT
       "INCLUDES_STATEMENT_DEFINITION", "IMPLEMENTS_DEFINITION", doc="A definition.")
 many("DEFINITIONS", "DEFINITION", doc="Definitions, none included: the whole of a text.")
 
-# The first path.
-section("FirstPath", "A first path: interfaces with attributes whose types are names.")
-seq("FIRST_ATTRIBUTE", "OPT_READ_ONLY", "ATTRIBUTE", "IDENTIFIER", "IDENTIFIER", "SEMI_COLON", doc="An attribute, as `readonly attribute Node x;`.")
-first("FIRST_MEMBER", "FIRST_ATTRIBUTE", doc="A member of an interface.")
-many("FIRST_MEMBERS", "FIRST_MEMBER", doc="The members of an interface, none included.")
-bracketed("BRACED", "FIRST_MEMBERS", doc="The members between braces.")
-seq("FIRST_INTERFACE", "INTERFACE", "IDENTIFIER", "BRACED_FIRST_MEMBERS", "SEMI_COLON", doc="An interface, as `interface A {};`.")
-first("FIRST_DEFINITION", "FIRST_INTERFACE", doc="A definition.")
-many("FIRST_DEFINITIONS", "FIRST_DEFINITION", doc="Definitions, none included: the whole of a text.")
-
 # The parts that the scanners of weedle_base and weedle_parts name.
 SCANNED = (
     "BYTES_SLASH_SLASH BYTES_SLASH_STAR ONE_OF_BLANK RUN_BLANK BYTES_THREE_SLASHES BYTES_UNDERSCORE ONE_OF_LETTER RUN_NAME "

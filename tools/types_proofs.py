@@ -75,10 +75,7 @@ ALIASES = {
     "FrozenArrayType": "FrozenArrayType «Type»",
     "SequenceType": "SequenceType «Type»",
     "UnionType": "Parenthesized (Punctuated UnionMemberType Or)",
-    "ExtendedAttribute": "ExtendedAttribute Argument",
-    "ExtendedAttributeNamedArgList": "ExtendedAttributeNamedArgList Argument",
-    "ExtendedAttributeArgList": "ExtendedAttributeArgList Argument",
-    "ExtendedAttributeList": "Bracketed (Punctuated (ExtendedAttribute Argument) Comma)",
+    "ExtendedAttributeList": "Bracketed (Punctuated ExtendedAttribute Comma)",
     "ArgumentList": "Punctuated Argument Comma",
 }
 
@@ -212,6 +209,8 @@ TREE_LAWS = {
     ("non_any_type", "RecordType"): "record_of",
     ("union_member_type", "Single"): "member_single_of",
     ("union_member_type", "Union"): "member_union_of",
+    ("extended_attribute", "ArgList"): "arg_list_of",
+    ("extended_attribute", "NamedArgList"): "named_arg_list_of",
     ("argument", "Single"): "argument_single_of",
     ("argument", "Variadic"): "argument_variadic_of",
 }
@@ -716,7 +715,7 @@ def imports(text, more=()):
         wanted.setdefault(module, set()).add(logic if logic == name else f"{logic} as {name}")
     for shown, module in (("Type", "types.«Type»"), ("SingleType", "formers.SingleType"), ("RecordKeyType", "formers.RecordKeyType"),
                           ("ReturnType", "formers.ReturnType"), ("UnionMemberType", "types.UnionMemberType"), ("NonAnyType", "types.NonAnyType"),
-                          ("ExtendedAttribute", "formers.ExtendedAttribute"), ("Argument", "argument.Argument")):
+                          ("ExtendedAttribute", "attribute.ExtendedAttribute"), ("Argument", "argument.Argument")):
         for name in set(re.findall(rf"\({shown}-(\w+)", text)):
             wanted.setdefault(f"Rattle.weedle_types.specs.declared.{module}.TheVariants", set()).add(f"{name} as {shown}-{name}")
     if "Fault" in words:

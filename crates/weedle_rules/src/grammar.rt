@@ -11,7 +11,6 @@ use crate::rule::Rule;
 
 pub(crate) mod capitalized_keywords;
 pub(crate) mod definitions;
-pub(crate) mod first_path;
 pub(crate) mod interface_members;
 pub(crate) mod keywords;
 pub(crate) mod leaves;
@@ -48,9 +47,7 @@ pub fn row_of(rule: Rule) -> Row
         interface_members::row(number)
     } else if number < 370 {
         other_members::row(number)
-    } else if number < 386 {
-        definitions::row(number)
     } else {
-        first_path::row(number)
+        definitions::row(number)
     }
 }

@@ -32,7 +32,7 @@ pub use row::{Parts, Row};
 pub use rule::Rule;
 
 /// How many rules there are.
-pub const RULES: usize = 393;
+pub const RULES: usize = 386;
 
 /// How often a byte or a cell is looked at, at most, where one cell is worked out.
 pub const READS: usize = 29;

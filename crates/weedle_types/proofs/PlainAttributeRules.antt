@@ -2,10 +2,10 @@
 use Rattle.std.proofs.Common.{refl, inl, inr}
 use Rattle.std.specs.Borrow.{Bor}
 use Rattle.std.specs.Prelude.{ℕ, List, ◌⊎◌}
-use Rattle.weedle_base.proofs.Choice.{choice_reading, choice_tree, first_last, first_more, first_rule, choice_steps}
+use Rattle.weedle_base.proofs.Choice.{choice_tree, first_last, first_more, first_rule, choice_steps}
+use Rattle.weedle_base.specs.Generic.{choice_reading, pair_reading}
 use Rattle.weedle_base.proofs.RuleFacts.{own_rule, still_rule, seq_last, seq_next, seq_rule, got_rule, fault_rule, mark, mark_rule}
 use Rattle.weedle_base.proofs.Steps.{part_steps}
-use Rattle.weedle_base.specs.Generic.{pair_reading}
 use Rattle.weedle_base.specs.Own.{own}
 use Rattle.weedle_base.specs.Reading.{Reading, Got, Faults}
 use Rattle.weedle_base.specs.Rules.{IsRule}

@@ -4,9 +4,10 @@
 use Rattle.std.proofs.Common.{inl, inr, refl}
 use Rattle.std.specs.Borrow.{Bor}
 use Rattle.std.specs.Prelude.{List, ℕ, ◌⊎◌}
-use Rattle.weedle_base.proofs.Choice.{IsFirst, choice_reading, choice_tree, first_last, first_more}
+use Rattle.weedle_base.proofs.Choice.{IsFirst, choice_tree, first_last, first_more}
 use Rattle.weedle_base.proofs.RuleFacts.{mark, mark_rule, own_rule}
 use Rattle.weedle_base.proofs.TakesFacts.{own_takes}
+use Rattle.weedle_base.specs.Generic.{choice_reading}
 use Rattle.weedle_base.specs.Own.{own}
 use Rattle.weedle_base.specs.Reading.{Faults, Got, Reading}
 use Rattle.weedle_base.specs.Rules.{mark_tree}

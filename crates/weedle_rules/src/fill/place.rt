@@ -11,7 +11,6 @@ use crate::reader::Reader;
 
 mod capitalized_keywords;
 mod definitions;
-mod first_path;
 mod interface_members;
 mod keywords;
 mod leaves;
@@ -41,5 +40,4 @@ pub(super) fn fill_place<C: Cell>(reader: &mut Reader<'_, C>, place: usize)
     interface_members::fill(reader, place);
     other_members::fill(reader, place);
     definitions::fill(reader, place);
-    first_path::fill(reader, place);
 }

@@ -15,7 +15,7 @@ use Rattle.weedle_term.specs.declared.type_keywords.Or.{Or}
 use Rattle.weedle_types.proofs.reading.+group.Given as goal
 use Rattle.weedle_types.specs.Trees.{argument_tree, extended_attribute_tree, union_member_type_tree}
 use Rattle.weedle_types.specs.declared.argument.Argument.{Argument}
-use Rattle.weedle_types.specs.declared.formers.ExtendedAttribute.{ExtendedAttribute}
+use Rattle.weedle_types.specs.declared.attribute.ExtendedAttribute.{ExtendedAttribute}
 use Rattle.weedle_types.specs.declared.types.UnionMemberType.{UnionMemberType}
 use denote.Shadow.{shadow}
 use denote.Text.{Utf8}
@@ -135,7 +135,7 @@ abbrev pub decreases-unions::more_union_member_types-items : goal.decreases-unio
 decreases-unions::more_union_member_types-items l = length l.rest
 
 abbrev pub invariant-attributes::more_extended_attributes-items : goal.invariant-attributes::more_extended_attributes-items
-invariant-attributes::more_extended_attributes-items l = shadow (Utf8 l.rest) × (length l.rest ≤ length l.input) × ((vs : List (ExtendedAttribute Argument)) × (l.list.items ≡ l.fn.first ∷ vs) × Reached (next_step (own EXTENDED_ATTRIBUTE extended_attribute_tree (Unit {0})) (mark {V = Comma} COMMA)) l.input vs l.rest)
+invariant-attributes::more_extended_attributes-items l = shadow (Utf8 l.rest) × (length l.rest ≤ length l.input) × ((vs : List ExtendedAttribute) × (l.list.items ≡ l.fn.first ∷ vs) × Reached (next_step (own EXTENDED_ATTRIBUTE extended_attribute_tree (Unit {0})) (mark {V = Comma} COMMA)) l.input vs l.rest)
 
 abbrev pub decreases-attributes::more_extended_attributes-items : goal.decreases-attributes::more_extended_attributes-items
 decreases-attributes::more_extended_attributes-items l = length l.rest

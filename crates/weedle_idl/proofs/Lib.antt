@@ -1,0 +1,12 @@
+pub mod CopyFacts
+pub mod EnumVariantRules
+pub mod EnumValueRules
+pub mod CallbackRules
+pub mod InterfaceRules
+pub mod InterfaceMixinRules
+pub mod NamespaceDefinitionRules
+pub mod DictionaryDefinitionRules
+pub mod EnumRules
+pub mod TypedefRules
+pub mod DefinitionRules
+pub mod DefinitionListRules

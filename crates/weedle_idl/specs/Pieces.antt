@@ -1,0 +1,15 @@
+-- The rules of definitions, a few at a time: a function reads so many.
+use Rattle.std.specs.Prelude.{ℕ, List, [], ◌∷◌}
+use Rattle.weedle_rules.specs.Table.Definitions.{CALLBACK_DEFINITION, CALLBACK_INTERFACE_DEFINITION, INTERFACE_DEFINITION, INTERFACE_MIXIN_DEFINITION, NAMESPACE_DEFINITION, DICTIONARY_DEFINITION, PARTIAL_INTERFACE_DEFINITION, PARTIAL_INTERFACE_MIXIN_DEFINITION, PARTIAL_DICTIONARY_DEFINITION, PARTIAL_NAMESPACE_DEFINITION, ENUM_DEFINITION, TYPEDEF_DEFINITION, INCLUDES_STATEMENT_DEFINITION, IMPLEMENTS_DEFINITION}
+
+-- callbacks, and whole interfaces, mixins, namespaces and dictionaries
+abbrev pub main_definition_rules : List ℕ
+main_definition_rules = CALLBACK_DEFINITION ∷ CALLBACK_INTERFACE_DEFINITION ∷ INTERFACE_DEFINITION ∷ INTERFACE_MIXIN_DEFINITION ∷ NAMESPACE_DEFINITION ∷ DICTIONARY_DEFINITION ∷ []
+
+-- parts of these
+abbrev pub partial_definition_rules : List ℕ
+partial_definition_rules = PARTIAL_INTERFACE_DEFINITION ∷ PARTIAL_INTERFACE_MIXIN_DEFINITION ∷ PARTIAL_DICTIONARY_DEFINITION ∷ PARTIAL_NAMESPACE_DEFINITION ∷ []
+
+-- enums, names for types, statements
+abbrev pub other_definition_rules : List ℕ
+other_definition_rules = ENUM_DEFINITION ∷ TYPEDEF_DEFINITION ∷ INCLUDES_STATEMENT_DEFINITION ∷ IMPLEMENTS_DEFINITION ∷ []

@@ -1,0 +1,4 @@
+pub mod PartTrees
+pub mod InterfaceTrees
+pub mod OtherMemberTrees
+pub mod Pieces
