@@ -1,7 +1,7 @@
 #!/usr/bin/env python3
 """Writes the proofs that members and definitions read what their rules read.
 
-Run it at the top of the repository, then `rt fmt` in crates/weedle_modifier, crates/weedle_members and crates/weedle_idl:
+Run it at the top of the repository, then `rt fmt` in each crate that it names:
 
     python3 tools/idl_proofs.py
 
@@ -99,10 +99,8 @@ class Enum:
 class File:
     """The proofs of the types of one file of a crate."""
 
-    def __init__(self, name, module, about, *types):
-        self.name, self.module, self.about, self.types = name, module, about, types
-        top = module.split(".")[0]
-        self.crate = {"inheritance": "weedle_modifier", "modifier": "weedle_modifier", "definition": "weedle_idl"}.get(top, "weedle_members")
+    def __init__(self, crate, name, module, about, *types):
+        self.crate, self.name, self.module, self.about, self.types = f"weedle_{crate}", name, module, about, types
         self.proofs = CRATES / self.crate / "proofs"
 
 
@@ -139,101 +137,102 @@ KINDS = ("Callback CallbackInterface Interface InterfaceMixin Namespace Dictiona
          "PartialDictionary PartialNamespace Enum Typedef IncludesStatement Implements").split()
 
 FILES = [
-    File("InheritanceRules", "inheritance", "What interfaces and dictionaries inherit from.",
+    File("modifier", "InheritanceRules", "inheritance", "What interfaces and dictionaries inherit from.",
          Struct("Inheritance", "a colon and a name", ("colon", word("Colon", keep=True)), ("identifier", still("Identifier", keep=True)), grows="⊥")),
-    File("ModifierRules", "modifier", "The words that may stand before a member.",
+    File("modifier", "ModifierRules", "modifier", "The words that may stand before a member.",
          Enum("Special", "one of four words", *words("Getter", "Setter", "Deleter", "LegacyCaller"), grows="⊥"),
          Enum("StringifierOrInheritOrStatic", "one of three words", *words("Stringifier", "Inherit", "Static"), grows="⊥"),
          Enum("StringifierOrStatic", "one of two words", *words("Stringifier", "Static"), grows="⊥")),
-    File("ConstantRules", "interface.constant", "Constants.",
+    File("members", "ConstantRules", "constant", "Constants.",
          Struct("ConstMember", "a constant", ATTRIBUTES, ("const_", word("Const")), ("const_type", still("ConstType")), IDENTIFIER, ASSIGN,
                 ("const_value", still("ConstValue")), SEMI_COLON)),
-    File("InterfaceAttributeRules", "interface.attribute", "The attributes of interfaces.",
+    File("members", "AttributeRules", "attribute", "The attributes of interfaces.",
          Struct("AttributeInterfaceMember", "an attribute", ATTRIBUTES, ("modifier", perhaps_still("StringifierOrInheritOrStatic")), READ_ONLY,
                 ("attribute", word("Attribute")), ATTRIBUTED_TYPE, IDENTIFIER, SEMI_COLON)),
-    File("InterfaceOperationRules", "interface.operation", "The constructors and operations of interfaces.",
+    File("members", "OperationRules", "operation", "The constructors and operations of interfaces.",
          Struct("ConstructorInterfaceMember", "a constructor", DOCSTRING, ATTRIBUTES, ("constructor", word("Constructor")), ("args", ARGUMENTS),
                 SEMI_COLON),
          Struct("OperationInterfaceMember", "an operation", DOCSTRING, ATTRIBUTES, ("modifier", perhaps_still("StringifierOrStatic")),
                 ("special", perhaps_still("Special")), RETURN_TYPE, PERHAPS_IDENTIFIER, ("args", ARGUMENTS), SEMI_COLON)),
-    File("IterableRules", "interface.iterable", "Iterations.",
+    File("iterables", "IterableRules", "iterable", "Iterations.",
          Struct("SingleTypedIterable", "one type", ATTRIBUTES, ("iterable", word("Iterable")), ONE, SEMI_COLON),
          Struct("DoubleTypedIterable", "two types", ATTRIBUTES, ("iterable", word("Iterable")), TWO, SEMI_COLON),
          Enum("IterableInterfaceMember", "either", *owned(("Single", "SingleTypedIterable"), ("Double", "DoubleTypedIterable")))),
-    File("AsyncIterableRules", "interface.async_iterable", "Asynchronous iterations.",
+    File("iterables", "AsyncIterableRules", "async_iterable", "Asynchronous iterations.",
          Struct("SingleTypedAsyncIterable", "one type", ATTRIBUTES, ASYNC_ITERABLE, ONE, ("args", shared("optional_arguments", "(Option Arguments)")),
                 SEMI_COLON),
          Struct("DoubleTypedAsyncIterable", "two types", ATTRIBUTES, ASYNC_ITERABLE, TWO, ("args", shared("optional_arguments", "(Option Arguments)")),
                 SEMI_COLON),
          Enum("AsyncIterableInterfaceMember", "either", *owned(("Single", "SingleTypedAsyncIterable"), ("Double", "DoubleTypedAsyncIterable")))),
-    File("CollectionRules", "interface.collection", "Maps and sets.",
+    File("iterables", "CollectionRules", "collection", "Maps and sets.",
          Struct("MaplikeInterfaceMember", "a map", ATTRIBUTES, READ_ONLY, ("maplike", word("Maplike")), TWO, SEMI_COLON),
          Struct("SetlikeInterfaceMember", "a set", ATTRIBUTES, READ_ONLY, ("setlike", word("Setlike")), ONE, SEMI_COLON)),
-    File("StringifierRules", "interface.stringifier", "Stringifiers.",
+    File("members", "StringifierRules", "stringifier", "Stringifiers.",
          Struct("StringifierMember", "a stringifier", ATTRIBUTES, ("stringifier", word("Stringifier")), SEMI_COLON)),
-    File("InterfaceMemberRules", "interface.member", "Members of interfaces.",
+    File("idl", "InterfaceMemberRules", "interface.member", "Members of interfaces.",
          Enum("InterfaceMember", "any of them", *owned(
              ("Const", "ConstMember"), ("Attribute", "AttributeInterfaceMember"), ("Constructor", "ConstructorInterfaceMember"),
              ("Operation", "OperationInterfaceMember"), ("Iterable", "IterableInterfaceMember"),
              ("AsyncIterable", "AsyncIterableInterfaceMember"), ("Maplike", "MaplikeInterfaceMember"), ("Setlike", "SetlikeInterfaceMember"),
-             ("Stringifier", "StringifierMember")), pieces=(("named_member", 5), ("collection_member", 4)))),
-    File("MixinRules", "mixin", "Members of mixins.",
+             ("Stringifier", "StringifierMember")), pieces=(("main_member", 4), ("iterable_member", 2), ("collection_member", 3)))),
+    File("members", "MixinRules", "mixin", "Members of mixins.",
          Struct("OperationMixinMember", "an operation", ATTRIBUTES, STRINGIFIER, RETURN_TYPE, PERHAPS_IDENTIFIER, ("args", ARGUMENTS), SEMI_COLON),
          Struct("AttributeMixinMember", "an attribute", ATTRIBUTES, STRINGIFIER, READ_ONLY, ("attribute", word("Attribute")), ATTRIBUTED_TYPE,
                 IDENTIFIER, SEMI_COLON),
          Enum("MixinMember", "any of them", *owned(("Const", "ConstMember"), ("Operation", "OperationMixinMember"),
                                                    ("Attribute", "AttributeMixinMember"), ("Stringifier", "StringifierMember")))),
-    File("NamespaceRules", "namespace", "Members of namespaces.",
+    File("namespaces", "NamespaceRules", "namespace", "Members of namespaces.",
          Struct("OperationNamespaceMember", "an operation", DOCSTRING, ATTRIBUTES, RETURN_TYPE, PERHAPS_IDENTIFIER, ("args", ARGUMENTS), SEMI_COLON),
          Struct("AttributeNamespaceMember", "an attribute", DOCSTRING, ATTRIBUTES, ("readonly", word("ReadOnly")), ("attribute", word("Attribute")),
                 ATTRIBUTED_TYPE, IDENTIFIER, SEMI_COLON),
          Enum("NamespaceMember", "either", *owned(("Operation", "OperationNamespaceMember"), ("Attribute", "AttributeNamespaceMember")))),
-    File("DictionaryRules", "dictionary", "Members of dictionaries.",
+    File("namespaces", "DictionaryRules", "dictionary", "Members of dictionaries.",
          Struct("DictionaryMember", "a member", DOCSTRING, ATTRIBUTES, ("required", perhaps_word("Required")), TYPE, IDENTIFIER,
                 ("default", perhaps_still("Default")), SEMI_COLON)),
-    File("EnumVariantRules", "definition.enums", "The values of enums.",
+    File("statements", "EnumVariantRules", "enums", "The values of enums.",
          Struct("EnumVariant", "a value", DOCSTRING, ("value", still("StringLit")))),
-    File("CallbackRules", "definition.callback", "Callbacks.",
+    File("statements", "CallbackRules", "callback", "Callbacks.",
          Struct("CallbackDefinition", "a callback", ATTRIBUTES, ("callback", word("Callback")), IDENTIFIER, ASSIGN, RETURN_TYPE,
                 ("arguments", ARGUMENTS), SEMI_COLON)),
-    File("InterfaceRules", "definition.interfaces", "Interfaces.",
+    File("idl", "InterfaceRules", "definition.interfaces", "Interfaces.",
          Struct("CallbackInterfaceDefinition", "a callback interface", DOCSTRING, ATTRIBUTES, ("callback", word("Callback")), INTERFACE, IDENTIFIER,
                 INHERITANCE, ("members", members("InterfaceMember")), SEMI_COLON),
          Struct("InterfaceDefinition", "an interface", DOCSTRING, ATTRIBUTES, INTERFACE, IDENTIFIER, INHERITANCE,
                 ("members", members("InterfaceMember")), SEMI_COLON),
          Struct("PartialInterfaceDefinition", "a part of an interface", ATTRIBUTES, PARTIAL, INTERFACE, IDENTIFIER,
                 ("members", members("InterfaceMember")), SEMI_COLON)),
-    File("InterfaceMixinRules", "definition.mixins", "Mixins, and the statements that use them.",
+    File("idl", "MixinRules", "definition.mixins", "Mixins, whole and in parts.",
          Struct("InterfaceMixinDefinition", "a mixin", ATTRIBUTES, INTERFACE, ("mixin", word("Mixin")), IDENTIFIER,
                 ("members", members("MixinMember")), SEMI_COLON),
          Struct("PartialInterfaceMixinDefinition", "a part of a mixin", ATTRIBUTES, PARTIAL, INTERFACE, ("mixin", word("Mixin")), IDENTIFIER,
-                ("members", members("MixinMember")), SEMI_COLON),
+                ("members", members("MixinMember")), SEMI_COLON)),
+    File("statements", "StatementRules", "statement", "The statements that an interface uses a mixin or another interface.",
          Struct("IncludesStatementDefinition", "the use of a mixin", ATTRIBUTES, ("lhs_identifier", still("Identifier")), ("includes", word("Includes")),
                 ("rhs_identifier", still("Identifier")), SEMI_COLON),
          Struct("ImplementsDefinition", "the older form", ATTRIBUTES, ("lhs_identifier", still("Identifier")), ("includes", word("Implements")),
                 ("rhs_identifier", still("Identifier")), SEMI_COLON)),
-    File("NamespaceDefinitionRules", "definition.namespaces", "Namespaces.",
+    File("namespaces", "NamespaceDefinitionRules", "namespace_definition", "Namespaces.",
          Struct("NamespaceDefinition", "a namespace", DOCSTRING, ATTRIBUTES, ("namespace", word("Namespace")), IDENTIFIER,
                 ("members", members("NamespaceMember")), SEMI_COLON),
          Struct("PartialNamespaceDefinition", "a part of a namespace", ATTRIBUTES, PARTIAL, ("namespace", word("Namespace")), IDENTIFIER,
                 ("members", members("NamespaceMember")), SEMI_COLON)),
-    File("DictionaryDefinitionRules", "definition.dictionaries", "Dictionaries.",
+    File("namespaces", "DictionaryDefinitionRules", "dictionary_definition", "Dictionaries.",
          Struct("DictionaryDefinition", "a dictionary", DOCSTRING, ATTRIBUTES, ("dictionary", word("Dictionary")), IDENTIFIER, INHERITANCE,
                 ("members", members("DictionaryMember")), SEMI_COLON),
          Struct("PartialDictionaryDefinition", "a part of a dictionary", ATTRIBUTES, PARTIAL, ("dictionary", word("Dictionary")), IDENTIFIER,
                 ("members", members("DictionaryMember")), SEMI_COLON)),
-    File("EnumRules", "definition.enums", "Enums.",
+    File("statements", "EnumRules", "enums", "Enums.",
          Struct("EnumDefinition", "an enum", DOCSTRING, ATTRIBUTES, ("enum_", word("Enum")), IDENTIFIER, ENUM_VALUES, SEMI_COLON)),
-    File("TypedefRules", "definition.typedef", "Names for types.",
+    File("statements", "TypedefRules", "typedef", "Names for types.",
          Struct("TypedefDefinition", "a name for a type", ATTRIBUTES, ("typedef", word("Typedef")), ATTRIBUTED_TYPE, IDENTIFIER, SEMI_COLON)),
-    File("DefinitionRules", "definition", "Definitions.",
+    File("idl", "DefinitionRules", "definition", "Definitions.",
          Enum("Definition", "any of them", *owned(*[(k, f"{k}Definition") for k in KINDS]),
-              pieces=(("main_definition", 6), ("partial_definition", 4), ("other_definition", 4)))),
+              pieces=(("callback_or_interface", 3), ("main_definition", 3), ("partial_definition", 4), ("other_definition", 4)))),
 ]
 
 # Where each name stands.
-BASE, TERM, PARTS, LITERAL, TYPES, MEMBERS, IDL, RULES = (
-    f"Rattle.weedle_{x}" for x in ("base", "term", "parts", "literal", "types", "members", "idl", "rules")
+BASE, TERM, PARTS, LITERAL, TYPES, ITERABLES, STATEMENTS, IDL, RULES = (
+    f"Rattle.weedle_{x}" for x in ("base", "term", "parts", "literal", "types", "iterables", "statements", "idl", "rules")
 )
 HOMES = {
     "Rattle.std.proofs.Common": "refl inl inr",
@@ -258,30 +257,29 @@ HOMES = {
     f"{PARTS}.specs.declared.types.const_type.ConstType": "ConstType",
     f"{TYPES}.proofs.Direct": "direct_choice fault_members first_piece got_members members_first",
     f"{TYPES}.specs.Steps": "members",
-    f"{MEMBERS}.specs.Pieces": "named_member_rules collection_member_rules",
-    f"{IDL}.specs.Pieces": "main_definition_rules partial_definition_rules other_definition_rules",
+    f"{IDL}.specs.Pieces": "main_member_rules iterable_member_rules collection_member_rules callback_or_interface_rules main_definition_rules "
+                           "partial_definition_rules other_definition_rules",
     f"{TYPES}.specs.Trees": "type_tree return_type_tree attributed_type_tree attributes_tree arguments_tree",
     f"{TYPES}.specs.declared.types.AttributedType": "AttributedType",
     f"{TYPES}.specs.declared.types.«Type»": "«Type»",
     f"{TYPES}.specs.declared.formers.ReturnType": "ReturnType",
-    f"{MEMBERS}.specs.PartTrees": "Attributes Arguments OneType TwoTypes AsyncIterable optional_arguments_tree one_type_tree two_types_tree "
-                              "async_iterable_tree members_tree",
-    f"{IDL}.specs.DefinitionTrees": "EnumValues enum_values_tree",
-    f"{MEMBERS}.proofs.SharedRules": "word perhaps attributes_reading attributes_rule arguments_reading arguments_rule optional_arguments_reading "
-                           "optional_arguments_rule one_type_reading one_type_rule two_types_reading two_types_rule "
-                           "async_iterable_reading async_iterable_rule members_reading members_rule",
-    f"{IDL}.proofs.EnumValueRules": "enum_values_reading enum_values_rule",
+    f"{TYPES}.specs.PartTrees": "Attributes Arguments members_tree",
+    f"{TYPES}.proofs.SharedRules": "word perhaps attributes_reading attributes_rule arguments_reading arguments_rule members_reading members_rule",
+    f"{ITERABLES}.specs.PartTrees": "OneType TwoTypes AsyncIterable optional_arguments_tree one_type_tree two_types_tree async_iterable_tree",
+    f"{ITERABLES}.proofs.PartRules": "optional_arguments_reading optional_arguments_rule one_type_reading one_type_rule two_types_reading "
+                                     "two_types_rule async_iterable_reading async_iterable_rule",
+    f"{STATEMENTS}.specs.Trees": "EnumValues enum_values_tree",
+    f"{STATEMENTS}.proofs.EnumValueRules": "enum_values_reading enum_values_rule",
     f"{RULES}.specs.Trees": "Mark Node Alt trees",
 }
-TREES = {"inheritance": "Trees", "modifier": "Trees", "interface": "InterfaceTrees", "mixin": "OtherMemberTrees", "namespace": "OtherMemberTrees",
-         "dictionary": "OtherMemberTrees", "definition": "DefinitionTrees"}
+TREES = {"interface": "InterfaceTrees", "definition": "DefinitionTrees"}
 HOME = {name: home for home, names in HOMES.items() for name in names.split()}
 HOME |= {r.name: f"{RULES}.specs.Table.{s.name}" for s in SECTIONS for r in s.rules}
 HOME |= {name: f"{TERM}.specs.declared.{f.module}.{name}" for f in TERMINALS for name, _, _ in f.terminals if name != "Error"}
 for file in FILES:
     for t in file.types:
         HOME[t.name] = f"Rattle.{file.crate}.specs.declared.{file.module}.{t.name}"
-        HOME[tree_name(t.name)] = f"Rattle.{file.crate}.specs.{TREES[file.module.split('.')[0]]}"
+        HOME[tree_name(t.name)] = f"Rattle.{file.crate}.specs.{TREES.get(file.module.split('.')[0], 'Trees')}"
 PRELUDE = [("ℕ", "ℕ"), ("List", "List"), ("[]", "[]"), ("∷", "◌∷◌"), ("⊎", "◌⊎◌"), ("Option", "Option")]
 
 
@@ -495,7 +493,7 @@ def answers(t, file):
 def struct_answers(t, file):
     """The answers of a long struct's `parse`, where the search ends before it has found them."""
     name = snake(t.name)
-    calls = ["d.in_ok-rest.ensures"] + [f"d.in_ok-rest-{k}.ensures" for k in range(2, len(t.fields) + 1)]
+    calls = ["c.in_ok-rest.ensures"] + [f"c.in_ok-rest-{k}.ensures" for k in range(2, len(t.fields) + 1)]
     pairs = nested(calls, lambda a, b: f"(got_pair _ _ {a} {b})")
     path = f"{file.module}.{t.name}Parse.parse"
     folder = file.proofs / path.replace(".", "/")
@@ -506,7 +504,7 @@ use Rattle.{file.crate}.proofs.{file.name}.{{{name}_got}}
 use Rattle.{file.crate}.proofs.{path}.Goals as goal
 
 pub returns : goal.returns
-returns c d = {name}_got _ {pairs}
+returns c = {name}_got _ {pairs}
 """)
 
 

@@ -1,5 +1,5 @@
 -- Lists of definitions.
-use Rattle.std.proofs.Common.{refl, arith}
+use Rattle.std.proofs.Common.{arith, refl}
 use Rattle.std.specs.Global.{Vec}
 use Rattle.std.specs.Prelude.{drop}
 use Rattle.weedle_base.proofs.RuleFacts.{own_rule}

@@ -10,59 +10,74 @@ use Rattle.weedle_base.specs.Reading.{Faults, Got, Reading}
 use Rattle.weedle_base.specs.Rules.{IsRule}
 use Rattle.weedle_base.specs.declared.fault.Err.{Err as Fault}
 use Rattle.weedle_base.specs.declared.fault.Error.{Error}
-use Rattle.weedle_idl.specs.DefinitionTrees.{callback_definition_tree, callback_interface_definition_tree, definition_tree, dictionary_definition_tree, enum_definition_tree, implements_definition_tree, includes_statement_definition_tree, interface_definition_tree, interface_mixin_definition_tree, namespace_definition_tree, partial_dictionary_definition_tree, partial_interface_definition_tree, partial_interface_mixin_definition_tree, partial_namespace_definition_tree, typedef_definition_tree}
-use Rattle.weedle_idl.specs.Pieces.{main_definition_rules, other_definition_rules, partial_definition_rules}
+use Rattle.weedle_idl.specs.DefinitionTrees.{callback_interface_definition_tree, definition_tree, interface_definition_tree, interface_mixin_definition_tree, partial_interface_definition_tree, partial_interface_mixin_definition_tree}
+use Rattle.weedle_idl.specs.Pieces.{callback_or_interface_rules, main_definition_rules, other_definition_rules, partial_definition_rules}
 use Rattle.weedle_idl.specs.declared.definition.Definition.TheVariants.{Callback as IsCallback, CallbackInterface as IsCallbackInterface, Interface as IsInterface, InterfaceMixin as IsInterfaceMixin, Namespace as IsNamespace, Dictionary as IsDictionary, PartialInterface as IsPartialInterface, PartialInterfaceMixin as IsPartialInterfaceMixin, PartialDictionary as IsPartialDictionary, PartialNamespace as IsPartialNamespace, Enum as IsEnum, Typedef as IsTypedef, IncludesStatement as IsIncludesStatement, Implements as IsImplements}
 use Rattle.weedle_idl.specs.declared.definition.Definition.{Definition}
-use Rattle.weedle_idl.specs.declared.definition.callback.CallbackDefinition.{CallbackDefinition}
-use Rattle.weedle_idl.specs.declared.definition.dictionaries.DictionaryDefinition.{DictionaryDefinition}
-use Rattle.weedle_idl.specs.declared.definition.dictionaries.PartialDictionaryDefinition.{PartialDictionaryDefinition}
-use Rattle.weedle_idl.specs.declared.definition.enums.EnumDefinition.{EnumDefinition}
 use Rattle.weedle_idl.specs.declared.definition.interfaces.CallbackInterfaceDefinition.{CallbackInterfaceDefinition}
 use Rattle.weedle_idl.specs.declared.definition.interfaces.InterfaceDefinition.{InterfaceDefinition}
 use Rattle.weedle_idl.specs.declared.definition.interfaces.PartialInterfaceDefinition.{PartialInterfaceDefinition}
-use Rattle.weedle_idl.specs.declared.definition.mixins.ImplementsDefinition.{ImplementsDefinition}
-use Rattle.weedle_idl.specs.declared.definition.mixins.IncludesStatementDefinition.{IncludesStatementDefinition}
 use Rattle.weedle_idl.specs.declared.definition.mixins.InterfaceMixinDefinition.{InterfaceMixinDefinition}
 use Rattle.weedle_idl.specs.declared.definition.mixins.PartialInterfaceMixinDefinition.{PartialInterfaceMixinDefinition}
-use Rattle.weedle_idl.specs.declared.definition.namespaces.NamespaceDefinition.{NamespaceDefinition}
-use Rattle.weedle_idl.specs.declared.definition.namespaces.PartialNamespaceDefinition.{PartialNamespaceDefinition}
-use Rattle.weedle_idl.specs.declared.definition.typedef.TypedefDefinition.{TypedefDefinition}
+use Rattle.weedle_namespaces.specs.Trees.{dictionary_definition_tree, namespace_definition_tree, partial_dictionary_definition_tree, partial_namespace_definition_tree}
+use Rattle.weedle_namespaces.specs.declared.dictionary_definition.DictionaryDefinition.{DictionaryDefinition}
+use Rattle.weedle_namespaces.specs.declared.dictionary_definition.PartialDictionaryDefinition.{PartialDictionaryDefinition}
+use Rattle.weedle_namespaces.specs.declared.namespace_definition.NamespaceDefinition.{NamespaceDefinition}
+use Rattle.weedle_namespaces.specs.declared.namespace_definition.PartialNamespaceDefinition.{PartialNamespaceDefinition}
 use Rattle.weedle_rules.specs.Table.Definitions.{CALLBACK_DEFINITION, CALLBACK_INTERFACE_DEFINITION, DEFINITION, DICTIONARY_DEFINITION, ENUM_DEFINITION, IMPLEMENTS_DEFINITION, INCLUDES_STATEMENT_DEFINITION, INTERFACE_DEFINITION, INTERFACE_MIXIN_DEFINITION, NAMESPACE_DEFINITION, PARTIAL_DICTIONARY_DEFINITION, PARTIAL_INTERFACE_DEFINITION, PARTIAL_INTERFACE_MIXIN_DEFINITION, PARTIAL_NAMESPACE_DEFINITION, TYPEDEF_DEFINITION}
 use Rattle.weedle_rules.specs.Trees.{Alt}
+use Rattle.weedle_statements.specs.Trees.{callback_definition_tree, enum_definition_tree, implements_definition_tree, includes_statement_definition_tree, typedef_definition_tree}
+use Rattle.weedle_statements.specs.declared.callback.CallbackDefinition.{CallbackDefinition}
+use Rattle.weedle_statements.specs.declared.enums.EnumDefinition.{EnumDefinition}
+use Rattle.weedle_statements.specs.declared.statement.ImplementsDefinition.{ImplementsDefinition}
+use Rattle.weedle_statements.specs.declared.statement.IncludesStatementDefinition.{IncludesStatementDefinition}
+use Rattle.weedle_statements.specs.declared.typedef.TypedefDefinition.{TypedefDefinition}
 use Rattle.weedle_types.proofs.Direct.{direct_choice, fault_members, first_piece, got_members, members_first}
 use Rattle.weedle_types.specs.Steps.{members}
 
+-- `callback_or_interface`
+abbrev callback_or_interface_parts : Reading (CallbackDefinition ⊎ (CallbackInterfaceDefinition ⊎ InterfaceDefinition))
+callback_or_interface_parts = choice_reading (own CALLBACK_DEFINITION callback_definition_tree (Unit {0})) (choice_reading (own CALLBACK_INTERFACE_DEFINITION callback_interface_definition_tree (Unit {0})) (own INTERFACE_DEFINITION interface_definition_tree (Unit {0})))
+
+callback_or_interface_first : IsFirst callback_or_interface_parts callback_or_interface_rules 0 (choice_tree (λ v. Alt 0 (callback_definition_tree v)) (choice_tree (λ v. Alt 1 (callback_interface_definition_tree v)) (λ v. Alt 2 (interface_definition_tree v)))) (Unit {0})
+callback_or_interface_first = first_more 0 (own_rule CALLBACK_DEFINITION callback_definition_tree (Unit {0})) (first_more 1 (own_rule CALLBACK_INTERFACE_DEFINITION callback_interface_definition_tree (Unit {0})) (first_last 2 (own_rule INTERFACE_DEFINITION interface_definition_tree (Unit {0}))))
+
+pub callback_or_interface_got_0 : {s rest : List ℕ} {v : CallbackDefinition} → Got callback_or_interface_parts s (inl v) rest → Got (members callback_or_interface_rules 0 definition_tree (Unit {0})) s (IsCallback v) rest
+callback_or_interface_got_0 {v = v} h = got_members callback_or_interface_first definition_tree (IsCallback v) h refl
+
+pub callback_or_interface_got_1 : {s rest : List ℕ} {v : CallbackInterfaceDefinition} → Got callback_or_interface_parts s (inr (inl v)) rest → Got (members callback_or_interface_rules 0 definition_tree (Unit {0})) s (IsCallbackInterface v) rest
+callback_or_interface_got_1 {v = v} h = got_members callback_or_interface_first definition_tree (IsCallbackInterface v) h refl
+
+pub callback_or_interface_got_2 : {s rest : List ℕ} {v : InterfaceDefinition} → Got callback_or_interface_parts s (inr (inr v)) rest → Got (members callback_or_interface_rules 0 definition_tree (Unit {0})) s (IsInterface v) rest
+callback_or_interface_got_2 {v = v} h = got_members callback_or_interface_first definition_tree (IsInterface v) h refl
+
+pub callback_or_interface_fault : {s : List ℕ} {e : Fault (Error (Bor (List ℕ)))} → Faults callback_or_interface_parts s e → Faults (members callback_or_interface_rules 0 definition_tree (Unit {0})) s e
+callback_or_interface_fault h = fault_members callback_or_interface_first definition_tree h
+
+-- what the search for the proof of `callback_or_interface` uses
+pub ruleset callback_or_interface_steps = (choice_steps, callback_or_interface_got_0, callback_or_interface_got_1, callback_or_interface_got_2, callback_or_interface_fault)
+
 -- `main_definition`
-abbrev main_definition_parts : Reading (CallbackDefinition ⊎ (CallbackInterfaceDefinition ⊎ (InterfaceDefinition ⊎ (InterfaceMixinDefinition ⊎ (NamespaceDefinition ⊎ DictionaryDefinition)))))
-main_definition_parts = choice_reading (own CALLBACK_DEFINITION callback_definition_tree (Unit {0})) (choice_reading (own CALLBACK_INTERFACE_DEFINITION callback_interface_definition_tree (Unit {0})) (choice_reading (own INTERFACE_DEFINITION interface_definition_tree (Unit {0})) (choice_reading (own INTERFACE_MIXIN_DEFINITION interface_mixin_definition_tree (Unit {0})) (choice_reading (own NAMESPACE_DEFINITION namespace_definition_tree (Unit {0})) (own DICTIONARY_DEFINITION dictionary_definition_tree (Unit {0}))))))
+abbrev main_definition_parts : Reading (InterfaceMixinDefinition ⊎ (NamespaceDefinition ⊎ DictionaryDefinition))
+main_definition_parts = choice_reading (own INTERFACE_MIXIN_DEFINITION interface_mixin_definition_tree (Unit {0})) (choice_reading (own NAMESPACE_DEFINITION namespace_definition_tree (Unit {0})) (own DICTIONARY_DEFINITION dictionary_definition_tree (Unit {0})))
 
-main_definition_first : IsFirst main_definition_parts main_definition_rules 0 (choice_tree (λ v. Alt 0 (callback_definition_tree v)) (choice_tree (λ v. Alt 1 (callback_interface_definition_tree v)) (choice_tree (λ v. Alt 2 (interface_definition_tree v)) (choice_tree (λ v. Alt 3 (interface_mixin_definition_tree v)) (choice_tree (λ v. Alt 4 (namespace_definition_tree v)) (λ v. Alt 5 (dictionary_definition_tree v))))))) (Unit {0})
-main_definition_first = first_more 0 (own_rule CALLBACK_DEFINITION callback_definition_tree (Unit {0})) (first_more 1 (own_rule CALLBACK_INTERFACE_DEFINITION callback_interface_definition_tree (Unit {0})) (first_more 2 (own_rule INTERFACE_DEFINITION interface_definition_tree (Unit {0})) (first_more 3 (own_rule INTERFACE_MIXIN_DEFINITION interface_mixin_definition_tree (Unit {0})) (first_more 4 (own_rule NAMESPACE_DEFINITION namespace_definition_tree (Unit {0})) (first_last 5 (own_rule DICTIONARY_DEFINITION dictionary_definition_tree (Unit {0})))))))
+main_definition_first : IsFirst main_definition_parts main_definition_rules 3 (choice_tree (λ v. Alt 3 (interface_mixin_definition_tree v)) (choice_tree (λ v. Alt 4 (namespace_definition_tree v)) (λ v. Alt 5 (dictionary_definition_tree v)))) (Unit {0})
+main_definition_first = first_more 3 (own_rule INTERFACE_MIXIN_DEFINITION interface_mixin_definition_tree (Unit {0})) (first_more 4 (own_rule NAMESPACE_DEFINITION namespace_definition_tree (Unit {0})) (first_last 5 (own_rule DICTIONARY_DEFINITION dictionary_definition_tree (Unit {0}))))
 
-pub main_definition_got_0 : {s rest : List ℕ} {v : CallbackDefinition} → Got main_definition_parts s (inl v) rest → Got (members main_definition_rules 0 definition_tree (Unit {0})) s (IsCallback v) rest
-main_definition_got_0 {v = v} h = got_members main_definition_first definition_tree (IsCallback v) h refl
+pub main_definition_got_0 : {s rest : List ℕ} {v : InterfaceMixinDefinition} → Got main_definition_parts s (inl v) rest → Got (members main_definition_rules 3 definition_tree (Unit {0})) s (IsInterfaceMixin v) rest
+main_definition_got_0 {v = v} h = got_members main_definition_first definition_tree (IsInterfaceMixin v) h refl
 
-pub main_definition_got_1 : {s rest : List ℕ} {v : CallbackInterfaceDefinition} → Got main_definition_parts s (inr (inl v)) rest → Got (members main_definition_rules 0 definition_tree (Unit {0})) s (IsCallbackInterface v) rest
-main_definition_got_1 {v = v} h = got_members main_definition_first definition_tree (IsCallbackInterface v) h refl
+pub main_definition_got_1 : {s rest : List ℕ} {v : NamespaceDefinition} → Got main_definition_parts s (inr (inl v)) rest → Got (members main_definition_rules 3 definition_tree (Unit {0})) s (IsNamespace v) rest
+main_definition_got_1 {v = v} h = got_members main_definition_first definition_tree (IsNamespace v) h refl
 
-pub main_definition_got_2 : {s rest : List ℕ} {v : InterfaceDefinition} → Got main_definition_parts s (inr (inr (inl v))) rest → Got (members main_definition_rules 0 definition_tree (Unit {0})) s (IsInterface v) rest
-main_definition_got_2 {v = v} h = got_members main_definition_first definition_tree (IsInterface v) h refl
+pub main_definition_got_2 : {s rest : List ℕ} {v : DictionaryDefinition} → Got main_definition_parts s (inr (inr v)) rest → Got (members main_definition_rules 3 definition_tree (Unit {0})) s (IsDictionary v) rest
+main_definition_got_2 {v = v} h = got_members main_definition_first definition_tree (IsDictionary v) h refl
 
-pub main_definition_got_3 : {s rest : List ℕ} {v : InterfaceMixinDefinition} → Got main_definition_parts s (inr (inr (inr (inl v)))) rest → Got (members main_definition_rules 0 definition_tree (Unit {0})) s (IsInterfaceMixin v) rest
-main_definition_got_3 {v = v} h = got_members main_definition_first definition_tree (IsInterfaceMixin v) h refl
-
-pub main_definition_got_4 : {s rest : List ℕ} {v : NamespaceDefinition} → Got main_definition_parts s (inr (inr (inr (inr (inl v))))) rest → Got (members main_definition_rules 0 definition_tree (Unit {0})) s (IsNamespace v) rest
-main_definition_got_4 {v = v} h = got_members main_definition_first definition_tree (IsNamespace v) h refl
-
-pub main_definition_got_5 : {s rest : List ℕ} {v : DictionaryDefinition} → Got main_definition_parts s (inr (inr (inr (inr (inr v))))) rest → Got (members main_definition_rules 0 definition_tree (Unit {0})) s (IsDictionary v) rest
-main_definition_got_5 {v = v} h = got_members main_definition_first definition_tree (IsDictionary v) h refl
-
-pub main_definition_fault : {s : List ℕ} {e : Fault (Error (Bor (List ℕ)))} → Faults main_definition_parts s e → Faults (members main_definition_rules 0 definition_tree (Unit {0})) s e
+pub main_definition_fault : {s : List ℕ} {e : Fault (Error (Bor (List ℕ)))} → Faults main_definition_parts s e → Faults (members main_definition_rules 3 definition_tree (Unit {0})) s e
 main_definition_fault h = fault_members main_definition_first definition_tree h
 
 -- what the search for the proof of `main_definition` uses
-pub ruleset main_definition_steps = (choice_steps, main_definition_got_0, main_definition_got_1, main_definition_got_2, main_definition_got_3, main_definition_got_4, main_definition_got_5, main_definition_fault)
+pub ruleset main_definition_steps = (choice_steps, main_definition_got_0, main_definition_got_1, main_definition_got_2, main_definition_fault)
 
 -- `partial_definition`
 abbrev partial_definition_parts : Reading (PartialInterfaceDefinition ⊎ (PartialInterfaceMixinDefinition ⊎ (PartialDictionaryDefinition ⊎ PartialNamespaceDefinition)))
@@ -115,11 +130,11 @@ other_definition_fault h = fault_members other_definition_first definition_tree 
 pub ruleset other_definition_steps = (choice_steps, other_definition_got_0, other_definition_got_1, other_definition_got_2, other_definition_got_3, other_definition_fault)
 
 -- all of them
-abbrev definition_parts : Reading (Definition ⊎ (Definition ⊎ Definition))
-definition_parts = choice_reading (members main_definition_rules 0 definition_tree (Unit {0})) (choice_reading (members partial_definition_rules 6 definition_tree (Unit {0})) (members other_definition_rules 10 definition_tree (Unit {0})))
+abbrev definition_parts : Reading (Definition ⊎ (Definition ⊎ (Definition ⊎ Definition)))
+definition_parts = choice_reading (members callback_or_interface_rules 0 definition_tree (Unit {0})) (choice_reading (members main_definition_rules 3 definition_tree (Unit {0})) (choice_reading (members partial_definition_rules 6 definition_tree (Unit {0})) (members other_definition_rules 10 definition_tree (Unit {0}))))
 
-definition_rule : IsRule definition_parts DEFINITION (choice_tree definition_tree (choice_tree definition_tree definition_tree)) (Unit {0})
-definition_rule = first_rule (first_piece 6 (members_first main_definition_rules 0 definition_tree (Unit {0})) (first_piece 10 (members_first partial_definition_rules 6 definition_tree (Unit {0})) (members_first other_definition_rules 10 definition_tree (Unit {0})) refl) refl) DEFINITION refl refl
+definition_rule : IsRule definition_parts DEFINITION (choice_tree definition_tree (choice_tree definition_tree (choice_tree definition_tree definition_tree))) (Unit {0})
+definition_rule = first_rule (first_piece 3 (members_first callback_or_interface_rules 0 definition_tree (Unit {0})) (first_piece 6 (members_first main_definition_rules 3 definition_tree (Unit {0})) (first_piece 10 (members_first partial_definition_rules 6 definition_tree (Unit {0})) (members_first other_definition_rules 10 definition_tree (Unit {0})) refl) refl) refl) DEFINITION refl refl
 
 pub definition_got_0 : {s rest : List ℕ} {v : Definition} → Got definition_parts s (inl v) rest → Got (own DEFINITION definition_tree (Unit {0})) s v rest
 definition_got_0 {v = v} h = got_rule definition_rule definition_tree v h refl
@@ -127,12 +142,15 @@ definition_got_0 {v = v} h = got_rule definition_rule definition_tree v h refl
 pub definition_got_1 : {s rest : List ℕ} {v : Definition} → Got definition_parts s (inr (inl v)) rest → Got (own DEFINITION definition_tree (Unit {0})) s v rest
 definition_got_1 {v = v} h = got_rule definition_rule definition_tree v h refl
 
-pub definition_got_2 : {s rest : List ℕ} {v : Definition} → Got definition_parts s (inr (inr v)) rest → Got (own DEFINITION definition_tree (Unit {0})) s v rest
+pub definition_got_2 : {s rest : List ℕ} {v : Definition} → Got definition_parts s (inr (inr (inl v))) rest → Got (own DEFINITION definition_tree (Unit {0})) s v rest
 definition_got_2 {v = v} h = got_rule definition_rule definition_tree v h refl
+
+pub definition_got_3 : {s rest : List ℕ} {v : Definition} → Got definition_parts s (inr (inr (inr v))) rest → Got (own DEFINITION definition_tree (Unit {0})) s v rest
+definition_got_3 {v = v} h = got_rule definition_rule definition_tree v h refl
 
 -- a fault of the parts is one of the rule
 pub definition_fault : {s : List ℕ} {e : Fault (Error (Bor (List ℕ)))} → Faults definition_parts s e → Faults (own DEFINITION definition_tree (Unit {0})) s e
 definition_fault h = fault_rule definition_rule definition_tree h
 
 -- what the search for the proof of its `parse` uses
-pub ruleset definition_steps = (direct_choice, definition_got_0, definition_got_1, definition_got_2, definition_fault)
+pub ruleset definition_steps = (direct_choice, definition_got_0, definition_got_1, definition_got_2, definition_got_3, definition_fault)

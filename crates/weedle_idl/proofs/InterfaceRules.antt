@@ -12,13 +12,11 @@ use Rattle.weedle_base.specs.Rules.{IsRule, option_tree}
 use Rattle.weedle_base.specs.declared.fault.Err.{Err as Fault}
 use Rattle.weedle_base.specs.declared.fault.Error.{Error}
 use Rattle.weedle_idl.specs.DefinitionTrees.{callback_interface_definition_tree, interface_definition_tree, partial_interface_definition_tree}
+use Rattle.weedle_idl.specs.InterfaceTrees.{interface_member_tree}
 use Rattle.weedle_idl.specs.declared.definition.interfaces.CallbackInterfaceDefinition.{CallbackInterfaceDefinition}
 use Rattle.weedle_idl.specs.declared.definition.interfaces.InterfaceDefinition.{InterfaceDefinition}
 use Rattle.weedle_idl.specs.declared.definition.interfaces.PartialInterfaceDefinition.{PartialInterfaceDefinition}
-use Rattle.weedle_members.proofs.SharedRules.{attributes_reading, attributes_rule, members_reading, members_rule, perhaps, word}
-use Rattle.weedle_members.specs.InterfaceTrees.{interface_member_tree}
-use Rattle.weedle_members.specs.PartTrees.{Attributes, members_tree}
-use Rattle.weedle_members.specs.declared.interface.member.InterfaceMember.{InterfaceMember}
+use Rattle.weedle_idl.specs.declared.interface.member.InterfaceMember.{InterfaceMember}
 use Rattle.weedle_modifier.specs.Trees.{inheritance_tree}
 use Rattle.weedle_modifier.specs.declared.inheritance.Inheritance.{Inheritance}
 use Rattle.weedle_parts.specs.ValueTrees.{docstring_tree, identifier_tree}
@@ -35,6 +33,8 @@ use Rattle.weedle_term.specs.declared.definition_keywords.Callback.{Callback}
 use Rattle.weedle_term.specs.declared.definition_keywords.Interface.{Interface}
 use Rattle.weedle_term.specs.declared.definition_keywords.Partial.{Partial}
 use Rattle.weedle_term.specs.declared.symbols.SemiColon.{SemiColon}
+use Rattle.weedle_types.proofs.SharedRules.{attributes_reading, attributes_rule, members_reading, members_rule, perhaps, word}
+use Rattle.weedle_types.specs.PartTrees.{Attributes, members_tree}
 use Rattle.weedle_types.specs.Steps.{members}
 use Rattle.weedle_types.specs.Trees.{attributes_tree}
 

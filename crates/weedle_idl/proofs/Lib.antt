@@ -1,12 +1,5 @@
-pub mod CopyFacts
-pub mod EnumVariantRules
-pub mod EnumValueRules
-pub mod CallbackRules
+pub mod InterfaceMemberRules
 pub mod InterfaceRules
-pub mod InterfaceMixinRules
-pub mod NamespaceDefinitionRules
-pub mod DictionaryDefinitionRules
-pub mod EnumRules
-pub mod TypedefRules
+pub mod MixinRules
 pub mod DefinitionRules
 pub mod DefinitionListRules

@@ -6,32 +6,27 @@ ghost use Rattle.weedle_base.specs.Own.{own};
 ghost use Rattle.weedle_base.specs.OwnLaws.{own_lawful};
 ghost use Rattle.weedle_base.specs.Reading.{Answers};
 ghost use Rattle.weedle_idl.specs.DefinitionTrees.{definition_tree};
-ghost use Rattle.weedle_idl.specs.Pieces.{main_definition_rules, other_definition_rules, partial_definition_rules};
+ghost use Rattle.weedle_idl.specs.Pieces.{callback_or_interface_rules, main_definition_rules, other_definition_rules, partial_definition_rules};
 ghost use Rattle.weedle_rules.specs.Table.Definitions.{DEFINITION};
 ghost use Rattle.weedle_types.specs.Steps.{members};
 
-mod callback;
-mod dictionaries;
-mod enums;
 mod interfaces;
 mod mixins;
-mod namespaces;
-mod typedef;
 
-pub use callback::CallbackDefinition;
-pub use dictionaries::{DictionaryDefinition, PartialDictionaryDefinition};
-pub use enums::{EnumDefinition, EnumValueList, EnumVariant};
 pub use interfaces::{
     CallbackInterfaceDefinition, InterfaceDefinition, PartialInterfaceDefinition,
 };
-pub use mixins::{
-    ImplementsDefinition, IncludesStatementDefinition, InterfaceMixinDefinition,
-    PartialInterfaceMixinDefinition,
-};
-pub use namespaces::{NamespaceDefinition, PartialNamespaceDefinition};
+pub use mixins::{InterfaceMixinDefinition, PartialInterfaceMixinDefinition};
 use std::alloc::{AllocError, Global};
-pub use typedef::TypedefDefinition;
 use weedle_base::{Err, IResult, Parse, TryClone};
+use weedle_namespaces::{
+    DictionaryDefinition, NamespaceDefinition, PartialDictionaryDefinition,
+    PartialNamespaceDefinition,
+};
+use weedle_statements::{
+    CallbackDefinition, EnumDefinition, ImplementsDefinition, IncludesStatementDefinition,
+    TypedefDefinition,
+};
 
 /// Definitions one after another, as `interface A {}; interface B {};`.
 pub type Definitions<'a> = Vec<Definition<'a>>;
@@ -60,6 +55,11 @@ impl<'a> Parse<'a> for Definition<'a> {
     ghost reading = { own DEFINITION definition_tree (Unit {0}) };
 
     fn parse(alloc: Global, input: &'a str) -> IResult<&'a str, Self> {
+        match callback_or_interface(alloc, input) {
+            Ok((rest, member)) => return Ok((rest, member)),
+            Err(Err::Error(_)) => {}
+            Err(Err::Failure(fault)) => return Err(Err::Failure(fault)),
+        }
         match main_definition(alloc, input) {
             Ok((rest, member)) => return Ok((rest, member)),
             Err(Err::Error(_)) => {}
@@ -77,10 +77,10 @@ impl<'a> Parse<'a> for Definition<'a> {
     ghost lawful = { own_lawful DEFINITION definition_tree (Unit {0}) };
 }
 
-/// Reads a callback, or the whole of an interface, a mixin, a namespace or a dictionary.
-#[tactic(auto, using(crate::proofs::DefinitionRules::main_definition_steps))]
-fn main_definition<'a>(alloc: Global, input: &'a str) -> IResult<&'a str, Definition<'a>>
-    ensures { Answers (members main_definition_rules 0 definition_tree (Unit {0})) input.now result }
+/// Reads a callback or an interface.
+#[tactic(auto, using(crate::proofs::DefinitionRules::callback_or_interface_steps))]
+fn callback_or_interface<'a>(alloc: Global, input: &'a str) -> IResult<&'a str, Definition<'a>>
+    ensures { Answers (members callback_or_interface_rules 0 definition_tree (Unit {0})) input.now result }
 {
     if let (rest, Some(member)) = Option::parse(alloc, input)? {
         return Ok((rest, Definition::Callback(member)));
@@ -88,9 +88,15 @@ fn main_definition<'a>(alloc: Global, input: &'a str) -> IResult<&'a str, Defini
     if let (rest, Some(member)) = Option::parse(alloc, input)? {
         return Ok((rest, Definition::CallbackInterface(member)));
     }
-    if let (rest, Some(member)) = Option::parse(alloc, input)? {
-        return Ok((rest, Definition::Interface(member)));
-    }
+    let (rest, member) = Parse::parse(alloc, input)?;
+    Ok((rest, Definition::Interface(member)))
+}
+
+/// Reads a mixin, a namespace or a dictionary.
+#[tactic(auto, using(crate::proofs::DefinitionRules::main_definition_steps))]
+fn main_definition<'a>(alloc: Global, input: &'a str) -> IResult<&'a str, Definition<'a>>
+    ensures { Answers (members main_definition_rules 3 definition_tree (Unit {0})) input.now result }
+{
     if let (rest, Some(member)) = Option::parse(alloc, input)? {
         return Ok((rest, Definition::InterfaceMixin(member)));
     }
@@ -101,7 +107,7 @@ fn main_definition<'a>(alloc: Global, input: &'a str) -> IResult<&'a str, Defini
     Ok((rest, Definition::Dictionary(member)))
 }
 
-/// Reads a part of one of these.
+/// Reads a part of an interface, of a mixin, of a dictionary or of a namespace.
 #[tactic(auto, using(crate::proofs::DefinitionRules::partial_definition_steps))]
 fn partial_definition<'a>(alloc: Global, input: &'a str) -> IResult<&'a str, Definition<'a>>
     ensures { Answers (members partial_definition_rules 6 definition_tree (Unit {0})) input.now result }

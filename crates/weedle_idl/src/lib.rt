@@ -17,13 +17,19 @@
 
 mod copies;
 mod definition;
+pub mod interface;
 pub mod laws;
 
 pub use definition::{
-    CallbackDefinition, CallbackInterfaceDefinition, Definition, Definitions, DictionaryDefinition,
-    EnumDefinition, EnumValueList, EnumVariant, ImplementsDefinition, IncludesStatementDefinition,
-    InterfaceDefinition, InterfaceMixinDefinition, NamespaceDefinition,
-    PartialDictionaryDefinition, PartialInterfaceDefinition, PartialInterfaceMixinDefinition,
-    PartialNamespaceDefinition, TypedefDefinition,
+    CallbackInterfaceDefinition, Definition, Definitions, InterfaceDefinition,
+    InterfaceMixinDefinition, PartialInterfaceDefinition, PartialInterfaceMixinDefinition,
 };
-pub use weedle_members::{dictionary, interface, mixin, namespace};
+pub use weedle_members::mixin;
+pub use weedle_namespaces::{
+    DictionaryDefinition, NamespaceDefinition, PartialDictionaryDefinition,
+    PartialNamespaceDefinition, dictionary, namespace,
+};
+pub use weedle_statements::{
+    CallbackDefinition, EnumDefinition, EnumValueList, EnumVariant, ImplementsDefinition,
+    IncludesStatementDefinition, TypedefDefinition,
+};

@@ -12,10 +12,8 @@ use Rattle.weedle_base.specs.declared.fault.Err.{Err as Fault}
 use Rattle.weedle_base.specs.declared.fault.Error.{Error}
 use Rattle.weedle_literal.specs.LiteralTrees.{const_value_tree}
 use Rattle.weedle_literal.specs.declared.value.ConstValue.{ConstValue}
-use Rattle.weedle_members.proofs.SharedRules.{attributes_reading, attributes_rule, word}
-use Rattle.weedle_members.specs.InterfaceTrees.{const_member_tree}
-use Rattle.weedle_members.specs.PartTrees.{Attributes}
-use Rattle.weedle_members.specs.declared.interface.constant.ConstMember.{ConstMember}
+use Rattle.weedle_members.specs.Trees.{const_member_tree}
+use Rattle.weedle_members.specs.declared.constant.ConstMember.{ConstMember}
 use Rattle.weedle_parts.specs.ValueTrees.{const_type_tree, identifier_tree}
 use Rattle.weedle_parts.specs.declared.common.identifier.Identifier.{Identifier}
 use Rattle.weedle_parts.specs.declared.types.const_type.ConstType.{ConstType}
@@ -29,6 +27,8 @@ use Rattle.weedle_rules.specs.Trees.{Mark, Node, trees}
 use Rattle.weedle_term.specs.declared.definition_keywords.Const.{Const}
 use Rattle.weedle_term.specs.declared.symbols.Assign.{Assign}
 use Rattle.weedle_term.specs.declared.symbols.SemiColon.{SemiColon}
+use Rattle.weedle_types.proofs.SharedRules.{attributes_reading, attributes_rule, word}
+use Rattle.weedle_types.specs.PartTrees.{Attributes}
 use Rattle.weedle_types.specs.Trees.{attributes_tree}
 
 -- a constant

@@ -1,13 +1,5 @@
-pub mod SharedRules
-pub mod CopyFacts
 pub mod ConstantRules
-pub mod InterfaceAttributeRules
-pub mod InterfaceOperationRules
-pub mod IterableRules
-pub mod AsyncIterableRules
-pub mod CollectionRules
+pub mod AttributeRules
+pub mod OperationRules
 pub mod StringifierRules
-pub mod InterfaceMemberRules
 pub mod MixinRules
-pub mod NamespaceRules
-pub mod DictionaryRules

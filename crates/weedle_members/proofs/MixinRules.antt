@@ -11,16 +11,13 @@ use Rattle.weedle_base.specs.Reading.{Faults, Got, Reading}
 use Rattle.weedle_base.specs.Rules.{IsRule, mark_tree, option_tree}
 use Rattle.weedle_base.specs.declared.fault.Err.{Err as Fault}
 use Rattle.weedle_base.specs.declared.fault.Error.{Error}
-use Rattle.weedle_members.proofs.SharedRules.{arguments_reading, arguments_rule, attributes_reading, attributes_rule, perhaps, word}
-use Rattle.weedle_members.specs.InterfaceTrees.{const_member_tree, stringifier_member_tree}
-use Rattle.weedle_members.specs.OtherMemberTrees.{attribute_mixin_member_tree, mixin_member_tree, operation_mixin_member_tree}
-use Rattle.weedle_members.specs.PartTrees.{Arguments, Attributes}
-use Rattle.weedle_members.specs.declared.interface.constant.ConstMember.{ConstMember}
-use Rattle.weedle_members.specs.declared.interface.stringifier.StringifierMember.{StringifierMember}
+use Rattle.weedle_members.specs.Trees.{attribute_mixin_member_tree, const_member_tree, mixin_member_tree, operation_mixin_member_tree, stringifier_member_tree}
+use Rattle.weedle_members.specs.declared.constant.ConstMember.{ConstMember}
 use Rattle.weedle_members.specs.declared.mixin.AttributeMixinMember.{AttributeMixinMember}
 use Rattle.weedle_members.specs.declared.mixin.MixinMember.TheVariants.{Const as IsConst, Operation as IsOperation, Attribute as IsAttribute, Stringifier as IsStringifier}
 use Rattle.weedle_members.specs.declared.mixin.MixinMember.{MixinMember}
 use Rattle.weedle_members.specs.declared.mixin.OperationMixinMember.{OperationMixinMember}
+use Rattle.weedle_members.specs.declared.stringifier.StringifierMember.{StringifierMember}
 use Rattle.weedle_parts.specs.ValueTrees.{identifier_tree}
 use Rattle.weedle_parts.specs.declared.common.identifier.Identifier.{Identifier}
 use Rattle.weedle_rules.specs.Table.InterfaceMembers.{CONST_MEMBER, OPT_IDENTIFIER, OPT_READ_ONLY, STRINGIFIER_MEMBER}
@@ -34,6 +31,8 @@ use Rattle.weedle_term.specs.declared.definition_keywords.Attribute.{Attribute}
 use Rattle.weedle_term.specs.declared.definition_keywords.ReadOnly.{ReadOnly}
 use Rattle.weedle_term.specs.declared.definition_keywords.Stringifier.{Stringifier}
 use Rattle.weedle_term.specs.declared.symbols.SemiColon.{SemiColon}
+use Rattle.weedle_types.proofs.SharedRules.{arguments_reading, arguments_rule, attributes_reading, attributes_rule, perhaps, word}
+use Rattle.weedle_types.specs.PartTrees.{Arguments, Attributes}
 use Rattle.weedle_types.specs.Trees.{arguments_tree, attributed_type_tree, attributes_tree, return_type_tree}
 use Rattle.weedle_types.specs.declared.formers.ReturnType.{ReturnType}
 use Rattle.weedle_types.specs.declared.types.AttributedType.{AttributedType}

@@ -1,4 +1,1 @@
-pub mod PartTrees
-pub mod InterfaceTrees
-pub mod OtherMemberTrees
-pub mod Pieces
+pub mod Trees

@@ -1,4 +1,5 @@
-//! The members of interfaces, mixins, namespaces and dictionaries.
+//! The members that interfaces and mixins have: constants, attributes, operations, constructors and
+//! stringifiers, and the choice among those of mixins.
 //!
 //! Each struct reads its fields in order, with blanks and comments between them. Where one of them
 //! isn't there it is a mismatch. Memory is taken for attributes, types, arguments and docstrings; where
@@ -6,17 +7,21 @@
 //!
 //! ```rust
 //! use weedle_base::Parse;
-//! use weedle_members::interface::InterfaceMember;
+//! use weedle_members::AttributeInterfaceMember;
 //!
 //! let text = "readonly attribute Storage sessionStorage; void f();";
-//! let (rest, member) = InterfaceMember::parse(rt.alloc(), text).expect(rt, "member");
-//! assert!(rt; rest == "void f();");
+//! let (rest, member) = AttributeInterfaceMember::parse(rt.alloc(), text).expect(rt, "member");
+//! assert!(rt; rest == "void f();" && member.identifier.0 == "sessionStorage");
 //! ```
 #![tactic(auto)]
 
-pub mod copies;
-pub mod dictionary;
-pub mod interface;
+mod attribute;
+mod constant;
 pub mod mixin;
-pub mod namespace;
-pub mod parts;
+mod operation;
+mod stringifier;
+
+pub use attribute::AttributeInterfaceMember;
+pub use constant::ConstMember;
+pub use operation::{ConstructorInterfaceMember, OperationInterfaceMember};
+pub use stringifier::StringifierMember;

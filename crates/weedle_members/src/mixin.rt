@@ -4,18 +4,18 @@ ghost use Rattle.std.specs.Prelude.{◌≡◌};
 ghost use Rattle.weedle_base.specs.AlikeLaws.{equal_equivalence, seen_equivalence};
 ghost use Rattle.weedle_base.specs.Own.{own};
 ghost use Rattle.weedle_base.specs.OwnLaws.{own_lawful};
-ghost use Rattle.weedle_members.specs.OtherMemberTrees.{attribute_mixin_member_tree, mixin_member_tree, operation_mixin_member_tree};
+ghost use Rattle.weedle_members.specs.Trees.{attribute_mixin_member_tree, mixin_member_tree, operation_mixin_member_tree};
 ghost use Rattle.weedle_rules.specs.Table.OtherMembers.{ATTRIBUTE_MIXIN_MEMBER, MIXIN_MEMBER, OPERATION_MIXIN_MEMBER};
 
-use crate::copies::{copy_arguments, copy_attributes};
-use crate::interface::{ConstMember, StringifierMember};
-use crate::parts::{arguments, attributes};
+use crate::{ConstMember, StringifierMember};
 use std::alloc::{AllocError, Global};
 use weedle_base::{IResult, Parse, TryClone};
 use weedle_parts::common::{Identifier, Parenthesized};
 use weedle_term::{Attribute, ReadOnly, SemiColon, Stringifier};
 use weedle_types::argument::ArgumentList;
 use weedle_types::attribute::ExtendedAttributeList;
+use weedle_types::copies::{copy_arguments, copy_attributes};
+use weedle_types::parts::{arguments, attributes};
 use weedle_types::types::{AttributedType, ReturnType};
 
 /// The members of a mixin, one after another; none included.

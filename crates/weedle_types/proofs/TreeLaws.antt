@@ -12,7 +12,7 @@ use Rattle.weedle_parts.specs.declared.common.punctuated.Punctuated.{Punctuated}
 use Rattle.weedle_parts.specs.declared.types.may_be_null.MayBeNull.{MayBeNull}
 use Rattle.weedle_rules.specs.Trees.{Then, Mark, Node, Alt, Present, Items, trees}
 use Rattle.weedle_types.specs.Trees.{argument_tree, non_any_type_tree, type_tree, union_member_type_tree, held_return, held_key, held_single, held_attributes, attribute_row, argument_row, union_row, single_type_tree, return_type_tree, record_key_type_tree, record_type_tree, promise_type_tree, union_type_tree, extended_attribute_tree, extended_attribute_arg_list_tree, extended_attribute_named_arg_list_tree, attributes_tree, attributed_non_any_type_tree, single_argument_tree, variadic_argument_tree}
-use Rattle.weedle_types.specs.declared.argument.Argument.TheBlock.{Row_of-Argument, end_of-Argument, more_of-Argument, Row_of-UnionMemberType, end_of-UnionMemberType, more_of-UnionMemberType, Row_of-ExtendedAttribute, end_of-ExtendedAttribute, more_of-ExtendedAttribute, items-the_row-Argument, items-the_row-UnionMemberType, items-the_row-ExtendedAttribute, items_hidden-the_row-Argument-0, items_hidden-the_row-ExtendedAttribute-1, items_hidden-the_row-UnionMemberType-2, items_shown-the_row-Argument-0, hidden-the_row-Argument-0, hidden-the_row-ExtendedAttribute-1, hidden-the_row-UnionMemberType-2, back-SingleArgument-attributes, back-Type-Single-0, back-RecordTypes-0-4, back-NonAnyType-Promise-0-4}
+use Rattle.weedle_types.specs.declared.argument.Argument.TheBlock.{Row_of-Argument, end_of-Argument, more_of-Argument, Row_of-UnionMemberType, end_of-UnionMemberType, more_of-UnionMemberType, Row_of-ExtendedAttribute, end_of-ExtendedAttribute, more_of-ExtendedAttribute, items-the_row-Argument, items-the_row-UnionMemberType, items-the_row-ExtendedAttribute, items_hidden-the_row-Argument-1, items_hidden-the_row-ExtendedAttribute-0, items_hidden-the_row-UnionMemberType-2, hidden-the_row-Argument-1, hidden-the_row-ExtendedAttribute-0, hidden-the_row-UnionMemberType-2, back-SingleArgument-attributes, back-Type-Single-0, back-RecordTypes-0-4, back-NonAnyType-Promise-0-4}
 use Rattle.weedle_types.specs.declared.argument.Argument.TheVariants.{Single as Argument-Single, Variadic as Argument-Variadic}
 use Rattle.weedle_types.specs.declared.argument.Argument.{Argument}
 use Rattle.weedle_types.specs.declared.argument.SingleArgument.{SingleArgument}
@@ -49,15 +49,15 @@ argument_row_items : (n : _) (k : Row_of-Argument n) → trees (map argument_tre
 argument_row_items n end_of-Argument = refl
 argument_row_items n (more_of-Argument x r) = ap (Then (argument_tree x)) (argument_row_items _ r)
 
-pub argument_row_of : (v : Vec Argument Global) → argument_row (hidden-the_row-Argument-0 v) ≡ trees (map argument_tree v.items)
-argument_row_of v = sym (argument_row_items _ (hidden-the_row-Argument-0 v)) ∙ ap (λ xs. trees (map argument_tree xs)) (items_hidden-the_row-Argument-0 v)
+pub argument_row_of : (v : Vec Argument Global) → argument_row (hidden-the_row-Argument-1 v) ≡ trees (map argument_tree v.items)
+argument_row_of v = sym (argument_row_items _ (hidden-the_row-Argument-1 v)) ∙ ap (λ xs. trees (map argument_tree xs)) (items_hidden-the_row-Argument-1 v)
 
 attribute_row_items : (n : _) (k : Row_of-ExtendedAttribute n) → trees (map extended_attribute_tree (items-the_row-ExtendedAttribute n k)) ≡ attribute_row k
 attribute_row_items n end_of-ExtendedAttribute = refl
 attribute_row_items n (more_of-ExtendedAttribute x r) = ap (Then (extended_attribute_tree x)) (attribute_row_items _ r)
 
-pub attribute_row_of : (v : Vec ExtendedAttribute Global) → attribute_row (hidden-the_row-ExtendedAttribute-1 v) ≡ trees (map extended_attribute_tree v.items)
-attribute_row_of v = sym (attribute_row_items _ (hidden-the_row-ExtendedAttribute-1 v)) ∙ ap (λ xs. trees (map extended_attribute_tree xs)) (items_hidden-the_row-ExtendedAttribute-1 v)
+pub attribute_row_of : (v : Vec ExtendedAttribute Global) → attribute_row (hidden-the_row-ExtendedAttribute-0 v) ≡ trees (map extended_attribute_tree v.items)
+attribute_row_of v = sym (attribute_row_items _ (hidden-the_row-ExtendedAttribute-0 v)) ∙ ap (λ xs. trees (map extended_attribute_tree xs)) (items_hidden-the_row-ExtendedAttribute-0 v)
 
 pub arg_list_of : (x : ExtendedAttributeArgList) → extended_attribute_tree (ArgList x) ≡ Alt 0 (extended_attribute_arg_list_tree x)
 arg_list_of x = ap (λ ts. Alt 0 (Node (trees (identifier_tree x.identifier ∷ bracket_tree (Items ts) ∷ [])))) (argument_row_of x.args.body.list)

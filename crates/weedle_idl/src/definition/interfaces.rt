@@ -8,14 +8,15 @@ ghost use Rattle.weedle_idl.specs.DefinitionTrees.{callback_interface_definition
 ghost use Rattle.weedle_rules.specs.Table.Definitions.{CALLBACK_INTERFACE_DEFINITION, INTERFACE_DEFINITION, PARTIAL_INTERFACE_DEFINITION};
 
 use crate::copies::copy_interface_members;
+use crate::interface::InterfaceMembers;
 use std::alloc::{AllocError, Global};
 use weedle_base::{IResult, Parse, TryClone};
-use weedle_members::copies::{copy_attributes, copy_docstring};
-use weedle_members::interface::{Inheritance, InterfaceMembers};
-use weedle_members::parts::attributes;
+use weedle_modifier::Inheritance;
 use weedle_parts::common::{Braced, Docstring, Identifier};
 use weedle_term::{Callback, Interface, Partial, SemiColon};
 use weedle_types::attribute::ExtendedAttributeList;
+use weedle_types::copies::{copy_attributes, copy_docstring};
+use weedle_types::parts::attributes;
 
 /// A callback interface, as `callback interface A {};`. A docstring may stand before it.
 #[derive(Debug, PartialEq, Eq, PartialOrd, Ord, Hash, Drop)]

@@ -1,21 +1,21 @@
-//! Mixins, parts of them, and the statements that use them.
+//! Mixins, whole and in parts.
 
 ghost use Rattle.std.specs.Prelude.{◌≡◌};
 ghost use Rattle.weedle_base.specs.AlikeLaws.{equal_equivalence, seen_equivalence};
 ghost use Rattle.weedle_base.specs.Own.{own};
 ghost use Rattle.weedle_base.specs.OwnLaws.{own_lawful};
-ghost use Rattle.weedle_idl.specs.DefinitionTrees.{implements_definition_tree, includes_statement_definition_tree, interface_mixin_definition_tree, partial_interface_mixin_definition_tree};
-ghost use Rattle.weedle_rules.specs.Table.Definitions.{IMPLEMENTS_DEFINITION, INCLUDES_STATEMENT_DEFINITION, INTERFACE_MIXIN_DEFINITION, PARTIAL_INTERFACE_MIXIN_DEFINITION};
+ghost use Rattle.weedle_idl.specs.DefinitionTrees.{interface_mixin_definition_tree, partial_interface_mixin_definition_tree};
+ghost use Rattle.weedle_rules.specs.Table.Definitions.{INTERFACE_MIXIN_DEFINITION, PARTIAL_INTERFACE_MIXIN_DEFINITION};
 
 use crate::copies::copy_mixin_members;
 use std::alloc::{AllocError, Global};
 use weedle_base::{IResult, Parse, TryClone};
-use weedle_members::copies::copy_attributes;
 use weedle_members::mixin::MixinMembers;
-use weedle_members::parts::attributes;
 use weedle_parts::common::{Braced, Identifier};
-use weedle_term::{Implements, Includes, Interface, Mixin, Partial, SemiColon};
+use weedle_term::{Interface, Mixin, Partial, SemiColon};
 use weedle_types::attribute::ExtendedAttributeList;
+use weedle_types::copies::copy_attributes;
+use weedle_types::parts::attributes;
 
 /// A mixin, as `interface mixin A {};`. No docstring may stand before it.
 #[derive(Debug, PartialEq, Eq, PartialOrd, Ord, Hash, Drop)]
@@ -28,7 +28,7 @@ pub struct InterfaceMixinDefinition<'a> {
     pub semi_colon: SemiColon,
 }
 
-#[tactic(auto, using(crate::proofs::InterfaceMixinRules::interface_mixin_definition_steps))]
+#[tactic(auto, using(crate::proofs::MixinRules::interface_mixin_definition_steps))]
 impl<'a> Parse<'a> for InterfaceMixinDefinition<'a> {
     ghost reading = { own INTERFACE_MIXIN_DEFINITION interface_mixin_definition_tree (Unit {0}) };
 
@@ -84,7 +84,7 @@ pub struct PartialInterfaceMixinDefinition<'a> {
     pub semi_colon: SemiColon,
 }
 
-#[tactic(auto, using(crate::proofs::InterfaceMixinRules::partial_interface_mixin_definition_steps))]
+#[tactic(auto, using(crate::proofs::MixinRules::partial_interface_mixin_definition_steps))]
 impl<'a> Parse<'a> for PartialInterfaceMixinDefinition<'a> {
     ghost reading = { own PARTIAL_INTERFACE_MIXIN_DEFINITION partial_interface_mixin_definition_tree (Unit {0}) };
 
@@ -129,106 +129,4 @@ impl TryClone for PartialInterfaceMixinDefinition<'_> {
     }
 
     ghost equivalence = { seen_equivalence partial_interface_mixin_definition_tree equal_equivalence };
-}
-
-/// The use of a mixin by an interface, as `A includes B;`. No docstring may stand before it.
-#[derive(Debug, PartialEq, Eq, PartialOrd, Ord, Hash, Drop)]
-pub struct IncludesStatementDefinition<'a> {
-    pub attributes: Option<ExtendedAttributeList<'a>>,
-    pub lhs_identifier: Identifier<'a>,
-    pub includes: Includes,
-    pub rhs_identifier: Identifier<'a>,
-    pub semi_colon: SemiColon,
-}
-
-#[tactic(auto, using(crate::proofs::InterfaceMixinRules::includes_statement_definition_steps))]
-impl<'a> Parse<'a> for IncludesStatementDefinition<'a> {
-    ghost reading = { own INCLUDES_STATEMENT_DEFINITION includes_statement_definition_tree (Unit {0}) };
-
-    fn parse(alloc: Global, input: &'a str) -> IResult<&'a str, Self> {
-        let (rest, attributes) = attributes(alloc, input)?;
-        let (rest, lhs_identifier) = Identifier::parse(alloc, rest)?;
-        let (rest, includes) = Includes::parse(alloc, rest)?;
-        let (rest, rhs_identifier) = Identifier::parse(alloc, rest)?;
-        let (rest, semi_colon) = SemiColon::parse(alloc, rest)?;
-        Ok((
-            rest,
-            IncludesStatementDefinition {
-                attributes,
-                lhs_identifier,
-                includes,
-                rhs_identifier,
-                semi_colon,
-            },
-        ))
-    }
-
-    ghost lawful = { own_lawful INCLUDES_STATEMENT_DEFINITION includes_statement_definition_tree (Unit {0}) };
-}
-
-impl TryClone for IncludesStatementDefinition<'_> {
-    ghost alike = { λ a b. includes_statement_definition_tree a ≡ includes_statement_definition_tree b };
-
-    fn try_clone(&self, alloc: Global) -> Result<Self, AllocError> {
-        Ok(IncludesStatementDefinition {
-            attributes: copy_attributes(&self.attributes, alloc)?,
-            lhs_identifier: self.lhs_identifier,
-            includes: self.includes,
-            rhs_identifier: self.rhs_identifier,
-            semi_colon: self.semi_colon,
-        })
-    }
-
-    ghost equivalence = { seen_equivalence includes_statement_definition_tree equal_equivalence };
-}
-
-/// The older form of a mixin's use, as `A implements B;`. No docstring may stand before it.
-#[derive(Debug, PartialEq, Eq, PartialOrd, Ord, Hash, Drop)]
-pub struct ImplementsDefinition<'a> {
-    pub attributes: Option<ExtendedAttributeList<'a>>,
-    pub lhs_identifier: Identifier<'a>,
-    pub includes: Implements,
-    pub rhs_identifier: Identifier<'a>,
-    pub semi_colon: SemiColon,
-}
-
-#[tactic(auto, using(crate::proofs::InterfaceMixinRules::implements_definition_steps))]
-impl<'a> Parse<'a> for ImplementsDefinition<'a> {
-    ghost reading = { own IMPLEMENTS_DEFINITION implements_definition_tree (Unit {0}) };
-
-    fn parse(alloc: Global, input: &'a str) -> IResult<&'a str, Self> {
-        let (rest, attributes) = attributes(alloc, input)?;
-        let (rest, lhs_identifier) = Identifier::parse(alloc, rest)?;
-        let (rest, includes) = Implements::parse(alloc, rest)?;
-        let (rest, rhs_identifier) = Identifier::parse(alloc, rest)?;
-        let (rest, semi_colon) = SemiColon::parse(alloc, rest)?;
-        Ok((
-            rest,
-            ImplementsDefinition {
-                attributes,
-                lhs_identifier,
-                includes,
-                rhs_identifier,
-                semi_colon,
-            },
-        ))
-    }
-
-    ghost lawful = { own_lawful IMPLEMENTS_DEFINITION implements_definition_tree (Unit {0}) };
-}
-
-impl TryClone for ImplementsDefinition<'_> {
-    ghost alike = { λ a b. implements_definition_tree a ≡ implements_definition_tree b };
-
-    fn try_clone(&self, alloc: Global) -> Result<Self, AllocError> {
-        Ok(ImplementsDefinition {
-            attributes: copy_attributes(&self.attributes, alloc)?,
-            lhs_identifier: self.lhs_identifier,
-            includes: self.includes,
-            rhs_identifier: self.rhs_identifier,
-            semi_colon: self.semi_colon,
-        })
-    }
-
-    ghost equivalence = { seen_equivalence implements_definition_tree equal_equivalence };
 }

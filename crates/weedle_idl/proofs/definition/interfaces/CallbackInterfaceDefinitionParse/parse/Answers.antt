@@ -4,4 +4,4 @@ use Rattle.weedle_idl.proofs.InterfaceRules.{callback_interface_definition_got}
 use Rattle.weedle_idl.proofs.definition.interfaces.CallbackInterfaceDefinitionParse.parse.Goals as goal
 
 pub returns : goal.returns
-returns c d = callback_interface_definition_got _ (got_pair _ _ d.in_ok-rest.ensures (got_pair _ _ d.in_ok-rest-2.ensures (got_pair _ _ d.in_ok-rest-3.ensures (got_pair _ _ d.in_ok-rest-4.ensures (got_pair _ _ d.in_ok-rest-5.ensures (got_pair _ _ d.in_ok-rest-6.ensures (got_pair _ _ d.in_ok-rest-7.ensures d.in_ok-rest-8.ensures)))))))
+returns c = callback_interface_definition_got _ (got_pair _ _ c.in_ok-rest.ensures (got_pair _ _ c.in_ok-rest-2.ensures (got_pair _ _ c.in_ok-rest-3.ensures (got_pair _ _ c.in_ok-rest-4.ensures (got_pair _ _ c.in_ok-rest-5.ensures (got_pair _ _ c.in_ok-rest-6.ensures (got_pair _ _ c.in_ok-rest-7.ensures c.in_ok-rest-8.ensures)))))))
