@@ -232,8 +232,8 @@ FILES = [
 ]
 
 # Where each name stands.
-BASE, TERM, PARTS, LITERAL, TYPES, MEMBERS, IDL, RULES = (
-    f"Rattle.weedle_{x}" for x in ("base", "term", "parts", "literal", "types", "members", "idl", "rules")
+BASE, TERM, PARTS, LITERAL, TYPES, MEMBERS, IDL, GRAMMAR = (
+    f"Rattle.weedle_{x}" for x in ("base", "term", "parts", "literal", "types", "members", "idl", "grammar")
 )
 HOMES = {
     "Rattle.std.proofs.Common": "refl inl inr",
@@ -271,12 +271,12 @@ HOMES = {
                            "optional_arguments_rule one_type_reading one_type_rule two_types_reading two_types_rule "
                            "async_iterable_reading async_iterable_rule members_reading members_rule",
     f"{IDL}.proofs.EnumValueRules": "enum_values_reading enum_values_rule",
-    f"{RULES}.specs.Trees": "Mark Node Alt trees",
+    f"{GRAMMAR}.specs.Trees": "Mark Node Alt trees",
 }
 TREES = {"inheritance": "Trees", "modifier": "Trees", "interface": "InterfaceTrees", "mixin": "OtherMemberTrees", "namespace": "OtherMemberTrees",
          "dictionary": "OtherMemberTrees", "definition": "DefinitionTrees"}
 HOME = {name: home for home, names in HOMES.items() for name in names.split()}
-HOME |= {r.name: f"{RULES}.specs.Table.{s.name}" for s in SECTIONS for r in s.rules}
+HOME |= {r.name: f"{GRAMMAR}.specs.Table.{s.name}" for s in SECTIONS for r in s.rules}
 HOME |= {name: f"{TERM}.specs.declared.{f.module}.{name}" for f in TERMINALS for name, _, _ in f.terminals if name != "Error"}
 for file in FILES:
     for t in file.types:

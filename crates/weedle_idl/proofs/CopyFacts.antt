@@ -5,7 +5,7 @@ use Rattle.weedle_base.specs.Alike.{all_alike}
 use Rattle.weedle_idl.specs.DefinitionTrees.{EnumValues, enum_values_tree, enum_variant_tree}
 use Rattle.weedle_members.proofs.CopyFacts.{items_alike}
 use Rattle.weedle_parts.specs.ValueTrees.{bracket_tree}
-use Rattle.weedle_rules.specs.Trees.{Items}
+use Rattle.weedle_grammar.specs.Trees.{Items}
 
 -- the values of an enum
 pub enum_values_alike : (a b : EnumValues) → all_alike (λ x y. enum_variant_tree x ≡ enum_variant_tree y) a.body.list.items b.body.list.items × (a.body.separator ≡ b.body.separator) → enum_values_tree a ≡ enum_values_tree b

@@ -10,16 +10,16 @@ use Rattle.weedle_base.specs.Reading.{Faults, Got, Reading}
 use Rattle.weedle_base.specs.Rules.{IsRule, option_tree}
 use Rattle.weedle_base.specs.declared.fault.Err.{Err as Fault}
 use Rattle.weedle_base.specs.declared.fault.Error.{Error}
+use Rattle.weedle_grammar.specs.Table.InterfaceMembers.{OPT_DOCSTRING}
+use Rattle.weedle_grammar.specs.Table.Leaves.{DOCSTRING, STRING_LIT}
+use Rattle.weedle_grammar.specs.Table.OtherMembers.{ENUM_VARIANT}
+use Rattle.weedle_grammar.specs.Trees.{Node, trees}
 use Rattle.weedle_idl.specs.DefinitionTrees.{enum_variant_tree}
 use Rattle.weedle_idl.specs.declared.definition.enums.EnumVariant.{EnumVariant}
 use Rattle.weedle_literal.specs.LiteralTrees.{string_tree}
 use Rattle.weedle_literal.specs.declared.string.StringLit.{StringLit}
 use Rattle.weedle_parts.specs.ValueTrees.{docstring_tree}
 use Rattle.weedle_parts.specs.declared.common.docstring.Docstring.{Docstring}
-use Rattle.weedle_rules.specs.Table.InterfaceMembers.{OPT_DOCSTRING}
-use Rattle.weedle_rules.specs.Table.Leaves.{DOCSTRING, STRING_LIT}
-use Rattle.weedle_rules.specs.Table.OtherMembers.{ENUM_VARIANT}
-use Rattle.weedle_rules.specs.Trees.{Node, trees}
 
 -- a value
 abbrev enum_variant_parts : Reading ((Option Docstring) × StringLit)

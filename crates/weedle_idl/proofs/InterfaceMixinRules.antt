@@ -11,6 +11,12 @@ use Rattle.weedle_base.specs.Reading.{Faults, Got, Reading}
 use Rattle.weedle_base.specs.Rules.{IsRule}
 use Rattle.weedle_base.specs.declared.fault.Err.{Err as Fault}
 use Rattle.weedle_base.specs.declared.fault.Error.{Error}
+use Rattle.weedle_grammar.specs.Table.Definitions.{IMPLEMENTS_DEFINITION, INCLUDES_STATEMENT_DEFINITION, INTERFACE_MIXIN_DEFINITION, PARTIAL_INTERFACE_MIXIN_DEFINITION}
+use Rattle.weedle_grammar.specs.Table.Keywords.{IMPLEMENTS, INCLUDES, INTERFACE, MIXIN, PARTIAL}
+use Rattle.weedle_grammar.specs.Table.Leaves.{IDENTIFIER}
+use Rattle.weedle_grammar.specs.Table.OtherMembers.{BRACED_MIXIN_MEMBERS, MIXIN_MEMBER, MIXIN_MEMBERS}
+use Rattle.weedle_grammar.specs.Table.Symbols.{SEMI_COLON}
+use Rattle.weedle_grammar.specs.Trees.{Mark, Node, trees}
 use Rattle.weedle_idl.specs.DefinitionTrees.{implements_definition_tree, includes_statement_definition_tree, interface_mixin_definition_tree, partial_interface_mixin_definition_tree}
 use Rattle.weedle_idl.specs.declared.definition.mixins.ImplementsDefinition.{ImplementsDefinition}
 use Rattle.weedle_idl.specs.declared.definition.mixins.IncludesStatementDefinition.{IncludesStatementDefinition}
@@ -23,12 +29,6 @@ use Rattle.weedle_members.specs.declared.mixin.MixinMember.{MixinMember}
 use Rattle.weedle_parts.specs.ValueTrees.{identifier_tree}
 use Rattle.weedle_parts.specs.declared.common.brackets.Braced.{Braced}
 use Rattle.weedle_parts.specs.declared.common.identifier.Identifier.{Identifier}
-use Rattle.weedle_rules.specs.Table.Definitions.{IMPLEMENTS_DEFINITION, INCLUDES_STATEMENT_DEFINITION, INTERFACE_MIXIN_DEFINITION, PARTIAL_INTERFACE_MIXIN_DEFINITION}
-use Rattle.weedle_rules.specs.Table.Keywords.{IMPLEMENTS, INCLUDES, INTERFACE, MIXIN, PARTIAL}
-use Rattle.weedle_rules.specs.Table.Leaves.{IDENTIFIER}
-use Rattle.weedle_rules.specs.Table.OtherMembers.{BRACED_MIXIN_MEMBERS, MIXIN_MEMBER, MIXIN_MEMBERS}
-use Rattle.weedle_rules.specs.Table.Symbols.{SEMI_COLON}
-use Rattle.weedle_rules.specs.Trees.{Mark, Node, trees}
 use Rattle.weedle_term.specs.declared.definition_keywords.Implements.{Implements}
 use Rattle.weedle_term.specs.declared.definition_keywords.Includes.{Includes}
 use Rattle.weedle_term.specs.declared.definition_keywords.Interface.{Interface}

@@ -26,7 +26,7 @@ use Rattle.weedle_modifier.specs.Trees.{inheritance_tree}
 use Rattle.weedle_parts.specs.ValueTrees.{docstring_tree, braced_tree, identifier_tree, punctuated_non_empty_tree}
 use Rattle.weedle_parts.specs.declared.common.brackets.Braced.{Braced}
 use Rattle.weedle_parts.specs.declared.common.punctuated.PunctuatedNonEmpty.{PunctuatedNonEmpty}
-use Rattle.weedle_rules.specs.Trees.{Alt, Mark, Node, Tree, trees}
+use Rattle.weedle_grammar.specs.Trees.{Alt, Mark, Node, Tree, trees}
 use Rattle.weedle_term.specs.declared.symbols.Comma.{Comma}
 use Rattle.weedle_types.specs.Trees.{arguments_tree, attributed_type_tree, attributes_tree, return_type_tree}
 

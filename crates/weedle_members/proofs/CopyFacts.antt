@@ -10,7 +10,7 @@ use Rattle.weedle_parts.specs.declared.common.brackets.Braced.{Braced}
 use Rattle.weedle_parts.specs.declared.common.brackets.Bracketed.{Bracketed}
 use Rattle.weedle_parts.specs.declared.common.docstring.Docstring.{Docstring}
 use Rattle.weedle_parts.specs.declared.common.punctuated.Punctuated.{Punctuated}
-use Rattle.weedle_rules.specs.Trees.{Tree, Mark, Node, Items, Lines, Present, trees}
+use Rattle.weedle_grammar.specs.Trees.{Tree, Mark, Node, Items, Lines, Present, trees}
 use Rattle.weedle_term.specs.declared.symbols.Comma.{Comma}
 use Rattle.weedle_types.specs.Trees.{argument_tree, arguments_tree, attributed_type_tree, attributes_tree, extended_attribute_list_tree, extended_attribute_tree}
 use Rattle.weedle_types.specs.declared.argument.Argument.{Argument}

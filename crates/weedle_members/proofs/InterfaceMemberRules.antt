@@ -10,6 +10,8 @@ use Rattle.weedle_base.specs.Reading.{Faults, Got, Reading}
 use Rattle.weedle_base.specs.Rules.{IsRule}
 use Rattle.weedle_base.specs.declared.fault.Err.{Err as Fault}
 use Rattle.weedle_base.specs.declared.fault.Error.{Error}
+use Rattle.weedle_grammar.specs.Table.InterfaceMembers.{ASYNC_ITERABLE_INTERFACE_MEMBER, ATTRIBUTE_INTERFACE_MEMBER, CONSTRUCTOR_INTERFACE_MEMBER, CONST_MEMBER, INTERFACE_MEMBER, ITERABLE_INTERFACE_MEMBER, MAPLIKE_INTERFACE_MEMBER, OPERATION_INTERFACE_MEMBER, SETLIKE_INTERFACE_MEMBER, STRINGIFIER_MEMBER}
+use Rattle.weedle_grammar.specs.Trees.{Alt}
 use Rattle.weedle_members.specs.InterfaceTrees.{async_iterable_interface_member_tree, attribute_interface_member_tree, const_member_tree, constructor_interface_member_tree, interface_member_tree, iterable_interface_member_tree, maplike_interface_member_tree, operation_interface_member_tree, setlike_interface_member_tree, stringifier_member_tree}
 use Rattle.weedle_members.specs.Pieces.{collection_member_rules, named_member_rules}
 use Rattle.weedle_members.specs.declared.interface.async_iterable.AsyncIterableInterfaceMember.{AsyncIterableInterfaceMember}
@@ -23,8 +25,6 @@ use Rattle.weedle_members.specs.declared.interface.member.InterfaceMember.{Inter
 use Rattle.weedle_members.specs.declared.interface.operation.ConstructorInterfaceMember.{ConstructorInterfaceMember}
 use Rattle.weedle_members.specs.declared.interface.operation.OperationInterfaceMember.{OperationInterfaceMember}
 use Rattle.weedle_members.specs.declared.interface.stringifier.StringifierMember.{StringifierMember}
-use Rattle.weedle_rules.specs.Table.InterfaceMembers.{ASYNC_ITERABLE_INTERFACE_MEMBER, ATTRIBUTE_INTERFACE_MEMBER, CONSTRUCTOR_INTERFACE_MEMBER, CONST_MEMBER, INTERFACE_MEMBER, ITERABLE_INTERFACE_MEMBER, MAPLIKE_INTERFACE_MEMBER, OPERATION_INTERFACE_MEMBER, SETLIKE_INTERFACE_MEMBER, STRINGIFIER_MEMBER}
-use Rattle.weedle_rules.specs.Trees.{Alt}
 use Rattle.weedle_types.proofs.Direct.{direct_choice, fault_members, first_piece, got_members, members_first}
 use Rattle.weedle_types.specs.Steps.{members}
 

@@ -16,13 +16,13 @@ use Rattle.weedle_members.specs.PartTrees.{Attributes, Arguments, OneType, one_t
 use Rattle.weedle_parts.proofs.PartRules.{braced_rule, generics_rule}
 use Rattle.weedle_parts.specs.Brackets.{braced_reading, generics_reading}
 use Rattle.weedle_parts.specs.declared.common.brackets.Braced.{Braced}
-use Rattle.weedle_rules.specs.Meaning.{Plain}
-use Rattle.weedle_rules.specs.Rows.{Seq, Opt, Many}
-use Rattle.weedle_rules.specs.Table.{row_of, shape_of}
-use Rattle.weedle_rules.specs.Table.InterfaceMembers.{ASYNC_ITERABLE, GENERICS_ATTRIBUTED_TYPE, GENERICS_KEY_AND_VALUE_TYPES, KEY_AND_VALUE_TYPES, OPT_PARENTHESIZED_ARGUMENT_LIST}
-use Rattle.weedle_rules.specs.Table.Symbols.{CLOSE_BRACE, COMMA, OPEN_BRACE}
-use Rattle.weedle_rules.specs.Table.Types.{ATTRIBUTED_TYPE, OPT_EXTENDED_ATTRIBUTE_LIST, PARENTHESIZED_ARGUMENT_LIST}
-use Rattle.weedle_rules.specs.Trees.{Tree}
+use Rattle.weedle_grammar.specs.Meaning.{Plain}
+use Rattle.weedle_grammar.specs.Rows.{Seq, Opt, Many}
+use Rattle.weedle_grammar.specs.Table.{row_of, shape_of}
+use Rattle.weedle_grammar.specs.Table.InterfaceMembers.{ASYNC_ITERABLE, GENERICS_ATTRIBUTED_TYPE, GENERICS_KEY_AND_VALUE_TYPES, KEY_AND_VALUE_TYPES, OPT_PARENTHESIZED_ARGUMENT_LIST}
+use Rattle.weedle_grammar.specs.Table.Symbols.{CLOSE_BRACE, COMMA, OPEN_BRACE}
+use Rattle.weedle_grammar.specs.Table.Types.{ATTRIBUTED_TYPE, OPT_EXTENDED_ATTRIBUTE_LIST, PARENTHESIZED_ARGUMENT_LIST}
+use Rattle.weedle_grammar.specs.Trees.{Tree}
 use Rattle.weedle_types.specs.Trees.{arguments_tree, attributed_type_tree, attributes_tree}
 
 -- a terminal, among parts that may want memory

@@ -13,7 +13,7 @@ use Rattle.weedle_members.specs.declared.namespace.NamespaceMember.{NamespaceMem
 use Rattle.weedle_members.specs.declared.namespace.NamespaceMember.TheVariants.{Operation as NamespaceMember-Operation, Attribute as NamespaceMember-Attribute}
 use Rattle.weedle_members.specs.declared.namespace.OperationNamespaceMember.{OperationNamespaceMember}
 use Rattle.weedle_parts.specs.ValueTrees.{docstring_tree, identifier_tree}
-use Rattle.weedle_rules.specs.Trees.{Alt, Mark, Node, Tree, trees}
+use Rattle.weedle_grammar.specs.Trees.{Alt, Mark, Node, Tree, trees}
 use Rattle.weedle_types.specs.Trees.{arguments_tree, attributed_type_tree, attributes_tree, return_type_tree, type_tree}
 
 -- an operation: its attributes, whether it is a stringifier, its type, its name if it has one, its arguments, the semicolon

@@ -8,7 +8,7 @@ use Rattle.weedle_parts.specs.declared.common.brackets.Bracketed.{Bracketed}
 use Rattle.weedle_parts.specs.declared.common.brackets.Generics.{Generics}
 use Rattle.weedle_parts.specs.declared.common.brackets.Parenthesized.{Parenthesized}
 use Rattle.weedle_parts.specs.declared.common.punctuated.Punctuated.{Punctuated}
-use Rattle.weedle_rules.specs.Trees.{Tree, Mark, Node, trees}
+use Rattle.weedle_grammar.specs.Trees.{Tree, Mark, Node, trees}
 use Rattle.weedle_term.specs.declared.definition_keywords.Async.{Async}
 use Rattle.weedle_term.specs.declared.definition_keywords.Iterable.{Iterable}
 use Rattle.weedle_term.specs.declared.symbols.Comma.{Comma}

@@ -3,8 +3,8 @@
 ghost use Rattle.weedle_base.specs.Own.{own};
 ghost use Rattle.weedle_base.specs.Reading.{Answers};
 ghost use Rattle.weedle_members.specs.PartTrees.{async_iterable_tree, optional_arguments_tree};
-ghost use Rattle.weedle_rules.specs.Table.InterfaceMembers.{ASYNC_ITERABLE, OPT_PARENTHESIZED_ARGUMENT_LIST};
-ghost use Rattle.weedle_rules.specs.Table.Types.{OPT_EXTENDED_ATTRIBUTE_LIST, PARENTHESIZED_ARGUMENT_LIST};
+ghost use Rattle.weedle_grammar.specs.Table.InterfaceMembers.{ASYNC_ITERABLE, OPT_PARENTHESIZED_ARGUMENT_LIST};
+ghost use Rattle.weedle_grammar.specs.Table.Types.{OPT_EXTENDED_ATTRIBUTE_LIST, PARENTHESIZED_ARGUMENT_LIST};
 ghost use Rattle.weedle_types.specs.Trees.{arguments_tree, attributes_tree};
 
 use std::alloc::Global;

@@ -7,7 +7,7 @@ ghost use Rattle.weedle_base.specs.OwnLaws.{own_lawful};
 ghost use Rattle.weedle_base.specs.Reading.{Answers};
 ghost use Rattle.weedle_members.specs.InterfaceTrees.{interface_member_tree};
 ghost use Rattle.weedle_members.specs.Pieces.{collection_member_rules, named_member_rules};
-ghost use Rattle.weedle_rules.specs.Table.InterfaceMembers.{INTERFACE_MEMBER};
+ghost use Rattle.weedle_grammar.specs.Table.InterfaceMembers.{INTERFACE_MEMBER};
 ghost use Rattle.weedle_types.specs.Steps.{members};
 
 use crate::interface::{
