@@ -231,8 +231,8 @@ FILES = [
 ]
 
 # Where each name stands.
-BASE, TERM, PARTS, LITERAL, TYPES, ITERABLES, STATEMENTS, IDL, RULES = (
-    f"Rattle.weedle_{x}" for x in ("base", "term", "parts", "literal", "types", "iterables", "statements", "idl", "rules")
+BASE, TERM, PARTS, LITERAL, TYPES, ITERABLES, STATEMENTS, IDL, GRAMMAR = (
+    f"Rattle.weedle_{x}" for x in ("base", "term", "parts", "literal", "types", "iterables", "statements", "idl", "grammar")
 )
 HOMES = {
     "Rattle.std.proofs.Common": "refl inl inr",
@@ -270,11 +270,11 @@ HOMES = {
                                      "two_types_rule async_iterable_reading async_iterable_rule",
     f"{STATEMENTS}.specs.Trees": "EnumValues enum_values_tree",
     f"{STATEMENTS}.proofs.EnumValueRules": "enum_values_reading enum_values_rule",
-    f"{RULES}.specs.Trees": "Mark Node Alt trees",
+    f"{GRAMMAR}.specs.Trees": "Mark Node Alt trees",
 }
 TREES = {"interface": "InterfaceTrees", "definition": "DefinitionTrees"}
 HOME = {name: home for home, names in HOMES.items() for name in names.split()}
-HOME |= {r.name: f"{RULES}.specs.Table.{s.name}" for s in SECTIONS for r in s.rules}
+HOME |= {r.name: f"{GRAMMAR}.specs.Table.{s.name}" for s in SECTIONS for r in s.rules}
 HOME |= {name: f"{TERM}.specs.declared.{f.module}.{name}" for f in TERMINALS for name, _, _ in f.terminals if name != "Error"}
 for file in FILES:
     for t in file.types:

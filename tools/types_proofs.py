@@ -670,9 +670,9 @@ def declared():
 def stated():
     """the public definitions and lemmas of the crates, with their modules"""
     found = {}
-    for crate in ("weedle_rules", "weedle_base", "weedle_term", "weedle_parts", "weedle_literal", "weedle_types"):
+    for crate in ("weedle_grammar", "weedle_base", "weedle_term", "weedle_parts", "weedle_literal", "weedle_types"):
         # (what the grammar's own crate proves of its table is cited by no answer)
-        for folder in ("specs",) if crate == "weedle_rules" else ("specs", "proofs"):
+        for folder in ("specs",) if crate == "weedle_grammar" else ("specs", "proofs"):
             for path in sorted((CRATES / crate / folder).glob("*.antt")) + sorted((CRATES / crate / folder / "Table").glob("*.antt")):
                 if path.name == "Lib.antt" or path.stem in WRITTEN:
                     continue
@@ -691,7 +691,7 @@ STANDARD = {
     "Rattle.std.specs.Global": ("Box", "Vec"),
     "Rattle.std.specs.Prelude": ("ℕ", "List", "[]", "Option", "Some", "None", "Bool", "length", "◌∷◌", "◌≡◌", "◌⊎◌", "◌++◌", "◌≤◌", "◌+◌", "◌*◌"),
     "Rattle.std.specs.Str": ("IsUtf8",),
-    "Rattle.weedle_rules.specs.Trees": ("Tree", "Node", "Alt"),
+    "Rattle.weedle_grammar.specs.Trees": ("Tree", "Node", "Alt"),
     "denote.Shadow": ("shadow",),
     "denote.Text": ("Utf8",),
 }

@@ -10,10 +10,10 @@ use Rattle.weedle_base.specs.declared.fault.Err.{Err as Fault}
 use Rattle.weedle_base.specs.declared.fault.Err.TheVariants.{Error as Stopped, Failure}
 use Rattle.weedle_base.specs.declared.fault.Error.{Error}
 use Rattle.weedle_base.specs.declared.fault.ErrorKind.TheVariants.{Unread}
-use Rattle.weedle_rules.proofs.Unique.{one_outcome}
-use Rattle.weedle_rules.specs.Table.{Reads}
-use Rattle.weedle_rules.specs.Table.Definitions.{DEFINITIONS}
-use Rattle.weedle_rules.specs.Trees.{Tree, Gives}
+use Rattle.weedle_grammar.proofs.Unique.{one_outcome}
+use Rattle.weedle_grammar.specs.Table.{Reads}
+use Rattle.weedle_grammar.specs.Table.Definitions.{DEFINITIONS}
+use Rattle.weedle_grammar.specs.Trees.{Tree, Gives}
 use Rattle.weedle_idl.proofs.DefinitionListRules.{definitions_reading, definitions_rule, definitions_never_refuse}
 use Rattle.weedle_idl.specs.DefinitionTrees.{definitions_tree}
 use Rattle.weedle_idl.specs.declared.definition.Definition.{Definition}

@@ -13,7 +13,7 @@
 //! ```
 //!
 //! The types stand in the crates below, and under one path each here. What the grammar reads of a
-//! text is said in the crate `weedle_rules`, and in each crate's `specs/` which of its trees a
+//! text is said in the crate `weedle_grammar`, and in each crate's `specs/` which of its trees a
 //! value stands for.
 #![tactic(auto)]
 

@@ -12,10 +12,10 @@ use Rattle.weedle_base.specs.declared.fault.Err.{Err as Fault}
 use Rattle.weedle_base.specs.declared.fault.Err.TheVariants.{Error as Recoverable, Failure}
 use Rattle.weedle_base.specs.declared.fault.Error.{Error}
 use Rattle.weedle_base.specs.declared.fault.ErrorKind.{ErrorKind}
-use Rattle.weedle_rules.specs.Meaning.{Plain, ReadsFirst, by_first, first_none, first_here, first_next}
-use Rattle.weedle_rules.specs.Rows.{First}
-use Rattle.weedle_rules.specs.Table.{webidl, row_of, shape_of}
-use Rattle.weedle_rules.specs.Trees.{Tree, Alt, Fails, Gives}
+use Rattle.weedle_grammar.specs.Meaning.{Plain, ReadsFirst, by_first, first_none, first_here, first_next}
+use Rattle.weedle_grammar.specs.Rows.{First}
+use Rattle.weedle_grammar.specs.Table.{webidl, row_of, shape_of}
+use Rattle.weedle_grammar.specs.Trees.{Tree, Alt, Fails, Gives}
 
 -- the reading is that of rules of which the first that fits is taken, counted from i
 pub record IsFirst {V : Type 0} (R : Reading V) (rs : List ℕ) (i : ℕ) (tree : V → Tree) (grows : Type 0) : Type 0 where

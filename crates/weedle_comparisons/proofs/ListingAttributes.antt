@@ -6,7 +6,7 @@ use Rattle.weedle_comparisons.specs.Keys.{texts_of}
 use Rattle.weedle_comparisons.proofs.NameLists.{and_true, names_equal}
 use Rattle.weedle_parts.specs.ValueTrees.{identifier_tree}
 use Rattle.weedle_parts.specs.declared.common.identifier.Identifier.{Identifier}
-use Rattle.weedle_rules.specs.Trees.{Tree, Trees, Mark, Text, Node, Alt, Absent, Present, Items, Lines, Done, Then, trees}
+use Rattle.weedle_grammar.specs.Trees.{Tree, Trees, Mark, Text, Node, Alt, Absent, Present, Items, Lines, Done, Then, trees}
 use Rattle.weedle_types.specs.Trees.{extended_attribute_ident_list_tree}
 use Rattle.weedle_types.specs.declared.attribute.ExtendedAttributeIdentList.{ExtendedAttributeIdentList}
 

@@ -10,6 +10,8 @@ use Rattle.weedle_base.specs.Reading.{Faults, Got, Reading}
 use Rattle.weedle_base.specs.Rules.{IsRule}
 use Rattle.weedle_base.specs.declared.fault.Err.{Err as Fault}
 use Rattle.weedle_base.specs.declared.fault.Error.{Error}
+use Rattle.weedle_grammar.specs.Table.Definitions.{CALLBACK_DEFINITION, CALLBACK_INTERFACE_DEFINITION, DEFINITION, DICTIONARY_DEFINITION, ENUM_DEFINITION, IMPLEMENTS_DEFINITION, INCLUDES_STATEMENT_DEFINITION, INTERFACE_DEFINITION, INTERFACE_MIXIN_DEFINITION, NAMESPACE_DEFINITION, PARTIAL_DICTIONARY_DEFINITION, PARTIAL_INTERFACE_DEFINITION, PARTIAL_INTERFACE_MIXIN_DEFINITION, PARTIAL_NAMESPACE_DEFINITION, TYPEDEF_DEFINITION}
+use Rattle.weedle_grammar.specs.Trees.{Alt}
 use Rattle.weedle_idl.specs.DefinitionTrees.{callback_interface_definition_tree, definition_tree, interface_definition_tree, interface_mixin_definition_tree, partial_interface_definition_tree, partial_interface_mixin_definition_tree}
 use Rattle.weedle_idl.specs.Pieces.{callback_or_interface_rules, main_definition_rules, other_definition_rules, partial_definition_rules}
 use Rattle.weedle_idl.specs.declared.definition.Definition.TheVariants.{Callback as IsCallback, CallbackInterface as IsCallbackInterface, Interface as IsInterface, InterfaceMixin as IsInterfaceMixin, Namespace as IsNamespace, Dictionary as IsDictionary, PartialInterface as IsPartialInterface, PartialInterfaceMixin as IsPartialInterfaceMixin, PartialDictionary as IsPartialDictionary, PartialNamespace as IsPartialNamespace, Enum as IsEnum, Typedef as IsTypedef, IncludesStatement as IsIncludesStatement, Implements as IsImplements}
@@ -24,8 +26,6 @@ use Rattle.weedle_namespaces.specs.declared.dictionary_definition.DictionaryDefi
 use Rattle.weedle_namespaces.specs.declared.dictionary_definition.PartialDictionaryDefinition.{PartialDictionaryDefinition}
 use Rattle.weedle_namespaces.specs.declared.namespace_definition.NamespaceDefinition.{NamespaceDefinition}
 use Rattle.weedle_namespaces.specs.declared.namespace_definition.PartialNamespaceDefinition.{PartialNamespaceDefinition}
-use Rattle.weedle_rules.specs.Table.Definitions.{CALLBACK_DEFINITION, CALLBACK_INTERFACE_DEFINITION, DEFINITION, DICTIONARY_DEFINITION, ENUM_DEFINITION, IMPLEMENTS_DEFINITION, INCLUDES_STATEMENT_DEFINITION, INTERFACE_DEFINITION, INTERFACE_MIXIN_DEFINITION, NAMESPACE_DEFINITION, PARTIAL_DICTIONARY_DEFINITION, PARTIAL_INTERFACE_DEFINITION, PARTIAL_INTERFACE_MIXIN_DEFINITION, PARTIAL_NAMESPACE_DEFINITION, TYPEDEF_DEFINITION}
-use Rattle.weedle_rules.specs.Trees.{Alt}
 use Rattle.weedle_statements.specs.Trees.{callback_definition_tree, enum_definition_tree, implements_definition_tree, includes_statement_definition_tree, typedef_definition_tree}
 use Rattle.weedle_statements.specs.declared.callback.CallbackDefinition.{CallbackDefinition}
 use Rattle.weedle_statements.specs.declared.enums.EnumDefinition.{EnumDefinition}

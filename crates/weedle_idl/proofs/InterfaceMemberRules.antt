@@ -10,6 +10,8 @@ use Rattle.weedle_base.specs.Reading.{Faults, Got, Reading}
 use Rattle.weedle_base.specs.Rules.{IsRule}
 use Rattle.weedle_base.specs.declared.fault.Err.{Err as Fault}
 use Rattle.weedle_base.specs.declared.fault.Error.{Error}
+use Rattle.weedle_grammar.specs.Table.InterfaceMembers.{ASYNC_ITERABLE_INTERFACE_MEMBER, ATTRIBUTE_INTERFACE_MEMBER, CONSTRUCTOR_INTERFACE_MEMBER, CONST_MEMBER, INTERFACE_MEMBER, ITERABLE_INTERFACE_MEMBER, MAPLIKE_INTERFACE_MEMBER, OPERATION_INTERFACE_MEMBER, SETLIKE_INTERFACE_MEMBER, STRINGIFIER_MEMBER}
+use Rattle.weedle_grammar.specs.Trees.{Alt}
 use Rattle.weedle_idl.specs.InterfaceTrees.{interface_member_tree}
 use Rattle.weedle_idl.specs.Pieces.{collection_member_rules, iterable_member_rules, main_member_rules}
 use Rattle.weedle_idl.specs.declared.interface.member.InterfaceMember.TheVariants.{Const as IsConst, Attribute as IsAttribute, Constructor as IsConstructor, Operation as IsOperation, Iterable as IsIterable, AsyncIterable as IsAsyncIterable, Maplike as IsMaplike, Setlike as IsSetlike, Stringifier as IsStringifier}
@@ -25,8 +27,6 @@ use Rattle.weedle_members.specs.declared.constant.ConstMember.{ConstMember}
 use Rattle.weedle_members.specs.declared.operation.ConstructorInterfaceMember.{ConstructorInterfaceMember}
 use Rattle.weedle_members.specs.declared.operation.OperationInterfaceMember.{OperationInterfaceMember}
 use Rattle.weedle_members.specs.declared.stringifier.StringifierMember.{StringifierMember}
-use Rattle.weedle_rules.specs.Table.InterfaceMembers.{ASYNC_ITERABLE_INTERFACE_MEMBER, ATTRIBUTE_INTERFACE_MEMBER, CONSTRUCTOR_INTERFACE_MEMBER, CONST_MEMBER, INTERFACE_MEMBER, ITERABLE_INTERFACE_MEMBER, MAPLIKE_INTERFACE_MEMBER, OPERATION_INTERFACE_MEMBER, SETLIKE_INTERFACE_MEMBER, STRINGIFIER_MEMBER}
-use Rattle.weedle_rules.specs.Trees.{Alt}
 use Rattle.weedle_types.proofs.Direct.{direct_choice, fault_members, first_piece, got_members, members_first}
 use Rattle.weedle_types.specs.Steps.{members}
 

@@ -11,6 +11,12 @@ use Rattle.weedle_base.specs.Reading.{Faults, Got, Reading}
 use Rattle.weedle_base.specs.Rules.{IsRule, option_tree}
 use Rattle.weedle_base.specs.declared.fault.Err.{Err as Fault}
 use Rattle.weedle_base.specs.declared.fault.Error.{Error}
+use Rattle.weedle_grammar.specs.Table.Definitions.{CALLBACK_INTERFACE_DEFINITION, INTERFACE_DEFINITION, PARTIAL_INTERFACE_DEFINITION}
+use Rattle.weedle_grammar.specs.Table.InterfaceMembers.{BRACED_INTERFACE_MEMBERS, INHERITANCE, INTERFACE_MEMBER, INTERFACE_MEMBERS, OPT_DOCSTRING, OPT_INHERITANCE}
+use Rattle.weedle_grammar.specs.Table.Keywords.{CALLBACK, INTERFACE, PARTIAL}
+use Rattle.weedle_grammar.specs.Table.Leaves.{DOCSTRING, IDENTIFIER}
+use Rattle.weedle_grammar.specs.Table.Symbols.{SEMI_COLON}
+use Rattle.weedle_grammar.specs.Trees.{Mark, Node, trees}
 use Rattle.weedle_idl.specs.DefinitionTrees.{callback_interface_definition_tree, interface_definition_tree, partial_interface_definition_tree}
 use Rattle.weedle_idl.specs.InterfaceTrees.{interface_member_tree}
 use Rattle.weedle_idl.specs.declared.definition.interfaces.CallbackInterfaceDefinition.{CallbackInterfaceDefinition}
@@ -23,12 +29,6 @@ use Rattle.weedle_parts.specs.ValueTrees.{docstring_tree, identifier_tree}
 use Rattle.weedle_parts.specs.declared.common.brackets.Braced.{Braced}
 use Rattle.weedle_parts.specs.declared.common.docstring.Docstring.{Docstring}
 use Rattle.weedle_parts.specs.declared.common.identifier.Identifier.{Identifier}
-use Rattle.weedle_rules.specs.Table.Definitions.{CALLBACK_INTERFACE_DEFINITION, INTERFACE_DEFINITION, PARTIAL_INTERFACE_DEFINITION}
-use Rattle.weedle_rules.specs.Table.InterfaceMembers.{BRACED_INTERFACE_MEMBERS, INHERITANCE, INTERFACE_MEMBER, INTERFACE_MEMBERS, OPT_DOCSTRING, OPT_INHERITANCE}
-use Rattle.weedle_rules.specs.Table.Keywords.{CALLBACK, INTERFACE, PARTIAL}
-use Rattle.weedle_rules.specs.Table.Leaves.{DOCSTRING, IDENTIFIER}
-use Rattle.weedle_rules.specs.Table.Symbols.{SEMI_COLON}
-use Rattle.weedle_rules.specs.Trees.{Mark, Node, trees}
 use Rattle.weedle_term.specs.declared.definition_keywords.Callback.{Callback}
 use Rattle.weedle_term.specs.declared.definition_keywords.Interface.{Interface}
 use Rattle.weedle_term.specs.declared.definition_keywords.Partial.{Partial}

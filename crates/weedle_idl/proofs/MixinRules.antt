@@ -11,6 +11,12 @@ use Rattle.weedle_base.specs.Reading.{Faults, Got, Reading}
 use Rattle.weedle_base.specs.Rules.{IsRule}
 use Rattle.weedle_base.specs.declared.fault.Err.{Err as Fault}
 use Rattle.weedle_base.specs.declared.fault.Error.{Error}
+use Rattle.weedle_grammar.specs.Table.Definitions.{INTERFACE_MIXIN_DEFINITION, PARTIAL_INTERFACE_MIXIN_DEFINITION}
+use Rattle.weedle_grammar.specs.Table.Keywords.{INTERFACE, MIXIN, PARTIAL}
+use Rattle.weedle_grammar.specs.Table.Leaves.{IDENTIFIER}
+use Rattle.weedle_grammar.specs.Table.OtherMembers.{BRACED_MIXIN_MEMBERS, MIXIN_MEMBER, MIXIN_MEMBERS}
+use Rattle.weedle_grammar.specs.Table.Symbols.{SEMI_COLON}
+use Rattle.weedle_grammar.specs.Trees.{Mark, Node, trees}
 use Rattle.weedle_idl.specs.DefinitionTrees.{interface_mixin_definition_tree, partial_interface_mixin_definition_tree}
 use Rattle.weedle_idl.specs.declared.definition.mixins.InterfaceMixinDefinition.{InterfaceMixinDefinition}
 use Rattle.weedle_idl.specs.declared.definition.mixins.PartialInterfaceMixinDefinition.{PartialInterfaceMixinDefinition}
@@ -19,12 +25,6 @@ use Rattle.weedle_members.specs.declared.mixin.MixinMember.{MixinMember}
 use Rattle.weedle_parts.specs.ValueTrees.{identifier_tree}
 use Rattle.weedle_parts.specs.declared.common.brackets.Braced.{Braced}
 use Rattle.weedle_parts.specs.declared.common.identifier.Identifier.{Identifier}
-use Rattle.weedle_rules.specs.Table.Definitions.{INTERFACE_MIXIN_DEFINITION, PARTIAL_INTERFACE_MIXIN_DEFINITION}
-use Rattle.weedle_rules.specs.Table.Keywords.{INTERFACE, MIXIN, PARTIAL}
-use Rattle.weedle_rules.specs.Table.Leaves.{IDENTIFIER}
-use Rattle.weedle_rules.specs.Table.OtherMembers.{BRACED_MIXIN_MEMBERS, MIXIN_MEMBER, MIXIN_MEMBERS}
-use Rattle.weedle_rules.specs.Table.Symbols.{SEMI_COLON}
-use Rattle.weedle_rules.specs.Trees.{Mark, Node, trees}
 use Rattle.weedle_term.specs.declared.definition_keywords.Interface.{Interface}
 use Rattle.weedle_term.specs.declared.definition_keywords.Mixin.{Mixin}
 use Rattle.weedle_term.specs.declared.definition_keywords.Partial.{Partial}

@@ -13,7 +13,7 @@ use Rattle.weedle_members.specs.Trees.{mixin_member_tree}
 use Rattle.weedle_modifier.specs.Trees.{inheritance_tree}
 use Rattle.weedle_namespaces.specs.Trees.{dictionary_definition_tree, namespace_definition_tree, partial_dictionary_definition_tree, partial_namespace_definition_tree}
 use Rattle.weedle_parts.specs.ValueTrees.{docstring_tree, identifier_tree}
-use Rattle.weedle_rules.specs.Trees.{Alt, Mark, Node, Tree, trees}
+use Rattle.weedle_grammar.specs.Trees.{Alt, Mark, Node, Tree, trees}
 use Rattle.weedle_statements.specs.Trees.{callback_definition_tree, enum_definition_tree, implements_definition_tree, includes_statement_definition_tree, typedef_definition_tree}
 use Rattle.weedle_types.specs.PartTrees.{members_tree}
 use Rattle.weedle_types.specs.Steps.{members}

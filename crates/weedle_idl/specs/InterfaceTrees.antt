@@ -3,7 +3,7 @@ use Rattle.weedle_idl.specs.declared.interface.member.InterfaceMember.TheVariant
 use Rattle.weedle_idl.specs.declared.interface.member.InterfaceMember.{InterfaceMember}
 use Rattle.weedle_iterables.specs.Trees.{async_iterable_interface_member_tree, iterable_interface_member_tree, maplike_interface_member_tree, setlike_interface_member_tree}
 use Rattle.weedle_members.specs.Trees.{attribute_interface_member_tree, const_member_tree, constructor_interface_member_tree, operation_interface_member_tree, stringifier_member_tree}
-use Rattle.weedle_rules.specs.Trees.{Alt, Tree}
+use Rattle.weedle_grammar.specs.Trees.{Alt, Tree}
 
 -- a member: a constant, an attribute, a constructor, an operation, an iteration, an asynchronous one, a map, a set, a stringifier
 abbrev pub interface_member_tree : InterfaceMember → Tree

@@ -7,7 +7,7 @@ ghost use Rattle.weedle_base.specs.OwnLaws.{own_lawful};
 ghost use Rattle.weedle_base.specs.Reading.{Answers};
 ghost use Rattle.weedle_idl.specs.DefinitionTrees.{definition_tree};
 ghost use Rattle.weedle_idl.specs.Pieces.{callback_or_interface_rules, main_definition_rules, other_definition_rules, partial_definition_rules};
-ghost use Rattle.weedle_rules.specs.Table.Definitions.{DEFINITION};
+ghost use Rattle.weedle_grammar.specs.Table.Definitions.{DEFINITION};
 ghost use Rattle.weedle_types.specs.Steps.{members};
 
 mod interfaces;

@@ -4,7 +4,7 @@
 ghost use Rattle.weedle_base.specs.Rules.{HasRule};
 ghost use Rattle.weedle_idl.specs.DefinitionTrees.{definitions_tree};
 ghost use Rattle.weedle_idl.specs.Laws.{NeverRefuses};
-ghost use Rattle.weedle_rules.specs.Table.Definitions.{DEFINITIONS};
+ghost use Rattle.weedle_grammar.specs.Table.Definitions.{DEFINITIONS};
 
 use crate::Definitions;
 use weedle_base::Parse;

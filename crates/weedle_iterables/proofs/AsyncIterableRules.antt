@@ -11,6 +11,9 @@ use Rattle.weedle_base.specs.Reading.{Faults, Got, Reading}
 use Rattle.weedle_base.specs.Rules.{IsRule}
 use Rattle.weedle_base.specs.declared.fault.Err.{Err as Fault}
 use Rattle.weedle_base.specs.declared.fault.Error.{Error}
+use Rattle.weedle_grammar.specs.Table.InterfaceMembers.{ASYNC_ITERABLE_INTERFACE_MEMBER, DOUBLE_TYPED_ASYNC_ITERABLE, SINGLE_TYPED_ASYNC_ITERABLE}
+use Rattle.weedle_grammar.specs.Table.Symbols.{SEMI_COLON}
+use Rattle.weedle_grammar.specs.Trees.{Alt, Mark, Node, trees}
 use Rattle.weedle_iterables.proofs.PartRules.{async_iterable_reading, async_iterable_rule, one_type_reading, one_type_rule, optional_arguments_reading, optional_arguments_rule, two_types_reading, two_types_rule}
 use Rattle.weedle_iterables.specs.PartTrees.{AsyncIterable, OneType, TwoTypes, async_iterable_tree, one_type_tree, optional_arguments_tree, two_types_tree}
 use Rattle.weedle_iterables.specs.Trees.{async_iterable_interface_member_tree, double_typed_async_iterable_tree, single_typed_async_iterable_tree}
@@ -18,9 +21,6 @@ use Rattle.weedle_iterables.specs.declared.async_iterable.AsyncIterableInterface
 use Rattle.weedle_iterables.specs.declared.async_iterable.AsyncIterableInterfaceMember.{AsyncIterableInterfaceMember}
 use Rattle.weedle_iterables.specs.declared.async_iterable.DoubleTypedAsyncIterable.{DoubleTypedAsyncIterable}
 use Rattle.weedle_iterables.specs.declared.async_iterable.SingleTypedAsyncIterable.{SingleTypedAsyncIterable}
-use Rattle.weedle_rules.specs.Table.InterfaceMembers.{ASYNC_ITERABLE_INTERFACE_MEMBER, DOUBLE_TYPED_ASYNC_ITERABLE, SINGLE_TYPED_ASYNC_ITERABLE}
-use Rattle.weedle_rules.specs.Table.Symbols.{SEMI_COLON}
-use Rattle.weedle_rules.specs.Trees.{Alt, Mark, Node, trees}
 use Rattle.weedle_term.specs.declared.symbols.SemiColon.{SemiColon}
 use Rattle.weedle_types.proofs.SharedRules.{attributes_reading, attributes_rule, word}
 use Rattle.weedle_types.specs.PartTrees.{Arguments, Attributes}

@@ -10,15 +10,15 @@ use Rattle.weedle_base.specs.Reading.{Faults, Got, Reading}
 use Rattle.weedle_base.specs.Rules.{IsRule, mark_tree, option_tree}
 use Rattle.weedle_base.specs.declared.fault.Err.{Err as Fault}
 use Rattle.weedle_base.specs.declared.fault.Error.{Error}
+use Rattle.weedle_grammar.specs.Table.InterfaceMembers.{MAPLIKE_INTERFACE_MEMBER, OPT_READ_ONLY, SETLIKE_INTERFACE_MEMBER}
+use Rattle.weedle_grammar.specs.Table.Keywords.{MAPLIKE, READ_ONLY, SETLIKE}
+use Rattle.weedle_grammar.specs.Table.Symbols.{SEMI_COLON}
+use Rattle.weedle_grammar.specs.Trees.{Mark, Node, trees}
 use Rattle.weedle_iterables.proofs.PartRules.{one_type_reading, one_type_rule, two_types_reading, two_types_rule}
 use Rattle.weedle_iterables.specs.PartTrees.{OneType, TwoTypes, one_type_tree, two_types_tree}
 use Rattle.weedle_iterables.specs.Trees.{maplike_interface_member_tree, setlike_interface_member_tree}
 use Rattle.weedle_iterables.specs.declared.collection.MaplikeInterfaceMember.{MaplikeInterfaceMember}
 use Rattle.weedle_iterables.specs.declared.collection.SetlikeInterfaceMember.{SetlikeInterfaceMember}
-use Rattle.weedle_rules.specs.Table.InterfaceMembers.{MAPLIKE_INTERFACE_MEMBER, OPT_READ_ONLY, SETLIKE_INTERFACE_MEMBER}
-use Rattle.weedle_rules.specs.Table.Keywords.{MAPLIKE, READ_ONLY, SETLIKE}
-use Rattle.weedle_rules.specs.Table.Symbols.{SEMI_COLON}
-use Rattle.weedle_rules.specs.Trees.{Mark, Node, trees}
 use Rattle.weedle_term.specs.declared.definition_keywords.Maplike.{Maplike}
 use Rattle.weedle_term.specs.declared.definition_keywords.ReadOnly.{ReadOnly}
 use Rattle.weedle_term.specs.declared.definition_keywords.Setlike.{Setlike}

@@ -11,6 +11,10 @@ use Rattle.weedle_base.specs.Reading.{Faults, Got, Reading}
 use Rattle.weedle_base.specs.Rules.{IsRule}
 use Rattle.weedle_base.specs.declared.fault.Err.{Err as Fault}
 use Rattle.weedle_base.specs.declared.fault.Error.{Error}
+use Rattle.weedle_grammar.specs.Table.InterfaceMembers.{DOUBLE_TYPED_ITERABLE, ITERABLE_INTERFACE_MEMBER, SINGLE_TYPED_ITERABLE}
+use Rattle.weedle_grammar.specs.Table.Keywords.{ITERABLE}
+use Rattle.weedle_grammar.specs.Table.Symbols.{SEMI_COLON}
+use Rattle.weedle_grammar.specs.Trees.{Alt, Mark, Node, trees}
 use Rattle.weedle_iterables.proofs.PartRules.{one_type_reading, one_type_rule, two_types_reading, two_types_rule}
 use Rattle.weedle_iterables.specs.PartTrees.{OneType, TwoTypes, one_type_tree, two_types_tree}
 use Rattle.weedle_iterables.specs.Trees.{double_typed_iterable_tree, iterable_interface_member_tree, single_typed_iterable_tree}
@@ -18,10 +22,6 @@ use Rattle.weedle_iterables.specs.declared.iterable.DoubleTypedIterable.{DoubleT
 use Rattle.weedle_iterables.specs.declared.iterable.IterableInterfaceMember.TheVariants.{Single as IsSingle, Double as IsDouble}
 use Rattle.weedle_iterables.specs.declared.iterable.IterableInterfaceMember.{IterableInterfaceMember}
 use Rattle.weedle_iterables.specs.declared.iterable.SingleTypedIterable.{SingleTypedIterable}
-use Rattle.weedle_rules.specs.Table.InterfaceMembers.{DOUBLE_TYPED_ITERABLE, ITERABLE_INTERFACE_MEMBER, SINGLE_TYPED_ITERABLE}
-use Rattle.weedle_rules.specs.Table.Keywords.{ITERABLE}
-use Rattle.weedle_rules.specs.Table.Symbols.{SEMI_COLON}
-use Rattle.weedle_rules.specs.Trees.{Alt, Mark, Node, trees}
 use Rattle.weedle_term.specs.declared.definition_keywords.Iterable.{Iterable}
 use Rattle.weedle_term.specs.declared.symbols.SemiColon.{SemiColon}
 use Rattle.weedle_types.proofs.SharedRules.{attributes_reading, attributes_rule, word}

@@ -9,9 +9,9 @@ use Rattle.weedle_base.specs.Rules.{IsRule}
 use Rattle.weedle_iterables.specs.PartTrees.{AsyncIterable, KeyAndValue, OneType, TwoTypes, async_iterable_tree, key_and_value_tree, one_type_tree, optional_arguments_tree, two_types_tree}
 use Rattle.weedle_parts.proofs.PartRules.{generics_rule}
 use Rattle.weedle_parts.specs.Brackets.{generics_reading}
-use Rattle.weedle_rules.specs.Table.InterfaceMembers.{ASYNC_ITERABLE, GENERICS_ATTRIBUTED_TYPE, GENERICS_KEY_AND_VALUE_TYPES, KEY_AND_VALUE_TYPES, OPT_PARENTHESIZED_ARGUMENT_LIST}
-use Rattle.weedle_rules.specs.Table.Symbols.{COMMA}
-use Rattle.weedle_rules.specs.Table.Types.{ATTRIBUTED_TYPE}
+use Rattle.weedle_grammar.specs.Table.InterfaceMembers.{ASYNC_ITERABLE, GENERICS_ATTRIBUTED_TYPE, GENERICS_KEY_AND_VALUE_TYPES, KEY_AND_VALUE_TYPES, OPT_PARENTHESIZED_ARGUMENT_LIST}
+use Rattle.weedle_grammar.specs.Table.Symbols.{COMMA}
+use Rattle.weedle_grammar.specs.Table.Types.{ATTRIBUTED_TYPE}
 use Rattle.weedle_types.proofs.SharedRules.{word}
 use Rattle.weedle_types.specs.PartTrees.{Arguments}
 use Rattle.weedle_types.specs.Trees.{attributed_type_tree}

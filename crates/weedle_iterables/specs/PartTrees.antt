@@ -3,7 +3,7 @@ use Rattle.std.specs.Prelude.{Option, [], ◌∷◌}
 use Rattle.weedle_base.specs.Rules.{option_tree}
 use Rattle.weedle_parts.specs.ValueTrees.{generics_tree}
 use Rattle.weedle_parts.specs.declared.common.brackets.Generics.{Generics}
-use Rattle.weedle_rules.specs.Trees.{Mark, Node, Tree, trees}
+use Rattle.weedle_grammar.specs.Trees.{Mark, Node, Tree, trees}
 use Rattle.weedle_term.specs.declared.definition_keywords.Async.{Async}
 use Rattle.weedle_term.specs.declared.definition_keywords.Iterable.{Iterable}
 use Rattle.weedle_term.specs.declared.symbols.Comma.{Comma}

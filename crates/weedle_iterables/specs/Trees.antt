@@ -12,7 +12,7 @@ use Rattle.weedle_iterables.specs.declared.iterable.DoubleTypedIterable.{DoubleT
 use Rattle.weedle_iterables.specs.declared.iterable.IterableInterfaceMember.TheVariants.{Single as IterableInterfaceMember-Single, Double as IterableInterfaceMember-Double}
 use Rattle.weedle_iterables.specs.declared.iterable.IterableInterfaceMember.{IterableInterfaceMember}
 use Rattle.weedle_iterables.specs.declared.iterable.SingleTypedIterable.{SingleTypedIterable}
-use Rattle.weedle_rules.specs.Trees.{Alt, Mark, Node, Tree, trees}
+use Rattle.weedle_grammar.specs.Trees.{Alt, Mark, Node, Tree, trees}
 use Rattle.weedle_types.specs.Trees.{attributes_tree}
 
 -- an iteration over values: its attributes, `iterable`, the type, the semicolon

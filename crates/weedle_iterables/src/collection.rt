@@ -5,7 +5,7 @@ ghost use Rattle.weedle_base.specs.AlikeLaws.{equal_equivalence, seen_equivalenc
 ghost use Rattle.weedle_base.specs.Own.{own};
 ghost use Rattle.weedle_base.specs.OwnLaws.{own_lawful};
 ghost use Rattle.weedle_iterables.specs.Trees.{maplike_interface_member_tree, setlike_interface_member_tree};
-ghost use Rattle.weedle_rules.specs.Table.InterfaceMembers.{MAPLIKE_INTERFACE_MEMBER, SETLIKE_INTERFACE_MEMBER};
+ghost use Rattle.weedle_grammar.specs.Table.InterfaceMembers.{MAPLIKE_INTERFACE_MEMBER, SETLIKE_INTERFACE_MEMBER};
 
 use crate::copies::{copy_one_type, copy_two_types};
 use std::alloc::{AllocError, Global};

@@ -5,7 +5,7 @@ ghost use Rattle.weedle_base.specs.AlikeLaws.{equal_equivalence, seen_equivalenc
 ghost use Rattle.weedle_base.specs.Own.{own};
 ghost use Rattle.weedle_base.specs.OwnLaws.{own_lawful};
 ghost use Rattle.weedle_iterables.specs.Trees.{double_typed_iterable_tree, iterable_interface_member_tree, single_typed_iterable_tree};
-ghost use Rattle.weedle_rules.specs.Table.InterfaceMembers.{DOUBLE_TYPED_ITERABLE, ITERABLE_INTERFACE_MEMBER, SINGLE_TYPED_ITERABLE};
+ghost use Rattle.weedle_grammar.specs.Table.InterfaceMembers.{DOUBLE_TYPED_ITERABLE, ITERABLE_INTERFACE_MEMBER, SINGLE_TYPED_ITERABLE};
 
 use crate::copies::{copy_one_type, copy_two_types};
 use std::alloc::{AllocError, Global};

@@ -2,9 +2,9 @@
 use Rattle.std.specs.Prelude.{ℕ, List, ◌⊎◌, true, false, Some, None}
 use Rattle.std.specs.Borrow.{Bor}
 use Rattle.std.proofs.Common.{refl}
-use Rattle.weedle_rules.specs.Trees.{Mark, Alt}
-use Rattle.weedle_rules.specs.Table.Keywords.{TRUE, FALSE}
-use Rattle.weedle_rules.specs.Table.Literals.{BOOLEAN_LIT}
+use Rattle.weedle_grammar.specs.Trees.{Mark, Alt}
+use Rattle.weedle_grammar.specs.Table.Keywords.{TRUE, FALSE}
+use Rattle.weedle_grammar.specs.Table.Literals.{BOOLEAN_LIT}
 use Rattle.weedle_base.specs.declared.fault.Error.{Error}
 use Rattle.weedle_base.specs.declared.fault.Err.{Err as Fault}
 use Rattle.weedle_term.specs.declared.type_keywords.True.{True}

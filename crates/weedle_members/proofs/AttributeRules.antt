@@ -10,18 +10,18 @@ use Rattle.weedle_base.specs.Reading.{Faults, Got, Reading}
 use Rattle.weedle_base.specs.Rules.{IsRule, mark_tree, option_tree}
 use Rattle.weedle_base.specs.declared.fault.Err.{Err as Fault}
 use Rattle.weedle_base.specs.declared.fault.Error.{Error}
+use Rattle.weedle_grammar.specs.Table.InterfaceMembers.{ATTRIBUTE_INTERFACE_MEMBER, OPT_READ_ONLY, OPT_STRINGIFIER_OR_INHERIT_OR_STATIC, STRINGIFIER_OR_INHERIT_OR_STATIC}
+use Rattle.weedle_grammar.specs.Table.Keywords.{ATTRIBUTE, READ_ONLY}
+use Rattle.weedle_grammar.specs.Table.Leaves.{IDENTIFIER}
+use Rattle.weedle_grammar.specs.Table.Symbols.{SEMI_COLON}
+use Rattle.weedle_grammar.specs.Table.Types.{ATTRIBUTED_TYPE}
+use Rattle.weedle_grammar.specs.Trees.{Mark, Node, trees}
 use Rattle.weedle_members.specs.Trees.{attribute_interface_member_tree}
 use Rattle.weedle_members.specs.declared.attribute.AttributeInterfaceMember.{AttributeInterfaceMember}
 use Rattle.weedle_modifier.specs.Trees.{stringifier_or_inherit_or_static_tree}
 use Rattle.weedle_modifier.specs.declared.modifier.StringifierOrInheritOrStatic.{StringifierOrInheritOrStatic}
 use Rattle.weedle_parts.specs.ValueTrees.{identifier_tree}
 use Rattle.weedle_parts.specs.declared.common.identifier.Identifier.{Identifier}
-use Rattle.weedle_rules.specs.Table.InterfaceMembers.{ATTRIBUTE_INTERFACE_MEMBER, OPT_READ_ONLY, OPT_STRINGIFIER_OR_INHERIT_OR_STATIC, STRINGIFIER_OR_INHERIT_OR_STATIC}
-use Rattle.weedle_rules.specs.Table.Keywords.{ATTRIBUTE, READ_ONLY}
-use Rattle.weedle_rules.specs.Table.Leaves.{IDENTIFIER}
-use Rattle.weedle_rules.specs.Table.Symbols.{SEMI_COLON}
-use Rattle.weedle_rules.specs.Table.Types.{ATTRIBUTED_TYPE}
-use Rattle.weedle_rules.specs.Trees.{Mark, Node, trees}
 use Rattle.weedle_term.specs.declared.definition_keywords.Attribute.{Attribute}
 use Rattle.weedle_term.specs.declared.definition_keywords.ReadOnly.{ReadOnly}
 use Rattle.weedle_term.specs.declared.symbols.SemiColon.{SemiColon}

@@ -10,6 +10,13 @@ use Rattle.weedle_base.specs.Reading.{Faults, Got, Reading}
 use Rattle.weedle_base.specs.Rules.{IsRule}
 use Rattle.weedle_base.specs.declared.fault.Err.{Err as Fault}
 use Rattle.weedle_base.specs.declared.fault.Error.{Error}
+use Rattle.weedle_grammar.specs.Table.InterfaceMembers.{CONST_MEMBER}
+use Rattle.weedle_grammar.specs.Table.Keywords.{CONST}
+use Rattle.weedle_grammar.specs.Table.Leaves.{IDENTIFIER}
+use Rattle.weedle_grammar.specs.Table.Literals.{CONST_VALUE}
+use Rattle.weedle_grammar.specs.Table.SimpleTypes.{CONST_TYPE}
+use Rattle.weedle_grammar.specs.Table.Symbols.{ASSIGN, SEMI_COLON}
+use Rattle.weedle_grammar.specs.Trees.{Mark, Node, trees}
 use Rattle.weedle_literal.specs.LiteralTrees.{const_value_tree}
 use Rattle.weedle_literal.specs.declared.value.ConstValue.{ConstValue}
 use Rattle.weedle_members.specs.Trees.{const_member_tree}
@@ -17,13 +24,6 @@ use Rattle.weedle_members.specs.declared.constant.ConstMember.{ConstMember}
 use Rattle.weedle_parts.specs.ValueTrees.{const_type_tree, identifier_tree}
 use Rattle.weedle_parts.specs.declared.common.identifier.Identifier.{Identifier}
 use Rattle.weedle_parts.specs.declared.types.const_type.ConstType.{ConstType}
-use Rattle.weedle_rules.specs.Table.InterfaceMembers.{CONST_MEMBER}
-use Rattle.weedle_rules.specs.Table.Keywords.{CONST}
-use Rattle.weedle_rules.specs.Table.Leaves.{IDENTIFIER}
-use Rattle.weedle_rules.specs.Table.Literals.{CONST_VALUE}
-use Rattle.weedle_rules.specs.Table.SimpleTypes.{CONST_TYPE}
-use Rattle.weedle_rules.specs.Table.Symbols.{ASSIGN, SEMI_COLON}
-use Rattle.weedle_rules.specs.Trees.{Mark, Node, trees}
 use Rattle.weedle_term.specs.declared.definition_keywords.Const.{Const}
 use Rattle.weedle_term.specs.declared.symbols.Assign.{Assign}
 use Rattle.weedle_term.specs.declared.symbols.SemiColon.{SemiColon}

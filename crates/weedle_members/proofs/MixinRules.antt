@@ -11,6 +11,13 @@ use Rattle.weedle_base.specs.Reading.{Faults, Got, Reading}
 use Rattle.weedle_base.specs.Rules.{IsRule, mark_tree, option_tree}
 use Rattle.weedle_base.specs.declared.fault.Err.{Err as Fault}
 use Rattle.weedle_base.specs.declared.fault.Error.{Error}
+use Rattle.weedle_grammar.specs.Table.InterfaceMembers.{CONST_MEMBER, OPT_IDENTIFIER, OPT_READ_ONLY, STRINGIFIER_MEMBER}
+use Rattle.weedle_grammar.specs.Table.Keywords.{ATTRIBUTE, READ_ONLY, STRINGIFIER}
+use Rattle.weedle_grammar.specs.Table.Leaves.{IDENTIFIER}
+use Rattle.weedle_grammar.specs.Table.OtherMembers.{ATTRIBUTE_MIXIN_MEMBER, MIXIN_MEMBER, OPERATION_MIXIN_MEMBER, OPT_STRINGIFIER}
+use Rattle.weedle_grammar.specs.Table.Symbols.{SEMI_COLON}
+use Rattle.weedle_grammar.specs.Table.Types.{ATTRIBUTED_TYPE, RETURN_TYPE}
+use Rattle.weedle_grammar.specs.Trees.{Alt, Mark, Node, trees}
 use Rattle.weedle_members.specs.Trees.{attribute_mixin_member_tree, const_member_tree, mixin_member_tree, operation_mixin_member_tree, stringifier_member_tree}
 use Rattle.weedle_members.specs.declared.constant.ConstMember.{ConstMember}
 use Rattle.weedle_members.specs.declared.mixin.AttributeMixinMember.{AttributeMixinMember}
@@ -20,13 +27,6 @@ use Rattle.weedle_members.specs.declared.mixin.OperationMixinMember.{OperationMi
 use Rattle.weedle_members.specs.declared.stringifier.StringifierMember.{StringifierMember}
 use Rattle.weedle_parts.specs.ValueTrees.{identifier_tree}
 use Rattle.weedle_parts.specs.declared.common.identifier.Identifier.{Identifier}
-use Rattle.weedle_rules.specs.Table.InterfaceMembers.{CONST_MEMBER, OPT_IDENTIFIER, OPT_READ_ONLY, STRINGIFIER_MEMBER}
-use Rattle.weedle_rules.specs.Table.Keywords.{ATTRIBUTE, READ_ONLY, STRINGIFIER}
-use Rattle.weedle_rules.specs.Table.Leaves.{IDENTIFIER}
-use Rattle.weedle_rules.specs.Table.OtherMembers.{ATTRIBUTE_MIXIN_MEMBER, MIXIN_MEMBER, OPERATION_MIXIN_MEMBER, OPT_STRINGIFIER}
-use Rattle.weedle_rules.specs.Table.Symbols.{SEMI_COLON}
-use Rattle.weedle_rules.specs.Table.Types.{ATTRIBUTED_TYPE, RETURN_TYPE}
-use Rattle.weedle_rules.specs.Trees.{Alt, Mark, Node, trees}
 use Rattle.weedle_term.specs.declared.definition_keywords.Attribute.{Attribute}
 use Rattle.weedle_term.specs.declared.definition_keywords.ReadOnly.{ReadOnly}
 use Rattle.weedle_term.specs.declared.definition_keywords.Stringifier.{Stringifier}

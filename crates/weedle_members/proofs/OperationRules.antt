@@ -10,6 +10,12 @@ use Rattle.weedle_base.specs.Reading.{Faults, Got, Reading}
 use Rattle.weedle_base.specs.Rules.{IsRule, option_tree}
 use Rattle.weedle_base.specs.declared.fault.Err.{Err as Fault}
 use Rattle.weedle_base.specs.declared.fault.Error.{Error}
+use Rattle.weedle_grammar.specs.Table.InterfaceMembers.{CONSTRUCTOR_INTERFACE_MEMBER, OPERATION_INTERFACE_MEMBER, OPT_DOCSTRING, OPT_IDENTIFIER, OPT_SPECIAL, OPT_STRINGIFIER_OR_STATIC, SPECIAL, STRINGIFIER_OR_STATIC}
+use Rattle.weedle_grammar.specs.Table.Keywords.{CONSTRUCTOR}
+use Rattle.weedle_grammar.specs.Table.Leaves.{DOCSTRING, IDENTIFIER}
+use Rattle.weedle_grammar.specs.Table.Symbols.{SEMI_COLON}
+use Rattle.weedle_grammar.specs.Table.Types.{RETURN_TYPE}
+use Rattle.weedle_grammar.specs.Trees.{Mark, Node, trees}
 use Rattle.weedle_members.specs.Trees.{constructor_interface_member_tree, operation_interface_member_tree}
 use Rattle.weedle_members.specs.declared.operation.ConstructorInterfaceMember.{ConstructorInterfaceMember}
 use Rattle.weedle_members.specs.declared.operation.OperationInterfaceMember.{OperationInterfaceMember}
@@ -19,12 +25,6 @@ use Rattle.weedle_modifier.specs.declared.modifier.StringifierOrStatic.{Stringif
 use Rattle.weedle_parts.specs.ValueTrees.{docstring_tree, identifier_tree}
 use Rattle.weedle_parts.specs.declared.common.docstring.Docstring.{Docstring}
 use Rattle.weedle_parts.specs.declared.common.identifier.Identifier.{Identifier}
-use Rattle.weedle_rules.specs.Table.InterfaceMembers.{CONSTRUCTOR_INTERFACE_MEMBER, OPERATION_INTERFACE_MEMBER, OPT_DOCSTRING, OPT_IDENTIFIER, OPT_SPECIAL, OPT_STRINGIFIER_OR_STATIC, SPECIAL, STRINGIFIER_OR_STATIC}
-use Rattle.weedle_rules.specs.Table.Keywords.{CONSTRUCTOR}
-use Rattle.weedle_rules.specs.Table.Leaves.{DOCSTRING, IDENTIFIER}
-use Rattle.weedle_rules.specs.Table.Symbols.{SEMI_COLON}
-use Rattle.weedle_rules.specs.Table.Types.{RETURN_TYPE}
-use Rattle.weedle_rules.specs.Trees.{Mark, Node, trees}
 use Rattle.weedle_term.specs.declared.definition_keywords.Constructor.{Constructor}
 use Rattle.weedle_term.specs.declared.symbols.SemiColon.{SemiColon}
 use Rattle.weedle_types.proofs.SharedRules.{arguments_reading, arguments_rule, attributes_reading, attributes_rule, perhaps, word}

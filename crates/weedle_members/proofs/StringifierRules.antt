@@ -10,12 +10,12 @@ use Rattle.weedle_base.specs.Reading.{Faults, Got, Reading}
 use Rattle.weedle_base.specs.Rules.{IsRule}
 use Rattle.weedle_base.specs.declared.fault.Err.{Err as Fault}
 use Rattle.weedle_base.specs.declared.fault.Error.{Error}
+use Rattle.weedle_grammar.specs.Table.InterfaceMembers.{STRINGIFIER_MEMBER}
+use Rattle.weedle_grammar.specs.Table.Keywords.{STRINGIFIER}
+use Rattle.weedle_grammar.specs.Table.Symbols.{SEMI_COLON}
+use Rattle.weedle_grammar.specs.Trees.{Mark, Node, trees}
 use Rattle.weedle_members.specs.Trees.{stringifier_member_tree}
 use Rattle.weedle_members.specs.declared.stringifier.StringifierMember.{StringifierMember}
-use Rattle.weedle_rules.specs.Table.InterfaceMembers.{STRINGIFIER_MEMBER}
-use Rattle.weedle_rules.specs.Table.Keywords.{STRINGIFIER}
-use Rattle.weedle_rules.specs.Table.Symbols.{SEMI_COLON}
-use Rattle.weedle_rules.specs.Trees.{Mark, Node, trees}
 use Rattle.weedle_term.specs.declared.definition_keywords.Stringifier.{Stringifier}
 use Rattle.weedle_term.specs.declared.symbols.SemiColon.{SemiColon}
 use Rattle.weedle_types.proofs.SharedRules.{attributes_reading, attributes_rule, word}

@@ -13,7 +13,7 @@ use Rattle.weedle_members.specs.declared.operation.OperationInterfaceMember.{Ope
 use Rattle.weedle_members.specs.declared.stringifier.StringifierMember.{StringifierMember}
 use Rattle.weedle_modifier.specs.Trees.{special_tree, stringifier_or_inherit_or_static_tree, stringifier_or_static_tree}
 use Rattle.weedle_parts.specs.ValueTrees.{const_type_tree, docstring_tree, identifier_tree}
-use Rattle.weedle_rules.specs.Trees.{Alt, Mark, Node, Tree, trees}
+use Rattle.weedle_grammar.specs.Trees.{Alt, Mark, Node, Tree, trees}
 use Rattle.weedle_types.specs.Trees.{arguments_tree, attributed_type_tree, attributes_tree, return_type_tree}
 
 -- a constant: its attributes, `const`, its type, its name, `=`, its value, the semicolon

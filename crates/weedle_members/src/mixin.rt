@@ -5,7 +5,7 @@ ghost use Rattle.weedle_base.specs.AlikeLaws.{equal_equivalence, seen_equivalenc
 ghost use Rattle.weedle_base.specs.Own.{own};
 ghost use Rattle.weedle_base.specs.OwnLaws.{own_lawful};
 ghost use Rattle.weedle_members.specs.Trees.{attribute_mixin_member_tree, mixin_member_tree, operation_mixin_member_tree};
-ghost use Rattle.weedle_rules.specs.Table.OtherMembers.{ATTRIBUTE_MIXIN_MEMBER, MIXIN_MEMBER, OPERATION_MIXIN_MEMBER};
+ghost use Rattle.weedle_grammar.specs.Table.OtherMembers.{ATTRIBUTE_MIXIN_MEMBER, MIXIN_MEMBER, OPERATION_MIXIN_MEMBER};
 
 use crate::{ConstMember, StringifierMember};
 use std::alloc::{AllocError, Global};

@@ -5,7 +5,7 @@ ghost use Rattle.weedle_base.specs.AlikeLaws.{equal_equivalence, seen_equivalenc
 ghost use Rattle.weedle_base.specs.Own.{own};
 ghost use Rattle.weedle_base.specs.OwnLaws.{own_lawful};
 ghost use Rattle.weedle_members.specs.Trees.{stringifier_member_tree};
-ghost use Rattle.weedle_rules.specs.Table.InterfaceMembers.{STRINGIFIER_MEMBER};
+ghost use Rattle.weedle_grammar.specs.Table.InterfaceMembers.{STRINGIFIER_MEMBER};
 
 use std::alloc::{AllocError, Global};
 use weedle_base::{IResult, Parse, TryClone};

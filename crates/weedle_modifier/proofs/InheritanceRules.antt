@@ -10,14 +10,14 @@ use Rattle.weedle_base.specs.Reading.{Faults, Got, Reading}
 use Rattle.weedle_base.specs.Rules.{IsRule}
 use Rattle.weedle_base.specs.declared.fault.Err.{Err as Fault}
 use Rattle.weedle_base.specs.declared.fault.Error.{Error}
+use Rattle.weedle_grammar.specs.Table.InterfaceMembers.{INHERITANCE}
+use Rattle.weedle_grammar.specs.Table.Leaves.{IDENTIFIER}
+use Rattle.weedle_grammar.specs.Table.Symbols.{COLON}
+use Rattle.weedle_grammar.specs.Trees.{Mark, Node, trees}
 use Rattle.weedle_modifier.specs.Trees.{inheritance_tree}
 use Rattle.weedle_modifier.specs.declared.inheritance.Inheritance.{Inheritance}
 use Rattle.weedle_parts.specs.ValueTrees.{identifier_tree}
 use Rattle.weedle_parts.specs.declared.common.identifier.Identifier.{Identifier}
-use Rattle.weedle_rules.specs.Table.InterfaceMembers.{INHERITANCE}
-use Rattle.weedle_rules.specs.Table.Leaves.{IDENTIFIER}
-use Rattle.weedle_rules.specs.Table.Symbols.{COLON}
-use Rattle.weedle_rules.specs.Trees.{Mark, Node, trees}
 use Rattle.weedle_term.specs.declared.symbols.Colon.{Colon}
 
 -- a colon and a name

@@ -10,6 +10,9 @@ use Rattle.weedle_base.specs.Reading.{Faults, Got, Reading}
 use Rattle.weedle_base.specs.Rules.{IsRule}
 use Rattle.weedle_base.specs.declared.fault.Err.{Err as Fault}
 use Rattle.weedle_base.specs.declared.fault.Error.{Error}
+use Rattle.weedle_grammar.specs.Table.InterfaceMembers.{SPECIAL, STRINGIFIER_OR_INHERIT_OR_STATIC, STRINGIFIER_OR_STATIC}
+use Rattle.weedle_grammar.specs.Table.Keywords.{DELETER, GETTER, INHERIT, LEGACY_CALLER, SETTER, STATIC, STRINGIFIER}
+use Rattle.weedle_grammar.specs.Trees.{Alt, Mark}
 use Rattle.weedle_modifier.specs.Trees.{special_tree, stringifier_or_inherit_or_static_tree, stringifier_or_static_tree}
 use Rattle.weedle_modifier.specs.declared.modifier.Special.TheVariants.{Getter as IsGetter, Setter as IsSetter, Deleter as IsDeleter, LegacyCaller as IsLegacyCaller}
 use Rattle.weedle_modifier.specs.declared.modifier.Special.{Special}
@@ -17,9 +20,6 @@ use Rattle.weedle_modifier.specs.declared.modifier.StringifierOrInheritOrStatic.
 use Rattle.weedle_modifier.specs.declared.modifier.StringifierOrInheritOrStatic.{StringifierOrInheritOrStatic}
 use Rattle.weedle_modifier.specs.declared.modifier.StringifierOrStatic.TheVariants.{Stringifier as IsStringifier, Static as IsStatic}
 use Rattle.weedle_modifier.specs.declared.modifier.StringifierOrStatic.{StringifierOrStatic}
-use Rattle.weedle_rules.specs.Table.InterfaceMembers.{SPECIAL, STRINGIFIER_OR_INHERIT_OR_STATIC, STRINGIFIER_OR_STATIC}
-use Rattle.weedle_rules.specs.Table.Keywords.{DELETER, GETTER, INHERIT, LEGACY_CALLER, SETTER, STATIC, STRINGIFIER}
-use Rattle.weedle_rules.specs.Trees.{Alt, Mark}
 use Rattle.weedle_term.specs.declared.definition_keywords.Deleter.{Deleter}
 use Rattle.weedle_term.specs.declared.definition_keywords.Getter.{Getter}
 use Rattle.weedle_term.specs.declared.definition_keywords.Inherit.{Inherit}

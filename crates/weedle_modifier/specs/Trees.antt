@@ -8,7 +8,7 @@ use Rattle.weedle_modifier.specs.declared.modifier.StringifierOrInheritOrStatic.
 use Rattle.weedle_modifier.specs.declared.modifier.StringifierOrStatic.{StringifierOrStatic}
 use Rattle.weedle_modifier.specs.declared.modifier.StringifierOrStatic.TheVariants.{Stringifier as StringifierOrStatic-Stringifier, Static as StringifierOrStatic-Static}
 use Rattle.weedle_parts.specs.ValueTrees.{identifier_tree}
-use Rattle.weedle_rules.specs.Trees.{Alt, Mark, Node, Tree, trees}
+use Rattle.weedle_grammar.specs.Trees.{Alt, Mark, Node, Tree, trees}
 
 -- what is inherited from: the colon and the name
 abbrev pub inheritance_tree : Inheritance → Tree

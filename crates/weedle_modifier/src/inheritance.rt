@@ -3,7 +3,7 @@
 ghost use Rattle.weedle_base.specs.Own.{own};
 ghost use Rattle.weedle_base.specs.OwnLaws.{own_lawful};
 ghost use Rattle.weedle_modifier.specs.Trees.{inheritance_tree};
-ghost use Rattle.weedle_rules.specs.Table.InterfaceMembers.{INHERITANCE};
+ghost use Rattle.weedle_grammar.specs.Table.InterfaceMembers.{INHERITANCE};
 
 use std::alloc::Global;
 use weedle_base::{IResult, Parse};

@@ -4,7 +4,7 @@ ghost use Rattle.std.specs.Prelude.{◌≡◌};
 ghost use Rattle.weedle_base.specs.Own.{own};
 ghost use Rattle.weedle_base.specs.OwnLaws.{own_lawful};
 ghost use Rattle.weedle_modifier.specs.Trees.{special_tree, stringifier_or_inherit_or_static_tree, stringifier_or_static_tree};
-ghost use Rattle.weedle_rules.specs.Table.InterfaceMembers.{SPECIAL, STRINGIFIER_OR_INHERIT_OR_STATIC, STRINGIFIER_OR_STATIC};
+ghost use Rattle.weedle_grammar.specs.Table.InterfaceMembers.{SPECIAL, STRINGIFIER_OR_INHERIT_OR_STATIC, STRINGIFIER_OR_STATIC};
 
 use std::alloc::Global;
 use weedle_base::{IResult, Parse};

@@ -11,6 +11,13 @@ use Rattle.weedle_base.specs.Reading.{Faults, Got, Reading}
 use Rattle.weedle_base.specs.Rules.{IsRule, option_tree}
 use Rattle.weedle_base.specs.declared.fault.Err.{Err as Fault}
 use Rattle.weedle_base.specs.declared.fault.Error.{Error}
+use Rattle.weedle_grammar.specs.Table.Definitions.{DICTIONARY_DEFINITION, PARTIAL_DICTIONARY_DEFINITION}
+use Rattle.weedle_grammar.specs.Table.InterfaceMembers.{INHERITANCE, OPT_DOCSTRING, OPT_INHERITANCE}
+use Rattle.weedle_grammar.specs.Table.Keywords.{DICTIONARY, PARTIAL}
+use Rattle.weedle_grammar.specs.Table.Leaves.{DOCSTRING, IDENTIFIER}
+use Rattle.weedle_grammar.specs.Table.OtherMembers.{BRACED_DICTIONARY_MEMBERS, DICTIONARY_MEMBER, DICTIONARY_MEMBERS}
+use Rattle.weedle_grammar.specs.Table.Symbols.{SEMI_COLON}
+use Rattle.weedle_grammar.specs.Trees.{Mark, Node, trees}
 use Rattle.weedle_modifier.specs.Trees.{inheritance_tree}
 use Rattle.weedle_modifier.specs.declared.inheritance.Inheritance.{Inheritance}
 use Rattle.weedle_namespaces.specs.Trees.{dictionary_definition_tree, dictionary_member_tree, partial_dictionary_definition_tree}
@@ -21,13 +28,6 @@ use Rattle.weedle_parts.specs.ValueTrees.{docstring_tree, identifier_tree}
 use Rattle.weedle_parts.specs.declared.common.brackets.Braced.{Braced}
 use Rattle.weedle_parts.specs.declared.common.docstring.Docstring.{Docstring}
 use Rattle.weedle_parts.specs.declared.common.identifier.Identifier.{Identifier}
-use Rattle.weedle_rules.specs.Table.Definitions.{DICTIONARY_DEFINITION, PARTIAL_DICTIONARY_DEFINITION}
-use Rattle.weedle_rules.specs.Table.InterfaceMembers.{INHERITANCE, OPT_DOCSTRING, OPT_INHERITANCE}
-use Rattle.weedle_rules.specs.Table.Keywords.{DICTIONARY, PARTIAL}
-use Rattle.weedle_rules.specs.Table.Leaves.{DOCSTRING, IDENTIFIER}
-use Rattle.weedle_rules.specs.Table.OtherMembers.{BRACED_DICTIONARY_MEMBERS, DICTIONARY_MEMBER, DICTIONARY_MEMBERS}
-use Rattle.weedle_rules.specs.Table.Symbols.{SEMI_COLON}
-use Rattle.weedle_rules.specs.Trees.{Mark, Node, trees}
 use Rattle.weedle_term.specs.declared.definition_keywords.Dictionary.{Dictionary}
 use Rattle.weedle_term.specs.declared.definition_keywords.Partial.{Partial}
 use Rattle.weedle_term.specs.declared.symbols.SemiColon.{SemiColon}

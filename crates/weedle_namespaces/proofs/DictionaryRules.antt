@@ -10,6 +10,14 @@ use Rattle.weedle_base.specs.Reading.{Faults, Got, Reading}
 use Rattle.weedle_base.specs.Rules.{IsRule, mark_tree, option_tree}
 use Rattle.weedle_base.specs.declared.fault.Err.{Err as Fault}
 use Rattle.weedle_base.specs.declared.fault.Error.{Error}
+use Rattle.weedle_grammar.specs.Table.InterfaceMembers.{OPT_DOCSTRING}
+use Rattle.weedle_grammar.specs.Table.Keywords.{REQUIRED}
+use Rattle.weedle_grammar.specs.Table.Leaves.{DOCSTRING, IDENTIFIER}
+use Rattle.weedle_grammar.specs.Table.Literals.{DEFAULT}
+use Rattle.weedle_grammar.specs.Table.OtherMembers.{DICTIONARY_MEMBER, OPT_REQUIRED}
+use Rattle.weedle_grammar.specs.Table.Symbols.{SEMI_COLON}
+use Rattle.weedle_grammar.specs.Table.Types.{OPT_DEFAULT, TYPE}
+use Rattle.weedle_grammar.specs.Trees.{Mark, Node, trees}
 use Rattle.weedle_literal.specs.LiteralTrees.{default_tree}
 use Rattle.weedle_literal.specs.declared.default.Default.{Default}
 use Rattle.weedle_namespaces.specs.Trees.{dictionary_member_tree}
@@ -17,14 +25,6 @@ use Rattle.weedle_namespaces.specs.declared.dictionary.DictionaryMember.{Diction
 use Rattle.weedle_parts.specs.ValueTrees.{docstring_tree, identifier_tree}
 use Rattle.weedle_parts.specs.declared.common.docstring.Docstring.{Docstring}
 use Rattle.weedle_parts.specs.declared.common.identifier.Identifier.{Identifier}
-use Rattle.weedle_rules.specs.Table.InterfaceMembers.{OPT_DOCSTRING}
-use Rattle.weedle_rules.specs.Table.Keywords.{REQUIRED}
-use Rattle.weedle_rules.specs.Table.Leaves.{DOCSTRING, IDENTIFIER}
-use Rattle.weedle_rules.specs.Table.Literals.{DEFAULT}
-use Rattle.weedle_rules.specs.Table.OtherMembers.{DICTIONARY_MEMBER, OPT_REQUIRED}
-use Rattle.weedle_rules.specs.Table.Symbols.{SEMI_COLON}
-use Rattle.weedle_rules.specs.Table.Types.{OPT_DEFAULT, TYPE}
-use Rattle.weedle_rules.specs.Trees.{Mark, Node, trees}
 use Rattle.weedle_term.specs.declared.definition_keywords.Required.{Required}
 use Rattle.weedle_term.specs.declared.symbols.SemiColon.{SemiColon}
 use Rattle.weedle_types.proofs.SharedRules.{attributes_reading, attributes_rule, perhaps, word}

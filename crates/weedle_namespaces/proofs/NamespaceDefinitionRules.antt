@@ -11,6 +11,13 @@ use Rattle.weedle_base.specs.Reading.{Faults, Got, Reading}
 use Rattle.weedle_base.specs.Rules.{IsRule, option_tree}
 use Rattle.weedle_base.specs.declared.fault.Err.{Err as Fault}
 use Rattle.weedle_base.specs.declared.fault.Error.{Error}
+use Rattle.weedle_grammar.specs.Table.Definitions.{NAMESPACE_DEFINITION, PARTIAL_NAMESPACE_DEFINITION}
+use Rattle.weedle_grammar.specs.Table.InterfaceMembers.{OPT_DOCSTRING}
+use Rattle.weedle_grammar.specs.Table.Keywords.{NAMESPACE, PARTIAL}
+use Rattle.weedle_grammar.specs.Table.Leaves.{DOCSTRING, IDENTIFIER}
+use Rattle.weedle_grammar.specs.Table.OtherMembers.{BRACED_NAMESPACE_MEMBERS, NAMESPACE_MEMBER, NAMESPACE_MEMBERS}
+use Rattle.weedle_grammar.specs.Table.Symbols.{SEMI_COLON}
+use Rattle.weedle_grammar.specs.Trees.{Mark, Node, trees}
 use Rattle.weedle_namespaces.specs.Trees.{namespace_definition_tree, namespace_member_tree, partial_namespace_definition_tree}
 use Rattle.weedle_namespaces.specs.declared.namespace.NamespaceMember.{NamespaceMember}
 use Rattle.weedle_namespaces.specs.declared.namespace_definition.NamespaceDefinition.{NamespaceDefinition}
@@ -19,13 +26,6 @@ use Rattle.weedle_parts.specs.ValueTrees.{docstring_tree, identifier_tree}
 use Rattle.weedle_parts.specs.declared.common.brackets.Braced.{Braced}
 use Rattle.weedle_parts.specs.declared.common.docstring.Docstring.{Docstring}
 use Rattle.weedle_parts.specs.declared.common.identifier.Identifier.{Identifier}
-use Rattle.weedle_rules.specs.Table.Definitions.{NAMESPACE_DEFINITION, PARTIAL_NAMESPACE_DEFINITION}
-use Rattle.weedle_rules.specs.Table.InterfaceMembers.{OPT_DOCSTRING}
-use Rattle.weedle_rules.specs.Table.Keywords.{NAMESPACE, PARTIAL}
-use Rattle.weedle_rules.specs.Table.Leaves.{DOCSTRING, IDENTIFIER}
-use Rattle.weedle_rules.specs.Table.OtherMembers.{BRACED_NAMESPACE_MEMBERS, NAMESPACE_MEMBER, NAMESPACE_MEMBERS}
-use Rattle.weedle_rules.specs.Table.Symbols.{SEMI_COLON}
-use Rattle.weedle_rules.specs.Trees.{Mark, Node, trees}
 use Rattle.weedle_term.specs.declared.definition_keywords.Namespace.{Namespace}
 use Rattle.weedle_term.specs.declared.definition_keywords.Partial.{Partial}
 use Rattle.weedle_term.specs.declared.symbols.SemiColon.{SemiColon}

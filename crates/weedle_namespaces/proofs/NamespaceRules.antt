@@ -11,6 +11,13 @@ use Rattle.weedle_base.specs.Reading.{Faults, Got, Reading}
 use Rattle.weedle_base.specs.Rules.{IsRule, option_tree}
 use Rattle.weedle_base.specs.declared.fault.Err.{Err as Fault}
 use Rattle.weedle_base.specs.declared.fault.Error.{Error}
+use Rattle.weedle_grammar.specs.Table.InterfaceMembers.{OPT_DOCSTRING, OPT_IDENTIFIER}
+use Rattle.weedle_grammar.specs.Table.Keywords.{ATTRIBUTE, READ_ONLY}
+use Rattle.weedle_grammar.specs.Table.Leaves.{DOCSTRING, IDENTIFIER}
+use Rattle.weedle_grammar.specs.Table.OtherMembers.{ATTRIBUTE_NAMESPACE_MEMBER, NAMESPACE_MEMBER, OPERATION_NAMESPACE_MEMBER}
+use Rattle.weedle_grammar.specs.Table.Symbols.{SEMI_COLON}
+use Rattle.weedle_grammar.specs.Table.Types.{ATTRIBUTED_TYPE, RETURN_TYPE}
+use Rattle.weedle_grammar.specs.Trees.{Alt, Mark, Node, trees}
 use Rattle.weedle_namespaces.specs.Trees.{attribute_namespace_member_tree, namespace_member_tree, operation_namespace_member_tree}
 use Rattle.weedle_namespaces.specs.declared.namespace.AttributeNamespaceMember.{AttributeNamespaceMember}
 use Rattle.weedle_namespaces.specs.declared.namespace.NamespaceMember.TheVariants.{Operation as IsOperation, Attribute as IsAttribute}
@@ -19,13 +26,6 @@ use Rattle.weedle_namespaces.specs.declared.namespace.OperationNamespaceMember.{
 use Rattle.weedle_parts.specs.ValueTrees.{docstring_tree, identifier_tree}
 use Rattle.weedle_parts.specs.declared.common.docstring.Docstring.{Docstring}
 use Rattle.weedle_parts.specs.declared.common.identifier.Identifier.{Identifier}
-use Rattle.weedle_rules.specs.Table.InterfaceMembers.{OPT_DOCSTRING, OPT_IDENTIFIER}
-use Rattle.weedle_rules.specs.Table.Keywords.{ATTRIBUTE, READ_ONLY}
-use Rattle.weedle_rules.specs.Table.Leaves.{DOCSTRING, IDENTIFIER}
-use Rattle.weedle_rules.specs.Table.OtherMembers.{ATTRIBUTE_NAMESPACE_MEMBER, NAMESPACE_MEMBER, OPERATION_NAMESPACE_MEMBER}
-use Rattle.weedle_rules.specs.Table.Symbols.{SEMI_COLON}
-use Rattle.weedle_rules.specs.Table.Types.{ATTRIBUTED_TYPE, RETURN_TYPE}
-use Rattle.weedle_rules.specs.Trees.{Alt, Mark, Node, trees}
 use Rattle.weedle_term.specs.declared.definition_keywords.Attribute.{Attribute}
 use Rattle.weedle_term.specs.declared.definition_keywords.ReadOnly.{ReadOnly}
 use Rattle.weedle_term.specs.declared.symbols.SemiColon.{SemiColon}

@@ -13,7 +13,7 @@ use Rattle.weedle_namespaces.specs.declared.namespace.OperationNamespaceMember.{
 use Rattle.weedle_namespaces.specs.declared.namespace_definition.NamespaceDefinition.{NamespaceDefinition}
 use Rattle.weedle_namespaces.specs.declared.namespace_definition.PartialNamespaceDefinition.{PartialNamespaceDefinition}
 use Rattle.weedle_parts.specs.ValueTrees.{docstring_tree, identifier_tree}
-use Rattle.weedle_rules.specs.Trees.{Alt, Mark, Node, Tree, trees}
+use Rattle.weedle_grammar.specs.Trees.{Alt, Mark, Node, Tree, trees}
 use Rattle.weedle_types.specs.PartTrees.{members_tree}
 use Rattle.weedle_types.specs.Steps.{members}
 use Rattle.weedle_types.specs.Trees.{arguments_tree, attributed_type_tree, attributes_tree, return_type_tree, type_tree}

@@ -5,7 +5,7 @@ ghost use Rattle.weedle_base.specs.AlikeLaws.{equal_equivalence, seen_equivalenc
 ghost use Rattle.weedle_base.specs.Own.{own};
 ghost use Rattle.weedle_base.specs.OwnLaws.{own_lawful};
 ghost use Rattle.weedle_namespaces.specs.Trees.{dictionary_definition_tree, partial_dictionary_definition_tree};
-ghost use Rattle.weedle_rules.specs.Table.Definitions.{DICTIONARY_DEFINITION, PARTIAL_DICTIONARY_DEFINITION};
+ghost use Rattle.weedle_grammar.specs.Table.Definitions.{DICTIONARY_DEFINITION, PARTIAL_DICTIONARY_DEFINITION};
 
 use crate::copies::copy_dictionary_members;
 use crate::dictionary::DictionaryMembers;

@@ -5,7 +5,7 @@ ghost use Rattle.weedle_base.specs.AlikeLaws.{equal_equivalence, seen_equivalenc
 ghost use Rattle.weedle_base.specs.Own.{own};
 ghost use Rattle.weedle_base.specs.OwnLaws.{own_lawful};
 ghost use Rattle.weedle_namespaces.specs.Trees.{namespace_definition_tree, partial_namespace_definition_tree};
-ghost use Rattle.weedle_rules.specs.Table.Definitions.{NAMESPACE_DEFINITION, PARTIAL_NAMESPACE_DEFINITION};
+ghost use Rattle.weedle_grammar.specs.Table.Definitions.{NAMESPACE_DEFINITION, PARTIAL_NAMESPACE_DEFINITION};
 
 use crate::copies::copy_namespace_members;
 use crate::namespace::NamespaceMembers;

@@ -19,9 +19,9 @@ use Rattle.weedle_parts.specs.declared.types.floating_point.DoubleType.{DoubleTy
 use Rattle.weedle_parts.specs.declared.types.floating_point.FloatType.{FloatType}
 use Rattle.weedle_parts.specs.declared.types.floating_point.FloatingPointType.{FloatingPointType}
 use Rattle.weedle_parts.specs.declared.types.floating_point.FloatingPointType.TheVariants.{Float as IsFloat, Double as IsDouble}
-use Rattle.weedle_rules.specs.Table.Keywords.{DOUBLE, FLOAT, UNRESTRICTED}
-use Rattle.weedle_rules.specs.Table.SimpleTypes.{OPT_UNRESTRICTED, FLOAT_TYPE, DOUBLE_TYPE, FLOATING_POINT_TYPE}
-use Rattle.weedle_rules.specs.Trees.{Mark, Node, Alt, trees}
+use Rattle.weedle_grammar.specs.Table.Keywords.{DOUBLE, FLOAT, UNRESTRICTED}
+use Rattle.weedle_grammar.specs.Table.SimpleTypes.{OPT_UNRESTRICTED, FLOAT_TYPE, DOUBLE_TYPE, FLOATING_POINT_TYPE}
+use Rattle.weedle_grammar.specs.Trees.{Mark, Node, Alt, trees}
 
 abbrev unrestricted_reading : Reading (Option Unrestricted)
 unrestricted_reading = option_reading (mark UNRESTRICTED)

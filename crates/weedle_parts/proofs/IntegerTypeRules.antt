@@ -20,9 +20,9 @@ use Rattle.weedle_parts.specs.declared.types.integer.IntegerType.TheVariants.{Lo
 use Rattle.weedle_parts.specs.declared.types.integer.LongLongType.{LongLongType}
 use Rattle.weedle_parts.specs.declared.types.integer.LongType.{LongType}
 use Rattle.weedle_parts.specs.declared.types.integer.ShortType.{ShortType}
-use Rattle.weedle_rules.specs.Table.Keywords.{LONG, SHORT, UNSIGNED}
-use Rattle.weedle_rules.specs.Table.SimpleTypes.{OPT_UNSIGNED, LONG_LONG, LONG_LONG_TYPE, LONG_TYPE, SHORT_TYPE, INTEGER_TYPE}
-use Rattle.weedle_rules.specs.Trees.{Mark, Node, Alt, trees}
+use Rattle.weedle_grammar.specs.Table.Keywords.{LONG, SHORT, UNSIGNED}
+use Rattle.weedle_grammar.specs.Table.SimpleTypes.{OPT_UNSIGNED, LONG_LONG, LONG_LONG_TYPE, LONG_TYPE, SHORT_TYPE, INTEGER_TYPE}
+use Rattle.weedle_grammar.specs.Trees.{Mark, Node, Alt, trees}
 
 abbrev unsigned_reading : Reading (Option Unsigned)
 unsigned_reading = option_reading (mark UNSIGNED)

@@ -4,13 +4,13 @@
 //! rule, and keeps the reader's fields in registers.
 
 ghost use Rattle.std.specs.Prelude.{◌≡◌, ◌≤◌, ◌+◌, ◌-◌, ◌*◌, length};
-ghost use Rattle.weedle_rules.specs.Bound.{rule_count};
+ghost use Rattle.weedle_grammar.specs.Bound.{rule_count};
 ghost use Rattle.weedle_rules.specs.Filling.{IsUnfilled, IsFilled, IsFilling};
 
 use crate::cell::Cell;
 use crate::reader::Reader;
-use crate::rule::Rule;
 use crate::work::work_out;
+use weedle_grammar::Rule;
 
 mod place;
 

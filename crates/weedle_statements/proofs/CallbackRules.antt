@@ -10,14 +10,14 @@ use Rattle.weedle_base.specs.Reading.{Faults, Got, Reading}
 use Rattle.weedle_base.specs.Rules.{IsRule}
 use Rattle.weedle_base.specs.declared.fault.Err.{Err as Fault}
 use Rattle.weedle_base.specs.declared.fault.Error.{Error}
+use Rattle.weedle_grammar.specs.Table.Definitions.{CALLBACK_DEFINITION}
+use Rattle.weedle_grammar.specs.Table.Keywords.{CALLBACK}
+use Rattle.weedle_grammar.specs.Table.Leaves.{IDENTIFIER}
+use Rattle.weedle_grammar.specs.Table.Symbols.{ASSIGN, SEMI_COLON}
+use Rattle.weedle_grammar.specs.Table.Types.{RETURN_TYPE}
+use Rattle.weedle_grammar.specs.Trees.{Mark, Node, trees}
 use Rattle.weedle_parts.specs.ValueTrees.{identifier_tree}
 use Rattle.weedle_parts.specs.declared.common.identifier.Identifier.{Identifier}
-use Rattle.weedle_rules.specs.Table.Definitions.{CALLBACK_DEFINITION}
-use Rattle.weedle_rules.specs.Table.Keywords.{CALLBACK}
-use Rattle.weedle_rules.specs.Table.Leaves.{IDENTIFIER}
-use Rattle.weedle_rules.specs.Table.Symbols.{ASSIGN, SEMI_COLON}
-use Rattle.weedle_rules.specs.Table.Types.{RETURN_TYPE}
-use Rattle.weedle_rules.specs.Trees.{Mark, Node, trees}
 use Rattle.weedle_statements.specs.Trees.{callback_definition_tree}
 use Rattle.weedle_statements.specs.declared.callback.CallbackDefinition.{CallbackDefinition}
 use Rattle.weedle_term.specs.declared.definition_keywords.Callback.{Callback}

@@ -10,15 +10,15 @@ use Rattle.weedle_base.specs.Reading.{Faults, Got, Reading}
 use Rattle.weedle_base.specs.Rules.{IsRule, option_tree}
 use Rattle.weedle_base.specs.declared.fault.Err.{Err as Fault}
 use Rattle.weedle_base.specs.declared.fault.Error.{Error}
+use Rattle.weedle_grammar.specs.Table.Definitions.{ENUM_DEFINITION}
+use Rattle.weedle_grammar.specs.Table.InterfaceMembers.{OPT_DOCSTRING}
+use Rattle.weedle_grammar.specs.Table.Keywords.{ENUM}
+use Rattle.weedle_grammar.specs.Table.Leaves.{DOCSTRING, IDENTIFIER}
+use Rattle.weedle_grammar.specs.Table.Symbols.{SEMI_COLON}
+use Rattle.weedle_grammar.specs.Trees.{Mark, Node, trees}
 use Rattle.weedle_parts.specs.ValueTrees.{docstring_tree, identifier_tree}
 use Rattle.weedle_parts.specs.declared.common.docstring.Docstring.{Docstring}
 use Rattle.weedle_parts.specs.declared.common.identifier.Identifier.{Identifier}
-use Rattle.weedle_rules.specs.Table.Definitions.{ENUM_DEFINITION}
-use Rattle.weedle_rules.specs.Table.InterfaceMembers.{OPT_DOCSTRING}
-use Rattle.weedle_rules.specs.Table.Keywords.{ENUM}
-use Rattle.weedle_rules.specs.Table.Leaves.{DOCSTRING, IDENTIFIER}
-use Rattle.weedle_rules.specs.Table.Symbols.{SEMI_COLON}
-use Rattle.weedle_rules.specs.Trees.{Mark, Node, trees}
 use Rattle.weedle_statements.proofs.EnumValueRules.{enum_values_reading, enum_values_rule}
 use Rattle.weedle_statements.specs.Trees.{EnumValues, enum_definition_tree, enum_values_tree}
 use Rattle.weedle_statements.specs.declared.enums.EnumDefinition.{EnumDefinition}

@@ -10,14 +10,14 @@ use Rattle.weedle_base.specs.Reading.{Faults, Got, Reading}
 use Rattle.weedle_base.specs.Rules.{IsRule, option_tree}
 use Rattle.weedle_base.specs.declared.fault.Err.{Err as Fault}
 use Rattle.weedle_base.specs.declared.fault.Error.{Error}
+use Rattle.weedle_grammar.specs.Table.InterfaceMembers.{OPT_DOCSTRING}
+use Rattle.weedle_grammar.specs.Table.Leaves.{DOCSTRING, STRING_LIT}
+use Rattle.weedle_grammar.specs.Table.OtherMembers.{ENUM_VARIANT}
+use Rattle.weedle_grammar.specs.Trees.{Node, trees}
 use Rattle.weedle_literal.specs.LiteralTrees.{string_tree}
 use Rattle.weedle_literal.specs.declared.string.StringLit.{StringLit}
 use Rattle.weedle_parts.specs.ValueTrees.{docstring_tree}
 use Rattle.weedle_parts.specs.declared.common.docstring.Docstring.{Docstring}
-use Rattle.weedle_rules.specs.Table.InterfaceMembers.{OPT_DOCSTRING}
-use Rattle.weedle_rules.specs.Table.Leaves.{DOCSTRING, STRING_LIT}
-use Rattle.weedle_rules.specs.Table.OtherMembers.{ENUM_VARIANT}
-use Rattle.weedle_rules.specs.Trees.{Node, trees}
 use Rattle.weedle_statements.specs.Trees.{enum_variant_tree}
 use Rattle.weedle_statements.specs.declared.enums.EnumVariant.{EnumVariant}
 

@@ -10,13 +10,13 @@ use Rattle.weedle_base.specs.Reading.{Faults, Got, Reading}
 use Rattle.weedle_base.specs.Rules.{IsRule}
 use Rattle.weedle_base.specs.declared.fault.Err.{Err as Fault}
 use Rattle.weedle_base.specs.declared.fault.Error.{Error}
+use Rattle.weedle_grammar.specs.Table.Definitions.{IMPLEMENTS_DEFINITION, INCLUDES_STATEMENT_DEFINITION}
+use Rattle.weedle_grammar.specs.Table.Keywords.{IMPLEMENTS, INCLUDES}
+use Rattle.weedle_grammar.specs.Table.Leaves.{IDENTIFIER}
+use Rattle.weedle_grammar.specs.Table.Symbols.{SEMI_COLON}
+use Rattle.weedle_grammar.specs.Trees.{Mark, Node, trees}
 use Rattle.weedle_parts.specs.ValueTrees.{identifier_tree}
 use Rattle.weedle_parts.specs.declared.common.identifier.Identifier.{Identifier}
-use Rattle.weedle_rules.specs.Table.Definitions.{IMPLEMENTS_DEFINITION, INCLUDES_STATEMENT_DEFINITION}
-use Rattle.weedle_rules.specs.Table.Keywords.{IMPLEMENTS, INCLUDES}
-use Rattle.weedle_rules.specs.Table.Leaves.{IDENTIFIER}
-use Rattle.weedle_rules.specs.Table.Symbols.{SEMI_COLON}
-use Rattle.weedle_rules.specs.Trees.{Mark, Node, trees}
 use Rattle.weedle_statements.specs.Trees.{implements_definition_tree, includes_statement_definition_tree}
 use Rattle.weedle_statements.specs.declared.statement.ImplementsDefinition.{ImplementsDefinition}
 use Rattle.weedle_statements.specs.declared.statement.IncludesStatementDefinition.{IncludesStatementDefinition}

@@ -10,14 +10,14 @@ use Rattle.weedle_base.specs.Reading.{Faults, Got, Reading}
 use Rattle.weedle_base.specs.Rules.{IsRule}
 use Rattle.weedle_base.specs.declared.fault.Err.{Err as Fault}
 use Rattle.weedle_base.specs.declared.fault.Error.{Error}
+use Rattle.weedle_grammar.specs.Table.Definitions.{TYPEDEF_DEFINITION}
+use Rattle.weedle_grammar.specs.Table.Keywords.{TYPEDEF}
+use Rattle.weedle_grammar.specs.Table.Leaves.{IDENTIFIER}
+use Rattle.weedle_grammar.specs.Table.Symbols.{SEMI_COLON}
+use Rattle.weedle_grammar.specs.Table.Types.{ATTRIBUTED_TYPE}
+use Rattle.weedle_grammar.specs.Trees.{Mark, Node, trees}
 use Rattle.weedle_parts.specs.ValueTrees.{identifier_tree}
 use Rattle.weedle_parts.specs.declared.common.identifier.Identifier.{Identifier}
-use Rattle.weedle_rules.specs.Table.Definitions.{TYPEDEF_DEFINITION}
-use Rattle.weedle_rules.specs.Table.Keywords.{TYPEDEF}
-use Rattle.weedle_rules.specs.Table.Leaves.{IDENTIFIER}
-use Rattle.weedle_rules.specs.Table.Symbols.{SEMI_COLON}
-use Rattle.weedle_rules.specs.Table.Types.{ATTRIBUTED_TYPE}
-use Rattle.weedle_rules.specs.Trees.{Mark, Node, trees}
 use Rattle.weedle_statements.specs.Trees.{typedef_definition_tree}
 use Rattle.weedle_statements.specs.declared.typedef.TypedefDefinition.{TypedefDefinition}
 use Rattle.weedle_term.specs.declared.definition_keywords.Typedef.{Typedef}

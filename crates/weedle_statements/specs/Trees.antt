@@ -5,7 +5,7 @@ use Rattle.weedle_literal.specs.LiteralTrees.{string_tree}
 use Rattle.weedle_parts.specs.ValueTrees.{braced_tree, docstring_tree, identifier_tree, punctuated_non_empty_tree}
 use Rattle.weedle_parts.specs.declared.common.brackets.Braced.{Braced}
 use Rattle.weedle_parts.specs.declared.common.punctuated.PunctuatedNonEmpty.{PunctuatedNonEmpty}
-use Rattle.weedle_rules.specs.Trees.{Mark, Node, Tree, trees}
+use Rattle.weedle_grammar.specs.Trees.{Mark, Node, Tree, trees}
 use Rattle.weedle_statements.specs.declared.callback.CallbackDefinition.{CallbackDefinition}
 use Rattle.weedle_statements.specs.declared.enums.EnumDefinition.{EnumDefinition}
 use Rattle.weedle_statements.specs.declared.enums.EnumVariant.{EnumVariant}

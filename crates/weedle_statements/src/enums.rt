@@ -5,8 +5,8 @@ ghost use Rattle.weedle_base.specs.AlikeLaws.{equal_equivalence, seen_equivalenc
 ghost use Rattle.weedle_base.specs.Own.{own};
 ghost use Rattle.weedle_base.specs.OwnLaws.{own_lawful};
 ghost use Rattle.weedle_base.specs.Reading.{Answers};
-ghost use Rattle.weedle_rules.specs.Table.Definitions.{ENUM_DEFINITION};
-ghost use Rattle.weedle_rules.specs.Table.OtherMembers.{BRACED_ENUM_VALUE_LIST, ENUM_VARIANT};
+ghost use Rattle.weedle_grammar.specs.Table.Definitions.{ENUM_DEFINITION};
+ghost use Rattle.weedle_grammar.specs.Table.OtherMembers.{BRACED_ENUM_VALUE_LIST, ENUM_VARIANT};
 ghost use Rattle.weedle_statements.specs.Trees.{enum_definition_tree, enum_values_tree, enum_variant_tree};
 
 use crate::copies::copy_enum_values;

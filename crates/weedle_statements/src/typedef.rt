@@ -4,7 +4,7 @@ ghost use Rattle.std.specs.Prelude.{◌≡◌};
 ghost use Rattle.weedle_base.specs.AlikeLaws.{equal_equivalence, seen_equivalence};
 ghost use Rattle.weedle_base.specs.Own.{own};
 ghost use Rattle.weedle_base.specs.OwnLaws.{own_lawful};
-ghost use Rattle.weedle_rules.specs.Table.Definitions.{TYPEDEF_DEFINITION};
+ghost use Rattle.weedle_grammar.specs.Table.Definitions.{TYPEDEF_DEFINITION};
 ghost use Rattle.weedle_statements.specs.Trees.{typedef_definition_tree};
 
 use std::alloc::{AllocError, Global};

@@ -1,6 +1,6 @@
 //! Rows of the grammar, each public call once.
 
-use weedle_rules::{Class, RULES, Row, Rule, holds, row_of};
+use weedle_grammar::{Class, RULES, Row, Rule, holds, row_of};
 
 #[test]
 fn a_sequence_names_its_parts(rt: HostRuntime) {

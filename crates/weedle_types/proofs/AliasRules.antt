@@ -15,11 +15,11 @@ use Rattle.weedle_parts.specs.MayBeNull.{may_be_null_reading}
 use Rattle.weedle_parts.specs.ValueTrees.{identifier_tree, may_be_null_tree, parenthesized_tree, punctuated_tree}
 use Rattle.weedle_parts.specs.declared.common.identifier.Identifier.{Identifier}
 use Rattle.weedle_parts.specs.declared.common.punctuated.Punctuated.{Punctuated}
-use Rattle.weedle_rules.specs.Table.Keywords.{OR}
-use Rattle.weedle_rules.specs.Table.Leaves.{IDENTIFIER}
-use Rattle.weedle_rules.specs.Table.SimpleTypes.{IDENTIFIER_LIST, PARENTHESIZED_IDENTIFIER_LIST, TAIL_IDENTIFIER_COMMA}
-use Rattle.weedle_rules.specs.Table.Symbols.{COMMA}
-use Rattle.weedle_rules.specs.Table.Types.{ARGUMENT, ARGUMENT_LIST, EXTENDED_ATTRIBUTE, EXTENDED_ATTRIBUTE_LIST, LIST_EXTENDED_ATTRIBUTE_COMMA, LIST_UNION_MEMBER_TYPE_OR, MAY_BE_NULL_UNION_TYPE, OPT_EXTENDED_ATTRIBUTE_LIST, PARENTHESIZED_ARGUMENT_LIST, TAIL_ARGUMENT_COMMA, TAIL_EXTENDED_ATTRIBUTE_COMMA, TAIL_UNION_MEMBER_TYPE_OR, UNION_MEMBER_TYPE, UNION_TYPE}
+use Rattle.weedle_grammar.specs.Table.Keywords.{OR}
+use Rattle.weedle_grammar.specs.Table.Leaves.{IDENTIFIER}
+use Rattle.weedle_grammar.specs.Table.SimpleTypes.{IDENTIFIER_LIST, PARENTHESIZED_IDENTIFIER_LIST, TAIL_IDENTIFIER_COMMA}
+use Rattle.weedle_grammar.specs.Table.Symbols.{COMMA}
+use Rattle.weedle_grammar.specs.Table.Types.{ARGUMENT, ARGUMENT_LIST, EXTENDED_ATTRIBUTE, EXTENDED_ATTRIBUTE_LIST, LIST_EXTENDED_ATTRIBUTE_COMMA, LIST_UNION_MEMBER_TYPE_OR, MAY_BE_NULL_UNION_TYPE, OPT_EXTENDED_ATTRIBUTE_LIST, PARENTHESIZED_ARGUMENT_LIST, TAIL_ARGUMENT_COMMA, TAIL_EXTENDED_ATTRIBUTE_COMMA, TAIL_UNION_MEMBER_TYPE_OR, UNION_MEMBER_TYPE, UNION_TYPE}
 use Rattle.weedle_types.specs.Trees.{argument_list_tree, argument_tree, arguments_tree, attributes_tree, extended_attribute_list_tree, extended_attribute_tree, union_member_type_tree, union_type_tree}
 use Rattle.weedle_types.specs.declared.argument.Argument.{Argument}
 use Rattle.weedle_types.specs.declared.attribute.ExtendedAttribute.{ExtendedAttribute}

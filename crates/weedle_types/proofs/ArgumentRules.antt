@@ -17,6 +17,12 @@ use Rattle.weedle_base.specs.Rules.{IsRule, mark_tree, option_tree}
 use Rattle.weedle_base.specs.declared.fault.Err.TheVariants.{Error as Recoverable, Failure}
 use Rattle.weedle_base.specs.declared.fault.Err.{Err as Fault}
 use Rattle.weedle_base.specs.declared.fault.Error.{Error}
+use Rattle.weedle_grammar.specs.Table.Keywords.{OPTIONAL}
+use Rattle.weedle_grammar.specs.Table.Leaves.{IDENTIFIER}
+use Rattle.weedle_grammar.specs.Table.Literals.{DEFAULT}
+use Rattle.weedle_grammar.specs.Table.Symbols.{CLOSE_PAREN, COMMA, ELLIPSIS, OPEN_PAREN}
+use Rattle.weedle_grammar.specs.Table.Types.{ARGUMENT, ARGUMENT_LIST, ATTRIBUTED_TYPE, OPT_DEFAULT, OPT_EXTENDED_ATTRIBUTE_LIST, OPT_OPTIONAL, PARENTHESIZED_ARGUMENT_LIST, SINGLE_ARGUMENT, TAIL_ARGUMENT_COMMA, TYPE, VARIADIC_ARGUMENT}
+use Rattle.weedle_grammar.specs.Trees.{Alt, Node, trees}
 use Rattle.weedle_literal.specs.LiteralTrees.{default_tree}
 use Rattle.weedle_literal.specs.declared.default.Default.{Default}
 use Rattle.weedle_parts.proofs.ListRules.{punctuated_rule}
@@ -27,12 +33,6 @@ use Rattle.weedle_parts.specs.declared.common.brackets.Bracketed.{Bracketed}
 use Rattle.weedle_parts.specs.declared.common.brackets.Parenthesized.{Parenthesized}
 use Rattle.weedle_parts.specs.declared.common.identifier.Identifier.{Identifier}
 use Rattle.weedle_parts.specs.declared.common.punctuated.Punctuated.{Punctuated}
-use Rattle.weedle_rules.specs.Table.Keywords.{OPTIONAL}
-use Rattle.weedle_rules.specs.Table.Leaves.{IDENTIFIER}
-use Rattle.weedle_rules.specs.Table.Literals.{DEFAULT}
-use Rattle.weedle_rules.specs.Table.Symbols.{CLOSE_PAREN, COMMA, ELLIPSIS, OPEN_PAREN}
-use Rattle.weedle_rules.specs.Table.Types.{ARGUMENT, ARGUMENT_LIST, ATTRIBUTED_TYPE, OPT_DEFAULT, OPT_EXTENDED_ATTRIBUTE_LIST, OPT_OPTIONAL, PARENTHESIZED_ARGUMENT_LIST, SINGLE_ARGUMENT, TAIL_ARGUMENT_COMMA, TYPE, VARIADIC_ARGUMENT}
-use Rattle.weedle_rules.specs.Trees.{Alt, Node, trees}
 use Rattle.weedle_term.specs.declared.symbols.CloseParen.{CloseParen}
 use Rattle.weedle_term.specs.declared.symbols.Comma.{Comma}
 use Rattle.weedle_term.specs.declared.symbols.Ellipsis.{Ellipsis}

@@ -17,6 +17,10 @@ use Rattle.weedle_base.specs.Rules.{IsRule, option_tree}
 use Rattle.weedle_base.specs.declared.fault.Err.TheVariants.{Error as Recoverable, Failure}
 use Rattle.weedle_base.specs.declared.fault.Err.{Err as Fault}
 use Rattle.weedle_base.specs.declared.fault.Error.{Error}
+use Rattle.weedle_grammar.specs.Table.Leaves.{IDENTIFIER}
+use Rattle.weedle_grammar.specs.Table.Symbols.{ASSIGN, CLOSE_BRACKET, COMMA, OPEN_BRACKET}
+use Rattle.weedle_grammar.specs.Table.Types.{EXTENDED_ATTRIBUTE, EXTENDED_ATTRIBUTE_ARG_LIST, EXTENDED_ATTRIBUTE_IDENT, EXTENDED_ATTRIBUTE_IDENT_LIST, EXTENDED_ATTRIBUTE_LIST, EXTENDED_ATTRIBUTE_NAMED_ARG_LIST, EXTENDED_ATTRIBUTE_NO_ARGS, LIST_EXTENDED_ATTRIBUTE_COMMA, OPT_EXTENDED_ATTRIBUTE_LIST, PARENTHESIZED_ARGUMENT_LIST, TAIL_EXTENDED_ATTRIBUTE_COMMA}
+use Rattle.weedle_grammar.specs.Trees.{Alt}
 use Rattle.weedle_parts.proofs.ListRules.{punctuated_rule}
 use Rattle.weedle_parts.proofs.ListSteps.{fault_some, got_none, got_some}
 use Rattle.weedle_parts.specs.Lists.{after_first, punctuated_reading}
@@ -25,10 +29,6 @@ use Rattle.weedle_parts.specs.declared.common.brackets.Bracketed.{Bracketed}
 use Rattle.weedle_parts.specs.declared.common.brackets.Parenthesized.{Parenthesized}
 use Rattle.weedle_parts.specs.declared.common.identifier.Identifier.{Identifier}
 use Rattle.weedle_parts.specs.declared.common.punctuated.Punctuated.{Punctuated}
-use Rattle.weedle_rules.specs.Table.Leaves.{IDENTIFIER}
-use Rattle.weedle_rules.specs.Table.Symbols.{ASSIGN, CLOSE_BRACKET, COMMA, OPEN_BRACKET}
-use Rattle.weedle_rules.specs.Table.Types.{EXTENDED_ATTRIBUTE, EXTENDED_ATTRIBUTE_ARG_LIST, EXTENDED_ATTRIBUTE_IDENT, EXTENDED_ATTRIBUTE_IDENT_LIST, EXTENDED_ATTRIBUTE_LIST, EXTENDED_ATTRIBUTE_NAMED_ARG_LIST, EXTENDED_ATTRIBUTE_NO_ARGS, LIST_EXTENDED_ATTRIBUTE_COMMA, OPT_EXTENDED_ATTRIBUTE_LIST, PARENTHESIZED_ARGUMENT_LIST, TAIL_EXTENDED_ATTRIBUTE_COMMA}
-use Rattle.weedle_rules.specs.Trees.{Alt}
 use Rattle.weedle_term.specs.declared.symbols.Assign.{Assign}
 use Rattle.weedle_term.specs.declared.symbols.CloseBracket.{CloseBracket}
 use Rattle.weedle_term.specs.declared.symbols.Comma.{Comma}

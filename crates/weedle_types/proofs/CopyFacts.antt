@@ -7,7 +7,7 @@ use Rattle.weedle_base.specs.Rules.{option_tree}
 use Rattle.weedle_parts.specs.ValueTrees.{bracket_tree, docstring_tree}
 use Rattle.weedle_parts.specs.declared.common.brackets.Braced.{Braced}
 use Rattle.weedle_parts.specs.declared.common.docstring.Docstring.{Docstring}
-use Rattle.weedle_rules.specs.Trees.{Items, Lines, Present, Tree, trees}
+use Rattle.weedle_grammar.specs.Trees.{Items, Lines, Present, Tree, trees}
 use Rattle.weedle_types.specs.PartTrees.{Arguments, Attributes, members_tree}
 use Rattle.weedle_types.specs.Trees.{argument_tree, arguments_tree, attributes_tree, extended_attribute_list_tree, extended_attribute_tree}
 

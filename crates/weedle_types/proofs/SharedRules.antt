@@ -15,12 +15,12 @@ use Rattle.weedle_base.specs.declared.fault.Error.{Error}
 use Rattle.weedle_parts.proofs.PartRules.{braced_rule}
 use Rattle.weedle_parts.specs.Brackets.{braced_reading}
 use Rattle.weedle_parts.specs.declared.common.brackets.Braced.{Braced}
-use Rattle.weedle_rules.specs.Meaning.{Plain}
-use Rattle.weedle_rules.specs.Rows.{Many, Opt, Seq}
-use Rattle.weedle_rules.specs.Table.Symbols.{CLOSE_BRACE, OPEN_BRACE}
-use Rattle.weedle_rules.specs.Table.Types.{OPT_EXTENDED_ATTRIBUTE_LIST, PARENTHESIZED_ARGUMENT_LIST}
-use Rattle.weedle_rules.specs.Table.{row_of, shape_of}
-use Rattle.weedle_rules.specs.Trees.{Tree}
+use Rattle.weedle_grammar.specs.Meaning.{Plain}
+use Rattle.weedle_grammar.specs.Rows.{Many, Opt, Seq}
+use Rattle.weedle_grammar.specs.Table.Symbols.{CLOSE_BRACE, OPEN_BRACE}
+use Rattle.weedle_grammar.specs.Table.Types.{OPT_EXTENDED_ATTRIBUTE_LIST, PARENTHESIZED_ARGUMENT_LIST}
+use Rattle.weedle_grammar.specs.Table.{row_of, shape_of}
+use Rattle.weedle_grammar.specs.Trees.{Tree}
 use Rattle.weedle_types.specs.PartTrees.{Arguments, Attributes, members_tree}
 use Rattle.weedle_types.specs.Trees.{arguments_tree, attributes_tree}
 

@@ -1,6 +1,6 @@
 -- An item of a list has a smaller tree than the list.
 use Rattle.std.proofs.Common.{◌≡◌, ℕ, zero, suc, ◌+◌, ◌<◌, List, [], ◌∷◌, length, get_or, map, refl, ap, arith}
-use Rattle.weedle_rules.specs.Trees.{Tree, trees}
+use Rattle.weedle_grammar.specs.Trees.{Tree, trees}
 use Rattle.weedle_types.specs.TreeSize.{tree_size, trees_size}
 use Rattle.weedle_types.specs.Trees.{argument_tree, extended_attribute_tree, union_member_type_tree}
 use Rattle.weedle_types.specs.declared.argument.Argument.{Argument}

@@ -10,7 +10,7 @@ use Rattle.weedle_parts.specs.declared.common.brackets.Bracketed.{Bracketed}
 use Rattle.weedle_parts.specs.declared.common.brackets.Parenthesized.{Parenthesized}
 use Rattle.weedle_parts.specs.declared.common.punctuated.Punctuated.{Punctuated}
 use Rattle.weedle_parts.specs.declared.types.may_be_null.MayBeNull.{MayBeNull}
-use Rattle.weedle_rules.specs.Trees.{Then, Mark, Node, Alt, Present, Items, trees}
+use Rattle.weedle_grammar.specs.Trees.{Then, Mark, Node, Alt, Present, Items, trees}
 use Rattle.weedle_types.specs.Trees.{argument_tree, non_any_type_tree, type_tree, union_member_type_tree, held_return, held_key, held_single, held_attributes, attribute_row, argument_row, union_row, single_type_tree, return_type_tree, record_key_type_tree, record_type_tree, promise_type_tree, union_type_tree, extended_attribute_tree, extended_attribute_arg_list_tree, extended_attribute_named_arg_list_tree, attributes_tree, attributed_non_any_type_tree, single_argument_tree, variadic_argument_tree}
 use Rattle.weedle_types.specs.declared.argument.Argument.TheBlock.{Row_of-Argument, end_of-Argument, more_of-Argument, Row_of-UnionMemberType, end_of-UnionMemberType, more_of-UnionMemberType, Row_of-ExtendedAttribute, end_of-ExtendedAttribute, more_of-ExtendedAttribute, items-the_row-Argument, items-the_row-UnionMemberType, items-the_row-ExtendedAttribute, items_hidden-the_row-Argument-1, items_hidden-the_row-ExtendedAttribute-0, items_hidden-the_row-UnionMemberType-2, hidden-the_row-Argument-1, hidden-the_row-ExtendedAttribute-0, hidden-the_row-UnionMemberType-2, back-SingleArgument-attributes, back-Type-Single-0, back-RecordTypes-0-4, back-NonAnyType-Promise-0-4}
 use Rattle.weedle_types.specs.declared.argument.Argument.TheVariants.{Single as Argument-Single, Variadic as Argument-Variadic}

@@ -14,6 +14,12 @@ use Rattle.weedle_base.specs.Reading.{Faults, Got, Reading}
 use Rattle.weedle_base.specs.Rules.{IsRule, mark_tree, option_tree}
 use Rattle.weedle_base.specs.declared.fault.Err.{Err as Fault}
 use Rattle.weedle_base.specs.declared.fault.Error.{Error}
+use Rattle.weedle_grammar.specs.Table.CapitalizedKeywords.{BYTE_STRING, DOM_STRING, USV_STRING}
+use Rattle.weedle_grammar.specs.Table.Keywords.{ANY, UNDEFINED}
+use Rattle.weedle_grammar.specs.Table.Leaves.{IDENTIFIER}
+use Rattle.weedle_grammar.specs.Table.SimpleTypes.{MAY_BE_NULL_IDENTIFIER}
+use Rattle.weedle_grammar.specs.Table.Types.{ATTRIBUTED_NON_ANY_TYPE, ATTRIBUTED_TYPE, MAY_BE_NULL_FROZEN_ARRAY_TYPE, MAY_BE_NULL_RECORD_TYPE, MAY_BE_NULL_SEQUENCE_TYPE, MAY_BE_NULL_UNION_TYPE, NON_ANY_TYPE, OPT_EXTENDED_ATTRIBUTE_LIST, PROMISE_TYPE, RECORD_KEY_TYPE, RETURN_TYPE, SINGLE_TYPE, TYPE}
+use Rattle.weedle_grammar.specs.Trees.{Alt}
 use Rattle.weedle_parts.proofs.PartRules.{may_be_null_rule}
 use Rattle.weedle_parts.specs.MayBeNull.{may_be_null_reading}
 use Rattle.weedle_parts.specs.ValueTrees.{identifier_tree, may_be_null_tree}
@@ -22,12 +28,6 @@ use Rattle.weedle_parts.specs.declared.common.brackets.Parenthesized.{Parenthesi
 use Rattle.weedle_parts.specs.declared.common.identifier.Identifier.{Identifier}
 use Rattle.weedle_parts.specs.declared.common.punctuated.Punctuated.{Punctuated}
 use Rattle.weedle_parts.specs.declared.types.may_be_null.MayBeNull.{MayBeNull}
-use Rattle.weedle_rules.specs.Table.CapitalizedKeywords.{BYTE_STRING, DOM_STRING, USV_STRING}
-use Rattle.weedle_rules.specs.Table.Keywords.{ANY, UNDEFINED}
-use Rattle.weedle_rules.specs.Table.Leaves.{IDENTIFIER}
-use Rattle.weedle_rules.specs.Table.SimpleTypes.{MAY_BE_NULL_IDENTIFIER}
-use Rattle.weedle_rules.specs.Table.Types.{ATTRIBUTED_NON_ANY_TYPE, ATTRIBUTED_TYPE, MAY_BE_NULL_FROZEN_ARRAY_TYPE, MAY_BE_NULL_RECORD_TYPE, MAY_BE_NULL_SEQUENCE_TYPE, MAY_BE_NULL_UNION_TYPE, NON_ANY_TYPE, OPT_EXTENDED_ATTRIBUTE_LIST, PROMISE_TYPE, RECORD_KEY_TYPE, RETURN_TYPE, SINGLE_TYPE, TYPE}
-use Rattle.weedle_rules.specs.Trees.{Alt}
 use Rattle.weedle_term.specs.declared.capitalized_keywords.ByteString.{ByteString}
 use Rattle.weedle_term.specs.declared.capitalized_keywords.DOMString.{DOMString}
 use Rattle.weedle_term.specs.declared.capitalized_keywords.USVString.{USVString}

@@ -7,7 +7,7 @@ use Rattle.weedle_parts.specs.declared.common.brackets.Braced.{Braced}
 use Rattle.weedle_parts.specs.declared.common.brackets.Bracketed.{Bracketed}
 use Rattle.weedle_parts.specs.declared.common.brackets.Parenthesized.{Parenthesized}
 use Rattle.weedle_parts.specs.declared.common.punctuated.Punctuated.{Punctuated}
-use Rattle.weedle_rules.specs.Trees.{Tree}
+use Rattle.weedle_grammar.specs.Trees.{Tree}
 use Rattle.weedle_term.specs.declared.symbols.Comma.{Comma}
 use Rattle.weedle_types.specs.declared.argument.Argument.{Argument}
 use Rattle.weedle_types.specs.declared.attribute.ExtendedAttribute.{ExtendedAttribute}

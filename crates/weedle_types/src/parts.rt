@@ -2,7 +2,7 @@
 
 ghost use Rattle.weedle_base.specs.Own.{own};
 ghost use Rattle.weedle_base.specs.Reading.{Answers};
-ghost use Rattle.weedle_rules.specs.Table.Types.{OPT_EXTENDED_ATTRIBUTE_LIST, PARENTHESIZED_ARGUMENT_LIST};
+ghost use Rattle.weedle_grammar.specs.Table.Types.{OPT_EXTENDED_ATTRIBUTE_LIST, PARENTHESIZED_ARGUMENT_LIST};
 ghost use Rattle.weedle_types.specs.Trees.{arguments_tree, attributes_tree};
 
 use crate::argument::ArgumentList;

@@ -5,7 +5,7 @@ ghost use Rattle.weedle_base.specs.AlikeLaws.{equal_equivalence, seen_equivalenc
 ghost use Rattle.weedle_base.specs.Own.{own};
 ghost use Rattle.weedle_base.specs.OwnLaws.{own_lawful};
 ghost use Rattle.weedle_idl.specs.DefinitionTrees.{interface_mixin_definition_tree, partial_interface_mixin_definition_tree};
-ghost use Rattle.weedle_rules.specs.Table.Definitions.{INTERFACE_MIXIN_DEFINITION, PARTIAL_INTERFACE_MIXIN_DEFINITION};
+ghost use Rattle.weedle_grammar.specs.Table.Definitions.{INTERFACE_MIXIN_DEFINITION, PARTIAL_INTERFACE_MIXIN_DEFINITION};
 
 use crate::copies::copy_mixin_members;
 use std::alloc::{AllocError, Global};

@@ -7,7 +7,7 @@ ghost use Rattle.weedle_base.specs.OwnLaws.{own_lawful};
 ghost use Rattle.weedle_base.specs.Reading.{Answers};
 ghost use Rattle.weedle_idl.specs.InterfaceTrees.{interface_member_tree};
 ghost use Rattle.weedle_idl.specs.Pieces.{collection_member_rules, iterable_member_rules, main_member_rules};
-ghost use Rattle.weedle_rules.specs.Table.InterfaceMembers.{INTERFACE_MEMBER};
+ghost use Rattle.weedle_grammar.specs.Table.InterfaceMembers.{INTERFACE_MEMBER};
 ghost use Rattle.weedle_types.specs.Steps.{members};
 
 use std::alloc::{AllocError, Global};

@@ -1,14 +1,13 @@
 //! Rows of several parts: sequences, choices, and sequences whose last part has a condition.
 
 ghost use Rattle.std.specs.Prelude.{◌≡◌, if◌then◌else◌};
-ghost use Rattle.weedle_rules.specs.Rows.{Seq, First, If};
-ghost use Rattle.weedle_rules.specs.Table.{row_of as row_of_lem};
+ghost use Rattle.weedle_grammar.specs.Rows.{Seq, First, If};
+ghost use Rattle.weedle_grammar.specs.Table.{row_of as row_of_lem};
 ghost use Rattle.weedle_rules.specs.Filling.{IsBegun, IsWorked};
 
 use crate::cell::Cell;
 use crate::reader::{Reader, Working};
-use crate::row::Parts;
-use crate::rule::Rule;
+use weedle_grammar::{Parts, Rule};
 
 /// The parts, each from the end of the one before.
 #[inline(always)]

@@ -7,19 +7,8 @@ ghost use Rattle.weedle_rules.specs.Filling.{IsFilling};
 
 use crate::cell::Cell;
 use crate::fill::fill_cell;
-use crate::grammar::capitalized_keywords::{
-    ARRAY_BUFFER, ARRAY_BUFFER_VIEW, BUFFER_SOURCE, BYTE_STRING, BYTES_ARRAY_BUFFER,
-    BYTES_ARRAY_BUFFER_VIEW, BYTES_BUFFER_SOURCE, BYTES_BYTE_STRING, BYTES_DATA_VIEW,
-    BYTES_DOM_STRING, BYTES_ERROR, BYTES_FLOAT32_ARRAY, BYTES_FLOAT64_ARRAY, BYTES_FROZEN_ARRAY,
-    BYTES_INFINITY, BYTES_INT8_ARRAY, BYTES_INT16_ARRAY, BYTES_INT32_ARRAY, BYTES_NAN,
-    BYTES_NEG_INFINITY, BYTES_PROMISE, BYTES_UINT8_ARRAY, BYTES_UINT8_CLAMPED_ARRAY,
-    BYTES_UINT16_ARRAY, BYTES_UINT32_ARRAY, BYTES_USV_STRING, DATA_VIEW, DOM_STRING, ERROR,
-    FLOAT32_ARRAY, FLOAT64_ARRAY, FROZEN_ARRAY, INFINITY, INT8_ARRAY, INT16_ARRAY, INT32_ARRAY,
-    NAN, NEG_INFINITY, PROMISE, UINT8_ARRAY, UINT8_CLAMPED_ARRAY, UINT16_ARRAY, UINT32_ARRAY,
-    USV_STRING,
-};
 use crate::reader::Reader;
-use crate::rule::Rule;
+use weedle_grammar::Rule;
 
 /// Works out the cells of the rules from 140 to 183.
 #[inline(always)]
@@ -42,14 +31,14 @@ fn fill_from_140<C: Cell>(reader: &mut Reader<'_, C>, place: usize)
     requires next { IsFilling reader.old reader.old.text place 140 }
     ensures { IsFilling reader.new reader.old.text place 148 }
 {
-    fill_cell(reader, Rule(BYTES_BYTE_STRING), place);
-    fill_cell(reader, Rule(BYTE_STRING), place);
-    fill_cell(reader, Rule(BYTES_DOM_STRING), place);
-    fill_cell(reader, Rule(DOM_STRING), place);
-    fill_cell(reader, Rule(BYTES_FROZEN_ARRAY), place);
-    fill_cell(reader, Rule(FROZEN_ARRAY), place);
-    fill_cell(reader, Rule(BYTES_INFINITY), place);
-    fill_cell(reader, Rule(INFINITY), place);
+    fill_cell(reader, Rule(140), place); // BYTES_BYTE_STRING
+    fill_cell(reader, Rule(141), place); // BYTE_STRING
+    fill_cell(reader, Rule(142), place); // BYTES_DOM_STRING
+    fill_cell(reader, Rule(143), place); // DOM_STRING
+    fill_cell(reader, Rule(144), place); // BYTES_FROZEN_ARRAY
+    fill_cell(reader, Rule(145), place); // FROZEN_ARRAY
+    fill_cell(reader, Rule(146), place); // BYTES_INFINITY
+    fill_cell(reader, Rule(147), place); // INFINITY
 }
 
 #[inline(always)]
@@ -58,14 +47,14 @@ fn fill_from_148<C: Cell>(reader: &mut Reader<'_, C>, place: usize)
     requires next { IsFilling reader.old reader.old.text place 148 }
     ensures { IsFilling reader.new reader.old.text place 156 }
 {
-    fill_cell(reader, Rule(BYTES_NAN), place);
-    fill_cell(reader, Rule(NAN), place);
-    fill_cell(reader, Rule(BYTES_USV_STRING), place);
-    fill_cell(reader, Rule(USV_STRING), place);
-    fill_cell(reader, Rule(BYTES_ARRAY_BUFFER), place);
-    fill_cell(reader, Rule(ARRAY_BUFFER), place);
-    fill_cell(reader, Rule(BYTES_DATA_VIEW), place);
-    fill_cell(reader, Rule(DATA_VIEW), place);
+    fill_cell(reader, Rule(148), place); // BYTES_NAN
+    fill_cell(reader, Rule(149), place); // NAN
+    fill_cell(reader, Rule(150), place); // BYTES_USV_STRING
+    fill_cell(reader, Rule(151), place); // USV_STRING
+    fill_cell(reader, Rule(152), place); // BYTES_ARRAY_BUFFER
+    fill_cell(reader, Rule(153), place); // ARRAY_BUFFER
+    fill_cell(reader, Rule(154), place); // BYTES_DATA_VIEW
+    fill_cell(reader, Rule(155), place); // DATA_VIEW
 }
 
 #[inline(always)]
@@ -74,14 +63,14 @@ fn fill_from_156<C: Cell>(reader: &mut Reader<'_, C>, place: usize)
     requires next { IsFilling reader.old reader.old.text place 156 }
     ensures { IsFilling reader.new reader.old.text place 164 }
 {
-    fill_cell(reader, Rule(BYTES_INT8_ARRAY), place);
-    fill_cell(reader, Rule(INT8_ARRAY), place);
-    fill_cell(reader, Rule(BYTES_INT16_ARRAY), place);
-    fill_cell(reader, Rule(INT16_ARRAY), place);
-    fill_cell(reader, Rule(BYTES_INT32_ARRAY), place);
-    fill_cell(reader, Rule(INT32_ARRAY), place);
-    fill_cell(reader, Rule(BYTES_UINT8_ARRAY), place);
-    fill_cell(reader, Rule(UINT8_ARRAY), place);
+    fill_cell(reader, Rule(156), place); // BYTES_INT8_ARRAY
+    fill_cell(reader, Rule(157), place); // INT8_ARRAY
+    fill_cell(reader, Rule(158), place); // BYTES_INT16_ARRAY
+    fill_cell(reader, Rule(159), place); // INT16_ARRAY
+    fill_cell(reader, Rule(160), place); // BYTES_INT32_ARRAY
+    fill_cell(reader, Rule(161), place); // INT32_ARRAY
+    fill_cell(reader, Rule(162), place); // BYTES_UINT8_ARRAY
+    fill_cell(reader, Rule(163), place); // UINT8_ARRAY
 }
 
 #[inline(always)]
@@ -90,14 +79,14 @@ fn fill_from_164<C: Cell>(reader: &mut Reader<'_, C>, place: usize)
     requires next { IsFilling reader.old reader.old.text place 164 }
     ensures { IsFilling reader.new reader.old.text place 172 }
 {
-    fill_cell(reader, Rule(BYTES_UINT16_ARRAY), place);
-    fill_cell(reader, Rule(UINT16_ARRAY), place);
-    fill_cell(reader, Rule(BYTES_UINT32_ARRAY), place);
-    fill_cell(reader, Rule(UINT32_ARRAY), place);
-    fill_cell(reader, Rule(BYTES_UINT8_CLAMPED_ARRAY), place);
-    fill_cell(reader, Rule(UINT8_CLAMPED_ARRAY), place);
-    fill_cell(reader, Rule(BYTES_FLOAT32_ARRAY), place);
-    fill_cell(reader, Rule(FLOAT32_ARRAY), place);
+    fill_cell(reader, Rule(164), place); // BYTES_UINT16_ARRAY
+    fill_cell(reader, Rule(165), place); // UINT16_ARRAY
+    fill_cell(reader, Rule(166), place); // BYTES_UINT32_ARRAY
+    fill_cell(reader, Rule(167), place); // UINT32_ARRAY
+    fill_cell(reader, Rule(168), place); // BYTES_UINT8_CLAMPED_ARRAY
+    fill_cell(reader, Rule(169), place); // UINT8_CLAMPED_ARRAY
+    fill_cell(reader, Rule(170), place); // BYTES_FLOAT32_ARRAY
+    fill_cell(reader, Rule(171), place); // FLOAT32_ARRAY
 }
 
 #[inline(always)]
@@ -106,14 +95,14 @@ fn fill_from_172<C: Cell>(reader: &mut Reader<'_, C>, place: usize)
     requires next { IsFilling reader.old reader.old.text place 172 }
     ensures { IsFilling reader.new reader.old.text place 180 }
 {
-    fill_cell(reader, Rule(BYTES_FLOAT64_ARRAY), place);
-    fill_cell(reader, Rule(FLOAT64_ARRAY), place);
-    fill_cell(reader, Rule(BYTES_ARRAY_BUFFER_VIEW), place);
-    fill_cell(reader, Rule(ARRAY_BUFFER_VIEW), place);
-    fill_cell(reader, Rule(BYTES_BUFFER_SOURCE), place);
-    fill_cell(reader, Rule(BUFFER_SOURCE), place);
-    fill_cell(reader, Rule(BYTES_PROMISE), place);
-    fill_cell(reader, Rule(PROMISE), place);
+    fill_cell(reader, Rule(172), place); // BYTES_FLOAT64_ARRAY
+    fill_cell(reader, Rule(173), place); // FLOAT64_ARRAY
+    fill_cell(reader, Rule(174), place); // BYTES_ARRAY_BUFFER_VIEW
+    fill_cell(reader, Rule(175), place); // ARRAY_BUFFER_VIEW
+    fill_cell(reader, Rule(176), place); // BYTES_BUFFER_SOURCE
+    fill_cell(reader, Rule(177), place); // BUFFER_SOURCE
+    fill_cell(reader, Rule(178), place); // BYTES_PROMISE
+    fill_cell(reader, Rule(179), place); // PROMISE
 }
 
 #[inline(always)]
@@ -122,8 +111,8 @@ fn fill_from_180<C: Cell>(reader: &mut Reader<'_, C>, place: usize)
     requires next { IsFilling reader.old reader.old.text place 180 }
     ensures { IsFilling reader.new reader.old.text place 184 }
 {
-    fill_cell(reader, Rule(BYTES_ERROR), place);
-    fill_cell(reader, Rule(ERROR), place);
-    fill_cell(reader, Rule(BYTES_NEG_INFINITY), place);
-    fill_cell(reader, Rule(NEG_INFINITY), place);
+    fill_cell(reader, Rule(180), place); // BYTES_ERROR
+    fill_cell(reader, Rule(181), place); // ERROR
+    fill_cell(reader, Rule(182), place); // BYTES_NEG_INFINITY
+    fill_cell(reader, Rule(183), place); // NEG_INFINITY
 }

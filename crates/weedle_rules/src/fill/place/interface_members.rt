@@ -7,20 +7,8 @@ ghost use Rattle.weedle_rules.specs.Filling.{IsFilling};
 
 use crate::cell::Cell;
 use crate::fill::fill_cell;
-use crate::grammar::interface_members::{
-    ASYNC_ITERABLE, ASYNC_ITERABLE_INTERFACE_MEMBER, ATTRIBUTE_INTERFACE_MEMBER,
-    BRACED_INTERFACE_MEMBERS, CONST_MEMBER, CONSTRUCTOR_INTERFACE_MEMBER,
-    DOUBLE_TYPED_ASYNC_ITERABLE, DOUBLE_TYPED_ITERABLE, GENERICS_ATTRIBUTED_TYPE,
-    GENERICS_KEY_AND_VALUE_TYPES, INHERITANCE, INTERFACE_MEMBER, INTERFACE_MEMBERS,
-    ITERABLE_INTERFACE_MEMBER, KEY_AND_VALUE_TYPES, MAPLIKE_INTERFACE_MEMBER,
-    OPERATION_INTERFACE_MEMBER, OPT_DOCSTRING, OPT_IDENTIFIER, OPT_INHERITANCE,
-    OPT_PARENTHESIZED_ARGUMENT_LIST, OPT_READ_ONLY, OPT_SPECIAL,
-    OPT_STRINGIFIER_OR_INHERIT_OR_STATIC, OPT_STRINGIFIER_OR_STATIC, SETLIKE_INTERFACE_MEMBER,
-    SINGLE_TYPED_ASYNC_ITERABLE, SINGLE_TYPED_ITERABLE, SPECIAL, STRINGIFIER_MEMBER,
-    STRINGIFIER_OR_INHERIT_OR_STATIC, STRINGIFIER_OR_STATIC,
-};
 use crate::reader::Reader;
-use crate::rule::Rule;
+use weedle_grammar::Rule;
 
 /// Works out the cells of the rules from 317 to 348.
 #[inline(always)]
@@ -41,14 +29,14 @@ fn fill_from_317<C: Cell>(reader: &mut Reader<'_, C>, place: usize)
     requires next { IsFilling reader.old reader.old.text place 317 }
     ensures { IsFilling reader.new reader.old.text place 325 }
 {
-    fill_cell(reader, Rule(OPT_DOCSTRING), place);
-    fill_cell(reader, Rule(OPT_IDENTIFIER), place);
-    fill_cell(reader, Rule(OPT_READ_ONLY), place);
-    fill_cell(reader, Rule(KEY_AND_VALUE_TYPES), place);
-    fill_cell(reader, Rule(GENERICS_ATTRIBUTED_TYPE), place);
-    fill_cell(reader, Rule(GENERICS_KEY_AND_VALUE_TYPES), place);
-    fill_cell(reader, Rule(INHERITANCE), place);
-    fill_cell(reader, Rule(OPT_INHERITANCE), place);
+    fill_cell(reader, Rule(317), place); // OPT_DOCSTRING
+    fill_cell(reader, Rule(318), place); // OPT_IDENTIFIER
+    fill_cell(reader, Rule(319), place); // OPT_READ_ONLY
+    fill_cell(reader, Rule(320), place); // KEY_AND_VALUE_TYPES
+    fill_cell(reader, Rule(321), place); // GENERICS_ATTRIBUTED_TYPE
+    fill_cell(reader, Rule(322), place); // GENERICS_KEY_AND_VALUE_TYPES
+    fill_cell(reader, Rule(323), place); // INHERITANCE
+    fill_cell(reader, Rule(324), place); // OPT_INHERITANCE
 }
 
 #[inline(always)]
@@ -57,14 +45,14 @@ fn fill_from_325<C: Cell>(reader: &mut Reader<'_, C>, place: usize)
     requires next { IsFilling reader.old reader.old.text place 325 }
     ensures { IsFilling reader.new reader.old.text place 333 }
 {
-    fill_cell(reader, Rule(SPECIAL), place);
-    fill_cell(reader, Rule(OPT_SPECIAL), place);
-    fill_cell(reader, Rule(STRINGIFIER_OR_INHERIT_OR_STATIC), place);
-    fill_cell(reader, Rule(OPT_STRINGIFIER_OR_INHERIT_OR_STATIC), place);
-    fill_cell(reader, Rule(STRINGIFIER_OR_STATIC), place);
-    fill_cell(reader, Rule(OPT_STRINGIFIER_OR_STATIC), place);
-    fill_cell(reader, Rule(CONST_MEMBER), place);
-    fill_cell(reader, Rule(ATTRIBUTE_INTERFACE_MEMBER), place);
+    fill_cell(reader, Rule(325), place); // SPECIAL
+    fill_cell(reader, Rule(326), place); // OPT_SPECIAL
+    fill_cell(reader, Rule(327), place); // STRINGIFIER_OR_INHERIT_OR_STATIC
+    fill_cell(reader, Rule(328), place); // OPT_STRINGIFIER_OR_INHERIT_OR_STATIC
+    fill_cell(reader, Rule(329), place); // STRINGIFIER_OR_STATIC
+    fill_cell(reader, Rule(330), place); // OPT_STRINGIFIER_OR_STATIC
+    fill_cell(reader, Rule(331), place); // CONST_MEMBER
+    fill_cell(reader, Rule(332), place); // ATTRIBUTE_INTERFACE_MEMBER
 }
 
 #[inline(always)]
@@ -73,14 +61,14 @@ fn fill_from_333<C: Cell>(reader: &mut Reader<'_, C>, place: usize)
     requires next { IsFilling reader.old reader.old.text place 333 }
     ensures { IsFilling reader.new reader.old.text place 341 }
 {
-    fill_cell(reader, Rule(CONSTRUCTOR_INTERFACE_MEMBER), place);
-    fill_cell(reader, Rule(OPERATION_INTERFACE_MEMBER), place);
-    fill_cell(reader, Rule(SINGLE_TYPED_ITERABLE), place);
-    fill_cell(reader, Rule(DOUBLE_TYPED_ITERABLE), place);
-    fill_cell(reader, Rule(ITERABLE_INTERFACE_MEMBER), place);
-    fill_cell(reader, Rule(ASYNC_ITERABLE), place);
-    fill_cell(reader, Rule(OPT_PARENTHESIZED_ARGUMENT_LIST), place);
-    fill_cell(reader, Rule(SINGLE_TYPED_ASYNC_ITERABLE), place);
+    fill_cell(reader, Rule(333), place); // CONSTRUCTOR_INTERFACE_MEMBER
+    fill_cell(reader, Rule(334), place); // OPERATION_INTERFACE_MEMBER
+    fill_cell(reader, Rule(335), place); // SINGLE_TYPED_ITERABLE
+    fill_cell(reader, Rule(336), place); // DOUBLE_TYPED_ITERABLE
+    fill_cell(reader, Rule(337), place); // ITERABLE_INTERFACE_MEMBER
+    fill_cell(reader, Rule(338), place); // ASYNC_ITERABLE
+    fill_cell(reader, Rule(339), place); // OPT_PARENTHESIZED_ARGUMENT_LIST
+    fill_cell(reader, Rule(340), place); // SINGLE_TYPED_ASYNC_ITERABLE
 }
 
 #[inline(always)]
@@ -89,12 +77,12 @@ fn fill_from_341<C: Cell>(reader: &mut Reader<'_, C>, place: usize)
     requires next { IsFilling reader.old reader.old.text place 341 }
     ensures { IsFilling reader.new reader.old.text place 349 }
 {
-    fill_cell(reader, Rule(DOUBLE_TYPED_ASYNC_ITERABLE), place);
-    fill_cell(reader, Rule(ASYNC_ITERABLE_INTERFACE_MEMBER), place);
-    fill_cell(reader, Rule(MAPLIKE_INTERFACE_MEMBER), place);
-    fill_cell(reader, Rule(SETLIKE_INTERFACE_MEMBER), place);
-    fill_cell(reader, Rule(STRINGIFIER_MEMBER), place);
-    fill_cell(reader, Rule(INTERFACE_MEMBER), place);
-    fill_cell(reader, Rule(INTERFACE_MEMBERS), place);
-    fill_cell(reader, Rule(BRACED_INTERFACE_MEMBERS), place);
+    fill_cell(reader, Rule(341), place); // DOUBLE_TYPED_ASYNC_ITERABLE
+    fill_cell(reader, Rule(342), place); // ASYNC_ITERABLE_INTERFACE_MEMBER
+    fill_cell(reader, Rule(343), place); // MAPLIKE_INTERFACE_MEMBER
+    fill_cell(reader, Rule(344), place); // SETLIKE_INTERFACE_MEMBER
+    fill_cell(reader, Rule(345), place); // STRINGIFIER_MEMBER
+    fill_cell(reader, Rule(346), place); // INTERFACE_MEMBER
+    fill_cell(reader, Rule(347), place); // INTERFACE_MEMBERS
+    fill_cell(reader, Rule(348), place); // BRACED_INTERFACE_MEMBERS
 }

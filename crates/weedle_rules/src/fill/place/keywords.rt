@@ -7,23 +7,8 @@ ghost use Rattle.weedle_rules.specs.Filling.{IsFilling};
 
 use crate::cell::Cell;
 use crate::fill::fill_cell;
-use crate::grammar::keywords::{
-    ANY, ASYNC, ATTRIBUTE, BOOLEAN, BYTE, BYTES_ANY, BYTES_ASYNC, BYTES_ATTRIBUTE, BYTES_BOOLEAN,
-    BYTES_BYTE, BYTES_CALLBACK, BYTES_CONST, BYTES_CONSTRUCTOR, BYTES_DELETER, BYTES_DICTIONARY,
-    BYTES_DOUBLE, BYTES_ENUM, BYTES_FALSE, BYTES_FLOAT, BYTES_GETTER, BYTES_IMPLEMENTS,
-    BYTES_INCLUDES, BYTES_INHERIT, BYTES_INTERFACE, BYTES_ITERABLE, BYTES_LEGACY_CALLER,
-    BYTES_LONG, BYTES_MAPLIKE, BYTES_MIXIN, BYTES_NAMESPACE, BYTES_NULL, BYTES_OBJECT, BYTES_OCTET,
-    BYTES_OPTIONAL, BYTES_OR, BYTES_PARTIAL, BYTES_READ_ONLY, BYTES_RECORD, BYTES_REQUIRED,
-    BYTES_SEQUENCE, BYTES_SETLIKE, BYTES_SETTER, BYTES_SHORT, BYTES_STATIC, BYTES_STRINGIFIER,
-    BYTES_SYMBOL, BYTES_TRUE, BYTES_TYPEDEF, BYTES_UNDEFINED, BYTES_UNRESTRICTED, BYTES_UNSIGNED,
-    CALLBACK, CONST, CONSTRUCTOR, DELETER, DICTIONARY, DOUBLE, ENUM, FALSE, FLOAT, GETTER,
-    IMPLEMENTS, INCLUDES, INHERIT, INTERFACE, ITERABLE, LEGACY_CALLER, LONG, MAPLIKE, MIXIN,
-    NAMESPACE, NOT_NEXT_NAME, NULL, OBJECT, OCTET, OPTIONAL, OR, PARTIAL, READ_ONLY, RECORD,
-    REQUIRED, SEQUENCE, SETLIKE, SETTER, SHORT, STATIC, STRINGIFIER, SYMBOL, TRUE, TYPEDEF,
-    UNDEFINED, UNRESTRICTED, UNSIGNED,
-};
 use crate::reader::Reader;
-use crate::rule::Rule;
+use weedle_grammar::Rule;
 
 /// Works out the cells of the rules from 47 to 139.
 #[inline(always)]
@@ -52,14 +37,14 @@ fn fill_from_47<C: Cell>(reader: &mut Reader<'_, C>, place: usize)
     requires next { IsFilling reader.old reader.old.text place 47 }
     ensures { IsFilling reader.new reader.old.text place 55 }
 {
-    fill_cell(reader, Rule(BYTES_OR), place);
-    fill_cell(reader, Rule(NOT_NEXT_NAME), place);
-    fill_cell(reader, Rule(OR), place);
-    fill_cell(reader, Rule(BYTES_OPTIONAL), place);
-    fill_cell(reader, Rule(OPTIONAL), place);
-    fill_cell(reader, Rule(BYTES_ASYNC), place);
-    fill_cell(reader, Rule(ASYNC), place);
-    fill_cell(reader, Rule(BYTES_ATTRIBUTE), place);
+    fill_cell(reader, Rule(47), place); // BYTES_OR
+    fill_cell(reader, Rule(48), place); // NOT_NEXT_NAME
+    fill_cell(reader, Rule(49), place); // OR
+    fill_cell(reader, Rule(50), place); // BYTES_OPTIONAL
+    fill_cell(reader, Rule(51), place); // OPTIONAL
+    fill_cell(reader, Rule(52), place); // BYTES_ASYNC
+    fill_cell(reader, Rule(53), place); // ASYNC
+    fill_cell(reader, Rule(54), place); // BYTES_ATTRIBUTE
 }
 
 #[inline(always)]
@@ -68,14 +53,14 @@ fn fill_from_55<C: Cell>(reader: &mut Reader<'_, C>, place: usize)
     requires next { IsFilling reader.old reader.old.text place 55 }
     ensures { IsFilling reader.new reader.old.text place 63 }
 {
-    fill_cell(reader, Rule(ATTRIBUTE), place);
-    fill_cell(reader, Rule(BYTES_CALLBACK), place);
-    fill_cell(reader, Rule(CALLBACK), place);
-    fill_cell(reader, Rule(BYTES_CONST), place);
-    fill_cell(reader, Rule(CONST), place);
-    fill_cell(reader, Rule(BYTES_DELETER), place);
-    fill_cell(reader, Rule(DELETER), place);
-    fill_cell(reader, Rule(BYTES_DICTIONARY), place);
+    fill_cell(reader, Rule(55), place); // ATTRIBUTE
+    fill_cell(reader, Rule(56), place); // BYTES_CALLBACK
+    fill_cell(reader, Rule(57), place); // CALLBACK
+    fill_cell(reader, Rule(58), place); // BYTES_CONST
+    fill_cell(reader, Rule(59), place); // CONST
+    fill_cell(reader, Rule(60), place); // BYTES_DELETER
+    fill_cell(reader, Rule(61), place); // DELETER
+    fill_cell(reader, Rule(62), place); // BYTES_DICTIONARY
 }
 
 #[inline(always)]
@@ -84,14 +69,14 @@ fn fill_from_63<C: Cell>(reader: &mut Reader<'_, C>, place: usize)
     requires next { IsFilling reader.old reader.old.text place 63 }
     ensures { IsFilling reader.new reader.old.text place 71 }
 {
-    fill_cell(reader, Rule(DICTIONARY), place);
-    fill_cell(reader, Rule(BYTES_ENUM), place);
-    fill_cell(reader, Rule(ENUM), place);
-    fill_cell(reader, Rule(BYTES_GETTER), place);
-    fill_cell(reader, Rule(GETTER), place);
-    fill_cell(reader, Rule(BYTES_INCLUDES), place);
-    fill_cell(reader, Rule(INCLUDES), place);
-    fill_cell(reader, Rule(BYTES_INHERIT), place);
+    fill_cell(reader, Rule(63), place); // DICTIONARY
+    fill_cell(reader, Rule(64), place); // BYTES_ENUM
+    fill_cell(reader, Rule(65), place); // ENUM
+    fill_cell(reader, Rule(66), place); // BYTES_GETTER
+    fill_cell(reader, Rule(67), place); // GETTER
+    fill_cell(reader, Rule(68), place); // BYTES_INCLUDES
+    fill_cell(reader, Rule(69), place); // INCLUDES
+    fill_cell(reader, Rule(70), place); // BYTES_INHERIT
 }
 
 #[inline(always)]
@@ -100,14 +85,14 @@ fn fill_from_71<C: Cell>(reader: &mut Reader<'_, C>, place: usize)
     requires next { IsFilling reader.old reader.old.text place 71 }
     ensures { IsFilling reader.new reader.old.text place 79 }
 {
-    fill_cell(reader, Rule(INHERIT), place);
-    fill_cell(reader, Rule(BYTES_INTERFACE), place);
-    fill_cell(reader, Rule(INTERFACE), place);
-    fill_cell(reader, Rule(BYTES_ITERABLE), place);
-    fill_cell(reader, Rule(ITERABLE), place);
-    fill_cell(reader, Rule(BYTES_MAPLIKE), place);
-    fill_cell(reader, Rule(MAPLIKE), place);
-    fill_cell(reader, Rule(BYTES_NAMESPACE), place);
+    fill_cell(reader, Rule(71), place); // INHERIT
+    fill_cell(reader, Rule(72), place); // BYTES_INTERFACE
+    fill_cell(reader, Rule(73), place); // INTERFACE
+    fill_cell(reader, Rule(74), place); // BYTES_ITERABLE
+    fill_cell(reader, Rule(75), place); // ITERABLE
+    fill_cell(reader, Rule(76), place); // BYTES_MAPLIKE
+    fill_cell(reader, Rule(77), place); // MAPLIKE
+    fill_cell(reader, Rule(78), place); // BYTES_NAMESPACE
 }
 
 #[inline(always)]
@@ -116,14 +101,14 @@ fn fill_from_79<C: Cell>(reader: &mut Reader<'_, C>, place: usize)
     requires next { IsFilling reader.old reader.old.text place 79 }
     ensures { IsFilling reader.new reader.old.text place 87 }
 {
-    fill_cell(reader, Rule(NAMESPACE), place);
-    fill_cell(reader, Rule(BYTES_PARTIAL), place);
-    fill_cell(reader, Rule(PARTIAL), place);
-    fill_cell(reader, Rule(BYTES_REQUIRED), place);
-    fill_cell(reader, Rule(REQUIRED), place);
-    fill_cell(reader, Rule(BYTES_SETLIKE), place);
-    fill_cell(reader, Rule(SETLIKE), place);
-    fill_cell(reader, Rule(BYTES_SETTER), place);
+    fill_cell(reader, Rule(79), place); // NAMESPACE
+    fill_cell(reader, Rule(80), place); // BYTES_PARTIAL
+    fill_cell(reader, Rule(81), place); // PARTIAL
+    fill_cell(reader, Rule(82), place); // BYTES_REQUIRED
+    fill_cell(reader, Rule(83), place); // REQUIRED
+    fill_cell(reader, Rule(84), place); // BYTES_SETLIKE
+    fill_cell(reader, Rule(85), place); // SETLIKE
+    fill_cell(reader, Rule(86), place); // BYTES_SETTER
 }
 
 #[inline(always)]
@@ -132,14 +117,14 @@ fn fill_from_87<C: Cell>(reader: &mut Reader<'_, C>, place: usize)
     requires next { IsFilling reader.old reader.old.text place 87 }
     ensures { IsFilling reader.new reader.old.text place 95 }
 {
-    fill_cell(reader, Rule(SETTER), place);
-    fill_cell(reader, Rule(BYTES_STATIC), place);
-    fill_cell(reader, Rule(STATIC), place);
-    fill_cell(reader, Rule(BYTES_STRINGIFIER), place);
-    fill_cell(reader, Rule(STRINGIFIER), place);
-    fill_cell(reader, Rule(BYTES_TYPEDEF), place);
-    fill_cell(reader, Rule(TYPEDEF), place);
-    fill_cell(reader, Rule(BYTES_UNRESTRICTED), place);
+    fill_cell(reader, Rule(87), place); // SETTER
+    fill_cell(reader, Rule(88), place); // BYTES_STATIC
+    fill_cell(reader, Rule(89), place); // STATIC
+    fill_cell(reader, Rule(90), place); // BYTES_STRINGIFIER
+    fill_cell(reader, Rule(91), place); // STRINGIFIER
+    fill_cell(reader, Rule(92), place); // BYTES_TYPEDEF
+    fill_cell(reader, Rule(93), place); // TYPEDEF
+    fill_cell(reader, Rule(94), place); // BYTES_UNRESTRICTED
 }
 
 #[inline(always)]
@@ -148,14 +133,14 @@ fn fill_from_95<C: Cell>(reader: &mut Reader<'_, C>, place: usize)
     requires next { IsFilling reader.old reader.old.text place 95 }
     ensures { IsFilling reader.new reader.old.text place 103 }
 {
-    fill_cell(reader, Rule(UNRESTRICTED), place);
-    fill_cell(reader, Rule(BYTES_SYMBOL), place);
-    fill_cell(reader, Rule(SYMBOL), place);
-    fill_cell(reader, Rule(BYTES_ANY), place);
-    fill_cell(reader, Rule(ANY), place);
-    fill_cell(reader, Rule(BYTES_BOOLEAN), place);
-    fill_cell(reader, Rule(BOOLEAN), place);
-    fill_cell(reader, Rule(BYTES_BYTE), place);
+    fill_cell(reader, Rule(95), place); // UNRESTRICTED
+    fill_cell(reader, Rule(96), place); // BYTES_SYMBOL
+    fill_cell(reader, Rule(97), place); // SYMBOL
+    fill_cell(reader, Rule(98), place); // BYTES_ANY
+    fill_cell(reader, Rule(99), place); // ANY
+    fill_cell(reader, Rule(100), place); // BYTES_BOOLEAN
+    fill_cell(reader, Rule(101), place); // BOOLEAN
+    fill_cell(reader, Rule(102), place); // BYTES_BYTE
 }
 
 #[inline(always)]
@@ -164,14 +149,14 @@ fn fill_from_103<C: Cell>(reader: &mut Reader<'_, C>, place: usize)
     requires next { IsFilling reader.old reader.old.text place 103 }
     ensures { IsFilling reader.new reader.old.text place 111 }
 {
-    fill_cell(reader, Rule(BYTE), place);
-    fill_cell(reader, Rule(BYTES_DOUBLE), place);
-    fill_cell(reader, Rule(DOUBLE), place);
-    fill_cell(reader, Rule(BYTES_FALSE), place);
-    fill_cell(reader, Rule(FALSE), place);
-    fill_cell(reader, Rule(BYTES_FLOAT), place);
-    fill_cell(reader, Rule(FLOAT), place);
-    fill_cell(reader, Rule(BYTES_LONG), place);
+    fill_cell(reader, Rule(103), place); // BYTE
+    fill_cell(reader, Rule(104), place); // BYTES_DOUBLE
+    fill_cell(reader, Rule(105), place); // DOUBLE
+    fill_cell(reader, Rule(106), place); // BYTES_FALSE
+    fill_cell(reader, Rule(107), place); // FALSE
+    fill_cell(reader, Rule(108), place); // BYTES_FLOAT
+    fill_cell(reader, Rule(109), place); // FLOAT
+    fill_cell(reader, Rule(110), place); // BYTES_LONG
 }
 
 #[inline(always)]
@@ -180,14 +165,14 @@ fn fill_from_111<C: Cell>(reader: &mut Reader<'_, C>, place: usize)
     requires next { IsFilling reader.old reader.old.text place 111 }
     ensures { IsFilling reader.new reader.old.text place 119 }
 {
-    fill_cell(reader, Rule(LONG), place);
-    fill_cell(reader, Rule(BYTES_NULL), place);
-    fill_cell(reader, Rule(NULL), place);
-    fill_cell(reader, Rule(BYTES_OBJECT), place);
-    fill_cell(reader, Rule(OBJECT), place);
-    fill_cell(reader, Rule(BYTES_OCTET), place);
-    fill_cell(reader, Rule(OCTET), place);
-    fill_cell(reader, Rule(BYTES_SEQUENCE), place);
+    fill_cell(reader, Rule(111), place); // LONG
+    fill_cell(reader, Rule(112), place); // BYTES_NULL
+    fill_cell(reader, Rule(113), place); // NULL
+    fill_cell(reader, Rule(114), place); // BYTES_OBJECT
+    fill_cell(reader, Rule(115), place); // OBJECT
+    fill_cell(reader, Rule(116), place); // BYTES_OCTET
+    fill_cell(reader, Rule(117), place); // OCTET
+    fill_cell(reader, Rule(118), place); // BYTES_SEQUENCE
 }
 
 #[inline(always)]
@@ -196,14 +181,14 @@ fn fill_from_119<C: Cell>(reader: &mut Reader<'_, C>, place: usize)
     requires next { IsFilling reader.old reader.old.text place 119 }
     ensures { IsFilling reader.new reader.old.text place 127 }
 {
-    fill_cell(reader, Rule(SEQUENCE), place);
-    fill_cell(reader, Rule(BYTES_SHORT), place);
-    fill_cell(reader, Rule(SHORT), place);
-    fill_cell(reader, Rule(BYTES_TRUE), place);
-    fill_cell(reader, Rule(TRUE), place);
-    fill_cell(reader, Rule(BYTES_UNSIGNED), place);
-    fill_cell(reader, Rule(UNSIGNED), place);
-    fill_cell(reader, Rule(BYTES_UNDEFINED), place);
+    fill_cell(reader, Rule(119), place); // SEQUENCE
+    fill_cell(reader, Rule(120), place); // BYTES_SHORT
+    fill_cell(reader, Rule(121), place); // SHORT
+    fill_cell(reader, Rule(122), place); // BYTES_TRUE
+    fill_cell(reader, Rule(123), place); // TRUE
+    fill_cell(reader, Rule(124), place); // BYTES_UNSIGNED
+    fill_cell(reader, Rule(125), place); // UNSIGNED
+    fill_cell(reader, Rule(126), place); // BYTES_UNDEFINED
 }
 
 #[inline(always)]
@@ -212,14 +197,14 @@ fn fill_from_127<C: Cell>(reader: &mut Reader<'_, C>, place: usize)
     requires next { IsFilling reader.old reader.old.text place 127 }
     ensures { IsFilling reader.new reader.old.text place 135 }
 {
-    fill_cell(reader, Rule(UNDEFINED), place);
-    fill_cell(reader, Rule(BYTES_RECORD), place);
-    fill_cell(reader, Rule(RECORD), place);
-    fill_cell(reader, Rule(BYTES_READ_ONLY), place);
-    fill_cell(reader, Rule(READ_ONLY), place);
-    fill_cell(reader, Rule(BYTES_MIXIN), place);
-    fill_cell(reader, Rule(MIXIN), place);
-    fill_cell(reader, Rule(BYTES_IMPLEMENTS), place);
+    fill_cell(reader, Rule(127), place); // UNDEFINED
+    fill_cell(reader, Rule(128), place); // BYTES_RECORD
+    fill_cell(reader, Rule(129), place); // RECORD
+    fill_cell(reader, Rule(130), place); // BYTES_READ_ONLY
+    fill_cell(reader, Rule(131), place); // READ_ONLY
+    fill_cell(reader, Rule(132), place); // BYTES_MIXIN
+    fill_cell(reader, Rule(133), place); // MIXIN
+    fill_cell(reader, Rule(134), place); // BYTES_IMPLEMENTS
 }
 
 #[inline(always)]
@@ -228,9 +213,9 @@ fn fill_from_135<C: Cell>(reader: &mut Reader<'_, C>, place: usize)
     requires next { IsFilling reader.old reader.old.text place 135 }
     ensures { IsFilling reader.new reader.old.text place 140 }
 {
-    fill_cell(reader, Rule(IMPLEMENTS), place);
-    fill_cell(reader, Rule(BYTES_LEGACY_CALLER), place);
-    fill_cell(reader, Rule(LEGACY_CALLER), place);
-    fill_cell(reader, Rule(BYTES_CONSTRUCTOR), place);
-    fill_cell(reader, Rule(CONSTRUCTOR), place);
+    fill_cell(reader, Rule(135), place); // IMPLEMENTS
+    fill_cell(reader, Rule(136), place); // BYTES_LEGACY_CALLER
+    fill_cell(reader, Rule(137), place); // LEGACY_CALLER
+    fill_cell(reader, Rule(138), place); // BYTES_CONSTRUCTOR
+    fill_cell(reader, Rule(139), place); // CONSTRUCTOR
 }

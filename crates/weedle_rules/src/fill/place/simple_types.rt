@@ -7,15 +7,8 @@ ghost use Rattle.weedle_rules.specs.Filling.{IsFilling};
 
 use crate::cell::Cell;
 use crate::fill::fill_cell;
-use crate::grammar::simple_types::{
-    CONST_TYPE, DOUBLE_TYPE, FLOAT_TYPE, FLOATING_POINT_TYPE, IDENTIFIER_LIST, INTEGER_TYPE,
-    LONG_LONG, LONG_LONG_TYPE, LONG_TYPE, MAY_BE_NULL_BOOLEAN, MAY_BE_NULL_BYTE,
-    MAY_BE_NULL_FLOATING_POINT_TYPE, MAY_BE_NULL_IDENTIFIER, MAY_BE_NULL_INTEGER_TYPE,
-    MAY_BE_NULL_OCTET, OPT_Q_MARK, OPT_UNRESTRICTED, OPT_UNSIGNED, PARENTHESIZED_IDENTIFIER_LIST,
-    SHORT_TYPE, TAIL_IDENTIFIER_COMMA,
-};
 use crate::reader::Reader;
-use crate::rule::Rule;
+use weedle_grammar::Rule;
 
 /// Works out the cells of the rules from 235 to 255.
 #[inline(always)]
@@ -35,14 +28,14 @@ fn fill_from_235<C: Cell>(reader: &mut Reader<'_, C>, place: usize)
     requires next { IsFilling reader.old reader.old.text place 235 }
     ensures { IsFilling reader.new reader.old.text place 243 }
 {
-    fill_cell(reader, Rule(OPT_UNSIGNED), place);
-    fill_cell(reader, Rule(LONG_LONG), place);
-    fill_cell(reader, Rule(LONG_LONG_TYPE), place);
-    fill_cell(reader, Rule(LONG_TYPE), place);
-    fill_cell(reader, Rule(SHORT_TYPE), place);
-    fill_cell(reader, Rule(INTEGER_TYPE), place);
-    fill_cell(reader, Rule(OPT_UNRESTRICTED), place);
-    fill_cell(reader, Rule(FLOAT_TYPE), place);
+    fill_cell(reader, Rule(235), place); // OPT_UNSIGNED
+    fill_cell(reader, Rule(236), place); // LONG_LONG
+    fill_cell(reader, Rule(237), place); // LONG_LONG_TYPE
+    fill_cell(reader, Rule(238), place); // LONG_TYPE
+    fill_cell(reader, Rule(239), place); // SHORT_TYPE
+    fill_cell(reader, Rule(240), place); // INTEGER_TYPE
+    fill_cell(reader, Rule(241), place); // OPT_UNRESTRICTED
+    fill_cell(reader, Rule(242), place); // FLOAT_TYPE
 }
 
 #[inline(always)]
@@ -51,14 +44,14 @@ fn fill_from_243<C: Cell>(reader: &mut Reader<'_, C>, place: usize)
     requires next { IsFilling reader.old reader.old.text place 243 }
     ensures { IsFilling reader.new reader.old.text place 251 }
 {
-    fill_cell(reader, Rule(DOUBLE_TYPE), place);
-    fill_cell(reader, Rule(FLOATING_POINT_TYPE), place);
-    fill_cell(reader, Rule(OPT_Q_MARK), place);
-    fill_cell(reader, Rule(MAY_BE_NULL_INTEGER_TYPE), place);
-    fill_cell(reader, Rule(MAY_BE_NULL_FLOATING_POINT_TYPE), place);
-    fill_cell(reader, Rule(MAY_BE_NULL_BOOLEAN), place);
-    fill_cell(reader, Rule(MAY_BE_NULL_BYTE), place);
-    fill_cell(reader, Rule(MAY_BE_NULL_OCTET), place);
+    fill_cell(reader, Rule(243), place); // DOUBLE_TYPE
+    fill_cell(reader, Rule(244), place); // FLOATING_POINT_TYPE
+    fill_cell(reader, Rule(245), place); // OPT_Q_MARK
+    fill_cell(reader, Rule(246), place); // MAY_BE_NULL_INTEGER_TYPE
+    fill_cell(reader, Rule(247), place); // MAY_BE_NULL_FLOATING_POINT_TYPE
+    fill_cell(reader, Rule(248), place); // MAY_BE_NULL_BOOLEAN
+    fill_cell(reader, Rule(249), place); // MAY_BE_NULL_BYTE
+    fill_cell(reader, Rule(250), place); // MAY_BE_NULL_OCTET
 }
 
 #[inline(always)]
@@ -67,9 +60,9 @@ fn fill_from_251<C: Cell>(reader: &mut Reader<'_, C>, place: usize)
     requires next { IsFilling reader.old reader.old.text place 251 }
     ensures { IsFilling reader.new reader.old.text place 256 }
 {
-    fill_cell(reader, Rule(MAY_BE_NULL_IDENTIFIER), place);
-    fill_cell(reader, Rule(CONST_TYPE), place);
-    fill_cell(reader, Rule(TAIL_IDENTIFIER_COMMA), place);
-    fill_cell(reader, Rule(IDENTIFIER_LIST), place);
-    fill_cell(reader, Rule(PARENTHESIZED_IDENTIFIER_LIST), place);
+    fill_cell(reader, Rule(251), place); // MAY_BE_NULL_IDENTIFIER
+    fill_cell(reader, Rule(252), place); // CONST_TYPE
+    fill_cell(reader, Rule(253), place); // TAIL_IDENTIFIER_COMMA
+    fill_cell(reader, Rule(254), place); // IDENTIFIER_LIST
+    fill_cell(reader, Rule(255), place); // PARENTHESIZED_IDENTIFIER_LIST
 }

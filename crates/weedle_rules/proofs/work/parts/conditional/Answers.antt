@@ -1,10 +1,10 @@
 use Rattle.std.proofs.Common.{get_or, subst, arith, rules, ap, ◌≡◌, ◌-◌, false}
-use Rattle.weedle_rules.specs.Table.{webidl}
-use Rattle.weedle_rules.specs.Trees.{Gives}
-use Rattle.weedle_rules.specs.Meaning.{is_present, ReadsBy}
-use Rattle.weedle_rules.proofs.Takes.{takes}
-use Rattle.weedle_rules.proofs.Checked.{ranked}
-use Rattle.weedle_rules.proofs.Numbers.{low_at}
+use Rattle.weedle_grammar.specs.Table.{webidl}
+use Rattle.weedle_grammar.specs.Trees.{Gives}
+use Rattle.weedle_grammar.specs.Meaning.{is_present, ReadsBy}
+use Rattle.weedle_grammar.proofs.Takes.{takes}
+use Rattle.weedle_grammar.proofs.Checked.{ranked}
+use Rattle.weedle_grammar.proofs.Numbers.{low_at}
 use Rattle.weedle_rules.proofs.ConditionEnds.{if_start, if_known, if_step, if_along_fails, if_along_ends, if_ends_none, if_ends_absent, if_ends_present, if_next_low, present, note_more, note_high, note_low, chosen_here, chosen_other}
 use Rattle.weedle_rules.proofs.FewReads.{if_switch}
 use Rattle.weedle_rules.proofs.Looks.{its_count, counted_on, none_yet, on, worked, known_if, known_from}

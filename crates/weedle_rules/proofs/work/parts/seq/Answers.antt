@@ -1,10 +1,10 @@
 use Rattle.std.proofs.Common.{arith}
-use Rattle.weedle_rules.specs.Table.{webidl}
-use Rattle.weedle_rules.proofs.Takes.{takes}
-use Rattle.weedle_rules.proofs.Checked.{ranked}
+use Rattle.weedle_grammar.specs.Table.{webidl}
+use Rattle.weedle_grammar.proofs.Takes.{takes}
+use Rattle.weedle_grammar.proofs.Checked.{ranked}
 use Rattle.weedle_rules.proofs.PartEnds.{along_start, along_known, along_step, along_fails, along_ends}
 use Rattle.weedle_rules.proofs.RowEnds.{seq_ends}
-use Rattle.weedle_rules.proofs.Numbers.{low_at}
+use Rattle.weedle_grammar.proofs.Numbers.{low_at}
 use Rattle.weedle_rules.proofs.FewReads.{seq_few}
 use Rattle.weedle_rules.proofs.Looks.{its_count, none_yet, on, worked, known_if, counted_on}
 use Rattle.weedle_rules.proofs.ListFrom.{parts_from, no_parts_from}

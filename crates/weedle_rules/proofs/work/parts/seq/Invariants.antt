@@ -1,6 +1,6 @@
 use Rattle.std.proofs.Common.{drop}
-use Rattle.weedle_rules.specs.Table.{webidl}
-use Rattle.weedle_rules.proofs.Takes.{takes}
+use Rattle.weedle_grammar.specs.Table.{webidl}
+use Rattle.weedle_grammar.proofs.Takes.{takes}
 use Rattle.weedle_rules.proofs.PartEnds.{Along}
 use Rattle.weedle_rules.proofs.Looks.{Looked}
 use Rattle.weedle_rules.proofs.work.parts.seq.Given as goal
