@@ -632,7 +632,7 @@ def code_section(s):
             out.append(f"use crate::grammar::{home.module}::{{{', '.join(names)}}};")
     out.append("use crate::row::{" + ("Row, parts_of" if "parts_of(" in text else "Row") + "};")
     out += ["use crate::rule::Rule;", ""]
-    out += [f"pub(crate) const {r.name}: u16 = {NUMBER[r.name]};" for r in s.rules]
+    out += [f"pub const {r.name}: u16 = {NUMBER[r.name]};" for r in s.rules]
     constants = [(r.name, doc_of(r)) for r in s.rules if doc_of(r)]
     out += ["", "impl Rule {"] + [line for name, doc in constants for line in (f"    /// {doc}", f"    pub const {name}: Rule = Rule({name});")] + ["}"]
     requires = [f"    requires low {{ {low} ≤ number }}", f"    requires high {{ number < {high} }}"]
@@ -647,13 +647,14 @@ def code_section(s):
 
 
 def code_grammar():
-    out = ["//! The grammar: the number, the name and the row of each rule, section by section.", "//!",
+    out = ["//! The rules of each section, by name: for the table of ends.", "//!",
+           "//! A constant is a rule's number. The rows of a section stand beside its constants.", "//!",
            f"//! {HEAD[0].upper() + HEAD[1:]}.", "",
            "ghost use Rattle.std.specs.Prelude.{◌≡◌};",
            "ghost use Rattle.weedle_grammar.specs.Table.{row_of as row_of_lem};",
            "ghost use Rattle.weedle_grammar.specs.View.{row_view};", "",
            "use crate::row::Row;", "use crate::rule::Rule;", ""]
-    out += [f"pub(crate) mod {s.module};" for s in SECTIONS]
+    out += [f"pub mod {s.module};" for s in SECTIONS]
     out += ["", "/// What a rule reads. It takes no memory.", "#[inline(always)]", "pub fn row_of(rule: Rule) -> Row",
             "    ensures { row_view result ≡ row_of_lem rule }", "{", "    let number = rule.number();"]
     for i, s in enumerate(SECTIONS):
@@ -704,14 +705,15 @@ def code_fill_section(s):
     low, high = NUMBER[names[0]], NUMBER[names[-1]] + 1
     out = [f"//! Works out the cells of a place, section: {s.about}", "//!", f"//! {HEAD[0].upper() + HEAD[1:]}.", ""]
     out += FILL_GHOSTS
-    out += ["use crate::cell::Cell;", "use crate::fill::fill_cell;", "use crate::reader::Reader;", "use weedle_grammar::Rule;", ""]
+    out += ["use crate::cell::Cell;", "use crate::fill::fill_cell;", "use crate::reader::Reader;",
+            f"use weedle_grammar::grammar::{s.module};", ""]
     starts = range(low, high, CALLS)
     out += [f"/// Works out the cells of the rules from {low} to {high - 1}."] + fill_head("pub(super) ", "fill", low, high)
     out += [f"    fill_from_{start}(reader, place);" for start in starts] + ["}"]
     for start in starts:
         stop = min(start + CALLS, high)
         out += [""] + fill_head("", f"fill_from_{start}", start, stop)
-        out += [f"    fill_cell(reader, Rule({n}), place); // {RULES[n].name}" for n in range(start, stop)] + ["}"]
+        out += [f"    fill_cell(reader, {s.module}::{RULES[n].name}, place);" for n in range(start, stop)] + ["}"]
     write(ENDS / f"src/fill/place/{s.module}.rt", "\n".join(out) + "\n")
 
 

@@ -1,4 +1,6 @@
-//! The grammar: the number, the name and the row of each rule, section by section.
+//! The rules of each section, by name: for the table of ends.
+//!
+//! A constant is a rule's number. The rows of a section stand beside its constants.
 //!
 //! Written by tools/grammar.py.
 
@@ -9,17 +11,17 @@ ghost use Rattle.weedle_grammar.specs.View.{row_view};
 use crate::row::Row;
 use crate::rule::Rule;
 
-pub(crate) mod capitalized_keywords;
-pub(crate) mod definitions;
-pub(crate) mod interface_members;
-pub(crate) mod keywords;
-pub(crate) mod leaves;
-pub(crate) mod literals;
-pub(crate) mod other_members;
-pub(crate) mod simple_types;
-pub(crate) mod symbols;
-pub(crate) mod trivia;
-pub(crate) mod types;
+pub mod capitalized_keywords;
+pub mod definitions;
+pub mod interface_members;
+pub mod keywords;
+pub mod leaves;
+pub mod literals;
+pub mod other_members;
+pub mod simple_types;
+pub mod symbols;
+pub mod trivia;
+pub mod types;
 
 /// What a rule reads. It takes no memory.
 #[inline(always)]

@@ -14,7 +14,7 @@
 #![tactic(auto)]
 
 mod class;
-mod grammar;
+pub mod grammar;
 pub mod laws;
 mod row;
 mod rule;
@@ -22,7 +22,7 @@ mod rule;
 pub use class::{Class, holds};
 pub use grammar::row_of;
 pub use row::{Parts, Row};
-pub use rule::Rule;
+pub use rule::{Rule, rule_of};
 
 /// How many rules there are.
 pub const RULES: usize = 386;

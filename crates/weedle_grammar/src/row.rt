@@ -1,6 +1,6 @@
 //! What a rule reads.
 
-ghost use Rattle.std.specs.Prelude.{◌≡◌, ◌↔◌, IsTrue, length, slice_get};
+ghost use Rattle.std.specs.Prelude.{◌≡◌, IsTrue};
 ghost use Rattle.weedle_grammar.specs.Entry.{are_rules};
 
 use crate::class::Class;
@@ -9,9 +9,8 @@ use crate::rule::Rule;
 /// The rules that a row reads one after another, or of which it takes the first that fits.
 #[derive(Clone, Copy, Debug)]
 pub struct Parts {
-    /// Their numbers.
-    pub numbers: &'static [u16],
-    pub ghost in_range: { IsTrue (are_rules numbers.now) },
+    numbers: &'static [u16],
+    ghost in_range: { IsTrue (are_rules numbers.now) },
 }
 
 /// The parts of these numbers.
@@ -23,28 +22,43 @@ pub(crate) fn parts_of(numbers: &'static [u16]) -> Parts
 }
 
 impl Parts {
+    ghost use Rattle.std.specs.Prelude.{◌≡◌, ◌<◌, ◌↔◌, IsTrue, length, slice_get, slice_index};
+    ghost use Rattle.weedle_grammar.specs.Bound.{rule_count};
+    ghost use Rattle.weedle_grammar.specs.View.{numbers_of};
+
     /// How many there are. It takes no memory.
+    #[inline(always)]
     pub fn len(&self) -> usize
-        ensures { result ≡ length self.now.numbers.now }
+        ensures { result ≡ length (numbers_of self.now) }
     {
         self.numbers.len()
     }
 
     /// Whether there is none. It takes no memory.
     pub fn is_empty(&self) -> bool
-        ensures { IsTrue result ↔ (length self.now.numbers.now ≡ 0) }
+        ensures { IsTrue result ↔ (length (numbers_of self.now) ≡ 0) }
     {
         self.numbers.is_empty()
     }
 
     /// The rule at a place, counted from 0, or None from the end on. It takes no memory.
     pub fn at(&self, i: usize) -> Option<Rule>
-        ensures { result ≡ slice_get self.now.numbers.now i }
+        ensures { result ≡ slice_get (numbers_of self.now) i }
     {
         match self.numbers.get(i) {
             Some(number) => Some(Rule(*number)),
             None => None,
         }
+    }
+
+    /// The rule at a place before the end, counted from 0. It takes no memory.
+    #[inline(always)]
+    pub fn rule(&self, i: usize) -> Rule
+        requires { i < length (numbers_of self.now) }
+        ensures value { result ≡ slice_index (numbers_of self.now) i }
+        ensures low { result < rule_count }
+    {
+        Rule(self.numbers[i])
     }
 }
 

@@ -10,10 +10,7 @@ use std::marker::Model;
 ///
 /// What a rule reads before a byte is taken has a smaller number.
 #[derive(Clone, Copy, Debug, PartialEq, Eq)]
-pub struct Rule(
-    /// Its number, below `RULES`.
-    pub u16,
-);
+pub struct Rule(pub(crate) u16);
 
 impl Model for Rule {
     ghost Value = { ℕ };
@@ -25,6 +22,15 @@ impl Model for Rule {
     ghost invariant = { λ rule. rule.0 < rule_count };
 }
 
+/// The rule of a number below `RULES`. It takes no memory.
+#[inline(always)]
+pub fn rule_of(number: u16) -> Rule
+    requires { number < RULES }
+    ensures { result ≡ number }
+{
+    Rule(number)
+}
+
 impl Rule {
     /// The rule of a number, or None where there is none. It takes no memory.
     pub fn new(number: u16) -> Option<Rule>
@@ -32,7 +38,7 @@ impl Rule {
         ensures exact { IsSome result ↔ (number < RULES) }
     {
         if (number as usize) < RULES {
-            Some(Rule(number))
+            Some(rule_of(number))
         } else {
             None
         }

@@ -11,93 +11,93 @@ use crate::grammar::trivia::TRIVIA;
 use crate::row::{Row, parts_of};
 use crate::rule::Rule;
 
-pub(crate) const BYTES_BYTE_STRING: u16 = 140;
+pub const BYTES_BYTE_STRING: u16 = 140;
 
-pub(crate) const BYTE_STRING: u16 = 141;
+pub const BYTE_STRING: u16 = 141;
 
-pub(crate) const BYTES_DOM_STRING: u16 = 142;
+pub const BYTES_DOM_STRING: u16 = 142;
 
-pub(crate) const DOM_STRING: u16 = 143;
+pub const DOM_STRING: u16 = 143;
 
-pub(crate) const BYTES_FROZEN_ARRAY: u16 = 144;
+pub const BYTES_FROZEN_ARRAY: u16 = 144;
 
-pub(crate) const FROZEN_ARRAY: u16 = 145;
+pub const FROZEN_ARRAY: u16 = 145;
 
-pub(crate) const BYTES_INFINITY: u16 = 146;
+pub const BYTES_INFINITY: u16 = 146;
 
-pub(crate) const INFINITY: u16 = 147;
+pub const INFINITY: u16 = 147;
 
-pub(crate) const BYTES_NAN: u16 = 148;
+pub const BYTES_NAN: u16 = 148;
 
-pub(crate) const NAN: u16 = 149;
+pub const NAN: u16 = 149;
 
-pub(crate) const BYTES_USV_STRING: u16 = 150;
+pub const BYTES_USV_STRING: u16 = 150;
 
-pub(crate) const USV_STRING: u16 = 151;
+pub const USV_STRING: u16 = 151;
 
-pub(crate) const BYTES_ARRAY_BUFFER: u16 = 152;
+pub const BYTES_ARRAY_BUFFER: u16 = 152;
 
-pub(crate) const ARRAY_BUFFER: u16 = 153;
+pub const ARRAY_BUFFER: u16 = 153;
 
-pub(crate) const BYTES_DATA_VIEW: u16 = 154;
+pub const BYTES_DATA_VIEW: u16 = 154;
 
-pub(crate) const DATA_VIEW: u16 = 155;
+pub const DATA_VIEW: u16 = 155;
 
-pub(crate) const BYTES_INT8_ARRAY: u16 = 156;
+pub const BYTES_INT8_ARRAY: u16 = 156;
 
-pub(crate) const INT8_ARRAY: u16 = 157;
+pub const INT8_ARRAY: u16 = 157;
 
-pub(crate) const BYTES_INT16_ARRAY: u16 = 158;
+pub const BYTES_INT16_ARRAY: u16 = 158;
 
-pub(crate) const INT16_ARRAY: u16 = 159;
+pub const INT16_ARRAY: u16 = 159;
 
-pub(crate) const BYTES_INT32_ARRAY: u16 = 160;
+pub const BYTES_INT32_ARRAY: u16 = 160;
 
-pub(crate) const INT32_ARRAY: u16 = 161;
+pub const INT32_ARRAY: u16 = 161;
 
-pub(crate) const BYTES_UINT8_ARRAY: u16 = 162;
+pub const BYTES_UINT8_ARRAY: u16 = 162;
 
-pub(crate) const UINT8_ARRAY: u16 = 163;
+pub const UINT8_ARRAY: u16 = 163;
 
-pub(crate) const BYTES_UINT16_ARRAY: u16 = 164;
+pub const BYTES_UINT16_ARRAY: u16 = 164;
 
-pub(crate) const UINT16_ARRAY: u16 = 165;
+pub const UINT16_ARRAY: u16 = 165;
 
-pub(crate) const BYTES_UINT32_ARRAY: u16 = 166;
+pub const BYTES_UINT32_ARRAY: u16 = 166;
 
-pub(crate) const UINT32_ARRAY: u16 = 167;
+pub const UINT32_ARRAY: u16 = 167;
 
-pub(crate) const BYTES_UINT8_CLAMPED_ARRAY: u16 = 168;
+pub const BYTES_UINT8_CLAMPED_ARRAY: u16 = 168;
 
-pub(crate) const UINT8_CLAMPED_ARRAY: u16 = 169;
+pub const UINT8_CLAMPED_ARRAY: u16 = 169;
 
-pub(crate) const BYTES_FLOAT32_ARRAY: u16 = 170;
+pub const BYTES_FLOAT32_ARRAY: u16 = 170;
 
-pub(crate) const FLOAT32_ARRAY: u16 = 171;
+pub const FLOAT32_ARRAY: u16 = 171;
 
-pub(crate) const BYTES_FLOAT64_ARRAY: u16 = 172;
+pub const BYTES_FLOAT64_ARRAY: u16 = 172;
 
-pub(crate) const FLOAT64_ARRAY: u16 = 173;
+pub const FLOAT64_ARRAY: u16 = 173;
 
-pub(crate) const BYTES_ARRAY_BUFFER_VIEW: u16 = 174;
+pub const BYTES_ARRAY_BUFFER_VIEW: u16 = 174;
 
-pub(crate) const ARRAY_BUFFER_VIEW: u16 = 175;
+pub const ARRAY_BUFFER_VIEW: u16 = 175;
 
-pub(crate) const BYTES_BUFFER_SOURCE: u16 = 176;
+pub const BYTES_BUFFER_SOURCE: u16 = 176;
 
-pub(crate) const BUFFER_SOURCE: u16 = 177;
+pub const BUFFER_SOURCE: u16 = 177;
 
-pub(crate) const BYTES_PROMISE: u16 = 178;
+pub const BYTES_PROMISE: u16 = 178;
 
-pub(crate) const PROMISE: u16 = 179;
+pub const PROMISE: u16 = 179;
 
-pub(crate) const BYTES_ERROR: u16 = 180;
+pub const BYTES_ERROR: u16 = 180;
 
-pub(crate) const ERROR: u16 = 181;
+pub const ERROR: u16 = 181;
 
-pub(crate) const BYTES_NEG_INFINITY: u16 = 182;
+pub const BYTES_NEG_INFINITY: u16 = 182;
 
-pub(crate) const NEG_INFINITY: u16 = 183;
+pub const NEG_INFINITY: u16 = 183;
 
 impl Rule {
     /// The keyword `ByteString`.

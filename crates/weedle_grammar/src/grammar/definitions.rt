@@ -22,37 +22,37 @@ use crate::grammar::types::{
 use crate::row::{Row, parts_of};
 use crate::rule::Rule;
 
-pub(crate) const CALLBACK_DEFINITION: u16 = 370;
+pub const CALLBACK_DEFINITION: u16 = 370;
 
-pub(crate) const CALLBACK_INTERFACE_DEFINITION: u16 = 371;
+pub const CALLBACK_INTERFACE_DEFINITION: u16 = 371;
 
-pub(crate) const INTERFACE_DEFINITION: u16 = 372;
+pub const INTERFACE_DEFINITION: u16 = 372;
 
-pub(crate) const INTERFACE_MIXIN_DEFINITION: u16 = 373;
+pub const INTERFACE_MIXIN_DEFINITION: u16 = 373;
 
-pub(crate) const NAMESPACE_DEFINITION: u16 = 374;
+pub const NAMESPACE_DEFINITION: u16 = 374;
 
-pub(crate) const DICTIONARY_DEFINITION: u16 = 375;
+pub const DICTIONARY_DEFINITION: u16 = 375;
 
-pub(crate) const PARTIAL_INTERFACE_DEFINITION: u16 = 376;
+pub const PARTIAL_INTERFACE_DEFINITION: u16 = 376;
 
-pub(crate) const PARTIAL_INTERFACE_MIXIN_DEFINITION: u16 = 377;
+pub const PARTIAL_INTERFACE_MIXIN_DEFINITION: u16 = 377;
 
-pub(crate) const PARTIAL_DICTIONARY_DEFINITION: u16 = 378;
+pub const PARTIAL_DICTIONARY_DEFINITION: u16 = 378;
 
-pub(crate) const PARTIAL_NAMESPACE_DEFINITION: u16 = 379;
+pub const PARTIAL_NAMESPACE_DEFINITION: u16 = 379;
 
-pub(crate) const ENUM_DEFINITION: u16 = 380;
+pub const ENUM_DEFINITION: u16 = 380;
 
-pub(crate) const TYPEDEF_DEFINITION: u16 = 381;
+pub const TYPEDEF_DEFINITION: u16 = 381;
 
-pub(crate) const INCLUDES_STATEMENT_DEFINITION: u16 = 382;
+pub const INCLUDES_STATEMENT_DEFINITION: u16 = 382;
 
-pub(crate) const IMPLEMENTS_DEFINITION: u16 = 383;
+pub const IMPLEMENTS_DEFINITION: u16 = 383;
 
-pub(crate) const DEFINITION: u16 = 384;
+pub const DEFINITION: u16 = 384;
 
-pub(crate) const DEFINITIONS: u16 = 385;
+pub const DEFINITIONS: u16 = 385;
 
 impl Rule {
     /// A callback, as `callback F = undefined (long x);`.

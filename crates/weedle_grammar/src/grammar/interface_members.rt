@@ -22,69 +22,69 @@ use crate::grammar::types::{
 use crate::row::{Row, parts_of};
 use crate::rule::Rule;
 
-pub(crate) const OPT_DOCSTRING: u16 = 317;
+pub const OPT_DOCSTRING: u16 = 317;
 
-pub(crate) const OPT_IDENTIFIER: u16 = 318;
+pub const OPT_IDENTIFIER: u16 = 318;
 
-pub(crate) const OPT_READ_ONLY: u16 = 319;
+pub const OPT_READ_ONLY: u16 = 319;
 
-pub(crate) const KEY_AND_VALUE_TYPES: u16 = 320;
+pub const KEY_AND_VALUE_TYPES: u16 = 320;
 
-pub(crate) const GENERICS_ATTRIBUTED_TYPE: u16 = 321;
+pub const GENERICS_ATTRIBUTED_TYPE: u16 = 321;
 
-pub(crate) const GENERICS_KEY_AND_VALUE_TYPES: u16 = 322;
+pub const GENERICS_KEY_AND_VALUE_TYPES: u16 = 322;
 
-pub(crate) const INHERITANCE: u16 = 323;
+pub const INHERITANCE: u16 = 323;
 
-pub(crate) const OPT_INHERITANCE: u16 = 324;
+pub const OPT_INHERITANCE: u16 = 324;
 
-pub(crate) const SPECIAL: u16 = 325;
+pub const SPECIAL: u16 = 325;
 
-pub(crate) const OPT_SPECIAL: u16 = 326;
+pub const OPT_SPECIAL: u16 = 326;
 
-pub(crate) const STRINGIFIER_OR_INHERIT_OR_STATIC: u16 = 327;
+pub const STRINGIFIER_OR_INHERIT_OR_STATIC: u16 = 327;
 
-pub(crate) const OPT_STRINGIFIER_OR_INHERIT_OR_STATIC: u16 = 328;
+pub const OPT_STRINGIFIER_OR_INHERIT_OR_STATIC: u16 = 328;
 
-pub(crate) const STRINGIFIER_OR_STATIC: u16 = 329;
+pub const STRINGIFIER_OR_STATIC: u16 = 329;
 
-pub(crate) const OPT_STRINGIFIER_OR_STATIC: u16 = 330;
+pub const OPT_STRINGIFIER_OR_STATIC: u16 = 330;
 
-pub(crate) const CONST_MEMBER: u16 = 331;
+pub const CONST_MEMBER: u16 = 331;
 
-pub(crate) const ATTRIBUTE_INTERFACE_MEMBER: u16 = 332;
+pub const ATTRIBUTE_INTERFACE_MEMBER: u16 = 332;
 
-pub(crate) const CONSTRUCTOR_INTERFACE_MEMBER: u16 = 333;
+pub const CONSTRUCTOR_INTERFACE_MEMBER: u16 = 333;
 
-pub(crate) const OPERATION_INTERFACE_MEMBER: u16 = 334;
+pub const OPERATION_INTERFACE_MEMBER: u16 = 334;
 
-pub(crate) const SINGLE_TYPED_ITERABLE: u16 = 335;
+pub const SINGLE_TYPED_ITERABLE: u16 = 335;
 
-pub(crate) const DOUBLE_TYPED_ITERABLE: u16 = 336;
+pub const DOUBLE_TYPED_ITERABLE: u16 = 336;
 
-pub(crate) const ITERABLE_INTERFACE_MEMBER: u16 = 337;
+pub const ITERABLE_INTERFACE_MEMBER: u16 = 337;
 
-pub(crate) const ASYNC_ITERABLE: u16 = 338;
+pub const ASYNC_ITERABLE: u16 = 338;
 
-pub(crate) const OPT_PARENTHESIZED_ARGUMENT_LIST: u16 = 339;
+pub const OPT_PARENTHESIZED_ARGUMENT_LIST: u16 = 339;
 
-pub(crate) const SINGLE_TYPED_ASYNC_ITERABLE: u16 = 340;
+pub const SINGLE_TYPED_ASYNC_ITERABLE: u16 = 340;
 
-pub(crate) const DOUBLE_TYPED_ASYNC_ITERABLE: u16 = 341;
+pub const DOUBLE_TYPED_ASYNC_ITERABLE: u16 = 341;
 
-pub(crate) const ASYNC_ITERABLE_INTERFACE_MEMBER: u16 = 342;
+pub const ASYNC_ITERABLE_INTERFACE_MEMBER: u16 = 342;
 
-pub(crate) const MAPLIKE_INTERFACE_MEMBER: u16 = 343;
+pub const MAPLIKE_INTERFACE_MEMBER: u16 = 343;
 
-pub(crate) const SETLIKE_INTERFACE_MEMBER: u16 = 344;
+pub const SETLIKE_INTERFACE_MEMBER: u16 = 344;
 
-pub(crate) const STRINGIFIER_MEMBER: u16 = 345;
+pub const STRINGIFIER_MEMBER: u16 = 345;
 
-pub(crate) const INTERFACE_MEMBER: u16 = 346;
+pub const INTERFACE_MEMBER: u16 = 346;
 
-pub(crate) const INTERFACE_MEMBERS: u16 = 347;
+pub const INTERFACE_MEMBERS: u16 = 347;
 
-pub(crate) const BRACED_INTERFACE_MEMBERS: u16 = 348;
+pub const BRACED_INTERFACE_MEMBERS: u16 = 348;
 
 impl Rule {
     /// What an interface or a dictionary inherits from, as `: Node`.

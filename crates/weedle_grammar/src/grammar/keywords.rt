@@ -11,191 +11,191 @@ use crate::grammar::trivia::TRIVIA;
 use crate::row::{Row, parts_of};
 use crate::rule::Rule;
 
-pub(crate) const BYTES_OR: u16 = 47;
+pub const BYTES_OR: u16 = 47;
 
-pub(crate) const NOT_NEXT_NAME: u16 = 48;
+pub const NOT_NEXT_NAME: u16 = 48;
 
-pub(crate) const OR: u16 = 49;
+pub const OR: u16 = 49;
 
-pub(crate) const BYTES_OPTIONAL: u16 = 50;
+pub const BYTES_OPTIONAL: u16 = 50;
 
-pub(crate) const OPTIONAL: u16 = 51;
+pub const OPTIONAL: u16 = 51;
 
-pub(crate) const BYTES_ASYNC: u16 = 52;
+pub const BYTES_ASYNC: u16 = 52;
 
-pub(crate) const ASYNC: u16 = 53;
+pub const ASYNC: u16 = 53;
 
-pub(crate) const BYTES_ATTRIBUTE: u16 = 54;
+pub const BYTES_ATTRIBUTE: u16 = 54;
 
-pub(crate) const ATTRIBUTE: u16 = 55;
+pub const ATTRIBUTE: u16 = 55;
 
-pub(crate) const BYTES_CALLBACK: u16 = 56;
+pub const BYTES_CALLBACK: u16 = 56;
 
-pub(crate) const CALLBACK: u16 = 57;
+pub const CALLBACK: u16 = 57;
 
-pub(crate) const BYTES_CONST: u16 = 58;
+pub const BYTES_CONST: u16 = 58;
 
-pub(crate) const CONST: u16 = 59;
+pub const CONST: u16 = 59;
 
-pub(crate) const BYTES_DELETER: u16 = 60;
+pub const BYTES_DELETER: u16 = 60;
 
-pub(crate) const DELETER: u16 = 61;
+pub const DELETER: u16 = 61;
 
-pub(crate) const BYTES_DICTIONARY: u16 = 62;
+pub const BYTES_DICTIONARY: u16 = 62;
 
-pub(crate) const DICTIONARY: u16 = 63;
+pub const DICTIONARY: u16 = 63;
 
-pub(crate) const BYTES_ENUM: u16 = 64;
+pub const BYTES_ENUM: u16 = 64;
 
-pub(crate) const ENUM: u16 = 65;
+pub const ENUM: u16 = 65;
 
-pub(crate) const BYTES_GETTER: u16 = 66;
+pub const BYTES_GETTER: u16 = 66;
 
-pub(crate) const GETTER: u16 = 67;
+pub const GETTER: u16 = 67;
 
-pub(crate) const BYTES_INCLUDES: u16 = 68;
+pub const BYTES_INCLUDES: u16 = 68;
 
-pub(crate) const INCLUDES: u16 = 69;
+pub const INCLUDES: u16 = 69;
 
-pub(crate) const BYTES_INHERIT: u16 = 70;
+pub const BYTES_INHERIT: u16 = 70;
 
-pub(crate) const INHERIT: u16 = 71;
+pub const INHERIT: u16 = 71;
 
-pub(crate) const BYTES_INTERFACE: u16 = 72;
+pub const BYTES_INTERFACE: u16 = 72;
 
-pub(crate) const INTERFACE: u16 = 73;
+pub const INTERFACE: u16 = 73;
 
-pub(crate) const BYTES_ITERABLE: u16 = 74;
+pub const BYTES_ITERABLE: u16 = 74;
 
-pub(crate) const ITERABLE: u16 = 75;
+pub const ITERABLE: u16 = 75;
 
-pub(crate) const BYTES_MAPLIKE: u16 = 76;
+pub const BYTES_MAPLIKE: u16 = 76;
 
-pub(crate) const MAPLIKE: u16 = 77;
+pub const MAPLIKE: u16 = 77;
 
-pub(crate) const BYTES_NAMESPACE: u16 = 78;
+pub const BYTES_NAMESPACE: u16 = 78;
 
-pub(crate) const NAMESPACE: u16 = 79;
+pub const NAMESPACE: u16 = 79;
 
-pub(crate) const BYTES_PARTIAL: u16 = 80;
+pub const BYTES_PARTIAL: u16 = 80;
 
-pub(crate) const PARTIAL: u16 = 81;
+pub const PARTIAL: u16 = 81;
 
-pub(crate) const BYTES_REQUIRED: u16 = 82;
+pub const BYTES_REQUIRED: u16 = 82;
 
-pub(crate) const REQUIRED: u16 = 83;
+pub const REQUIRED: u16 = 83;
 
-pub(crate) const BYTES_SETLIKE: u16 = 84;
+pub const BYTES_SETLIKE: u16 = 84;
 
-pub(crate) const SETLIKE: u16 = 85;
+pub const SETLIKE: u16 = 85;
 
-pub(crate) const BYTES_SETTER: u16 = 86;
+pub const BYTES_SETTER: u16 = 86;
 
-pub(crate) const SETTER: u16 = 87;
+pub const SETTER: u16 = 87;
 
-pub(crate) const BYTES_STATIC: u16 = 88;
+pub const BYTES_STATIC: u16 = 88;
 
-pub(crate) const STATIC: u16 = 89;
+pub const STATIC: u16 = 89;
 
-pub(crate) const BYTES_STRINGIFIER: u16 = 90;
+pub const BYTES_STRINGIFIER: u16 = 90;
 
-pub(crate) const STRINGIFIER: u16 = 91;
+pub const STRINGIFIER: u16 = 91;
 
-pub(crate) const BYTES_TYPEDEF: u16 = 92;
+pub const BYTES_TYPEDEF: u16 = 92;
 
-pub(crate) const TYPEDEF: u16 = 93;
+pub const TYPEDEF: u16 = 93;
 
-pub(crate) const BYTES_UNRESTRICTED: u16 = 94;
+pub const BYTES_UNRESTRICTED: u16 = 94;
 
-pub(crate) const UNRESTRICTED: u16 = 95;
+pub const UNRESTRICTED: u16 = 95;
 
-pub(crate) const BYTES_SYMBOL: u16 = 96;
+pub const BYTES_SYMBOL: u16 = 96;
 
-pub(crate) const SYMBOL: u16 = 97;
+pub const SYMBOL: u16 = 97;
 
-pub(crate) const BYTES_ANY: u16 = 98;
+pub const BYTES_ANY: u16 = 98;
 
-pub(crate) const ANY: u16 = 99;
+pub const ANY: u16 = 99;
 
-pub(crate) const BYTES_BOOLEAN: u16 = 100;
+pub const BYTES_BOOLEAN: u16 = 100;
 
-pub(crate) const BOOLEAN: u16 = 101;
+pub const BOOLEAN: u16 = 101;
 
-pub(crate) const BYTES_BYTE: u16 = 102;
+pub const BYTES_BYTE: u16 = 102;
 
-pub(crate) const BYTE: u16 = 103;
+pub const BYTE: u16 = 103;
 
-pub(crate) const BYTES_DOUBLE: u16 = 104;
+pub const BYTES_DOUBLE: u16 = 104;
 
-pub(crate) const DOUBLE: u16 = 105;
+pub const DOUBLE: u16 = 105;
 
-pub(crate) const BYTES_FALSE: u16 = 106;
+pub const BYTES_FALSE: u16 = 106;
 
-pub(crate) const FALSE: u16 = 107;
+pub const FALSE: u16 = 107;
 
-pub(crate) const BYTES_FLOAT: u16 = 108;
+pub const BYTES_FLOAT: u16 = 108;
 
-pub(crate) const FLOAT: u16 = 109;
+pub const FLOAT: u16 = 109;
 
-pub(crate) const BYTES_LONG: u16 = 110;
+pub const BYTES_LONG: u16 = 110;
 
-pub(crate) const LONG: u16 = 111;
+pub const LONG: u16 = 111;
 
-pub(crate) const BYTES_NULL: u16 = 112;
+pub const BYTES_NULL: u16 = 112;
 
-pub(crate) const NULL: u16 = 113;
+pub const NULL: u16 = 113;
 
-pub(crate) const BYTES_OBJECT: u16 = 114;
+pub const BYTES_OBJECT: u16 = 114;
 
-pub(crate) const OBJECT: u16 = 115;
+pub const OBJECT: u16 = 115;
 
-pub(crate) const BYTES_OCTET: u16 = 116;
+pub const BYTES_OCTET: u16 = 116;
 
-pub(crate) const OCTET: u16 = 117;
+pub const OCTET: u16 = 117;
 
-pub(crate) const BYTES_SEQUENCE: u16 = 118;
+pub const BYTES_SEQUENCE: u16 = 118;
 
-pub(crate) const SEQUENCE: u16 = 119;
+pub const SEQUENCE: u16 = 119;
 
-pub(crate) const BYTES_SHORT: u16 = 120;
+pub const BYTES_SHORT: u16 = 120;
 
-pub(crate) const SHORT: u16 = 121;
+pub const SHORT: u16 = 121;
 
-pub(crate) const BYTES_TRUE: u16 = 122;
+pub const BYTES_TRUE: u16 = 122;
 
-pub(crate) const TRUE: u16 = 123;
+pub const TRUE: u16 = 123;
 
-pub(crate) const BYTES_UNSIGNED: u16 = 124;
+pub const BYTES_UNSIGNED: u16 = 124;
 
-pub(crate) const UNSIGNED: u16 = 125;
+pub const UNSIGNED: u16 = 125;
 
-pub(crate) const BYTES_UNDEFINED: u16 = 126;
+pub const BYTES_UNDEFINED: u16 = 126;
 
-pub(crate) const UNDEFINED: u16 = 127;
+pub const UNDEFINED: u16 = 127;
 
-pub(crate) const BYTES_RECORD: u16 = 128;
+pub const BYTES_RECORD: u16 = 128;
 
-pub(crate) const RECORD: u16 = 129;
+pub const RECORD: u16 = 129;
 
-pub(crate) const BYTES_READ_ONLY: u16 = 130;
+pub const BYTES_READ_ONLY: u16 = 130;
 
-pub(crate) const READ_ONLY: u16 = 131;
+pub const READ_ONLY: u16 = 131;
 
-pub(crate) const BYTES_MIXIN: u16 = 132;
+pub const BYTES_MIXIN: u16 = 132;
 
-pub(crate) const MIXIN: u16 = 133;
+pub const MIXIN: u16 = 133;
 
-pub(crate) const BYTES_IMPLEMENTS: u16 = 134;
+pub const BYTES_IMPLEMENTS: u16 = 134;
 
-pub(crate) const IMPLEMENTS: u16 = 135;
+pub const IMPLEMENTS: u16 = 135;
 
-pub(crate) const BYTES_LEGACY_CALLER: u16 = 136;
+pub const BYTES_LEGACY_CALLER: u16 = 136;
 
-pub(crate) const LEGACY_CALLER: u16 = 137;
+pub const LEGACY_CALLER: u16 = 137;
 
-pub(crate) const BYTES_CONSTRUCTOR: u16 = 138;
+pub const BYTES_CONSTRUCTOR: u16 = 138;
 
-pub(crate) const CONSTRUCTOR: u16 = 139;
+pub const CONSTRUCTOR: u16 = 139;
 
 impl Rule {
     /// The keyword `or`.

@@ -12,91 +12,91 @@ use crate::grammar::trivia::{RUN_BLANK, TRIVIA};
 use crate::row::{Row, parts_of};
 use crate::rule::Rule;
 
-pub(crate) const BYTES_UNDERSCORE: u16 = 184;
+pub const BYTES_UNDERSCORE: u16 = 184;
 
-pub(crate) const OPT_BYTES_UNDERSCORE: u16 = 185;
+pub const OPT_BYTES_UNDERSCORE: u16 = 185;
 
-pub(crate) const ONE_OF_LETTER: u16 = 186;
+pub const ONE_OF_LETTER: u16 = 186;
 
-pub(crate) const RUN_NAME: u16 = 187;
+pub const RUN_NAME: u16 = 187;
 
-pub(crate) const IDENTIFIER_TEXT: u16 = 188;
+pub const IDENTIFIER_TEXT: u16 = 188;
 
-pub(crate) const IDENTIFIER: u16 = 189;
+pub const IDENTIFIER: u16 = 189;
 
-pub(crate) const OPT_BYTES_MINUS: u16 = 190;
+pub const OPT_BYTES_MINUS: u16 = 190;
 
-pub(crate) const ONE_OF_ONE_TO_NINE: u16 = 191;
+pub const ONE_OF_ONE_TO_NINE: u16 = 191;
 
-pub(crate) const RUN_DIGIT: u16 = 192;
+pub const RUN_DIGIT: u16 = 192;
 
-pub(crate) const DEC_LIT_TEXT: u16 = 193;
+pub const DEC_LIT_TEXT: u16 = 193;
 
-pub(crate) const DEC_LIT: u16 = 194;
+pub const DEC_LIT: u16 = 194;
 
-pub(crate) const BYTES_ZERO: u16 = 195;
+pub const BYTES_ZERO: u16 = 195;
 
-pub(crate) const ONE_OF_X_LETTER: u16 = 196;
+pub const ONE_OF_X_LETTER: u16 = 196;
 
-pub(crate) const ONE_OF_HEX: u16 = 197;
+pub const ONE_OF_HEX: u16 = 197;
 
-pub(crate) const RUN_HEX: u16 = 198;
+pub const RUN_HEX: u16 = 198;
 
-pub(crate) const HEX_LIT_TEXT: u16 = 199;
+pub const HEX_LIT_TEXT: u16 = 199;
 
-pub(crate) const HEX_LIT: u16 = 200;
+pub const HEX_LIT: u16 = 200;
 
-pub(crate) const RUN_OCTAL: u16 = 201;
+pub const RUN_OCTAL: u16 = 201;
 
-pub(crate) const OCT_LIT_TEXT: u16 = 202;
+pub const OCT_LIT_TEXT: u16 = 202;
 
-pub(crate) const OCT_LIT: u16 = 203;
+pub const OCT_LIT: u16 = 203;
 
-pub(crate) const ONE_OF_DIGIT: u16 = 204;
+pub const ONE_OF_DIGIT: u16 = 204;
 
-pub(crate) const DIGITS: u16 = 205;
+pub const DIGITS: u16 = 205;
 
-pub(crate) const ONE_OF_E_LETTER: u16 = 206;
+pub const ONE_OF_E_LETTER: u16 = 206;
 
-pub(crate) const ONE_OF_SIGN: u16 = 207;
+pub const ONE_OF_SIGN: u16 = 207;
 
-pub(crate) const OPT_ONE_OF_SIGN: u16 = 208;
+pub const OPT_ONE_OF_SIGN: u16 = 208;
 
-pub(crate) const EXPONENT: u16 = 209;
+pub const EXPONENT: u16 = 209;
 
-pub(crate) const POINT_AFTER_DIGITS: u16 = 210;
+pub const POINT_AFTER_DIGITS: u16 = 210;
 
-pub(crate) const POINT_BEFORE_DIGITS: u16 = 211;
+pub const POINT_BEFORE_DIGITS: u16 = 211;
 
-pub(crate) const POINT: u16 = 212;
+pub const POINT: u16 = 212;
 
-pub(crate) const OPT_EXPONENT: u16 = 213;
+pub const OPT_EXPONENT: u16 = 213;
 
-pub(crate) const POINT_FORM: u16 = 214;
+pub const POINT_FORM: u16 = 214;
 
-pub(crate) const EXPONENT_FORM: u16 = 215;
+pub const EXPONENT_FORM: u16 = 215;
 
-pub(crate) const FLOAT_FORM: u16 = 216;
+pub const FLOAT_FORM: u16 = 216;
 
-pub(crate) const FLOAT_VALUE_LIT_TEXT: u16 = 217;
+pub const FLOAT_VALUE_LIT_TEXT: u16 = 217;
 
-pub(crate) const FLOAT_VALUE_LIT: u16 = 218;
+pub const FLOAT_VALUE_LIT: u16 = 218;
 
-pub(crate) const BYTES_QUOTE: u16 = 219;
+pub const BYTES_QUOTE: u16 = 219;
 
-pub(crate) const RUN_NOT_QUOTE: u16 = 220;
+pub const RUN_NOT_QUOTE: u16 = 220;
 
-pub(crate) const STRING_LIT: u16 = 221;
+pub const STRING_LIT: u16 = 221;
 
-pub(crate) const BYTES_THREE_SLASHES: u16 = 222;
+pub const BYTES_THREE_SLASHES: u16 = 222;
 
-pub(crate) const PAST_LF: u16 = 223;
+pub const PAST_LF: u16 = 223;
 
-pub(crate) const DOC_LINE: u16 = 224;
+pub const DOC_LINE: u16 = 224;
 
-pub(crate) const MANY_DOC_LINE: u16 = 225;
+pub const MANY_DOC_LINE: u16 = 225;
 
-pub(crate) const DOCSTRING: u16 = 226;
+pub const DOCSTRING: u16 = 226;
 
 impl Rule {
     /// A part: the bytes `_`.

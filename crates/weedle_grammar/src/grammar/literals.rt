@@ -13,21 +13,21 @@ use crate::grammar::symbols::{ASSIGN, CLOSE_BRACE, CLOSE_BRACKET, OPEN_BRACE, OP
 use crate::row::{Row, parts_of};
 use crate::rule::Rule;
 
-pub(crate) const BOOLEAN_LIT: u16 = 227;
+pub const BOOLEAN_LIT: u16 = 227;
 
-pub(crate) const INTEGER_LIT: u16 = 228;
+pub const INTEGER_LIT: u16 = 228;
 
-pub(crate) const FLOAT_LIT: u16 = 229;
+pub const FLOAT_LIT: u16 = 229;
 
-pub(crate) const EMPTY_ARRAY_LIT: u16 = 230;
+pub const EMPTY_ARRAY_LIT: u16 = 230;
 
-pub(crate) const EMPTY_DICTIONARY_LIT: u16 = 231;
+pub const EMPTY_DICTIONARY_LIT: u16 = 231;
 
-pub(crate) const DEFAULT_VALUE: u16 = 232;
+pub const DEFAULT_VALUE: u16 = 232;
 
-pub(crate) const CONST_VALUE: u16 = 233;
+pub const CONST_VALUE: u16 = 233;
 
-pub(crate) const DEFAULT: u16 = 234;
+pub const DEFAULT: u16 = 234;
 
 impl Rule {
     /// `true` or `false`.

@@ -19,47 +19,47 @@ use crate::grammar::types::{
 use crate::row::{Row, parts_of};
 use crate::rule::Rule;
 
-pub(crate) const OPT_STRINGIFIER: u16 = 349;
+pub const OPT_STRINGIFIER: u16 = 349;
 
-pub(crate) const OPERATION_MIXIN_MEMBER: u16 = 350;
+pub const OPERATION_MIXIN_MEMBER: u16 = 350;
 
-pub(crate) const ATTRIBUTE_MIXIN_MEMBER: u16 = 351;
+pub const ATTRIBUTE_MIXIN_MEMBER: u16 = 351;
 
-pub(crate) const MIXIN_MEMBER: u16 = 352;
+pub const MIXIN_MEMBER: u16 = 352;
 
-pub(crate) const MIXIN_MEMBERS: u16 = 353;
+pub const MIXIN_MEMBERS: u16 = 353;
 
-pub(crate) const BRACED_MIXIN_MEMBERS: u16 = 354;
+pub const BRACED_MIXIN_MEMBERS: u16 = 354;
 
-pub(crate) const OPERATION_NAMESPACE_MEMBER: u16 = 355;
+pub const OPERATION_NAMESPACE_MEMBER: u16 = 355;
 
-pub(crate) const ATTRIBUTE_NAMESPACE_MEMBER: u16 = 356;
+pub const ATTRIBUTE_NAMESPACE_MEMBER: u16 = 356;
 
-pub(crate) const NAMESPACE_MEMBER: u16 = 357;
+pub const NAMESPACE_MEMBER: u16 = 357;
 
-pub(crate) const NAMESPACE_MEMBERS: u16 = 358;
+pub const NAMESPACE_MEMBERS: u16 = 358;
 
-pub(crate) const BRACED_NAMESPACE_MEMBERS: u16 = 359;
+pub const BRACED_NAMESPACE_MEMBERS: u16 = 359;
 
-pub(crate) const OPT_REQUIRED: u16 = 360;
+pub const OPT_REQUIRED: u16 = 360;
 
-pub(crate) const DICTIONARY_MEMBER: u16 = 361;
+pub const DICTIONARY_MEMBER: u16 = 361;
 
-pub(crate) const DICTIONARY_MEMBERS: u16 = 362;
+pub const DICTIONARY_MEMBERS: u16 = 362;
 
-pub(crate) const BRACED_DICTIONARY_MEMBERS: u16 = 363;
+pub const BRACED_DICTIONARY_MEMBERS: u16 = 363;
 
-pub(crate) const ENUM_VARIANT: u16 = 364;
+pub const ENUM_VARIANT: u16 = 364;
 
-pub(crate) const TAIL_ENUM_VARIANT_COMMA: u16 = 365;
+pub const TAIL_ENUM_VARIANT_COMMA: u16 = 365;
 
-pub(crate) const LIST1_ENUM_VARIANT_COMMA: u16 = 366;
+pub const LIST1_ENUM_VARIANT_COMMA: u16 = 366;
 
-pub(crate) const OPT_COMMA: u16 = 367;
+pub const OPT_COMMA: u16 = 367;
 
-pub(crate) const ENUM_VALUE_LIST: u16 = 368;
+pub const ENUM_VALUE_LIST: u16 = 368;
 
-pub(crate) const BRACED_ENUM_VALUE_LIST: u16 = 369;
+pub const BRACED_ENUM_VALUE_LIST: u16 = 369;
 
 impl Rule {
     /// An operation of a mixin, as `undefined f(long x);`.

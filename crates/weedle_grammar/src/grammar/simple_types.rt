@@ -14,47 +14,47 @@ use crate::grammar::symbols::{CLOSE_PAREN, COMMA, OPEN_PAREN, Q_MARK};
 use crate::row::{Row, parts_of};
 use crate::rule::Rule;
 
-pub(crate) const OPT_UNSIGNED: u16 = 235;
+pub const OPT_UNSIGNED: u16 = 235;
 
-pub(crate) const LONG_LONG: u16 = 236;
+pub const LONG_LONG: u16 = 236;
 
-pub(crate) const LONG_LONG_TYPE: u16 = 237;
+pub const LONG_LONG_TYPE: u16 = 237;
 
-pub(crate) const LONG_TYPE: u16 = 238;
+pub const LONG_TYPE: u16 = 238;
 
-pub(crate) const SHORT_TYPE: u16 = 239;
+pub const SHORT_TYPE: u16 = 239;
 
-pub(crate) const INTEGER_TYPE: u16 = 240;
+pub const INTEGER_TYPE: u16 = 240;
 
-pub(crate) const OPT_UNRESTRICTED: u16 = 241;
+pub const OPT_UNRESTRICTED: u16 = 241;
 
-pub(crate) const FLOAT_TYPE: u16 = 242;
+pub const FLOAT_TYPE: u16 = 242;
 
-pub(crate) const DOUBLE_TYPE: u16 = 243;
+pub const DOUBLE_TYPE: u16 = 243;
 
-pub(crate) const FLOATING_POINT_TYPE: u16 = 244;
+pub const FLOATING_POINT_TYPE: u16 = 244;
 
-pub(crate) const OPT_Q_MARK: u16 = 245;
+pub const OPT_Q_MARK: u16 = 245;
 
-pub(crate) const MAY_BE_NULL_INTEGER_TYPE: u16 = 246;
+pub const MAY_BE_NULL_INTEGER_TYPE: u16 = 246;
 
-pub(crate) const MAY_BE_NULL_FLOATING_POINT_TYPE: u16 = 247;
+pub const MAY_BE_NULL_FLOATING_POINT_TYPE: u16 = 247;
 
-pub(crate) const MAY_BE_NULL_BOOLEAN: u16 = 248;
+pub const MAY_BE_NULL_BOOLEAN: u16 = 248;
 
-pub(crate) const MAY_BE_NULL_BYTE: u16 = 249;
+pub const MAY_BE_NULL_BYTE: u16 = 249;
 
-pub(crate) const MAY_BE_NULL_OCTET: u16 = 250;
+pub const MAY_BE_NULL_OCTET: u16 = 250;
 
-pub(crate) const MAY_BE_NULL_IDENTIFIER: u16 = 251;
+pub const MAY_BE_NULL_IDENTIFIER: u16 = 251;
 
-pub(crate) const CONST_TYPE: u16 = 252;
+pub const CONST_TYPE: u16 = 252;
 
-pub(crate) const TAIL_IDENTIFIER_COMMA: u16 = 253;
+pub const TAIL_IDENTIFIER_COMMA: u16 = 253;
 
-pub(crate) const IDENTIFIER_LIST: u16 = 254;
+pub const IDENTIFIER_LIST: u16 = 254;
 
-pub(crate) const PARENTHESIZED_IDENTIFIER_LIST: u16 = 255;
+pub const PARENTHESIZED_IDENTIFIER_LIST: u16 = 255;
 
 impl Rule {
     /// `long long`, or `unsigned long long`.

@@ -10,69 +10,69 @@ use crate::grammar::trivia::TRIVIA;
 use crate::row::{Row, parts_of};
 use crate::rule::Rule;
 
-pub(crate) const BYTES_OPEN_PAREN: u16 = 15;
+pub const BYTES_OPEN_PAREN: u16 = 15;
 
-pub(crate) const OPEN_PAREN: u16 = 16;
+pub const OPEN_PAREN: u16 = 16;
 
-pub(crate) const BYTES_CLOSE_PAREN: u16 = 17;
+pub const BYTES_CLOSE_PAREN: u16 = 17;
 
-pub(crate) const CLOSE_PAREN: u16 = 18;
+pub const CLOSE_PAREN: u16 = 18;
 
-pub(crate) const BYTES_OPEN_BRACKET: u16 = 19;
+pub const BYTES_OPEN_BRACKET: u16 = 19;
 
-pub(crate) const OPEN_BRACKET: u16 = 20;
+pub const OPEN_BRACKET: u16 = 20;
 
-pub(crate) const BYTES_CLOSE_BRACKET: u16 = 21;
+pub const BYTES_CLOSE_BRACKET: u16 = 21;
 
-pub(crate) const CLOSE_BRACKET: u16 = 22;
+pub const CLOSE_BRACKET: u16 = 22;
 
-pub(crate) const BYTES_OPEN_BRACE: u16 = 23;
+pub const BYTES_OPEN_BRACE: u16 = 23;
 
-pub(crate) const OPEN_BRACE: u16 = 24;
+pub const OPEN_BRACE: u16 = 24;
 
-pub(crate) const BYTES_CLOSE_BRACE: u16 = 25;
+pub const BYTES_CLOSE_BRACE: u16 = 25;
 
-pub(crate) const CLOSE_BRACE: u16 = 26;
+pub const CLOSE_BRACE: u16 = 26;
 
-pub(crate) const BYTES_COMMA: u16 = 27;
+pub const BYTES_COMMA: u16 = 27;
 
-pub(crate) const COMMA: u16 = 28;
+pub const COMMA: u16 = 28;
 
-pub(crate) const BYTES_MINUS: u16 = 29;
+pub const BYTES_MINUS: u16 = 29;
 
-pub(crate) const MINUS: u16 = 30;
+pub const MINUS: u16 = 30;
 
-pub(crate) const BYTES_DOT: u16 = 31;
+pub const BYTES_DOT: u16 = 31;
 
-pub(crate) const DOT: u16 = 32;
+pub const DOT: u16 = 32;
 
-pub(crate) const BYTES_ELLIPSIS: u16 = 33;
+pub const BYTES_ELLIPSIS: u16 = 33;
 
-pub(crate) const ELLIPSIS: u16 = 34;
+pub const ELLIPSIS: u16 = 34;
 
-pub(crate) const BYTES_COLON: u16 = 35;
+pub const BYTES_COLON: u16 = 35;
 
-pub(crate) const COLON: u16 = 36;
+pub const COLON: u16 = 36;
 
-pub(crate) const BYTES_SEMI_COLON: u16 = 37;
+pub const BYTES_SEMI_COLON: u16 = 37;
 
-pub(crate) const SEMI_COLON: u16 = 38;
+pub const SEMI_COLON: u16 = 38;
 
-pub(crate) const BYTES_LESS_THAN: u16 = 39;
+pub const BYTES_LESS_THAN: u16 = 39;
 
-pub(crate) const LESS_THAN: u16 = 40;
+pub const LESS_THAN: u16 = 40;
 
-pub(crate) const BYTES_ASSIGN: u16 = 41;
+pub const BYTES_ASSIGN: u16 = 41;
 
-pub(crate) const ASSIGN: u16 = 42;
+pub const ASSIGN: u16 = 42;
 
-pub(crate) const BYTES_GREATER_THAN: u16 = 43;
+pub const BYTES_GREATER_THAN: u16 = 43;
 
-pub(crate) const GREATER_THAN: u16 = 44;
+pub const GREATER_THAN: u16 = 44;
 
-pub(crate) const BYTES_Q_MARK: u16 = 45;
+pub const BYTES_Q_MARK: u16 = 45;
 
-pub(crate) const Q_MARK: u16 = 46;
+pub const Q_MARK: u16 = 46;
 
 impl Rule {
     /// The symbol `(`.

@@ -10,35 +10,35 @@ use crate::class::Class;
 use crate::row::{Row, parts_of};
 use crate::rule::Rule;
 
-pub(crate) const BYTES_LF: u16 = 0;
+pub const BYTES_LF: u16 = 0;
 
-pub(crate) const NOT_NEXT_ANY: u16 = 1;
+pub const NOT_NEXT_ANY: u16 = 1;
 
-pub(crate) const LINE_END: u16 = 2;
+pub const LINE_END: u16 = 2;
 
-pub(crate) const BYTES_SLASH_SLASH: u16 = 3;
+pub const BYTES_SLASH_SLASH: u16 = 3;
 
-pub(crate) const NOT_NEXT_SLASH: u16 = 4;
+pub const NOT_NEXT_SLASH: u16 = 4;
 
-pub(crate) const RUN_NOT_LINE_FEED: u16 = 5;
+pub const RUN_NOT_LINE_FEED: u16 = 5;
 
-pub(crate) const LINE_COMMENT: u16 = 6;
+pub const LINE_COMMENT: u16 = 6;
 
-pub(crate) const ONE_OF_BLANK: u16 = 7;
+pub const ONE_OF_BLANK: u16 = 7;
 
-pub(crate) const RUN_BLANK: u16 = 8;
+pub const RUN_BLANK: u16 = 8;
 
-pub(crate) const BLANKS: u16 = 9;
+pub const BLANKS: u16 = 9;
 
-pub(crate) const BYTES_SLASH_STAR: u16 = 10;
+pub const BYTES_SLASH_STAR: u16 = 10;
 
-pub(crate) const PAST_STAR_SLASH: u16 = 11;
+pub const PAST_STAR_SLASH: u16 = 11;
 
-pub(crate) const BLOCK_COMMENT: u16 = 12;
+pub const BLOCK_COMMENT: u16 = 12;
 
-pub(crate) const PIECE: u16 = 13;
+pub const PIECE: u16 = 13;
 
-pub(crate) const TRIVIA: u16 = 14;
+pub const TRIVIA: u16 = 14;
 
 impl Rule {
     /// An LF, or the end of the text.

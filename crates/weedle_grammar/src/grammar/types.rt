@@ -25,127 +25,127 @@ use crate::grammar::symbols::{
 use crate::row::{Row, parts_of};
 use crate::rule::Rule;
 
-pub(crate) const GENERICS_TYPE: u16 = 256;
+pub const GENERICS_TYPE: u16 = 256;
 
-pub(crate) const SEQUENCE_TYPE: u16 = 257;
+pub const SEQUENCE_TYPE: u16 = 257;
 
-pub(crate) const FROZEN_ARRAY_TYPE: u16 = 258;
+pub const FROZEN_ARRAY_TYPE: u16 = 258;
 
-pub(crate) const GENERICS_RETURN_TYPE: u16 = 259;
+pub const GENERICS_RETURN_TYPE: u16 = 259;
 
-pub(crate) const PROMISE_TYPE: u16 = 260;
+pub const PROMISE_TYPE: u16 = 260;
 
-pub(crate) const GENERICS_RECORD_TYPES: u16 = 261;
+pub const GENERICS_RECORD_TYPES: u16 = 261;
 
-pub(crate) const RECORD_TYPE: u16 = 262;
+pub const RECORD_TYPE: u16 = 262;
 
-pub(crate) const UNION_TYPE: u16 = 263;
+pub const UNION_TYPE: u16 = 263;
 
-pub(crate) const MAY_BE_NULL_UNION_TYPE: u16 = 264;
+pub const MAY_BE_NULL_UNION_TYPE: u16 = 264;
 
-pub(crate) const MAY_BE_NULL_BYTE_STRING: u16 = 265;
+pub const MAY_BE_NULL_BYTE_STRING: u16 = 265;
 
-pub(crate) const MAY_BE_NULL_DOM_STRING: u16 = 266;
+pub const MAY_BE_NULL_DOM_STRING: u16 = 266;
 
-pub(crate) const MAY_BE_NULL_USV_STRING: u16 = 267;
+pub const MAY_BE_NULL_USV_STRING: u16 = 267;
 
-pub(crate) const MAY_BE_NULL_SEQUENCE_TYPE: u16 = 268;
+pub const MAY_BE_NULL_SEQUENCE_TYPE: u16 = 268;
 
-pub(crate) const MAY_BE_NULL_OBJECT: u16 = 269;
+pub const MAY_BE_NULL_OBJECT: u16 = 269;
 
-pub(crate) const MAY_BE_NULL_SYMBOL: u16 = 270;
+pub const MAY_BE_NULL_SYMBOL: u16 = 270;
 
-pub(crate) const MAY_BE_NULL_ERROR: u16 = 271;
+pub const MAY_BE_NULL_ERROR: u16 = 271;
 
-pub(crate) const MAY_BE_NULL_ARRAY_BUFFER: u16 = 272;
+pub const MAY_BE_NULL_ARRAY_BUFFER: u16 = 272;
 
-pub(crate) const MAY_BE_NULL_DATA_VIEW: u16 = 273;
+pub const MAY_BE_NULL_DATA_VIEW: u16 = 273;
 
-pub(crate) const MAY_BE_NULL_INT8_ARRAY: u16 = 274;
+pub const MAY_BE_NULL_INT8_ARRAY: u16 = 274;
 
-pub(crate) const MAY_BE_NULL_INT16_ARRAY: u16 = 275;
+pub const MAY_BE_NULL_INT16_ARRAY: u16 = 275;
 
-pub(crate) const MAY_BE_NULL_INT32_ARRAY: u16 = 276;
+pub const MAY_BE_NULL_INT32_ARRAY: u16 = 276;
 
-pub(crate) const MAY_BE_NULL_UINT8_ARRAY: u16 = 277;
+pub const MAY_BE_NULL_UINT8_ARRAY: u16 = 277;
 
-pub(crate) const MAY_BE_NULL_UINT16_ARRAY: u16 = 278;
+pub const MAY_BE_NULL_UINT16_ARRAY: u16 = 278;
 
-pub(crate) const MAY_BE_NULL_UINT32_ARRAY: u16 = 279;
+pub const MAY_BE_NULL_UINT32_ARRAY: u16 = 279;
 
-pub(crate) const MAY_BE_NULL_UINT8_CLAMPED_ARRAY: u16 = 280;
+pub const MAY_BE_NULL_UINT8_CLAMPED_ARRAY: u16 = 280;
 
-pub(crate) const MAY_BE_NULL_FLOAT32_ARRAY: u16 = 281;
+pub const MAY_BE_NULL_FLOAT32_ARRAY: u16 = 281;
 
-pub(crate) const MAY_BE_NULL_FLOAT64_ARRAY: u16 = 282;
+pub const MAY_BE_NULL_FLOAT64_ARRAY: u16 = 282;
 
-pub(crate) const MAY_BE_NULL_ARRAY_BUFFER_VIEW: u16 = 283;
+pub const MAY_BE_NULL_ARRAY_BUFFER_VIEW: u16 = 283;
 
-pub(crate) const MAY_BE_NULL_BUFFER_SOURCE: u16 = 284;
+pub const MAY_BE_NULL_BUFFER_SOURCE: u16 = 284;
 
-pub(crate) const MAY_BE_NULL_FROZEN_ARRAY_TYPE: u16 = 285;
+pub const MAY_BE_NULL_FROZEN_ARRAY_TYPE: u16 = 285;
 
-pub(crate) const MAY_BE_NULL_RECORD_TYPE: u16 = 286;
+pub const MAY_BE_NULL_RECORD_TYPE: u16 = 286;
 
-pub(crate) const NON_ANY_TYPE: u16 = 287;
+pub const NON_ANY_TYPE: u16 = 287;
 
-pub(crate) const RECORD_KEY_TYPE: u16 = 288;
+pub const RECORD_KEY_TYPE: u16 = 288;
 
-pub(crate) const RECORD_TYPES: u16 = 289;
+pub const RECORD_TYPES: u16 = 289;
 
-pub(crate) const SINGLE_TYPE: u16 = 290;
+pub const SINGLE_TYPE: u16 = 290;
 
-pub(crate) const TYPE: u16 = 291;
+pub const TYPE: u16 = 291;
 
-pub(crate) const RETURN_TYPE: u16 = 292;
+pub const RETURN_TYPE: u16 = 292;
 
-pub(crate) const EXTENDED_ATTRIBUTE_LIST: u16 = 293;
+pub const EXTENDED_ATTRIBUTE_LIST: u16 = 293;
 
-pub(crate) const OPT_EXTENDED_ATTRIBUTE_LIST: u16 = 294;
+pub const OPT_EXTENDED_ATTRIBUTE_LIST: u16 = 294;
 
-pub(crate) const ATTRIBUTED_TYPE: u16 = 295;
+pub const ATTRIBUTED_TYPE: u16 = 295;
 
-pub(crate) const ATTRIBUTED_NON_ANY_TYPE: u16 = 296;
+pub const ATTRIBUTED_NON_ANY_TYPE: u16 = 296;
 
-pub(crate) const UNION_MEMBER_TYPE: u16 = 297;
+pub const UNION_MEMBER_TYPE: u16 = 297;
 
-pub(crate) const TAIL_UNION_MEMBER_TYPE_OR: u16 = 298;
+pub const TAIL_UNION_MEMBER_TYPE_OR: u16 = 298;
 
-pub(crate) const LIST_UNION_MEMBER_TYPE_OR: u16 = 299;
+pub const LIST_UNION_MEMBER_TYPE_OR: u16 = 299;
 
-pub(crate) const OPT_OPTIONAL: u16 = 300;
+pub const OPT_OPTIONAL: u16 = 300;
 
-pub(crate) const OPT_DEFAULT: u16 = 301;
+pub const OPT_DEFAULT: u16 = 301;
 
-pub(crate) const SINGLE_ARGUMENT: u16 = 302;
+pub const SINGLE_ARGUMENT: u16 = 302;
 
-pub(crate) const VARIADIC_ARGUMENT: u16 = 303;
+pub const VARIADIC_ARGUMENT: u16 = 303;
 
-pub(crate) const ARGUMENT: u16 = 304;
+pub const ARGUMENT: u16 = 304;
 
-pub(crate) const TAIL_ARGUMENT_COMMA: u16 = 305;
+pub const TAIL_ARGUMENT_COMMA: u16 = 305;
 
-pub(crate) const ARGUMENT_LIST: u16 = 306;
+pub const ARGUMENT_LIST: u16 = 306;
 
-pub(crate) const PARENTHESIZED_ARGUMENT_LIST: u16 = 307;
+pub const PARENTHESIZED_ARGUMENT_LIST: u16 = 307;
 
-pub(crate) const EXTENDED_ATTRIBUTE_ARG_LIST: u16 = 308;
+pub const EXTENDED_ATTRIBUTE_ARG_LIST: u16 = 308;
 
-pub(crate) const EXTENDED_ATTRIBUTE_NAMED_ARG_LIST: u16 = 309;
+pub const EXTENDED_ATTRIBUTE_NAMED_ARG_LIST: u16 = 309;
 
-pub(crate) const EXTENDED_ATTRIBUTE_IDENT_LIST: u16 = 310;
+pub const EXTENDED_ATTRIBUTE_IDENT_LIST: u16 = 310;
 
-pub(crate) const IDENTIFIER_OR_STRING: u16 = 311;
+pub const IDENTIFIER_OR_STRING: u16 = 311;
 
-pub(crate) const EXTENDED_ATTRIBUTE_IDENT: u16 = 312;
+pub const EXTENDED_ATTRIBUTE_IDENT: u16 = 312;
 
-pub(crate) const EXTENDED_ATTRIBUTE_NO_ARGS: u16 = 313;
+pub const EXTENDED_ATTRIBUTE_NO_ARGS: u16 = 313;
 
-pub(crate) const EXTENDED_ATTRIBUTE: u16 = 314;
+pub const EXTENDED_ATTRIBUTE: u16 = 314;
 
-pub(crate) const TAIL_EXTENDED_ATTRIBUTE_COMMA: u16 = 315;
+pub const TAIL_EXTENDED_ATTRIBUTE_COMMA: u16 = 315;
 
-pub(crate) const LIST_EXTENDED_ATTRIBUTE_COMMA: u16 = 316;
+pub const LIST_EXTENDED_ATTRIBUTE_COMMA: u16 = 316;
 
 impl Rule {
     /// A sequence, as `sequence<long>`.

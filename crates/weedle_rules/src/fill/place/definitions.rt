@@ -8,7 +8,7 @@ ghost use Rattle.weedle_rules.specs.Filling.{IsFilling};
 use crate::cell::Cell;
 use crate::fill::fill_cell;
 use crate::reader::Reader;
-use weedle_grammar::Rule;
+use weedle_grammar::grammar::definitions;
 
 /// Works out the cells of the rules from 370 to 385.
 #[inline(always)]
@@ -27,14 +27,18 @@ fn fill_from_370<C: Cell>(reader: &mut Reader<'_, C>, place: usize)
     requires next { IsFilling reader.old reader.old.text place 370 }
     ensures { IsFilling reader.new reader.old.text place 378 }
 {
-    fill_cell(reader, Rule(370), place); // CALLBACK_DEFINITION
-    fill_cell(reader, Rule(371), place); // CALLBACK_INTERFACE_DEFINITION
-    fill_cell(reader, Rule(372), place); // INTERFACE_DEFINITION
-    fill_cell(reader, Rule(373), place); // INTERFACE_MIXIN_DEFINITION
-    fill_cell(reader, Rule(374), place); // NAMESPACE_DEFINITION
-    fill_cell(reader, Rule(375), place); // DICTIONARY_DEFINITION
-    fill_cell(reader, Rule(376), place); // PARTIAL_INTERFACE_DEFINITION
-    fill_cell(reader, Rule(377), place); // PARTIAL_INTERFACE_MIXIN_DEFINITION
+    fill_cell(reader, definitions::CALLBACK_DEFINITION, place);
+    fill_cell(reader, definitions::CALLBACK_INTERFACE_DEFINITION, place);
+    fill_cell(reader, definitions::INTERFACE_DEFINITION, place);
+    fill_cell(reader, definitions::INTERFACE_MIXIN_DEFINITION, place);
+    fill_cell(reader, definitions::NAMESPACE_DEFINITION, place);
+    fill_cell(reader, definitions::DICTIONARY_DEFINITION, place);
+    fill_cell(reader, definitions::PARTIAL_INTERFACE_DEFINITION, place);
+    fill_cell(
+        reader,
+        definitions::PARTIAL_INTERFACE_MIXIN_DEFINITION,
+        place,
+    );
 }
 
 #[inline(always)]
@@ -43,12 +47,12 @@ fn fill_from_378<C: Cell>(reader: &mut Reader<'_, C>, place: usize)
     requires next { IsFilling reader.old reader.old.text place 378 }
     ensures { IsFilling reader.new reader.old.text place 386 }
 {
-    fill_cell(reader, Rule(378), place); // PARTIAL_DICTIONARY_DEFINITION
-    fill_cell(reader, Rule(379), place); // PARTIAL_NAMESPACE_DEFINITION
-    fill_cell(reader, Rule(380), place); // ENUM_DEFINITION
-    fill_cell(reader, Rule(381), place); // TYPEDEF_DEFINITION
-    fill_cell(reader, Rule(382), place); // INCLUDES_STATEMENT_DEFINITION
-    fill_cell(reader, Rule(383), place); // IMPLEMENTS_DEFINITION
-    fill_cell(reader, Rule(384), place); // DEFINITION
-    fill_cell(reader, Rule(385), place); // DEFINITIONS
+    fill_cell(reader, definitions::PARTIAL_DICTIONARY_DEFINITION, place);
+    fill_cell(reader, definitions::PARTIAL_NAMESPACE_DEFINITION, place);
+    fill_cell(reader, definitions::ENUM_DEFINITION, place);
+    fill_cell(reader, definitions::TYPEDEF_DEFINITION, place);
+    fill_cell(reader, definitions::INCLUDES_STATEMENT_DEFINITION, place);
+    fill_cell(reader, definitions::IMPLEMENTS_DEFINITION, place);
+    fill_cell(reader, definitions::DEFINITION, place);
+    fill_cell(reader, definitions::DEFINITIONS, place);
 }

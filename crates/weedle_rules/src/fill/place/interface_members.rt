@@ -8,7 +8,7 @@ ghost use Rattle.weedle_rules.specs.Filling.{IsFilling};
 use crate::cell::Cell;
 use crate::fill::fill_cell;
 use crate::reader::Reader;
-use weedle_grammar::Rule;
+use weedle_grammar::grammar::interface_members;
 
 /// Works out the cells of the rules from 317 to 348.
 #[inline(always)]
@@ -29,14 +29,18 @@ fn fill_from_317<C: Cell>(reader: &mut Reader<'_, C>, place: usize)
     requires next { IsFilling reader.old reader.old.text place 317 }
     ensures { IsFilling reader.new reader.old.text place 325 }
 {
-    fill_cell(reader, Rule(317), place); // OPT_DOCSTRING
-    fill_cell(reader, Rule(318), place); // OPT_IDENTIFIER
-    fill_cell(reader, Rule(319), place); // OPT_READ_ONLY
-    fill_cell(reader, Rule(320), place); // KEY_AND_VALUE_TYPES
-    fill_cell(reader, Rule(321), place); // GENERICS_ATTRIBUTED_TYPE
-    fill_cell(reader, Rule(322), place); // GENERICS_KEY_AND_VALUE_TYPES
-    fill_cell(reader, Rule(323), place); // INHERITANCE
-    fill_cell(reader, Rule(324), place); // OPT_INHERITANCE
+    fill_cell(reader, interface_members::OPT_DOCSTRING, place);
+    fill_cell(reader, interface_members::OPT_IDENTIFIER, place);
+    fill_cell(reader, interface_members::OPT_READ_ONLY, place);
+    fill_cell(reader, interface_members::KEY_AND_VALUE_TYPES, place);
+    fill_cell(reader, interface_members::GENERICS_ATTRIBUTED_TYPE, place);
+    fill_cell(
+        reader,
+        interface_members::GENERICS_KEY_AND_VALUE_TYPES,
+        place,
+    );
+    fill_cell(reader, interface_members::INHERITANCE, place);
+    fill_cell(reader, interface_members::OPT_INHERITANCE, place);
 }
 
 #[inline(always)]
@@ -45,14 +49,22 @@ fn fill_from_325<C: Cell>(reader: &mut Reader<'_, C>, place: usize)
     requires next { IsFilling reader.old reader.old.text place 325 }
     ensures { IsFilling reader.new reader.old.text place 333 }
 {
-    fill_cell(reader, Rule(325), place); // SPECIAL
-    fill_cell(reader, Rule(326), place); // OPT_SPECIAL
-    fill_cell(reader, Rule(327), place); // STRINGIFIER_OR_INHERIT_OR_STATIC
-    fill_cell(reader, Rule(328), place); // OPT_STRINGIFIER_OR_INHERIT_OR_STATIC
-    fill_cell(reader, Rule(329), place); // STRINGIFIER_OR_STATIC
-    fill_cell(reader, Rule(330), place); // OPT_STRINGIFIER_OR_STATIC
-    fill_cell(reader, Rule(331), place); // CONST_MEMBER
-    fill_cell(reader, Rule(332), place); // ATTRIBUTE_INTERFACE_MEMBER
+    fill_cell(reader, interface_members::SPECIAL, place);
+    fill_cell(reader, interface_members::OPT_SPECIAL, place);
+    fill_cell(
+        reader,
+        interface_members::STRINGIFIER_OR_INHERIT_OR_STATIC,
+        place,
+    );
+    fill_cell(
+        reader,
+        interface_members::OPT_STRINGIFIER_OR_INHERIT_OR_STATIC,
+        place,
+    );
+    fill_cell(reader, interface_members::STRINGIFIER_OR_STATIC, place);
+    fill_cell(reader, interface_members::OPT_STRINGIFIER_OR_STATIC, place);
+    fill_cell(reader, interface_members::CONST_MEMBER, place);
+    fill_cell(reader, interface_members::ATTRIBUTE_INTERFACE_MEMBER, place);
 }
 
 #[inline(always)]
@@ -61,14 +73,26 @@ fn fill_from_333<C: Cell>(reader: &mut Reader<'_, C>, place: usize)
     requires next { IsFilling reader.old reader.old.text place 333 }
     ensures { IsFilling reader.new reader.old.text place 341 }
 {
-    fill_cell(reader, Rule(333), place); // CONSTRUCTOR_INTERFACE_MEMBER
-    fill_cell(reader, Rule(334), place); // OPERATION_INTERFACE_MEMBER
-    fill_cell(reader, Rule(335), place); // SINGLE_TYPED_ITERABLE
-    fill_cell(reader, Rule(336), place); // DOUBLE_TYPED_ITERABLE
-    fill_cell(reader, Rule(337), place); // ITERABLE_INTERFACE_MEMBER
-    fill_cell(reader, Rule(338), place); // ASYNC_ITERABLE
-    fill_cell(reader, Rule(339), place); // OPT_PARENTHESIZED_ARGUMENT_LIST
-    fill_cell(reader, Rule(340), place); // SINGLE_TYPED_ASYNC_ITERABLE
+    fill_cell(
+        reader,
+        interface_members::CONSTRUCTOR_INTERFACE_MEMBER,
+        place,
+    );
+    fill_cell(reader, interface_members::OPERATION_INTERFACE_MEMBER, place);
+    fill_cell(reader, interface_members::SINGLE_TYPED_ITERABLE, place);
+    fill_cell(reader, interface_members::DOUBLE_TYPED_ITERABLE, place);
+    fill_cell(reader, interface_members::ITERABLE_INTERFACE_MEMBER, place);
+    fill_cell(reader, interface_members::ASYNC_ITERABLE, place);
+    fill_cell(
+        reader,
+        interface_members::OPT_PARENTHESIZED_ARGUMENT_LIST,
+        place,
+    );
+    fill_cell(
+        reader,
+        interface_members::SINGLE_TYPED_ASYNC_ITERABLE,
+        place,
+    );
 }
 
 #[inline(always)]
@@ -77,12 +101,20 @@ fn fill_from_341<C: Cell>(reader: &mut Reader<'_, C>, place: usize)
     requires next { IsFilling reader.old reader.old.text place 341 }
     ensures { IsFilling reader.new reader.old.text place 349 }
 {
-    fill_cell(reader, Rule(341), place); // DOUBLE_TYPED_ASYNC_ITERABLE
-    fill_cell(reader, Rule(342), place); // ASYNC_ITERABLE_INTERFACE_MEMBER
-    fill_cell(reader, Rule(343), place); // MAPLIKE_INTERFACE_MEMBER
-    fill_cell(reader, Rule(344), place); // SETLIKE_INTERFACE_MEMBER
-    fill_cell(reader, Rule(345), place); // STRINGIFIER_MEMBER
-    fill_cell(reader, Rule(346), place); // INTERFACE_MEMBER
-    fill_cell(reader, Rule(347), place); // INTERFACE_MEMBERS
-    fill_cell(reader, Rule(348), place); // BRACED_INTERFACE_MEMBERS
+    fill_cell(
+        reader,
+        interface_members::DOUBLE_TYPED_ASYNC_ITERABLE,
+        place,
+    );
+    fill_cell(
+        reader,
+        interface_members::ASYNC_ITERABLE_INTERFACE_MEMBER,
+        place,
+    );
+    fill_cell(reader, interface_members::MAPLIKE_INTERFACE_MEMBER, place);
+    fill_cell(reader, interface_members::SETLIKE_INTERFACE_MEMBER, place);
+    fill_cell(reader, interface_members::STRINGIFIER_MEMBER, place);
+    fill_cell(reader, interface_members::INTERFACE_MEMBER, place);
+    fill_cell(reader, interface_members::INTERFACE_MEMBERS, place);
+    fill_cell(reader, interface_members::BRACED_INTERFACE_MEMBERS, place);
 }

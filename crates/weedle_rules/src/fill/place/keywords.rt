@@ -8,7 +8,7 @@ ghost use Rattle.weedle_rules.specs.Filling.{IsFilling};
 use crate::cell::Cell;
 use crate::fill::fill_cell;
 use crate::reader::Reader;
-use weedle_grammar::Rule;
+use weedle_grammar::grammar::keywords;
 
 /// Works out the cells of the rules from 47 to 139.
 #[inline(always)]
@@ -37,14 +37,14 @@ fn fill_from_47<C: Cell>(reader: &mut Reader<'_, C>, place: usize)
     requires next { IsFilling reader.old reader.old.text place 47 }
     ensures { IsFilling reader.new reader.old.text place 55 }
 {
-    fill_cell(reader, Rule(47), place); // BYTES_OR
-    fill_cell(reader, Rule(48), place); // NOT_NEXT_NAME
-    fill_cell(reader, Rule(49), place); // OR
-    fill_cell(reader, Rule(50), place); // BYTES_OPTIONAL
-    fill_cell(reader, Rule(51), place); // OPTIONAL
-    fill_cell(reader, Rule(52), place); // BYTES_ASYNC
-    fill_cell(reader, Rule(53), place); // ASYNC
-    fill_cell(reader, Rule(54), place); // BYTES_ATTRIBUTE
+    fill_cell(reader, keywords::BYTES_OR, place);
+    fill_cell(reader, keywords::NOT_NEXT_NAME, place);
+    fill_cell(reader, keywords::OR, place);
+    fill_cell(reader, keywords::BYTES_OPTIONAL, place);
+    fill_cell(reader, keywords::OPTIONAL, place);
+    fill_cell(reader, keywords::BYTES_ASYNC, place);
+    fill_cell(reader, keywords::ASYNC, place);
+    fill_cell(reader, keywords::BYTES_ATTRIBUTE, place);
 }
 
 #[inline(always)]
@@ -53,14 +53,14 @@ fn fill_from_55<C: Cell>(reader: &mut Reader<'_, C>, place: usize)
     requires next { IsFilling reader.old reader.old.text place 55 }
     ensures { IsFilling reader.new reader.old.text place 63 }
 {
-    fill_cell(reader, Rule(55), place); // ATTRIBUTE
-    fill_cell(reader, Rule(56), place); // BYTES_CALLBACK
-    fill_cell(reader, Rule(57), place); // CALLBACK
-    fill_cell(reader, Rule(58), place); // BYTES_CONST
-    fill_cell(reader, Rule(59), place); // CONST
-    fill_cell(reader, Rule(60), place); // BYTES_DELETER
-    fill_cell(reader, Rule(61), place); // DELETER
-    fill_cell(reader, Rule(62), place); // BYTES_DICTIONARY
+    fill_cell(reader, keywords::ATTRIBUTE, place);
+    fill_cell(reader, keywords::BYTES_CALLBACK, place);
+    fill_cell(reader, keywords::CALLBACK, place);
+    fill_cell(reader, keywords::BYTES_CONST, place);
+    fill_cell(reader, keywords::CONST, place);
+    fill_cell(reader, keywords::BYTES_DELETER, place);
+    fill_cell(reader, keywords::DELETER, place);
+    fill_cell(reader, keywords::BYTES_DICTIONARY, place);
 }
 
 #[inline(always)]
@@ -69,14 +69,14 @@ fn fill_from_63<C: Cell>(reader: &mut Reader<'_, C>, place: usize)
     requires next { IsFilling reader.old reader.old.text place 63 }
     ensures { IsFilling reader.new reader.old.text place 71 }
 {
-    fill_cell(reader, Rule(63), place); // DICTIONARY
-    fill_cell(reader, Rule(64), place); // BYTES_ENUM
-    fill_cell(reader, Rule(65), place); // ENUM
-    fill_cell(reader, Rule(66), place); // BYTES_GETTER
-    fill_cell(reader, Rule(67), place); // GETTER
-    fill_cell(reader, Rule(68), place); // BYTES_INCLUDES
-    fill_cell(reader, Rule(69), place); // INCLUDES
-    fill_cell(reader, Rule(70), place); // BYTES_INHERIT
+    fill_cell(reader, keywords::DICTIONARY, place);
+    fill_cell(reader, keywords::BYTES_ENUM, place);
+    fill_cell(reader, keywords::ENUM, place);
+    fill_cell(reader, keywords::BYTES_GETTER, place);
+    fill_cell(reader, keywords::GETTER, place);
+    fill_cell(reader, keywords::BYTES_INCLUDES, place);
+    fill_cell(reader, keywords::INCLUDES, place);
+    fill_cell(reader, keywords::BYTES_INHERIT, place);
 }
 
 #[inline(always)]
@@ -85,14 +85,14 @@ fn fill_from_71<C: Cell>(reader: &mut Reader<'_, C>, place: usize)
     requires next { IsFilling reader.old reader.old.text place 71 }
     ensures { IsFilling reader.new reader.old.text place 79 }
 {
-    fill_cell(reader, Rule(71), place); // INHERIT
-    fill_cell(reader, Rule(72), place); // BYTES_INTERFACE
-    fill_cell(reader, Rule(73), place); // INTERFACE
-    fill_cell(reader, Rule(74), place); // BYTES_ITERABLE
-    fill_cell(reader, Rule(75), place); // ITERABLE
-    fill_cell(reader, Rule(76), place); // BYTES_MAPLIKE
-    fill_cell(reader, Rule(77), place); // MAPLIKE
-    fill_cell(reader, Rule(78), place); // BYTES_NAMESPACE
+    fill_cell(reader, keywords::INHERIT, place);
+    fill_cell(reader, keywords::BYTES_INTERFACE, place);
+    fill_cell(reader, keywords::INTERFACE, place);
+    fill_cell(reader, keywords::BYTES_ITERABLE, place);
+    fill_cell(reader, keywords::ITERABLE, place);
+    fill_cell(reader, keywords::BYTES_MAPLIKE, place);
+    fill_cell(reader, keywords::MAPLIKE, place);
+    fill_cell(reader, keywords::BYTES_NAMESPACE, place);
 }
 
 #[inline(always)]
@@ -101,14 +101,14 @@ fn fill_from_79<C: Cell>(reader: &mut Reader<'_, C>, place: usize)
     requires next { IsFilling reader.old reader.old.text place 79 }
     ensures { IsFilling reader.new reader.old.text place 87 }
 {
-    fill_cell(reader, Rule(79), place); // NAMESPACE
-    fill_cell(reader, Rule(80), place); // BYTES_PARTIAL
-    fill_cell(reader, Rule(81), place); // PARTIAL
-    fill_cell(reader, Rule(82), place); // BYTES_REQUIRED
-    fill_cell(reader, Rule(83), place); // REQUIRED
-    fill_cell(reader, Rule(84), place); // BYTES_SETLIKE
-    fill_cell(reader, Rule(85), place); // SETLIKE
-    fill_cell(reader, Rule(86), place); // BYTES_SETTER
+    fill_cell(reader, keywords::NAMESPACE, place);
+    fill_cell(reader, keywords::BYTES_PARTIAL, place);
+    fill_cell(reader, keywords::PARTIAL, place);
+    fill_cell(reader, keywords::BYTES_REQUIRED, place);
+    fill_cell(reader, keywords::REQUIRED, place);
+    fill_cell(reader, keywords::BYTES_SETLIKE, place);
+    fill_cell(reader, keywords::SETLIKE, place);
+    fill_cell(reader, keywords::BYTES_SETTER, place);
 }
 
 #[inline(always)]
@@ -117,14 +117,14 @@ fn fill_from_87<C: Cell>(reader: &mut Reader<'_, C>, place: usize)
     requires next { IsFilling reader.old reader.old.text place 87 }
     ensures { IsFilling reader.new reader.old.text place 95 }
 {
-    fill_cell(reader, Rule(87), place); // SETTER
-    fill_cell(reader, Rule(88), place); // BYTES_STATIC
-    fill_cell(reader, Rule(89), place); // STATIC
-    fill_cell(reader, Rule(90), place); // BYTES_STRINGIFIER
-    fill_cell(reader, Rule(91), place); // STRINGIFIER
-    fill_cell(reader, Rule(92), place); // BYTES_TYPEDEF
-    fill_cell(reader, Rule(93), place); // TYPEDEF
-    fill_cell(reader, Rule(94), place); // BYTES_UNRESTRICTED
+    fill_cell(reader, keywords::SETTER, place);
+    fill_cell(reader, keywords::BYTES_STATIC, place);
+    fill_cell(reader, keywords::STATIC, place);
+    fill_cell(reader, keywords::BYTES_STRINGIFIER, place);
+    fill_cell(reader, keywords::STRINGIFIER, place);
+    fill_cell(reader, keywords::BYTES_TYPEDEF, place);
+    fill_cell(reader, keywords::TYPEDEF, place);
+    fill_cell(reader, keywords::BYTES_UNRESTRICTED, place);
 }
 
 #[inline(always)]
@@ -133,14 +133,14 @@ fn fill_from_95<C: Cell>(reader: &mut Reader<'_, C>, place: usize)
     requires next { IsFilling reader.old reader.old.text place 95 }
     ensures { IsFilling reader.new reader.old.text place 103 }
 {
-    fill_cell(reader, Rule(95), place); // UNRESTRICTED
-    fill_cell(reader, Rule(96), place); // BYTES_SYMBOL
-    fill_cell(reader, Rule(97), place); // SYMBOL
-    fill_cell(reader, Rule(98), place); // BYTES_ANY
-    fill_cell(reader, Rule(99), place); // ANY
-    fill_cell(reader, Rule(100), place); // BYTES_BOOLEAN
-    fill_cell(reader, Rule(101), place); // BOOLEAN
-    fill_cell(reader, Rule(102), place); // BYTES_BYTE
+    fill_cell(reader, keywords::UNRESTRICTED, place);
+    fill_cell(reader, keywords::BYTES_SYMBOL, place);
+    fill_cell(reader, keywords::SYMBOL, place);
+    fill_cell(reader, keywords::BYTES_ANY, place);
+    fill_cell(reader, keywords::ANY, place);
+    fill_cell(reader, keywords::BYTES_BOOLEAN, place);
+    fill_cell(reader, keywords::BOOLEAN, place);
+    fill_cell(reader, keywords::BYTES_BYTE, place);
 }
 
 #[inline(always)]
@@ -149,14 +149,14 @@ fn fill_from_103<C: Cell>(reader: &mut Reader<'_, C>, place: usize)
     requires next { IsFilling reader.old reader.old.text place 103 }
     ensures { IsFilling reader.new reader.old.text place 111 }
 {
-    fill_cell(reader, Rule(103), place); // BYTE
-    fill_cell(reader, Rule(104), place); // BYTES_DOUBLE
-    fill_cell(reader, Rule(105), place); // DOUBLE
-    fill_cell(reader, Rule(106), place); // BYTES_FALSE
-    fill_cell(reader, Rule(107), place); // FALSE
-    fill_cell(reader, Rule(108), place); // BYTES_FLOAT
-    fill_cell(reader, Rule(109), place); // FLOAT
-    fill_cell(reader, Rule(110), place); // BYTES_LONG
+    fill_cell(reader, keywords::BYTE, place);
+    fill_cell(reader, keywords::BYTES_DOUBLE, place);
+    fill_cell(reader, keywords::DOUBLE, place);
+    fill_cell(reader, keywords::BYTES_FALSE, place);
+    fill_cell(reader, keywords::FALSE, place);
+    fill_cell(reader, keywords::BYTES_FLOAT, place);
+    fill_cell(reader, keywords::FLOAT, place);
+    fill_cell(reader, keywords::BYTES_LONG, place);
 }
 
 #[inline(always)]
@@ -165,14 +165,14 @@ fn fill_from_111<C: Cell>(reader: &mut Reader<'_, C>, place: usize)
     requires next { IsFilling reader.old reader.old.text place 111 }
     ensures { IsFilling reader.new reader.old.text place 119 }
 {
-    fill_cell(reader, Rule(111), place); // LONG
-    fill_cell(reader, Rule(112), place); // BYTES_NULL
-    fill_cell(reader, Rule(113), place); // NULL
-    fill_cell(reader, Rule(114), place); // BYTES_OBJECT
-    fill_cell(reader, Rule(115), place); // OBJECT
-    fill_cell(reader, Rule(116), place); // BYTES_OCTET
-    fill_cell(reader, Rule(117), place); // OCTET
-    fill_cell(reader, Rule(118), place); // BYTES_SEQUENCE
+    fill_cell(reader, keywords::LONG, place);
+    fill_cell(reader, keywords::BYTES_NULL, place);
+    fill_cell(reader, keywords::NULL, place);
+    fill_cell(reader, keywords::BYTES_OBJECT, place);
+    fill_cell(reader, keywords::OBJECT, place);
+    fill_cell(reader, keywords::BYTES_OCTET, place);
+    fill_cell(reader, keywords::OCTET, place);
+    fill_cell(reader, keywords::BYTES_SEQUENCE, place);
 }
 
 #[inline(always)]
@@ -181,14 +181,14 @@ fn fill_from_119<C: Cell>(reader: &mut Reader<'_, C>, place: usize)
     requires next { IsFilling reader.old reader.old.text place 119 }
     ensures { IsFilling reader.new reader.old.text place 127 }
 {
-    fill_cell(reader, Rule(119), place); // SEQUENCE
-    fill_cell(reader, Rule(120), place); // BYTES_SHORT
-    fill_cell(reader, Rule(121), place); // SHORT
-    fill_cell(reader, Rule(122), place); // BYTES_TRUE
-    fill_cell(reader, Rule(123), place); // TRUE
-    fill_cell(reader, Rule(124), place); // BYTES_UNSIGNED
-    fill_cell(reader, Rule(125), place); // UNSIGNED
-    fill_cell(reader, Rule(126), place); // BYTES_UNDEFINED
+    fill_cell(reader, keywords::SEQUENCE, place);
+    fill_cell(reader, keywords::BYTES_SHORT, place);
+    fill_cell(reader, keywords::SHORT, place);
+    fill_cell(reader, keywords::BYTES_TRUE, place);
+    fill_cell(reader, keywords::TRUE, place);
+    fill_cell(reader, keywords::BYTES_UNSIGNED, place);
+    fill_cell(reader, keywords::UNSIGNED, place);
+    fill_cell(reader, keywords::BYTES_UNDEFINED, place);
 }
 
 #[inline(always)]
@@ -197,14 +197,14 @@ fn fill_from_127<C: Cell>(reader: &mut Reader<'_, C>, place: usize)
     requires next { IsFilling reader.old reader.old.text place 127 }
     ensures { IsFilling reader.new reader.old.text place 135 }
 {
-    fill_cell(reader, Rule(127), place); // UNDEFINED
-    fill_cell(reader, Rule(128), place); // BYTES_RECORD
-    fill_cell(reader, Rule(129), place); // RECORD
-    fill_cell(reader, Rule(130), place); // BYTES_READ_ONLY
-    fill_cell(reader, Rule(131), place); // READ_ONLY
-    fill_cell(reader, Rule(132), place); // BYTES_MIXIN
-    fill_cell(reader, Rule(133), place); // MIXIN
-    fill_cell(reader, Rule(134), place); // BYTES_IMPLEMENTS
+    fill_cell(reader, keywords::UNDEFINED, place);
+    fill_cell(reader, keywords::BYTES_RECORD, place);
+    fill_cell(reader, keywords::RECORD, place);
+    fill_cell(reader, keywords::BYTES_READ_ONLY, place);
+    fill_cell(reader, keywords::READ_ONLY, place);
+    fill_cell(reader, keywords::BYTES_MIXIN, place);
+    fill_cell(reader, keywords::MIXIN, place);
+    fill_cell(reader, keywords::BYTES_IMPLEMENTS, place);
 }
 
 #[inline(always)]
@@ -213,9 +213,9 @@ fn fill_from_135<C: Cell>(reader: &mut Reader<'_, C>, place: usize)
     requires next { IsFilling reader.old reader.old.text place 135 }
     ensures { IsFilling reader.new reader.old.text place 140 }
 {
-    fill_cell(reader, Rule(135), place); // IMPLEMENTS
-    fill_cell(reader, Rule(136), place); // BYTES_LEGACY_CALLER
-    fill_cell(reader, Rule(137), place); // LEGACY_CALLER
-    fill_cell(reader, Rule(138), place); // BYTES_CONSTRUCTOR
-    fill_cell(reader, Rule(139), place); // CONSTRUCTOR
+    fill_cell(reader, keywords::IMPLEMENTS, place);
+    fill_cell(reader, keywords::BYTES_LEGACY_CALLER, place);
+    fill_cell(reader, keywords::LEGACY_CALLER, place);
+    fill_cell(reader, keywords::BYTES_CONSTRUCTOR, place);
+    fill_cell(reader, keywords::CONSTRUCTOR, place);
 }

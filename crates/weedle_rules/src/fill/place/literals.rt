@@ -8,7 +8,7 @@ ghost use Rattle.weedle_rules.specs.Filling.{IsFilling};
 use crate::cell::Cell;
 use crate::fill::fill_cell;
 use crate::reader::Reader;
-use weedle_grammar::Rule;
+use weedle_grammar::grammar::literals;
 
 /// Works out the cells of the rules from 227 to 234.
 #[inline(always)]
@@ -26,12 +26,12 @@ fn fill_from_227<C: Cell>(reader: &mut Reader<'_, C>, place: usize)
     requires next { IsFilling reader.old reader.old.text place 227 }
     ensures { IsFilling reader.new reader.old.text place 235 }
 {
-    fill_cell(reader, Rule(227), place); // BOOLEAN_LIT
-    fill_cell(reader, Rule(228), place); // INTEGER_LIT
-    fill_cell(reader, Rule(229), place); // FLOAT_LIT
-    fill_cell(reader, Rule(230), place); // EMPTY_ARRAY_LIT
-    fill_cell(reader, Rule(231), place); // EMPTY_DICTIONARY_LIT
-    fill_cell(reader, Rule(232), place); // DEFAULT_VALUE
-    fill_cell(reader, Rule(233), place); // CONST_VALUE
-    fill_cell(reader, Rule(234), place); // DEFAULT
+    fill_cell(reader, literals::BOOLEAN_LIT, place);
+    fill_cell(reader, literals::INTEGER_LIT, place);
+    fill_cell(reader, literals::FLOAT_LIT, place);
+    fill_cell(reader, literals::EMPTY_ARRAY_LIT, place);
+    fill_cell(reader, literals::EMPTY_DICTIONARY_LIT, place);
+    fill_cell(reader, literals::DEFAULT_VALUE, place);
+    fill_cell(reader, literals::CONST_VALUE, place);
+    fill_cell(reader, literals::DEFAULT, place);
 }

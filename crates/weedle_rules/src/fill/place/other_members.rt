@@ -8,7 +8,7 @@ ghost use Rattle.weedle_rules.specs.Filling.{IsFilling};
 use crate::cell::Cell;
 use crate::fill::fill_cell;
 use crate::reader::Reader;
-use weedle_grammar::Rule;
+use weedle_grammar::grammar::other_members;
 
 /// Works out the cells of the rules from 349 to 369.
 #[inline(always)]
@@ -28,14 +28,14 @@ fn fill_from_349<C: Cell>(reader: &mut Reader<'_, C>, place: usize)
     requires next { IsFilling reader.old reader.old.text place 349 }
     ensures { IsFilling reader.new reader.old.text place 357 }
 {
-    fill_cell(reader, Rule(349), place); // OPT_STRINGIFIER
-    fill_cell(reader, Rule(350), place); // OPERATION_MIXIN_MEMBER
-    fill_cell(reader, Rule(351), place); // ATTRIBUTE_MIXIN_MEMBER
-    fill_cell(reader, Rule(352), place); // MIXIN_MEMBER
-    fill_cell(reader, Rule(353), place); // MIXIN_MEMBERS
-    fill_cell(reader, Rule(354), place); // BRACED_MIXIN_MEMBERS
-    fill_cell(reader, Rule(355), place); // OPERATION_NAMESPACE_MEMBER
-    fill_cell(reader, Rule(356), place); // ATTRIBUTE_NAMESPACE_MEMBER
+    fill_cell(reader, other_members::OPT_STRINGIFIER, place);
+    fill_cell(reader, other_members::OPERATION_MIXIN_MEMBER, place);
+    fill_cell(reader, other_members::ATTRIBUTE_MIXIN_MEMBER, place);
+    fill_cell(reader, other_members::MIXIN_MEMBER, place);
+    fill_cell(reader, other_members::MIXIN_MEMBERS, place);
+    fill_cell(reader, other_members::BRACED_MIXIN_MEMBERS, place);
+    fill_cell(reader, other_members::OPERATION_NAMESPACE_MEMBER, place);
+    fill_cell(reader, other_members::ATTRIBUTE_NAMESPACE_MEMBER, place);
 }
 
 #[inline(always)]
@@ -44,14 +44,14 @@ fn fill_from_357<C: Cell>(reader: &mut Reader<'_, C>, place: usize)
     requires next { IsFilling reader.old reader.old.text place 357 }
     ensures { IsFilling reader.new reader.old.text place 365 }
 {
-    fill_cell(reader, Rule(357), place); // NAMESPACE_MEMBER
-    fill_cell(reader, Rule(358), place); // NAMESPACE_MEMBERS
-    fill_cell(reader, Rule(359), place); // BRACED_NAMESPACE_MEMBERS
-    fill_cell(reader, Rule(360), place); // OPT_REQUIRED
-    fill_cell(reader, Rule(361), place); // DICTIONARY_MEMBER
-    fill_cell(reader, Rule(362), place); // DICTIONARY_MEMBERS
-    fill_cell(reader, Rule(363), place); // BRACED_DICTIONARY_MEMBERS
-    fill_cell(reader, Rule(364), place); // ENUM_VARIANT
+    fill_cell(reader, other_members::NAMESPACE_MEMBER, place);
+    fill_cell(reader, other_members::NAMESPACE_MEMBERS, place);
+    fill_cell(reader, other_members::BRACED_NAMESPACE_MEMBERS, place);
+    fill_cell(reader, other_members::OPT_REQUIRED, place);
+    fill_cell(reader, other_members::DICTIONARY_MEMBER, place);
+    fill_cell(reader, other_members::DICTIONARY_MEMBERS, place);
+    fill_cell(reader, other_members::BRACED_DICTIONARY_MEMBERS, place);
+    fill_cell(reader, other_members::ENUM_VARIANT, place);
 }
 
 #[inline(always)]
@@ -60,9 +60,9 @@ fn fill_from_365<C: Cell>(reader: &mut Reader<'_, C>, place: usize)
     requires next { IsFilling reader.old reader.old.text place 365 }
     ensures { IsFilling reader.new reader.old.text place 370 }
 {
-    fill_cell(reader, Rule(365), place); // TAIL_ENUM_VARIANT_COMMA
-    fill_cell(reader, Rule(366), place); // LIST1_ENUM_VARIANT_COMMA
-    fill_cell(reader, Rule(367), place); // OPT_COMMA
-    fill_cell(reader, Rule(368), place); // ENUM_VALUE_LIST
-    fill_cell(reader, Rule(369), place); // BRACED_ENUM_VALUE_LIST
+    fill_cell(reader, other_members::TAIL_ENUM_VARIANT_COMMA, place);
+    fill_cell(reader, other_members::LIST1_ENUM_VARIANT_COMMA, place);
+    fill_cell(reader, other_members::OPT_COMMA, place);
+    fill_cell(reader, other_members::ENUM_VALUE_LIST, place);
+    fill_cell(reader, other_members::BRACED_ENUM_VALUE_LIST, place);
 }

@@ -8,7 +8,7 @@ ghost use Rattle.weedle_rules.specs.Filling.{IsFilling};
 use crate::cell::Cell;
 use crate::fill::fill_cell;
 use crate::reader::Reader;
-use weedle_grammar::Rule;
+use weedle_grammar::grammar::simple_types;
 
 /// Works out the cells of the rules from 235 to 255.
 #[inline(always)]
@@ -28,14 +28,14 @@ fn fill_from_235<C: Cell>(reader: &mut Reader<'_, C>, place: usize)
     requires next { IsFilling reader.old reader.old.text place 235 }
     ensures { IsFilling reader.new reader.old.text place 243 }
 {
-    fill_cell(reader, Rule(235), place); // OPT_UNSIGNED
-    fill_cell(reader, Rule(236), place); // LONG_LONG
-    fill_cell(reader, Rule(237), place); // LONG_LONG_TYPE
-    fill_cell(reader, Rule(238), place); // LONG_TYPE
-    fill_cell(reader, Rule(239), place); // SHORT_TYPE
-    fill_cell(reader, Rule(240), place); // INTEGER_TYPE
-    fill_cell(reader, Rule(241), place); // OPT_UNRESTRICTED
-    fill_cell(reader, Rule(242), place); // FLOAT_TYPE
+    fill_cell(reader, simple_types::OPT_UNSIGNED, place);
+    fill_cell(reader, simple_types::LONG_LONG, place);
+    fill_cell(reader, simple_types::LONG_LONG_TYPE, place);
+    fill_cell(reader, simple_types::LONG_TYPE, place);
+    fill_cell(reader, simple_types::SHORT_TYPE, place);
+    fill_cell(reader, simple_types::INTEGER_TYPE, place);
+    fill_cell(reader, simple_types::OPT_UNRESTRICTED, place);
+    fill_cell(reader, simple_types::FLOAT_TYPE, place);
 }
 
 #[inline(always)]
@@ -44,14 +44,14 @@ fn fill_from_243<C: Cell>(reader: &mut Reader<'_, C>, place: usize)
     requires next { IsFilling reader.old reader.old.text place 243 }
     ensures { IsFilling reader.new reader.old.text place 251 }
 {
-    fill_cell(reader, Rule(243), place); // DOUBLE_TYPE
-    fill_cell(reader, Rule(244), place); // FLOATING_POINT_TYPE
-    fill_cell(reader, Rule(245), place); // OPT_Q_MARK
-    fill_cell(reader, Rule(246), place); // MAY_BE_NULL_INTEGER_TYPE
-    fill_cell(reader, Rule(247), place); // MAY_BE_NULL_FLOATING_POINT_TYPE
-    fill_cell(reader, Rule(248), place); // MAY_BE_NULL_BOOLEAN
-    fill_cell(reader, Rule(249), place); // MAY_BE_NULL_BYTE
-    fill_cell(reader, Rule(250), place); // MAY_BE_NULL_OCTET
+    fill_cell(reader, simple_types::DOUBLE_TYPE, place);
+    fill_cell(reader, simple_types::FLOATING_POINT_TYPE, place);
+    fill_cell(reader, simple_types::OPT_Q_MARK, place);
+    fill_cell(reader, simple_types::MAY_BE_NULL_INTEGER_TYPE, place);
+    fill_cell(reader, simple_types::MAY_BE_NULL_FLOATING_POINT_TYPE, place);
+    fill_cell(reader, simple_types::MAY_BE_NULL_BOOLEAN, place);
+    fill_cell(reader, simple_types::MAY_BE_NULL_BYTE, place);
+    fill_cell(reader, simple_types::MAY_BE_NULL_OCTET, place);
 }
 
 #[inline(always)]
@@ -60,9 +60,9 @@ fn fill_from_251<C: Cell>(reader: &mut Reader<'_, C>, place: usize)
     requires next { IsFilling reader.old reader.old.text place 251 }
     ensures { IsFilling reader.new reader.old.text place 256 }
 {
-    fill_cell(reader, Rule(251), place); // MAY_BE_NULL_IDENTIFIER
-    fill_cell(reader, Rule(252), place); // CONST_TYPE
-    fill_cell(reader, Rule(253), place); // TAIL_IDENTIFIER_COMMA
-    fill_cell(reader, Rule(254), place); // IDENTIFIER_LIST
-    fill_cell(reader, Rule(255), place); // PARENTHESIZED_IDENTIFIER_LIST
+    fill_cell(reader, simple_types::MAY_BE_NULL_IDENTIFIER, place);
+    fill_cell(reader, simple_types::CONST_TYPE, place);
+    fill_cell(reader, simple_types::TAIL_IDENTIFIER_COMMA, place);
+    fill_cell(reader, simple_types::IDENTIFIER_LIST, place);
+    fill_cell(reader, simple_types::PARENTHESIZED_IDENTIFIER_LIST, place);
 }

@@ -8,7 +8,7 @@ ghost use Rattle.weedle_rules.specs.Filling.{IsFilling};
 use crate::cell::Cell;
 use crate::fill::fill_cell;
 use crate::reader::Reader;
-use weedle_grammar::Rule;
+use weedle_grammar::grammar::types;
 
 /// Works out the cells of the rules from 256 to 316.
 #[inline(always)]
@@ -33,14 +33,14 @@ fn fill_from_256<C: Cell>(reader: &mut Reader<'_, C>, place: usize)
     requires next { IsFilling reader.old reader.old.text place 256 }
     ensures { IsFilling reader.new reader.old.text place 264 }
 {
-    fill_cell(reader, Rule(256), place); // GENERICS_TYPE
-    fill_cell(reader, Rule(257), place); // SEQUENCE_TYPE
-    fill_cell(reader, Rule(258), place); // FROZEN_ARRAY_TYPE
-    fill_cell(reader, Rule(259), place); // GENERICS_RETURN_TYPE
-    fill_cell(reader, Rule(260), place); // PROMISE_TYPE
-    fill_cell(reader, Rule(261), place); // GENERICS_RECORD_TYPES
-    fill_cell(reader, Rule(262), place); // RECORD_TYPE
-    fill_cell(reader, Rule(263), place); // UNION_TYPE
+    fill_cell(reader, types::GENERICS_TYPE, place);
+    fill_cell(reader, types::SEQUENCE_TYPE, place);
+    fill_cell(reader, types::FROZEN_ARRAY_TYPE, place);
+    fill_cell(reader, types::GENERICS_RETURN_TYPE, place);
+    fill_cell(reader, types::PROMISE_TYPE, place);
+    fill_cell(reader, types::GENERICS_RECORD_TYPES, place);
+    fill_cell(reader, types::RECORD_TYPE, place);
+    fill_cell(reader, types::UNION_TYPE, place);
 }
 
 #[inline(always)]
@@ -49,14 +49,14 @@ fn fill_from_264<C: Cell>(reader: &mut Reader<'_, C>, place: usize)
     requires next { IsFilling reader.old reader.old.text place 264 }
     ensures { IsFilling reader.new reader.old.text place 272 }
 {
-    fill_cell(reader, Rule(264), place); // MAY_BE_NULL_UNION_TYPE
-    fill_cell(reader, Rule(265), place); // MAY_BE_NULL_BYTE_STRING
-    fill_cell(reader, Rule(266), place); // MAY_BE_NULL_DOM_STRING
-    fill_cell(reader, Rule(267), place); // MAY_BE_NULL_USV_STRING
-    fill_cell(reader, Rule(268), place); // MAY_BE_NULL_SEQUENCE_TYPE
-    fill_cell(reader, Rule(269), place); // MAY_BE_NULL_OBJECT
-    fill_cell(reader, Rule(270), place); // MAY_BE_NULL_SYMBOL
-    fill_cell(reader, Rule(271), place); // MAY_BE_NULL_ERROR
+    fill_cell(reader, types::MAY_BE_NULL_UNION_TYPE, place);
+    fill_cell(reader, types::MAY_BE_NULL_BYTE_STRING, place);
+    fill_cell(reader, types::MAY_BE_NULL_DOM_STRING, place);
+    fill_cell(reader, types::MAY_BE_NULL_USV_STRING, place);
+    fill_cell(reader, types::MAY_BE_NULL_SEQUENCE_TYPE, place);
+    fill_cell(reader, types::MAY_BE_NULL_OBJECT, place);
+    fill_cell(reader, types::MAY_BE_NULL_SYMBOL, place);
+    fill_cell(reader, types::MAY_BE_NULL_ERROR, place);
 }
 
 #[inline(always)]
@@ -65,14 +65,14 @@ fn fill_from_272<C: Cell>(reader: &mut Reader<'_, C>, place: usize)
     requires next { IsFilling reader.old reader.old.text place 272 }
     ensures { IsFilling reader.new reader.old.text place 280 }
 {
-    fill_cell(reader, Rule(272), place); // MAY_BE_NULL_ARRAY_BUFFER
-    fill_cell(reader, Rule(273), place); // MAY_BE_NULL_DATA_VIEW
-    fill_cell(reader, Rule(274), place); // MAY_BE_NULL_INT8_ARRAY
-    fill_cell(reader, Rule(275), place); // MAY_BE_NULL_INT16_ARRAY
-    fill_cell(reader, Rule(276), place); // MAY_BE_NULL_INT32_ARRAY
-    fill_cell(reader, Rule(277), place); // MAY_BE_NULL_UINT8_ARRAY
-    fill_cell(reader, Rule(278), place); // MAY_BE_NULL_UINT16_ARRAY
-    fill_cell(reader, Rule(279), place); // MAY_BE_NULL_UINT32_ARRAY
+    fill_cell(reader, types::MAY_BE_NULL_ARRAY_BUFFER, place);
+    fill_cell(reader, types::MAY_BE_NULL_DATA_VIEW, place);
+    fill_cell(reader, types::MAY_BE_NULL_INT8_ARRAY, place);
+    fill_cell(reader, types::MAY_BE_NULL_INT16_ARRAY, place);
+    fill_cell(reader, types::MAY_BE_NULL_INT32_ARRAY, place);
+    fill_cell(reader, types::MAY_BE_NULL_UINT8_ARRAY, place);
+    fill_cell(reader, types::MAY_BE_NULL_UINT16_ARRAY, place);
+    fill_cell(reader, types::MAY_BE_NULL_UINT32_ARRAY, place);
 }
 
 #[inline(always)]
@@ -81,14 +81,14 @@ fn fill_from_280<C: Cell>(reader: &mut Reader<'_, C>, place: usize)
     requires next { IsFilling reader.old reader.old.text place 280 }
     ensures { IsFilling reader.new reader.old.text place 288 }
 {
-    fill_cell(reader, Rule(280), place); // MAY_BE_NULL_UINT8_CLAMPED_ARRAY
-    fill_cell(reader, Rule(281), place); // MAY_BE_NULL_FLOAT32_ARRAY
-    fill_cell(reader, Rule(282), place); // MAY_BE_NULL_FLOAT64_ARRAY
-    fill_cell(reader, Rule(283), place); // MAY_BE_NULL_ARRAY_BUFFER_VIEW
-    fill_cell(reader, Rule(284), place); // MAY_BE_NULL_BUFFER_SOURCE
-    fill_cell(reader, Rule(285), place); // MAY_BE_NULL_FROZEN_ARRAY_TYPE
-    fill_cell(reader, Rule(286), place); // MAY_BE_NULL_RECORD_TYPE
-    fill_cell(reader, Rule(287), place); // NON_ANY_TYPE
+    fill_cell(reader, types::MAY_BE_NULL_UINT8_CLAMPED_ARRAY, place);
+    fill_cell(reader, types::MAY_BE_NULL_FLOAT32_ARRAY, place);
+    fill_cell(reader, types::MAY_BE_NULL_FLOAT64_ARRAY, place);
+    fill_cell(reader, types::MAY_BE_NULL_ARRAY_BUFFER_VIEW, place);
+    fill_cell(reader, types::MAY_BE_NULL_BUFFER_SOURCE, place);
+    fill_cell(reader, types::MAY_BE_NULL_FROZEN_ARRAY_TYPE, place);
+    fill_cell(reader, types::MAY_BE_NULL_RECORD_TYPE, place);
+    fill_cell(reader, types::NON_ANY_TYPE, place);
 }
 
 #[inline(always)]
@@ -97,14 +97,14 @@ fn fill_from_288<C: Cell>(reader: &mut Reader<'_, C>, place: usize)
     requires next { IsFilling reader.old reader.old.text place 288 }
     ensures { IsFilling reader.new reader.old.text place 296 }
 {
-    fill_cell(reader, Rule(288), place); // RECORD_KEY_TYPE
-    fill_cell(reader, Rule(289), place); // RECORD_TYPES
-    fill_cell(reader, Rule(290), place); // SINGLE_TYPE
-    fill_cell(reader, Rule(291), place); // TYPE
-    fill_cell(reader, Rule(292), place); // RETURN_TYPE
-    fill_cell(reader, Rule(293), place); // EXTENDED_ATTRIBUTE_LIST
-    fill_cell(reader, Rule(294), place); // OPT_EXTENDED_ATTRIBUTE_LIST
-    fill_cell(reader, Rule(295), place); // ATTRIBUTED_TYPE
+    fill_cell(reader, types::RECORD_KEY_TYPE, place);
+    fill_cell(reader, types::RECORD_TYPES, place);
+    fill_cell(reader, types::SINGLE_TYPE, place);
+    fill_cell(reader, types::TYPE, place);
+    fill_cell(reader, types::RETURN_TYPE, place);
+    fill_cell(reader, types::EXTENDED_ATTRIBUTE_LIST, place);
+    fill_cell(reader, types::OPT_EXTENDED_ATTRIBUTE_LIST, place);
+    fill_cell(reader, types::ATTRIBUTED_TYPE, place);
 }
 
 #[inline(always)]
@@ -113,14 +113,14 @@ fn fill_from_296<C: Cell>(reader: &mut Reader<'_, C>, place: usize)
     requires next { IsFilling reader.old reader.old.text place 296 }
     ensures { IsFilling reader.new reader.old.text place 304 }
 {
-    fill_cell(reader, Rule(296), place); // ATTRIBUTED_NON_ANY_TYPE
-    fill_cell(reader, Rule(297), place); // UNION_MEMBER_TYPE
-    fill_cell(reader, Rule(298), place); // TAIL_UNION_MEMBER_TYPE_OR
-    fill_cell(reader, Rule(299), place); // LIST_UNION_MEMBER_TYPE_OR
-    fill_cell(reader, Rule(300), place); // OPT_OPTIONAL
-    fill_cell(reader, Rule(301), place); // OPT_DEFAULT
-    fill_cell(reader, Rule(302), place); // SINGLE_ARGUMENT
-    fill_cell(reader, Rule(303), place); // VARIADIC_ARGUMENT
+    fill_cell(reader, types::ATTRIBUTED_NON_ANY_TYPE, place);
+    fill_cell(reader, types::UNION_MEMBER_TYPE, place);
+    fill_cell(reader, types::TAIL_UNION_MEMBER_TYPE_OR, place);
+    fill_cell(reader, types::LIST_UNION_MEMBER_TYPE_OR, place);
+    fill_cell(reader, types::OPT_OPTIONAL, place);
+    fill_cell(reader, types::OPT_DEFAULT, place);
+    fill_cell(reader, types::SINGLE_ARGUMENT, place);
+    fill_cell(reader, types::VARIADIC_ARGUMENT, place);
 }
 
 #[inline(always)]
@@ -129,14 +129,14 @@ fn fill_from_304<C: Cell>(reader: &mut Reader<'_, C>, place: usize)
     requires next { IsFilling reader.old reader.old.text place 304 }
     ensures { IsFilling reader.new reader.old.text place 312 }
 {
-    fill_cell(reader, Rule(304), place); // ARGUMENT
-    fill_cell(reader, Rule(305), place); // TAIL_ARGUMENT_COMMA
-    fill_cell(reader, Rule(306), place); // ARGUMENT_LIST
-    fill_cell(reader, Rule(307), place); // PARENTHESIZED_ARGUMENT_LIST
-    fill_cell(reader, Rule(308), place); // EXTENDED_ATTRIBUTE_ARG_LIST
-    fill_cell(reader, Rule(309), place); // EXTENDED_ATTRIBUTE_NAMED_ARG_LIST
-    fill_cell(reader, Rule(310), place); // EXTENDED_ATTRIBUTE_IDENT_LIST
-    fill_cell(reader, Rule(311), place); // IDENTIFIER_OR_STRING
+    fill_cell(reader, types::ARGUMENT, place);
+    fill_cell(reader, types::TAIL_ARGUMENT_COMMA, place);
+    fill_cell(reader, types::ARGUMENT_LIST, place);
+    fill_cell(reader, types::PARENTHESIZED_ARGUMENT_LIST, place);
+    fill_cell(reader, types::EXTENDED_ATTRIBUTE_ARG_LIST, place);
+    fill_cell(reader, types::EXTENDED_ATTRIBUTE_NAMED_ARG_LIST, place);
+    fill_cell(reader, types::EXTENDED_ATTRIBUTE_IDENT_LIST, place);
+    fill_cell(reader, types::IDENTIFIER_OR_STRING, place);
 }
 
 #[inline(always)]
@@ -145,9 +145,9 @@ fn fill_from_312<C: Cell>(reader: &mut Reader<'_, C>, place: usize)
     requires next { IsFilling reader.old reader.old.text place 312 }
     ensures { IsFilling reader.new reader.old.text place 317 }
 {
-    fill_cell(reader, Rule(312), place); // EXTENDED_ATTRIBUTE_IDENT
-    fill_cell(reader, Rule(313), place); // EXTENDED_ATTRIBUTE_NO_ARGS
-    fill_cell(reader, Rule(314), place); // EXTENDED_ATTRIBUTE
-    fill_cell(reader, Rule(315), place); // TAIL_EXTENDED_ATTRIBUTE_COMMA
-    fill_cell(reader, Rule(316), place); // LIST_EXTENDED_ATTRIBUTE_COMMA
+    fill_cell(reader, types::EXTENDED_ATTRIBUTE_IDENT, place);
+    fill_cell(reader, types::EXTENDED_ATTRIBUTE_NO_ARGS, place);
+    fill_cell(reader, types::EXTENDED_ATTRIBUTE, place);
+    fill_cell(reader, types::TAIL_EXTENDED_ATTRIBUTE_COMMA, place);
+    fill_cell(reader, types::LIST_EXTENDED_ATTRIBUTE_COMMA, place);
 }
