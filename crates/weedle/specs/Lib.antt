@@ -1,4 +1,2 @@
 pub mod Whole
-pub mod WholeOf
-pub mod Titles
 pub mod Report

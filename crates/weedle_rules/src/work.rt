@@ -5,8 +5,10 @@
 ghost use Rattle.weedle_rules.specs.Filling.{IsBegun, IsWorked};
 
 use crate::cell::Cell;
+use crate::grammar::row_of;
 use crate::reader::{Reader, Working};
-use weedle_grammar::{Row, Rule, row_of};
+use crate::row::Row;
+use crate::rule::Rule;
 
 mod items;
 mod parts;

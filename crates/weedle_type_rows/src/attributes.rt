@@ -1,11 +1,12 @@
 //! Attributes.
 
+use crate::values::{argument, attributes, list, parenthesized, plain, single};
+use crate::whole::reads;
 use std::test::Fail;
-use weedle_answers::{is_mismatch, reads};
+use weedle_answers::is_mismatch;
 use weedle_base::Parse;
 use weedle_literal::StringLit;
 use weedle_parts::common::Identifier;
-use weedle_samples::{argument, attributes, list, parenthesized, plain, single};
 use weedle_term::{Assign, DOMString};
 use weedle_types::argument::Argument;
 use weedle_types::attribute::{

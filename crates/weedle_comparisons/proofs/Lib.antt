@@ -1,2 +1,0 @@
-pub mod ListingAttributes
-pub mod NameLists

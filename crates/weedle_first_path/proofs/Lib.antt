@@ -1,0 +1,3 @@
+pub mod BraceFacts
+pub mod MemberFacts
+pub mod DefinitionFacts

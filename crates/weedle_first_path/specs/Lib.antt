@@ -1,0 +1,5 @@
+pub mod ValueTrees
+pub mod Braces
+pub mod BraceLaws
+pub mod Titles
+pub mod Laws

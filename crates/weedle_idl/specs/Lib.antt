@@ -1,4 +1,0 @@
-pub mod InterfaceTrees
-pub mod DefinitionTrees
-pub mod Pieces
-pub mod Laws

@@ -1,2 +1,0 @@
-pub mod PartTrees
-pub mod Trees

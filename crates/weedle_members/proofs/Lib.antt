@@ -1,5 +1,0 @@
-pub mod ConstantRules
-pub mod AttributeRules
-pub mod OperationRules
-pub mod StringifierRules
-pub mod MixinRules

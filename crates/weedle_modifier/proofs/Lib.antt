@@ -1,2 +1,0 @@
-pub mod InheritanceRules
-pub mod ModifierRules

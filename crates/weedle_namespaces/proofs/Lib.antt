@@ -1,4 +1,0 @@
-pub mod NamespaceRules
-pub mod DictionaryRules
-pub mod NamespaceDefinitionRules
-pub mod DictionaryDefinitionRules

@@ -1,0 +1,56 @@
+//! The grammar: the number, the name and the row of each rule, section by section.
+//!
+//! Written by tools/grammar.py.
+
+ghost use Rattle.std.specs.Prelude.{◌≡◌};
+ghost use Rattle.weedle_rules.specs.Table.{row_of as row_of_lem};
+ghost use Rattle.weedle_rules.specs.View.{row_view};
+
+use crate::row::Row;
+use crate::rule::Rule;
+
+pub(crate) mod capitalized_keywords;
+pub(crate) mod definitions;
+pub(crate) mod first_path;
+pub(crate) mod interface_members;
+pub(crate) mod keywords;
+pub(crate) mod leaves;
+pub(crate) mod literals;
+pub(crate) mod other_members;
+pub(crate) mod simple_types;
+pub(crate) mod symbols;
+pub(crate) mod trivia;
+pub(crate) mod types;
+
+/// What a rule reads. It takes no memory.
+#[inline(always)]
+pub fn row_of(rule: Rule) -> Row
+    ensures { row_view result ≡ row_of_lem rule }
+{
+    let number = rule.number();
+    if number < 15 {
+        trivia::row(number)
+    } else if number < 47 {
+        symbols::row(number)
+    } else if number < 140 {
+        keywords::row(number)
+    } else if number < 184 {
+        capitalized_keywords::row(number)
+    } else if number < 227 {
+        leaves::row(number)
+    } else if number < 235 {
+        literals::row(number)
+    } else if number < 256 {
+        simple_types::row(number)
+    } else if number < 317 {
+        types::row(number)
+    } else if number < 349 {
+        interface_members::row(number)
+    } else if number < 370 {
+        other_members::row(number)
+    } else if number < 386 {
+        definitions::row(number)
+    } else {
+        first_path::row(number)
+    }
+}
