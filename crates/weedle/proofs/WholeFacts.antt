@@ -12,10 +12,10 @@ use Rattle.weedle_base.specs.declared.fault.Err.{Err as Fault}
 use Rattle.weedle_base.specs.declared.fault.Err.TheVariants.{Error as Stopped, Failure}
 use Rattle.weedle_base.specs.declared.fault.Error.{Error}
 use Rattle.weedle_base.specs.declared.fault.ErrorKind.TheVariants.{Unread}
-use Rattle.weedle_rules.proofs.Unique.{one_outcome}
-use Rattle.weedle_rules.specs.Table.{Reads}
-use Rattle.weedle_rules.specs.Table.FirstPath.{FIRST_DEFINITION, FIRST_DEFINITIONS}
-use Rattle.weedle_rules.specs.Trees.{Tree, Gives}
+use Rattle.weedle_grammar.proofs.Unique.{one_outcome}
+use Rattle.weedle_grammar.specs.Table.{Reads}
+use Rattle.weedle_grammar.specs.Table.FirstPath.{FIRST_DEFINITION, FIRST_DEFINITIONS}
+use Rattle.weedle_grammar.specs.Trees.{Tree, Gives}
 use Rattle.weedle_first_path.proofs.DefinitionFacts.{reads_definitions}
 use Rattle.weedle_first_path.specs.Laws.{definitions_reading}
 use Rattle.weedle_first_path.specs.ValueTrees.{definition_tree, definitions_tree}

@@ -6,9 +6,9 @@ use Rattle.weedle_base.specs.declared.fault.Err.{Err}
 use Rattle.weedle_base.specs.declared.fault.Err.TheVariants.{Error as Stopped, Failure}
 use Rattle.weedle_base.specs.declared.fault.Error.{Error}
 use Rattle.weedle_base.specs.declared.fault.ErrorKind.TheVariants.{Unread, Memory}
-use Rattle.weedle_rules.specs.Table.{Reads}
-use Rattle.weedle_rules.specs.Table.FirstPath.{FIRST_DEFINITIONS}
-use Rattle.weedle_rules.specs.Trees.{Tree, Gives}
+use Rattle.weedle_grammar.specs.Table.{Reads}
+use Rattle.weedle_grammar.specs.Table.FirstPath.{FIRST_DEFINITIONS}
+use Rattle.weedle_grammar.specs.Trees.{Tree, Gives}
 use Rattle.weedle_first_path.specs.ValueTrees.{definitions_tree}
 use Rattle.weedle_first_path.specs.declared.definition.Definition.{Definition}
 

@@ -13,7 +13,7 @@
 //! ```
 //!
 //! The types stand in `weedle_first_path`. What the grammar reads of a text is said in the crate
-//! `weedle_rules`, and in `specs/ValueTrees.antt` of the types which of its trees each value stands
+//! `weedle_grammar`, and in `specs/ValueTrees.antt` of the types which of its trees each value stands
 //! for.
 #![tactic(auto)]
 

@@ -3,11 +3,11 @@ use Rattle.std.specs.Prelude.{◌≡◌, ℕ, [], ◌∷◌}
 use Rattle.weedle_base.proofs.RuleFacts.{own_rule, still_rule, seen_rule, seq_rule, seq_next, seq_last}
 use Rattle.weedle_base.specs.Reading.{Reading}
 use Rattle.weedle_base.specs.Rules.{IsRule}
-use Rattle.weedle_rules.specs.Meaning.{Plain}
-use Rattle.weedle_rules.specs.Rows.{Seq}
-use Rattle.weedle_rules.specs.Table.{row_of, shape_of}
-use Rattle.weedle_rules.specs.Table.Symbols.{OPEN_BRACE, CLOSE_BRACE}
-use Rattle.weedle_rules.specs.Trees.{Tree, Mark, Node, trees}
+use Rattle.weedle_grammar.specs.Meaning.{Plain}
+use Rattle.weedle_grammar.specs.Rows.{Seq}
+use Rattle.weedle_grammar.specs.Table.{row_of, shape_of}
+use Rattle.weedle_grammar.specs.Table.Symbols.{OPEN_BRACE, CLOSE_BRACE}
+use Rattle.weedle_grammar.specs.Trees.{Tree, Mark, Node, trees}
 use Rattle.weedle_first_path.specs.Braces.{braced_view, braced_reading}
 
 pub braced_rule : {T : Type 0} {R : Reading T} {x : ℕ} {tree : T → Tree} {grows : Type 0} → IsRule R x tree grows

@@ -16,11 +16,11 @@ use Rattle.weedle_base.specs.declared.fault.Err.{Err as Fault}
 use Rattle.weedle_base.specs.declared.fault.Error.{Error}
 use Rattle.weedle_term.specs.declared.definition_keywords.Interface.{Interface}
 use Rattle.weedle_term.specs.declared.symbols.SemiColon.{SemiColon}
-use Rattle.weedle_rules.specs.Table.FirstPath.{FIRST_MEMBER, FIRST_MEMBERS, BRACED_FIRST_MEMBERS, FIRST_INTERFACE, FIRST_DEFINITION, FIRST_DEFINITIONS}
-use Rattle.weedle_rules.specs.Table.Keywords.{INTERFACE}
-use Rattle.weedle_rules.specs.Table.Leaves.{IDENTIFIER}
-use Rattle.weedle_rules.specs.Table.Symbols.{SEMI_COLON}
-use Rattle.weedle_rules.specs.Trees.{Mark, Node, Alt, trees}
+use Rattle.weedle_grammar.specs.Table.FirstPath.{FIRST_MEMBER, FIRST_MEMBERS, BRACED_FIRST_MEMBERS, FIRST_INTERFACE, FIRST_DEFINITION, FIRST_DEFINITIONS}
+use Rattle.weedle_grammar.specs.Table.Keywords.{INTERFACE}
+use Rattle.weedle_grammar.specs.Table.Leaves.{IDENTIFIER}
+use Rattle.weedle_grammar.specs.Table.Symbols.{SEMI_COLON}
+use Rattle.weedle_grammar.specs.Trees.{Mark, Node, Alt, trees}
 use Rattle.weedle_first_path.proofs.BraceFacts.{braced_rule}
 use Rattle.weedle_first_path.specs.Braces.{braced_reading}
 use Rattle.weedle_first_path.specs.Laws.{ReadsDefinitions}

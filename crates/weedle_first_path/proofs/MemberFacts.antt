@@ -14,12 +14,12 @@ use Rattle.weedle_base.specs.declared.fault.Error.{Error}
 use Rattle.weedle_term.specs.declared.definition_keywords.Attribute.{Attribute}
 use Rattle.weedle_term.specs.declared.definition_keywords.ReadOnly.{ReadOnly}
 use Rattle.weedle_term.specs.declared.symbols.SemiColon.{SemiColon}
-use Rattle.weedle_rules.specs.Table.FirstPath.{FIRST_ATTRIBUTE, FIRST_MEMBER}
-use Rattle.weedle_rules.specs.Table.InterfaceMembers.{OPT_READ_ONLY}
-use Rattle.weedle_rules.specs.Table.Keywords.{ATTRIBUTE, READ_ONLY}
-use Rattle.weedle_rules.specs.Table.Leaves.{IDENTIFIER}
-use Rattle.weedle_rules.specs.Table.Symbols.{SEMI_COLON}
-use Rattle.weedle_rules.specs.Trees.{Mark, Node, Alt, trees}
+use Rattle.weedle_grammar.specs.Table.FirstPath.{FIRST_ATTRIBUTE, FIRST_MEMBER}
+use Rattle.weedle_grammar.specs.Table.InterfaceMembers.{OPT_READ_ONLY}
+use Rattle.weedle_grammar.specs.Table.Keywords.{ATTRIBUTE, READ_ONLY}
+use Rattle.weedle_grammar.specs.Table.Leaves.{IDENTIFIER}
+use Rattle.weedle_grammar.specs.Table.Symbols.{SEMI_COLON}
+use Rattle.weedle_grammar.specs.Trees.{Mark, Node, Alt, trees}
 use Rattle.weedle_first_path.specs.ValueTrees.{identifier_tree, attribute_member_tree, interface_member_tree}
 use Rattle.weedle_first_path.specs.declared.common.Identifier.{Identifier}
 use Rattle.weedle_first_path.specs.declared.interface.AttributeInterfaceMember.{AttributeInterfaceMember}

@@ -3,8 +3,8 @@ use Rattle.weedle_base.specs.Generic.{pair_reading}
 use Rattle.weedle_base.specs.GenericLaws.{pair_lawful, seen_lawful}
 use Rattle.weedle_base.specs.OwnLaws.{own_lawful}
 use Rattle.weedle_base.specs.Reading.{Reading, IsLawful}
-use Rattle.weedle_rules.specs.Table.Symbols.{OPEN_BRACE, CLOSE_BRACE}
-use Rattle.weedle_rules.specs.Trees.{Mark}
+use Rattle.weedle_grammar.specs.Table.Symbols.{OPEN_BRACE, CLOSE_BRACE}
+use Rattle.weedle_grammar.specs.Trees.{Mark}
 use Rattle.weedle_first_path.specs.Braces.{braced_view, open_reading, close_reading, braced_parts, braced_reading}
 
 -- the law of `Braced`

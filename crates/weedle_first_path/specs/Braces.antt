@@ -4,8 +4,8 @@ use Rattle.weedle_base.specs.Own.{own}
 use Rattle.weedle_base.specs.Reading.{Reading}
 use Rattle.weedle_term.specs.declared.symbols.CloseBrace.{CloseBrace}
 use Rattle.weedle_term.specs.declared.symbols.OpenBrace.{OpenBrace}
-use Rattle.weedle_rules.specs.Table.Symbols.{OPEN_BRACE, CLOSE_BRACE}
-use Rattle.weedle_rules.specs.Trees.{Mark}
+use Rattle.weedle_grammar.specs.Table.Symbols.{OPEN_BRACE, CLOSE_BRACE}
+use Rattle.weedle_grammar.specs.Trees.{Mark}
 use Rattle.weedle_first_path.specs.declared.common.Braced.{Braced}
 
 -- the three parts, one after another

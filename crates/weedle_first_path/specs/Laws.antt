@@ -4,7 +4,7 @@ use Rattle.weedle_base.specs.Own.{own}
 use Rattle.weedle_base.specs.Reading.{Reading}
 use Rattle.weedle_base.specs.Rules.{IsRule}
 use Rattle.weedle_base.specs.Runs.{run_reading, vec_step}
-use Rattle.weedle_rules.specs.Table.FirstPath.{FIRST_DEFINITION, FIRST_DEFINITIONS}
+use Rattle.weedle_grammar.specs.Table.FirstPath.{FIRST_DEFINITION, FIRST_DEFINITIONS}
 use Rattle.weedle_first_path.specs.ValueTrees.{definition_tree, definitions_tree}
 use Rattle.weedle_first_path.specs.declared.definition.Definition.{Definition}
 

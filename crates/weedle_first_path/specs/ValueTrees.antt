@@ -2,7 +2,7 @@
 use Rattle.std.specs.Global.{Vec}
 use Rattle.std.specs.Prelude.{List, [], ◌∷◌}
 use Rattle.weedle_base.specs.Rules.{option_tree, items_tree}
-use Rattle.weedle_rules.specs.Trees.{Tree, Mark, Text, Node, Alt, trees}
+use Rattle.weedle_grammar.specs.Trees.{Tree, Mark, Text, Node, Alt, trees}
 use Rattle.weedle_first_path.specs.declared.common.Braced.{Braced}
 use Rattle.weedle_first_path.specs.declared.common.Identifier.{Identifier}
 use Rattle.weedle_first_path.specs.declared.definition.Definition.{Definition}

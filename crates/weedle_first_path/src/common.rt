@@ -2,7 +2,7 @@
 
 ghost use Rattle.weedle_base.specs.Own.{own};
 ghost use Rattle.weedle_base.specs.OwnLaws.{own_lawful};
-ghost use Rattle.weedle_rules.specs.Table.Leaves.{IDENTIFIER};
+ghost use Rattle.weedle_grammar.specs.Table.Leaves.{IDENTIFIER};
 ghost use Rattle.weedle_first_path.specs.Braces.{braced_reading};
 ghost use Rattle.weedle_first_path.specs.BraceLaws.{braced_lawful};
 ghost use Rattle.weedle_first_path.specs.ValueTrees.{identifier_tree};

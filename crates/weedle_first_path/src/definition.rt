@@ -3,7 +3,7 @@
 ghost use Rattle.std.specs.Prelude.{◌≡◌};
 ghost use Rattle.weedle_base.specs.Own.{own};
 ghost use Rattle.weedle_base.specs.OwnLaws.{own_lawful};
-ghost use Rattle.weedle_rules.specs.Table.FirstPath.{FIRST_INTERFACE, FIRST_DEFINITION};
+ghost use Rattle.weedle_grammar.specs.Table.FirstPath.{FIRST_INTERFACE, FIRST_DEFINITION};
 ghost use Rattle.weedle_first_path.specs.Titles.{kind_text, name_text};
 ghost use Rattle.weedle_first_path.specs.ValueTrees.{interface_definition_tree, definition_tree};
 

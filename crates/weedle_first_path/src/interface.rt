@@ -2,7 +2,7 @@
 
 ghost use Rattle.weedle_base.specs.Own.{own};
 ghost use Rattle.weedle_base.specs.OwnLaws.{own_lawful};
-ghost use Rattle.weedle_rules.specs.Table.FirstPath.{FIRST_ATTRIBUTE, FIRST_MEMBER};
+ghost use Rattle.weedle_grammar.specs.Table.FirstPath.{FIRST_ATTRIBUTE, FIRST_MEMBER};
 ghost use Rattle.weedle_first_path.specs.ValueTrees.{attribute_member_tree, interface_member_tree};
 
 use crate::common::Identifier;

@@ -3,7 +3,7 @@
 //! Written by tools/grammar.py.
 
 ghost use Rattle.std.specs.Prelude.{◌≤◌, ◌+◌, ◌-◌, ◌*◌, length};
-ghost use Rattle.weedle_rules.specs.Bound.{rule_count};
+ghost use Rattle.weedle_grammar.specs.Bound.{rule_count};
 ghost use Rattle.weedle_rules.specs.Filling.{IsFilled};
 
 use crate::cell::Cell;

@@ -7,12 +7,8 @@ ghost use Rattle.weedle_rules.specs.Filling.{IsFilling};
 
 use crate::cell::Cell;
 use crate::fill::fill_cell;
-use crate::grammar::first_path::{
-    BRACED_FIRST_MEMBERS, FIRST_ATTRIBUTE, FIRST_DEFINITION, FIRST_DEFINITIONS, FIRST_INTERFACE,
-    FIRST_MEMBER, FIRST_MEMBERS,
-};
 use crate::reader::Reader;
-use crate::rule::Rule;
+use weedle_grammar::grammar::first_path;
 
 /// Works out the cells of the rules from 386 to 392.
 #[inline(always)]
@@ -30,11 +26,11 @@ fn fill_from_386<C: Cell>(reader: &mut Reader<'_, C>, place: usize)
     requires next { IsFilling reader.old reader.old.text place 386 }
     ensures { IsFilling reader.new reader.old.text place 393 }
 {
-    fill_cell(reader, Rule(FIRST_ATTRIBUTE), place);
-    fill_cell(reader, Rule(FIRST_MEMBER), place);
-    fill_cell(reader, Rule(FIRST_MEMBERS), place);
-    fill_cell(reader, Rule(BRACED_FIRST_MEMBERS), place);
-    fill_cell(reader, Rule(FIRST_INTERFACE), place);
-    fill_cell(reader, Rule(FIRST_DEFINITION), place);
-    fill_cell(reader, Rule(FIRST_DEFINITIONS), place);
+    fill_cell(reader, first_path::FIRST_ATTRIBUTE, place);
+    fill_cell(reader, first_path::FIRST_MEMBER, place);
+    fill_cell(reader, first_path::FIRST_MEMBERS, place);
+    fill_cell(reader, first_path::BRACED_FIRST_MEMBERS, place);
+    fill_cell(reader, first_path::FIRST_INTERFACE, place);
+    fill_cell(reader, first_path::FIRST_DEFINITION, place);
+    fill_cell(reader, first_path::FIRST_DEFINITIONS, place);
 }
