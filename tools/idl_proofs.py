@@ -79,9 +79,15 @@ def shared(name, type_):
 
 
 def members(name):
+    """The members of something, one after another, which stand between braces in a type of their own."""
     item, rule = tree_name(name), upper(name)
-    return Part(f"(Braced (Vec {name}))", f"(members_reading (own {rule} {item} {GROWS}))",
-                f"(members_rule (own_rule {rule} {item} {GROWS}) {rule}S BRACED_{rule}S refl refl refl refl)", f"(members_tree {item})")
+    body = Part(f"(Vec {name})", f"(members_reading (own {rule} {item} {GROWS}))", f"(members_rule (own_rule {rule} {item} {GROWS}) {rule}S refl refl)",
+                f"(members_tree {item})")
+    return Struct(f"Braced{name}s", "its members between braces", ("open_brace", word("OpenBrace")), ("body", body), ("close_brace", word("CloseBrace")))
+
+
+def braced(name):
+    return ("members", own(f"Braced{name}s"))
 
 
 class Struct:
@@ -175,20 +181,24 @@ FILES = [
              ("Operation", "OperationInterfaceMember"), ("Iterable", "IterableInterfaceMember"),
              ("AsyncIterable", "AsyncIterableInterfaceMember"), ("Maplike", "MaplikeInterfaceMember"), ("Setlike", "SetlikeInterfaceMember"),
              ("Stringifier", "StringifierMember")), pieces=(("main_member", 4), ("iterable_member", 2), ("collection_member", 3)))),
+    File("idl", "InterfaceMembersRules", "interface.members", "The members of an interface, one after another.", members("InterfaceMember")),
     File("members", "MixinRules", "mixin", "Members of mixins.",
          Struct("OperationMixinMember", "an operation", ATTRIBUTES, STRINGIFIER, RETURN_TYPE, PERHAPS_IDENTIFIER, ("args", ARGUMENTS), SEMI_COLON),
          Struct("AttributeMixinMember", "an attribute", ATTRIBUTES, STRINGIFIER, READ_ONLY, ("attribute", word("Attribute")), ATTRIBUTED_TYPE,
                 IDENTIFIER, SEMI_COLON),
          Enum("MixinMember", "any of them", *owned(("Const", "ConstMember"), ("Operation", "OperationMixinMember"),
-                                                   ("Attribute", "AttributeMixinMember"), ("Stringifier", "StringifierMember")))),
+                                                   ("Attribute", "AttributeMixinMember"), ("Stringifier", "StringifierMember"))),
+         members("MixinMember")),
     File("namespaces", "NamespaceRules", "namespace", "Members of namespaces.",
          Struct("OperationNamespaceMember", "an operation", DOCSTRING, ATTRIBUTES, RETURN_TYPE, PERHAPS_IDENTIFIER, ("args", ARGUMENTS), SEMI_COLON),
          Struct("AttributeNamespaceMember", "an attribute", DOCSTRING, ATTRIBUTES, ("readonly", word("ReadOnly")), ("attribute", word("Attribute")),
                 ATTRIBUTED_TYPE, IDENTIFIER, SEMI_COLON),
-         Enum("NamespaceMember", "either", *owned(("Operation", "OperationNamespaceMember"), ("Attribute", "AttributeNamespaceMember")))),
+         Enum("NamespaceMember", "either", *owned(("Operation", "OperationNamespaceMember"), ("Attribute", "AttributeNamespaceMember"))),
+         members("NamespaceMember")),
     File("namespaces", "DictionaryRules", "dictionary", "Members of dictionaries.",
          Struct("DictionaryMember", "a member", DOCSTRING, ATTRIBUTES, ("required", perhaps_word("Required")), TYPE, IDENTIFIER,
-                ("default", perhaps_still("Default")), SEMI_COLON)),
+                ("default", perhaps_still("Default")), SEMI_COLON),
+         members("DictionaryMember")),
     File("statements", "EnumVariantRules", "enums", "The values of enums.",
          Struct("EnumVariant", "a value", DOCSTRING, ("value", still("StringLit")))),
     File("statements", "CallbackRules", "callback", "Callbacks.",
@@ -196,16 +206,16 @@ FILES = [
                 ("arguments", ARGUMENTS), SEMI_COLON)),
     File("idl", "InterfaceRules", "definition.interfaces", "Interfaces.",
          Struct("CallbackInterfaceDefinition", "a callback interface", DOCSTRING, ATTRIBUTES, ("callback", word("Callback")), INTERFACE, IDENTIFIER,
-                INHERITANCE, ("members", members("InterfaceMember")), SEMI_COLON),
+                INHERITANCE, braced("InterfaceMember"), SEMI_COLON),
          Struct("InterfaceDefinition", "an interface", DOCSTRING, ATTRIBUTES, INTERFACE, IDENTIFIER, INHERITANCE,
-                ("members", members("InterfaceMember")), SEMI_COLON),
+                braced("InterfaceMember"), SEMI_COLON),
          Struct("PartialInterfaceDefinition", "a part of an interface", ATTRIBUTES, PARTIAL, INTERFACE, IDENTIFIER,
-                ("members", members("InterfaceMember")), SEMI_COLON)),
+                braced("InterfaceMember"), SEMI_COLON)),
     File("idl", "MixinRules", "definition.mixins", "Mixins, whole and in parts.",
          Struct("InterfaceMixinDefinition", "a mixin", ATTRIBUTES, INTERFACE, ("mixin", word("Mixin")), IDENTIFIER,
-                ("members", members("MixinMember")), SEMI_COLON),
+                braced("MixinMember"), SEMI_COLON),
          Struct("PartialInterfaceMixinDefinition", "a part of a mixin", ATTRIBUTES, PARTIAL, INTERFACE, ("mixin", word("Mixin")), IDENTIFIER,
-                ("members", members("MixinMember")), SEMI_COLON)),
+                braced("MixinMember"), SEMI_COLON)),
     File("statements", "StatementRules", "statement", "The statements that an interface uses a mixin or another interface.",
          Struct("IncludesStatementDefinition", "the use of a mixin", ATTRIBUTES, ("lhs_identifier", still("Identifier")), ("includes", word("Includes")),
                 ("rhs_identifier", still("Identifier")), SEMI_COLON),
@@ -213,14 +223,14 @@ FILES = [
                 ("rhs_identifier", still("Identifier")), SEMI_COLON)),
     File("namespaces", "NamespaceDefinitionRules", "namespace_definition", "Namespaces.",
          Struct("NamespaceDefinition", "a namespace", DOCSTRING, ATTRIBUTES, ("namespace", word("Namespace")), IDENTIFIER,
-                ("members", members("NamespaceMember")), SEMI_COLON),
+                braced("NamespaceMember"), SEMI_COLON),
          Struct("PartialNamespaceDefinition", "a part of a namespace", ATTRIBUTES, PARTIAL, ("namespace", word("Namespace")), IDENTIFIER,
-                ("members", members("NamespaceMember")), SEMI_COLON)),
+                braced("NamespaceMember"), SEMI_COLON)),
     File("namespaces", "DictionaryDefinitionRules", "dictionary_definition", "Dictionaries.",
          Struct("DictionaryDefinition", "a dictionary", DOCSTRING, ATTRIBUTES, ("dictionary", word("Dictionary")), IDENTIFIER, INHERITANCE,
-                ("members", members("DictionaryMember")), SEMI_COLON),
+                braced("DictionaryMember"), SEMI_COLON),
          Struct("PartialDictionaryDefinition", "a part of a dictionary", ATTRIBUTES, PARTIAL, ("dictionary", word("Dictionary")), IDENTIFIER,
-                ("members", members("DictionaryMember")), SEMI_COLON)),
+                braced("DictionaryMember"), SEMI_COLON)),
     File("statements", "EnumRules", "enums", "Enums.",
          Struct("EnumDefinition", "an enum", DOCSTRING, ATTRIBUTES, ("enum_", word("Enum")), IDENTIFIER, ENUM_VALUES, SEMI_COLON)),
     File("statements", "TypedefRules", "typedef", "Names for types.",

@@ -75,8 +75,6 @@ ALIASES = {
     "FrozenArrayType": "FrozenArrayType «Type»",
     "SequenceType": "SequenceType «Type»",
     "UnionType": "Parenthesized (Punctuated UnionMemberType Or)",
-    "ExtendedAttributeList": "Bracketed (Punctuated ExtendedAttribute Comma)",
-    "ArgumentList": "Punctuated Argument Comma",
 }
 
 
@@ -176,7 +174,7 @@ TABLE = {
                                 ("identifier", "Identifier")),
     "arguments": enclosed(ARGUMENTS, "Parenthesized<ArgumentList>", "PARENTHESIZED_ARGUMENT_LIST", "arguments_tree",
                           "OpenParen", "CloseParen", "paren", "argument_list"),
-    "argument_list": listed(ARGUMENTS, "Punctuated<Argument, Comma>", "ARGUMENT_LIST", "TAIL_ARGUMENT_COMMA", "argument_list_tree",
+    "argument_list": listed(ARGUMENTS, "ArgumentList", "ARGUMENT_LIST", "TAIL_ARGUMENT_COMMA", "argument_list_tree",
                             "argument", "Comma", "more_arguments"),
 }
 

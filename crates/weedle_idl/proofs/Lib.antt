@@ -1,4 +1,5 @@
 pub mod InterfaceMemberRules
+pub mod InterfaceMembersRules
 pub mod InterfaceRules
 pub mod MixinRules
 pub mod DefinitionRules

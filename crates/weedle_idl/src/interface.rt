@@ -1,8 +1,10 @@
 //! The members of interfaces.
 
 mod member;
+mod members;
 
-pub use member::{InterfaceMember, InterfaceMembers};
+pub use member::InterfaceMember;
+pub use members::{BracedInterfaceMembers, InterfaceMembers};
 pub use weedle_iterables::{
     AsyncIterableInterfaceMember, DoubleTypedAsyncIterable, DoubleTypedIterable,
     IterableInterfaceMember, MaplikeInterfaceMember, SetlikeInterfaceMember,

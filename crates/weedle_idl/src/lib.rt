@@ -15,7 +15,6 @@
 //! ```
 #![tactic(auto)]
 
-mod copies;
 mod definition;
 pub mod interface;
 pub mod laws;

@@ -5,6 +5,7 @@ use Rattle.weedle_literal.specs.LiteralTrees.{const_value_tree}
 use Rattle.weedle_members.specs.declared.attribute.AttributeInterfaceMember.{AttributeInterfaceMember}
 use Rattle.weedle_members.specs.declared.constant.ConstMember.{ConstMember}
 use Rattle.weedle_members.specs.declared.mixin.AttributeMixinMember.{AttributeMixinMember}
+use Rattle.weedle_members.specs.declared.mixin.BracedMixinMembers.{BracedMixinMembers}
 use Rattle.weedle_members.specs.declared.mixin.MixinMember.TheVariants.{Const as MixinMember-Const, Operation as MixinMember-Operation, Attribute as MixinMember-Attribute, Stringifier as MixinMember-Stringifier}
 use Rattle.weedle_members.specs.declared.mixin.MixinMember.{MixinMember}
 use Rattle.weedle_members.specs.declared.mixin.OperationMixinMember.{OperationMixinMember}
@@ -12,8 +13,9 @@ use Rattle.weedle_members.specs.declared.operation.ConstructorInterfaceMember.{C
 use Rattle.weedle_members.specs.declared.operation.OperationInterfaceMember.{OperationInterfaceMember}
 use Rattle.weedle_members.specs.declared.stringifier.StringifierMember.{StringifierMember}
 use Rattle.weedle_modifier.specs.Trees.{special_tree, stringifier_or_inherit_or_static_tree, stringifier_or_static_tree}
-use Rattle.weedle_parts.specs.ValueTrees.{const_type_tree, docstring_tree, identifier_tree}
+use Rattle.weedle_parts.specs.ValueTrees.{bracket_tree, const_type_tree, docstring_tree, identifier_tree}
 use Rattle.weedle_grammar.specs.Trees.{Alt, Mark, Node, Tree, trees}
+use Rattle.weedle_types.specs.PartTrees.{members_tree}
 use Rattle.weedle_types.specs.Trees.{arguments_tree, attributed_type_tree, attributes_tree, return_type_tree}
 
 -- a constant: its attributes, `const`, its type, its name, `=`, its value, the semicolon
@@ -50,3 +52,7 @@ mixin_member_tree (MixinMember-Const v) = Alt 0 (const_member_tree v)
 mixin_member_tree (MixinMember-Operation v) = Alt 1 (operation_mixin_member_tree v)
 mixin_member_tree (MixinMember-Attribute v) = Alt 2 (attribute_mixin_member_tree v)
 mixin_member_tree (MixinMember-Stringifier v) = Alt 3 (stringifier_member_tree v)
+
+-- the members of a mixin between braces
+abbrev pub braced_mixin_members_tree : BracedMixinMembers → Tree
+braced_mixin_members_tree v = bracket_tree (members_tree mixin_member_tree v.body)

@@ -17,6 +17,7 @@
 
 mod attribute;
 mod constant;
+mod copies;
 pub mod mixin;
 mod operation;
 mod stringifier;

@@ -4,14 +4,15 @@ ghost use Rattle.std.specs.Prelude.{◌≡◌};
 ghost use Rattle.weedle_base.specs.AlikeLaws.{equal_equivalence, seen_equivalence};
 ghost use Rattle.weedle_base.specs.Own.{own};
 ghost use Rattle.weedle_base.specs.OwnLaws.{own_lawful};
-ghost use Rattle.weedle_members.specs.Trees.{attribute_mixin_member_tree, mixin_member_tree, operation_mixin_member_tree};
-ghost use Rattle.weedle_grammar.specs.Table.OtherMembers.{ATTRIBUTE_MIXIN_MEMBER, MIXIN_MEMBER, OPERATION_MIXIN_MEMBER};
+ghost use Rattle.weedle_members.specs.Trees.{attribute_mixin_member_tree, braced_mixin_members_tree, mixin_member_tree, operation_mixin_member_tree};
+ghost use Rattle.weedle_grammar.specs.Table.OtherMembers.{ATTRIBUTE_MIXIN_MEMBER, BRACED_MIXIN_MEMBERS, MIXIN_MEMBER, OPERATION_MIXIN_MEMBER};
 
+use crate::copies::copy_mixin_members;
 use crate::{ConstMember, StringifierMember};
 use std::alloc::{AllocError, Global};
 use weedle_base::{IResult, Parse, TryClone};
 use weedle_parts::common::{Identifier, Parenthesized};
-use weedle_term::{Attribute, ReadOnly, SemiColon, Stringifier};
+use weedle_term::{Attribute, CloseBrace, OpenBrace, ReadOnly, SemiColon, Stringifier};
 use weedle_types::argument::ArgumentList;
 use weedle_types::attribute::ExtendedAttributeList;
 use weedle_types::copies::{copy_arguments, copy_attributes};
@@ -20,6 +21,49 @@ use weedle_types::types::{AttributedType, ReturnType};
 
 /// The members of a mixin, one after another; none included.
 pub type MixinMembers<'a> = Vec<MixinMember<'a>>;
+
+/// The members of a mixin between braces, as `{ long f(); }`.
+#[derive(Debug, PartialEq, Eq, PartialOrd, Ord, Hash, Drop)]
+pub struct BracedMixinMembers<'a> {
+    pub open_brace: OpenBrace,
+    pub body: MixinMembers<'a>,
+    pub close_brace: CloseBrace,
+}
+
+#[tactic(auto, using(crate::proofs::MixinRules::braced_mixin_members_steps))]
+impl<'a> Parse<'a> for BracedMixinMembers<'a> {
+    ghost reading = { own BRACED_MIXIN_MEMBERS braced_mixin_members_tree (Unit {0}) };
+
+    fn parse(alloc: Global, input: &'a str) -> IResult<&'a str, Self> {
+        let (rest, open_brace) = OpenBrace::parse(alloc, input)?;
+        let (rest, body) = Vec::parse(alloc, rest)?;
+        let (rest, close_brace) = CloseBrace::parse(alloc, rest)?;
+        Ok((
+            rest,
+            BracedMixinMembers {
+                open_brace,
+                body,
+                close_brace,
+            },
+        ))
+    }
+
+    ghost lawful = { own_lawful BRACED_MIXIN_MEMBERS braced_mixin_members_tree (Unit {0}) };
+}
+
+impl TryClone for BracedMixinMembers<'_> {
+    ghost alike = { λ a b. braced_mixin_members_tree a ≡ braced_mixin_members_tree b };
+
+    fn try_clone(&self, alloc: Global) -> Result<Self, AllocError> {
+        Ok(BracedMixinMembers {
+            open_brace: self.open_brace,
+            body: copy_mixin_members(&self.body, alloc)?,
+            close_brace: self.close_brace,
+        })
+    }
+
+    ghost equivalence = { seen_equivalence braced_mixin_members_tree equal_equivalence };
+}
 
 /// An operation of a mixin, as `stringifier long f(long x);`. It may lack a name, and no docstring may
 /// stand before it.

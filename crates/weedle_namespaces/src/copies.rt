@@ -8,14 +8,13 @@ use crate::dictionary::DictionaryMembers;
 use crate::namespace::NamespaceMembers;
 use std::alloc::{AllocError, Global};
 use weedle_base::TryClone;
-use weedle_parts::common::Braced;
 
 /// Copies a namespace's members.
 #[tactic(auto, using(weedle_types::proofs::CopyFacts::members_alike))]
 pub(crate) fn copy_namespace_members<'a>(
-    members: &Braced<NamespaceMembers<'a>>,
+    members: &NamespaceMembers<'a>,
     alloc: Global,
-) -> Result<Braced<NamespaceMembers<'a>>, AllocError>
+) -> Result<NamespaceMembers<'a>, AllocError>
     ensures { IfOk result (λ copy. members_tree namespace_member_tree copy ≡ members_tree namespace_member_tree members.now) }
 {
     let copy = members.try_clone(alloc)?;
@@ -25,9 +24,9 @@ pub(crate) fn copy_namespace_members<'a>(
 /// Copies a dictionary's members.
 #[tactic(auto, using(weedle_types::proofs::CopyFacts::members_alike))]
 pub(crate) fn copy_dictionary_members<'a>(
-    members: &Braced<DictionaryMembers<'a>>,
+    members: &DictionaryMembers<'a>,
     alloc: Global,
-) -> Result<Braced<DictionaryMembers<'a>>, AllocError>
+) -> Result<DictionaryMembers<'a>, AllocError>
     ensures { IfOk result (λ copy. members_tree dictionary_member_tree copy ≡ members_tree dictionary_member_tree members.now) }
 {
     let copy = members.try_clone(alloc)?;

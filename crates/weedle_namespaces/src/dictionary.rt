@@ -4,14 +4,15 @@ ghost use Rattle.std.specs.Prelude.{◌≡◌};
 ghost use Rattle.weedle_base.specs.AlikeLaws.{equal_equivalence, seen_equivalence};
 ghost use Rattle.weedle_base.specs.Own.{own};
 ghost use Rattle.weedle_base.specs.OwnLaws.{own_lawful};
-ghost use Rattle.weedle_namespaces.specs.Trees.{dictionary_member_tree};
-ghost use Rattle.weedle_grammar.specs.Table.OtherMembers.{DICTIONARY_MEMBER};
+ghost use Rattle.weedle_namespaces.specs.Trees.{braced_dictionary_members_tree, dictionary_member_tree};
+ghost use Rattle.weedle_grammar.specs.Table.OtherMembers.{BRACED_DICTIONARY_MEMBERS, DICTIONARY_MEMBER};
 
+use crate::copies::copy_dictionary_members;
 use std::alloc::{AllocError, Global};
 use weedle_base::{IResult, Parse, TryClone};
 use weedle_literal::Default;
 use weedle_parts::common::{Docstring, Identifier};
-use weedle_term::{Required, SemiColon};
+use weedle_term::{CloseBrace, OpenBrace, Required, SemiColon};
 use weedle_types::attribute::ExtendedAttributeList;
 use weedle_types::copies::{copy_attributes, copy_docstring};
 use weedle_types::parts::attributes;
@@ -19,6 +20,49 @@ use weedle_types::types::Type;
 
 /// The members of a dictionary, one after another; none included.
 pub type DictionaryMembers<'a> = Vec<DictionaryMember<'a>>;
+
+/// The members of a dictionary between braces, as `{ long x = 5; }`.
+#[derive(Debug, PartialEq, Eq, PartialOrd, Ord, Hash, Drop)]
+pub struct BracedDictionaryMembers<'a> {
+    pub open_brace: OpenBrace,
+    pub body: DictionaryMembers<'a>,
+    pub close_brace: CloseBrace,
+}
+
+#[tactic(auto, using(crate::proofs::DictionaryRules::braced_dictionary_members_steps))]
+impl<'a> Parse<'a> for BracedDictionaryMembers<'a> {
+    ghost reading = { own BRACED_DICTIONARY_MEMBERS braced_dictionary_members_tree (Unit {0}) };
+
+    fn parse(alloc: Global, input: &'a str) -> IResult<&'a str, Self> {
+        let (rest, open_brace) = OpenBrace::parse(alloc, input)?;
+        let (rest, body) = Vec::parse(alloc, rest)?;
+        let (rest, close_brace) = CloseBrace::parse(alloc, rest)?;
+        Ok((
+            rest,
+            BracedDictionaryMembers {
+                open_brace,
+                body,
+                close_brace,
+            },
+        ))
+    }
+
+    ghost lawful = { own_lawful BRACED_DICTIONARY_MEMBERS braced_dictionary_members_tree (Unit {0}) };
+}
+
+impl TryClone for BracedDictionaryMembers<'_> {
+    ghost alike = { λ a b. braced_dictionary_members_tree a ≡ braced_dictionary_members_tree b };
+
+    fn try_clone(&self, alloc: Global) -> Result<Self, AllocError> {
+        Ok(BracedDictionaryMembers {
+            open_brace: self.open_brace,
+            body: copy_dictionary_members(&self.body, alloc)?,
+            close_brace: self.close_brace,
+        })
+    }
+
+    ghost equivalence = { seen_equivalence braced_dictionary_members_tree equal_equivalence };
+}
 
 /// A member of a dictionary, as `required long x;` or `long x = 5;`. A docstring may stand before it.
 #[derive(Debug, PartialEq, Eq, PartialOrd, Ord, Hash, Drop)]

@@ -7,12 +7,11 @@ ghost use Rattle.weedle_base.specs.OwnLaws.{own_lawful};
 ghost use Rattle.weedle_namespaces.specs.Trees.{dictionary_definition_tree, partial_dictionary_definition_tree};
 ghost use Rattle.weedle_grammar.specs.Table.Definitions.{DICTIONARY_DEFINITION, PARTIAL_DICTIONARY_DEFINITION};
 
-use crate::copies::copy_dictionary_members;
-use crate::dictionary::DictionaryMembers;
+use crate::dictionary::BracedDictionaryMembers;
 use std::alloc::{AllocError, Global};
 use weedle_base::{IResult, Parse, TryClone};
 use weedle_modifier::Inheritance;
-use weedle_parts::common::{Braced, Docstring, Identifier};
+use weedle_parts::common::{Docstring, Identifier};
 use weedle_term::{Dictionary, Partial, SemiColon};
 use weedle_types::attribute::ExtendedAttributeList;
 use weedle_types::copies::{copy_attributes, copy_docstring};
@@ -26,7 +25,7 @@ pub struct DictionaryDefinition<'a> {
     pub dictionary: Dictionary,
     pub identifier: Identifier<'a>,
     pub inheritance: Option<Inheritance<'a>>,
-    pub members: Braced<DictionaryMembers<'a>>,
+    pub members: BracedDictionaryMembers<'a>,
     pub semi_colon: SemiColon,
 }
 
@@ -40,7 +39,7 @@ impl<'a> Parse<'a> for DictionaryDefinition<'a> {
         let (rest, dictionary) = Dictionary::parse(alloc, rest)?;
         let (rest, identifier) = Identifier::parse(alloc, rest)?;
         let (rest, inheritance) = Option::parse(alloc, rest)?;
-        let (rest, members) = Braced::parse(alloc, rest)?;
+        let (rest, members) = BracedDictionaryMembers::parse(alloc, rest)?;
         let (rest, semi_colon) = SemiColon::parse(alloc, rest)?;
         Ok((
             rest,
@@ -69,7 +68,7 @@ impl TryClone for DictionaryDefinition<'_> {
             dictionary: self.dictionary,
             identifier: self.identifier,
             inheritance: self.inheritance,
-            members: copy_dictionary_members(&self.members, alloc)?,
+            members: self.members.try_clone(alloc)?,
             semi_colon: self.semi_colon,
         })
     }
@@ -84,7 +83,7 @@ pub struct PartialDictionaryDefinition<'a> {
     pub partial: Partial,
     pub dictionary: Dictionary,
     pub identifier: Identifier<'a>,
-    pub members: Braced<DictionaryMembers<'a>>,
+    pub members: BracedDictionaryMembers<'a>,
     pub semi_colon: SemiColon,
 }
 
@@ -97,7 +96,7 @@ impl<'a> Parse<'a> for PartialDictionaryDefinition<'a> {
         let (rest, partial) = Partial::parse(alloc, rest)?;
         let (rest, dictionary) = Dictionary::parse(alloc, rest)?;
         let (rest, identifier) = Identifier::parse(alloc, rest)?;
-        let (rest, members) = Braced::parse(alloc, rest)?;
+        let (rest, members) = BracedDictionaryMembers::parse(alloc, rest)?;
         let (rest, semi_colon) = SemiColon::parse(alloc, rest)?;
         Ok((
             rest,
@@ -124,7 +123,7 @@ impl TryClone for PartialDictionaryDefinition<'_> {
             partial: self.partial,
             dictionary: self.dictionary,
             identifier: self.identifier,
-            members: copy_dictionary_members(&self.members, alloc)?,
+            members: self.members.try_clone(alloc)?,
             semi_colon: self.semi_colon,
         })
     }

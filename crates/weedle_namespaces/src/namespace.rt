@@ -4,13 +4,14 @@ ghost use Rattle.std.specs.Prelude.{◌≡◌};
 ghost use Rattle.weedle_base.specs.AlikeLaws.{equal_equivalence, seen_equivalence};
 ghost use Rattle.weedle_base.specs.Own.{own};
 ghost use Rattle.weedle_base.specs.OwnLaws.{own_lawful};
-ghost use Rattle.weedle_namespaces.specs.Trees.{attribute_namespace_member_tree, namespace_member_tree, operation_namespace_member_tree};
-ghost use Rattle.weedle_grammar.specs.Table.OtherMembers.{ATTRIBUTE_NAMESPACE_MEMBER, NAMESPACE_MEMBER, OPERATION_NAMESPACE_MEMBER};
+ghost use Rattle.weedle_namespaces.specs.Trees.{attribute_namespace_member_tree, braced_namespace_members_tree, namespace_member_tree, operation_namespace_member_tree};
+ghost use Rattle.weedle_grammar.specs.Table.OtherMembers.{ATTRIBUTE_NAMESPACE_MEMBER, BRACED_NAMESPACE_MEMBERS, NAMESPACE_MEMBER, OPERATION_NAMESPACE_MEMBER};
 
+use crate::copies::copy_namespace_members;
 use std::alloc::{AllocError, Global};
 use weedle_base::{IResult, Parse, TryClone};
 use weedle_parts::common::{Docstring, Identifier, Parenthesized};
-use weedle_term::{Attribute, ReadOnly, SemiColon};
+use weedle_term::{Attribute, CloseBrace, OpenBrace, ReadOnly, SemiColon};
 use weedle_types::argument::ArgumentList;
 use weedle_types::attribute::ExtendedAttributeList;
 use weedle_types::copies::{copy_arguments, copy_attributes, copy_docstring};
@@ -19,6 +20,49 @@ use weedle_types::types::{AttributedType, ReturnType};
 
 /// The members of a namespace, one after another; none included.
 pub type NamespaceMembers<'a> = Vec<NamespaceMember<'a>>;
+
+/// The members of a namespace between braces, as `{ long f(); }`.
+#[derive(Debug, PartialEq, Eq, PartialOrd, Ord, Hash, Drop)]
+pub struct BracedNamespaceMembers<'a> {
+    pub open_brace: OpenBrace,
+    pub body: NamespaceMembers<'a>,
+    pub close_brace: CloseBrace,
+}
+
+#[tactic(auto, using(crate::proofs::NamespaceRules::braced_namespace_members_steps))]
+impl<'a> Parse<'a> for BracedNamespaceMembers<'a> {
+    ghost reading = { own BRACED_NAMESPACE_MEMBERS braced_namespace_members_tree (Unit {0}) };
+
+    fn parse(alloc: Global, input: &'a str) -> IResult<&'a str, Self> {
+        let (rest, open_brace) = OpenBrace::parse(alloc, input)?;
+        let (rest, body) = Vec::parse(alloc, rest)?;
+        let (rest, close_brace) = CloseBrace::parse(alloc, rest)?;
+        Ok((
+            rest,
+            BracedNamespaceMembers {
+                open_brace,
+                body,
+                close_brace,
+            },
+        ))
+    }
+
+    ghost lawful = { own_lawful BRACED_NAMESPACE_MEMBERS braced_namespace_members_tree (Unit {0}) };
+}
+
+impl TryClone for BracedNamespaceMembers<'_> {
+    ghost alike = { λ a b. braced_namespace_members_tree a ≡ braced_namespace_members_tree b };
+
+    fn try_clone(&self, alloc: Global) -> Result<Self, AllocError> {
+        Ok(BracedNamespaceMembers {
+            open_brace: self.open_brace,
+            body: copy_namespace_members(&self.body, alloc)?,
+            close_brace: self.close_brace,
+        })
+    }
+
+    ghost equivalence = { seen_equivalence braced_namespace_members_tree equal_equivalence };
+}
 
 /// An operation of a namespace, as `long f(long x);`. It may lack a name, and a docstring may stand
 /// before it.

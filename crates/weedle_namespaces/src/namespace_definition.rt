@@ -7,11 +7,10 @@ ghost use Rattle.weedle_base.specs.OwnLaws.{own_lawful};
 ghost use Rattle.weedle_namespaces.specs.Trees.{namespace_definition_tree, partial_namespace_definition_tree};
 ghost use Rattle.weedle_grammar.specs.Table.Definitions.{NAMESPACE_DEFINITION, PARTIAL_NAMESPACE_DEFINITION};
 
-use crate::copies::copy_namespace_members;
-use crate::namespace::NamespaceMembers;
+use crate::namespace::BracedNamespaceMembers;
 use std::alloc::{AllocError, Global};
 use weedle_base::{IResult, Parse, TryClone};
-use weedle_parts::common::{Braced, Docstring, Identifier};
+use weedle_parts::common::{Docstring, Identifier};
 use weedle_term::{Namespace, Partial, SemiColon};
 use weedle_types::attribute::ExtendedAttributeList;
 use weedle_types::copies::{copy_attributes, copy_docstring};
@@ -24,7 +23,7 @@ pub struct NamespaceDefinition<'a> {
     pub attributes: Option<ExtendedAttributeList<'a>>,
     pub namespace: Namespace,
     pub identifier: Identifier<'a>,
-    pub members: Braced<NamespaceMembers<'a>>,
+    pub members: BracedNamespaceMembers<'a>,
     pub semi_colon: SemiColon,
 }
 
@@ -37,7 +36,7 @@ impl<'a> Parse<'a> for NamespaceDefinition<'a> {
         let (rest, attributes) = attributes(alloc, rest)?;
         let (rest, namespace) = Namespace::parse(alloc, rest)?;
         let (rest, identifier) = Identifier::parse(alloc, rest)?;
-        let (rest, members) = Braced::parse(alloc, rest)?;
+        let (rest, members) = BracedNamespaceMembers::parse(alloc, rest)?;
         let (rest, semi_colon) = SemiColon::parse(alloc, rest)?;
         Ok((
             rest,
@@ -64,7 +63,7 @@ impl TryClone for NamespaceDefinition<'_> {
             attributes: copy_attributes(&self.attributes, alloc)?,
             namespace: self.namespace,
             identifier: self.identifier,
-            members: copy_namespace_members(&self.members, alloc)?,
+            members: self.members.try_clone(alloc)?,
             semi_colon: self.semi_colon,
         })
     }
@@ -79,7 +78,7 @@ pub struct PartialNamespaceDefinition<'a> {
     pub partial: Partial,
     pub namespace: Namespace,
     pub identifier: Identifier<'a>,
-    pub members: Braced<NamespaceMembers<'a>>,
+    pub members: BracedNamespaceMembers<'a>,
     pub semi_colon: SemiColon,
 }
 
@@ -92,7 +91,7 @@ impl<'a> Parse<'a> for PartialNamespaceDefinition<'a> {
         let (rest, partial) = Partial::parse(alloc, rest)?;
         let (rest, namespace) = Namespace::parse(alloc, rest)?;
         let (rest, identifier) = Identifier::parse(alloc, rest)?;
-        let (rest, members) = Braced::parse(alloc, rest)?;
+        let (rest, members) = BracedNamespaceMembers::parse(alloc, rest)?;
         let (rest, semi_colon) = SemiColon::parse(alloc, rest)?;
         Ok((
             rest,
@@ -119,7 +118,7 @@ impl TryClone for PartialNamespaceDefinition<'_> {
             partial: self.partial,
             namespace: self.namespace,
             identifier: self.identifier,
-            members: copy_namespace_members(&self.members, alloc)?,
+            members: self.members.try_clone(alloc)?,
             semi_colon: self.semi_colon,
         })
     }

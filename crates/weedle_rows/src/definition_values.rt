@@ -1,30 +1,47 @@
 //! Members and definitions that the tests expect, with no docstring, no attributes and no modifier.
 
 use std::alloc::{AllocError, Global};
-use weedle::argument::{Argument, ArgumentList};
-use weedle::common::{Braced, Docstring, Identifier, Parenthesized};
-use weedle::interface::{AttributeInterfaceMember, InterfaceMembers, OperationInterfaceMember};
+use weedle::argument::Argument;
+use weedle::common::{Docstring, Identifier};
+use weedle::dictionary::{BracedDictionaryMembers, DictionaryMembers};
+use weedle::interface::{
+    AttributeInterfaceMember, BracedInterfaceMembers, InterfaceMembers, OperationInterfaceMember,
+};
+use weedle::mixin::{BracedMixinMembers, MixinMembers};
 use weedle::types::{ReturnType, Type};
 use weedle::{Definition, InterfaceDefinition, term};
-use weedle_samples::{bare, list, parenthesized};
+use weedle_samples::{arguments, bare};
 
 /// A docstring of this text.
 pub fn docstring(alloc: Global, text: &str) -> Result<Option<Docstring>, AllocError> {
     Ok(Some(Docstring(String::from_str(alloc, text)?)))
 }
 
-/// `{body}`.
-pub fn braced<T>(body: T) -> Braced<T> {
-    Braced {
+/// `{body}`, members of a dictionary.
+pub fn dictionary_members(body: DictionaryMembers<'_>) -> BracedDictionaryMembers<'_> {
+    BracedDictionaryMembers {
         open_brace: term::OpenBrace,
         body,
         close_brace: term::CloseBrace,
     }
 }
 
-/// `(items)`.
-pub fn arguments(items: Vec<Argument<'_>>) -> Parenthesized<ArgumentList<'_>> {
-    parenthesized(list(items))
+/// `{body}`, members of a mixin.
+pub fn mixin_members(body: MixinMembers<'_>) -> BracedMixinMembers<'_> {
+    BracedMixinMembers {
+        open_brace: term::OpenBrace,
+        body,
+        close_brace: term::CloseBrace,
+    }
+}
+
+/// `{body}`, members of an interface.
+pub fn interface_members(body: InterfaceMembers<'_>) -> BracedInterfaceMembers<'_> {
+    BracedInterfaceMembers {
+        open_brace: term::OpenBrace,
+        body,
+        close_brace: term::CloseBrace,
+    }
 }
 
 /// `attribute type name;`.
@@ -66,7 +83,7 @@ pub fn interface<'a>(name: &'a str, members: InterfaceMembers<'a>) -> Definition
         interface: term::Interface,
         identifier: Identifier(name),
         inheritance: None,
-        members: braced(members),
+        members: interface_members(members),
         semi_colon: term::SemiColon,
     })
 }

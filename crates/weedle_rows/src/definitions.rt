@@ -1,11 +1,13 @@
 //! What is read of texts.
 
-use crate::definition_values::{arguments, attribute, braced, docstring, interface, operation};
+use crate::definition_values::{
+    attribute, docstring, interface, interface_members, mixin_members, operation,
+};
 use std::alloc::{AllocError, Global};
 use std::process::Abort;
 use std::test::Fail;
 use weedle::argument::Argument;
-use weedle::common::{Identifier, PunctuatedNonEmpty};
+use weedle::common::{Braced, Identifier, PunctuatedNonEmpty};
 use weedle::interface::{AttributeInterfaceMember, InterfaceMember, OperationInterfaceMember};
 use weedle::literal::StringLit;
 use weedle::types::ReturnType;
@@ -15,7 +17,7 @@ use weedle::{
     parse, term,
 };
 use weedle_answers::reads;
-use weedle_samples::{LONG, argument, integer, named, single};
+use weedle_samples::{LONG, argument, arguments, integer, named, single};
 
 const WINDOW: &str = "interface Window { readonly attribute Storage sessionStorage; };";
 
@@ -108,7 +110,7 @@ fn a_docstring_stands_where_the_grammar_has_one(rt: HostRuntime) -> Result<(), F
         interface: term::Interface,
         identifier: Identifier("B"),
         inheritance: None,
-        members: braced(Vec::new(alloc)),
+        members: interface_members(Vec::new(alloc)),
         semi_colon: term::SemiColon,
     });
     let both = vec![in alloc; interface("A", Vec::new(alloc)), second]?;
@@ -149,10 +151,14 @@ fn an_enum_has_a_value_and_may_end_in_a_comma(rt: HostRuntime) -> Result<(), Fai
         attributes: None,
         enum_: term::Enum,
         identifier: Identifier("E"),
-        values: braced(PunctuatedNonEmpty {
-            list: vec![in alloc; a, b]?,
-            separator: term::Comma,
-        }),
+        values: Braced {
+            open_brace: term::OpenBrace,
+            body: PunctuatedNonEmpty {
+                list: vec![in alloc; a, b]?,
+                separator: term::Comma,
+            },
+            close_brace: term::CloseBrace,
+        },
         semi_colon: term::SemiColon,
     });
     reads_one(&rt, alloc, "enum E {\"a\",\"b\",};", expected)
@@ -166,7 +172,7 @@ fn a_keyword_may_be_a_name(rt: HostRuntime) -> Result<(), Fail> {
         interface: term::Interface,
         mixin: term::Mixin,
         identifier: Identifier("M"),
-        members: braced(Vec::new(alloc)),
+        members: mixin_members(Vec::new(alloc)),
         semi_colon: term::SemiColon,
     });
     reads_one(&rt, alloc, "interface mixin M {};", mixin)?;

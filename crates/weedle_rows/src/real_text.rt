@@ -1,6 +1,6 @@
 //! A text as it stands in real files.
 
-use crate::definition_values::{arguments, attribute, braced, docstring};
+use crate::definition_values::{attribute, dictionary_members, docstring, interface_members};
 use std::alloc::{AllocError, Global};
 use std::test::Fail;
 use weedle::argument::Argument;
@@ -17,7 +17,7 @@ use weedle::{
     name_of, parse, term,
 };
 use weedle_samples::{
-    argument, attributes, flag, flagged_member, frozen_array_of, member, named, nullable, plain,
+    argument, arguments, attributes, flag, flagged_member, frozen_array_of, member, named, nullable, plain,
     record_of, sequence_of, single, union_of,
 };
 
@@ -142,7 +142,7 @@ fn player_options(alloc: Global) -> Result<Definition<'static>, AllocError> {
         dictionary: term::Dictionary,
         identifier: Identifier("PlayerOptions"),
         inheritance: None,
-        members: braced(vec![in alloc; title, volume, repeat, tracks]?),
+        members: dictionary_members(vec![in alloc; title, volume, repeat, tracks]?),
         semi_colon: term::SemiColon,
     }))
 }
@@ -176,7 +176,7 @@ fn more_of_player(alloc: Global) -> Result<Definition<'static>, AllocError> {
         partial: term::Partial,
         interface: term::Interface,
         identifier: Identifier("Player"),
-        members: braced(members),
+        members: interface_members(members),
         semi_colon: term::SemiColon,
     }))
 }

@@ -2,7 +2,7 @@
 #![tactic(auto)]
 
 use std::alloc::{AllocError, Global};
-use weedle_parts::common::{Bracketed, Generics, Identifier, Parenthesized, Punctuated};
+use weedle_parts::common::{Generics, Identifier, Parenthesized, Punctuated};
 use weedle_parts::types::{
     FloatType, FloatingPointType, IntegerType, LongType, MayBeNull, ShortType,
 };
@@ -10,7 +10,7 @@ use weedle_term::{
     CloseBracket, CloseParen, Comma, Float, FrozenArray, GreaterThan, LessThan, Long, OpenBracket,
     OpenParen, Or, Promise, QMark, Record, Sequence, Short,
 };
-use weedle_types::argument::SingleArgument;
+use weedle_types::argument::{Argument, ArgumentList, SingleArgument};
 use weedle_types::attribute::{ExtendedAttribute, ExtendedAttributeList, ExtendedAttributeNoArgs};
 use weedle_types::types::{
     AttributedNonAnyType, AttributedType, FrozenArrayType, NonAnyType, PromiseType, RecordKeyType,
@@ -133,6 +133,19 @@ pub fn parenthesized<T>(body: T) -> Parenthesized<T> {
     }
 }
 
+/// Arguments with commas between them.
+pub fn argument_list(list: Vec<Argument<'_>>) -> ArgumentList<'_> {
+    ArgumentList {
+        list,
+        separator: Comma,
+    }
+}
+
+/// `(items)`.
+pub fn arguments(items: Vec<Argument<'_>>) -> Parenthesized<ArgumentList<'_>> {
+    parenthesized(argument_list(items))
+}
+
 /// A union of these members.
 pub fn union_of(list: Vec<UnionMemberType<'_>>) -> UnionType<'_> {
     parenthesized(Punctuated {
@@ -171,7 +184,7 @@ pub fn bare(type_: Type<'_>) -> AttributedType<'_> {
 
 /// Attributes in brackets.
 pub fn attributes(items: Vec<ExtendedAttribute<'_>>) -> ExtendedAttributeList<'_> {
-    Bracketed {
+    ExtendedAttributeList {
         open_bracket: OpenBracket,
         body: list(items),
         close_bracket: CloseBracket,

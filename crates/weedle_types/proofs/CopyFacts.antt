@@ -5,11 +5,10 @@ use Rattle.std.specs.Prelude.{List, None, Option, Some, [], map, string_bytes, �
 use Rattle.weedle_base.specs.Alike.{all_alike, option_alike}
 use Rattle.weedle_base.specs.Rules.{option_tree}
 use Rattle.weedle_parts.specs.ValueTrees.{bracket_tree, docstring_tree}
-use Rattle.weedle_parts.specs.declared.common.brackets.Braced.{Braced}
 use Rattle.weedle_parts.specs.declared.common.docstring.Docstring.{Docstring}
 use Rattle.weedle_grammar.specs.Trees.{Items, Lines, Present, Tree, trees}
 use Rattle.weedle_types.specs.PartTrees.{Arguments, Attributes, members_tree}
-use Rattle.weedle_types.specs.Trees.{argument_tree, arguments_tree, attributes_tree, extended_attribute_list_tree, extended_attribute_tree}
+use Rattle.weedle_types.specs.Trees.{argument_list_tree, arguments_tree, attributes_tree, extended_attribute_list_tree}
 
 -- items
 pub items_alike : {V : Type 0} (tree : V → Tree) (vs ws : List V) → all_alike (λ v w. tree v ≡ tree w) vs ws → trees (map tree vs) ≡ trees (map tree ws)
@@ -30,13 +29,13 @@ pub docstring_alike : (a b : Option Docstring) → option_alike (λ v w. string_
 docstring_alike a b h = option_same docstring_tree (λ v w. string_bytes v.0 ≡ string_bytes w.0) (λ v w e. ap Lines e) a b h
 
 -- attributes
-pub attributes_alike : (a b : Attributes) → option_alike (λ v w. all_alike (λ x y. extended_attribute_tree x ≡ extended_attribute_tree y) v.body.list.items w.body.list.items × (v.body.separator ≡ w.body.separator)) a b → attributes_tree a ≡ attributes_tree b
-attributes_alike a b h = option_same extended_attribute_list_tree _ (λ v w e. ap (λ ts. bracket_tree (Items ts)) (items_alike extended_attribute_tree v.body.list.items w.body.list.items e.0)) a b h
+pub attributes_alike : (a b : Attributes) → option_alike (λ v w. extended_attribute_list_tree v ≡ extended_attribute_list_tree w) a b → attributes_tree a ≡ attributes_tree b
+attributes_alike a b h = option_same extended_attribute_list_tree (λ v w. extended_attribute_list_tree v ≡ extended_attribute_list_tree w) (λ v w e. e) a b h
 
 -- arguments
-pub arguments_alike : (a b : Arguments) → all_alike (λ x y. argument_tree x ≡ argument_tree y) a.body.list.items b.body.list.items × (a.body.separator ≡ b.body.separator) → arguments_tree a ≡ arguments_tree b
-arguments_alike a b h = ap (λ ts. bracket_tree (Items ts)) (items_alike argument_tree a.body.list.items b.body.list.items h.0)
+pub arguments_alike : (a b : Arguments) → argument_list_tree a.body ≡ argument_list_tree b.body → arguments_tree a ≡ arguments_tree b
+arguments_alike a b h = ap bracket_tree h
 
--- members between braces
-pub members_alike : {V : Type 0} (tree : V → Tree) (a b : Braced (Vec V)) → all_alike (λ v w. tree v ≡ tree w) a.body.items b.body.items → members_tree tree a ≡ members_tree tree b
-members_alike tree a b h = ap (λ ts. bracket_tree (Items ts)) (items_alike tree a.body.items b.body.items h)
+-- members one after another
+pub members_alike : {V : Type 0} (tree : V → Tree) (a b : Vec V) → all_alike (λ v w. tree v ≡ tree w) a.items b.items → members_tree tree a ≡ members_tree tree b
+members_alike tree a b h = ap Items (items_alike tree a.items b.items h)

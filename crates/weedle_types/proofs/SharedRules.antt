@@ -12,12 +12,8 @@ use Rattle.weedle_base.specs.Rules.{IsRule, mark_tree, option_tree}
 use Rattle.weedle_base.specs.Runs.{run_reading, vec_step}
 use Rattle.weedle_base.specs.declared.fault.Err.{Err as Fault}
 use Rattle.weedle_base.specs.declared.fault.Error.{Error}
-use Rattle.weedle_parts.proofs.PartRules.{braced_rule}
-use Rattle.weedle_parts.specs.Brackets.{braced_reading}
-use Rattle.weedle_parts.specs.declared.common.brackets.Braced.{Braced}
 use Rattle.weedle_grammar.specs.Meaning.{Plain}
-use Rattle.weedle_grammar.specs.Rows.{Many, Opt, Seq}
-use Rattle.weedle_grammar.specs.Table.Symbols.{CLOSE_BRACE, OPEN_BRACE}
+use Rattle.weedle_grammar.specs.Rows.{Many, Opt}
 use Rattle.weedle_grammar.specs.Table.Types.{OPT_EXTENDED_ATTRIBUTE_LIST, PARENTHESIZED_ARGUMENT_LIST}
 use Rattle.weedle_grammar.specs.Table.{row_of, shape_of}
 use Rattle.weedle_grammar.specs.Trees.{Tree}
@@ -47,14 +43,13 @@ arguments_reading = own PARENTHESIZED_ARGUMENT_LIST arguments_tree (Unit {0})
 pub arguments_rule : IsRule arguments_reading PARENTHESIZED_ARGUMENT_LIST arguments_tree (Unit {0})
 arguments_rule = own_rule PARENTHESIZED_ARGUMENT_LIST arguments_tree (Unit {0})
 
--- members between braces
-abbrev pub members_reading : {V : Type 0} → Reading V → Reading (Braced (Vec V))
-members_reading R = braced_reading (run_reading (λ v. v.items) (vec_step R))
+-- members one after another
+abbrev pub members_reading : {V : Type 0} → Reading V → Reading (Vec V)
+members_reading R = run_reading (λ v. v.items) (vec_step R)
 
-pub members_rule : {V : Type 0} {R : Reading V} {x : ℕ} {tree : V → Tree} → IsRule R x tree (Unit {0}) → (m r : ℕ)
-    → row_of m ≡ Many x → shape_of m ≡ Plain → row_of r ≡ Seq (OPEN_BRACE ∷ m ∷ CLOSE_BRACE ∷ []) → shape_of r ≡ Plain
+pub members_rule : {V : Type 0} {R : Reading V} {x : ℕ} {tree : V → Tree} → IsRule R x tree (Unit {0}) → (r : ℕ) → row_of r ≡ Many x → shape_of r ≡ Plain
     → IsRule (members_reading R) r (members_tree tree) (Unit {0})
-members_rule rule m r many plain row shape = braced_rule (run_rule rule (λ v. v.items) m many plain tt) r row shape
+members_rule rule r row shape = run_rule rule (λ v. v.items) r row shape tt
 
 -- what a reading of a rule answers, the rule answers
 pub answers_rule : {V : Type 0} {R : Reading V} {r : ℕ} {tree : V → Tree} {grows : Type 0} (s : List ℕ) → IsRule R r tree grows

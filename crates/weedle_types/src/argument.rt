@@ -8,11 +8,16 @@ ghost use Rattle.std.specs.Prelude.{◌≡◌};
 use crate::attribute::ExtendedAttributeList;
 use crate::types::{AttributedType, Type};
 use weedle_literal::Default;
-use weedle_parts::common::{Identifier, Punctuated};
+use weedle_parts::common::Identifier;
 use weedle_term::{Comma, Ellipsis, Optional};
 
-/// Arguments, as `long x, long y`, none included.
-pub type ArgumentList<'a> = Punctuated<Argument<'a>, Comma>;
+/// Arguments with commas between them, as `long x, long y`, none included.
+#[cycle(types)]
+#[derive(Debug, PartialEq, Eq, PartialOrd, Ord, Hash, Drop)]
+pub struct ArgumentList<'a> {
+    pub list: Vec<Argument<'a>>,
+    pub separator: Comma,
+}
 
 /// An argument, as `long x`, or `long... xs` for any number of them.
 #[cycle(types)]

@@ -13,11 +13,17 @@ use crate::argument::ArgumentList;
 use std::alloc::Global;
 use weedle_base::{IResult, Parse};
 use weedle_literal::StringLit;
-use weedle_parts::common::{Bracketed, Identifier, Parenthesized, Punctuated};
-use weedle_term::{Assign, Comma};
+use weedle_parts::common::{Identifier, Parenthesized, Punctuated};
+use weedle_term::{Assign, CloseBracket, Comma, OpenBracket};
 
 /// Attributes in brackets, as `[Exposed=Window, SecureContext]`; `[]` too.
-pub type ExtendedAttributeList<'a> = Bracketed<Punctuated<ExtendedAttribute<'a>, Comma>>;
+#[cycle(types)]
+#[derive(Debug, PartialEq, Eq, PartialOrd, Ord, Hash, Drop)]
+pub struct ExtendedAttributeList<'a> {
+    pub open_bracket: OpenBracket,
+    pub body: Punctuated<ExtendedAttribute<'a>, Comma>,
+    pub close_bracket: CloseBracket,
+}
 
 /// Names, as `Window, Worker`, none included.
 pub type IdentifierList<'a> = Punctuated<Identifier<'a>, Comma>;

@@ -7,12 +7,11 @@ ghost use Rattle.weedle_base.specs.OwnLaws.{own_lawful};
 ghost use Rattle.weedle_idl.specs.DefinitionTrees.{callback_interface_definition_tree, interface_definition_tree, partial_interface_definition_tree};
 ghost use Rattle.weedle_grammar.specs.Table.Definitions.{CALLBACK_INTERFACE_DEFINITION, INTERFACE_DEFINITION, PARTIAL_INTERFACE_DEFINITION};
 
-use crate::copies::copy_interface_members;
-use crate::interface::InterfaceMembers;
+use crate::interface::BracedInterfaceMembers;
 use std::alloc::{AllocError, Global};
 use weedle_base::{IResult, Parse, TryClone};
 use weedle_modifier::Inheritance;
-use weedle_parts::common::{Braced, Docstring, Identifier};
+use weedle_parts::common::{Docstring, Identifier};
 use weedle_term::{Callback, Interface, Partial, SemiColon};
 use weedle_types::attribute::ExtendedAttributeList;
 use weedle_types::copies::{copy_attributes, copy_docstring};
@@ -27,7 +26,7 @@ pub struct CallbackInterfaceDefinition<'a> {
     pub interface: Interface,
     pub identifier: Identifier<'a>,
     pub inheritance: Option<Inheritance<'a>>,
-    pub members: Braced<InterfaceMembers<'a>>,
+    pub members: BracedInterfaceMembers<'a>,
     pub semi_colon: SemiColon,
 }
 
@@ -42,7 +41,7 @@ impl<'a> Parse<'a> for CallbackInterfaceDefinition<'a> {
         let (rest, interface) = Interface::parse(alloc, rest)?;
         let (rest, identifier) = Identifier::parse(alloc, rest)?;
         let (rest, inheritance) = Option::parse(alloc, rest)?;
-        let (rest, members) = Braced::parse(alloc, rest)?;
+        let (rest, members) = BracedInterfaceMembers::parse(alloc, rest)?;
         let (rest, semi_colon) = SemiColon::parse(alloc, rest)?;
         Ok((
             rest,
@@ -73,7 +72,7 @@ impl TryClone for CallbackInterfaceDefinition<'_> {
             interface: self.interface,
             identifier: self.identifier,
             inheritance: self.inheritance,
-            members: copy_interface_members(&self.members, alloc)?,
+            members: self.members.try_clone(alloc)?,
             semi_colon: self.semi_colon,
         })
     }
@@ -89,7 +88,7 @@ pub struct InterfaceDefinition<'a> {
     pub interface: Interface,
     pub identifier: Identifier<'a>,
     pub inheritance: Option<Inheritance<'a>>,
-    pub members: Braced<InterfaceMembers<'a>>,
+    pub members: BracedInterfaceMembers<'a>,
     pub semi_colon: SemiColon,
 }
 
@@ -103,7 +102,7 @@ impl<'a> Parse<'a> for InterfaceDefinition<'a> {
         let (rest, interface) = Interface::parse(alloc, rest)?;
         let (rest, identifier) = Identifier::parse(alloc, rest)?;
         let (rest, inheritance) = Option::parse(alloc, rest)?;
-        let (rest, members) = Braced::parse(alloc, rest)?;
+        let (rest, members) = BracedInterfaceMembers::parse(alloc, rest)?;
         let (rest, semi_colon) = SemiColon::parse(alloc, rest)?;
         Ok((
             rest,
@@ -132,7 +131,7 @@ impl TryClone for InterfaceDefinition<'_> {
             interface: self.interface,
             identifier: self.identifier,
             inheritance: self.inheritance,
-            members: copy_interface_members(&self.members, alloc)?,
+            members: self.members.try_clone(alloc)?,
             semi_colon: self.semi_colon,
         })
     }
@@ -147,7 +146,7 @@ pub struct PartialInterfaceDefinition<'a> {
     pub partial: Partial,
     pub interface: Interface,
     pub identifier: Identifier<'a>,
-    pub members: Braced<InterfaceMembers<'a>>,
+    pub members: BracedInterfaceMembers<'a>,
     pub semi_colon: SemiColon,
 }
 
@@ -160,7 +159,7 @@ impl<'a> Parse<'a> for PartialInterfaceDefinition<'a> {
         let (rest, partial) = Partial::parse(alloc, rest)?;
         let (rest, interface) = Interface::parse(alloc, rest)?;
         let (rest, identifier) = Identifier::parse(alloc, rest)?;
-        let (rest, members) = Braced::parse(alloc, rest)?;
+        let (rest, members) = BracedInterfaceMembers::parse(alloc, rest)?;
         let (rest, semi_colon) = SemiColon::parse(alloc, rest)?;
         Ok((
             rest,
@@ -187,7 +186,7 @@ impl TryClone for PartialInterfaceDefinition<'_> {
             partial: self.partial,
             interface: self.interface,
             identifier: self.identifier,
-            members: copy_interface_members(&self.members, alloc)?,
+            members: self.members.try_clone(alloc)?,
             semi_colon: self.semi_colon,
         })
     }

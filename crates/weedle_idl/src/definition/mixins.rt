@@ -7,11 +7,10 @@ ghost use Rattle.weedle_base.specs.OwnLaws.{own_lawful};
 ghost use Rattle.weedle_idl.specs.DefinitionTrees.{interface_mixin_definition_tree, partial_interface_mixin_definition_tree};
 ghost use Rattle.weedle_grammar.specs.Table.Definitions.{INTERFACE_MIXIN_DEFINITION, PARTIAL_INTERFACE_MIXIN_DEFINITION};
 
-use crate::copies::copy_mixin_members;
 use std::alloc::{AllocError, Global};
 use weedle_base::{IResult, Parse, TryClone};
-use weedle_members::mixin::MixinMembers;
-use weedle_parts::common::{Braced, Identifier};
+use weedle_members::mixin::BracedMixinMembers;
+use weedle_parts::common::Identifier;
 use weedle_term::{Interface, Mixin, Partial, SemiColon};
 use weedle_types::attribute::ExtendedAttributeList;
 use weedle_types::copies::copy_attributes;
@@ -24,7 +23,7 @@ pub struct InterfaceMixinDefinition<'a> {
     pub interface: Interface,
     pub mixin: Mixin,
     pub identifier: Identifier<'a>,
-    pub members: Braced<MixinMembers<'a>>,
+    pub members: BracedMixinMembers<'a>,
     pub semi_colon: SemiColon,
 }
 
@@ -37,7 +36,7 @@ impl<'a> Parse<'a> for InterfaceMixinDefinition<'a> {
         let (rest, interface) = Interface::parse(alloc, rest)?;
         let (rest, mixin) = Mixin::parse(alloc, rest)?;
         let (rest, identifier) = Identifier::parse(alloc, rest)?;
-        let (rest, members) = Braced::parse(alloc, rest)?;
+        let (rest, members) = BracedMixinMembers::parse(alloc, rest)?;
         let (rest, semi_colon) = SemiColon::parse(alloc, rest)?;
         Ok((
             rest,
@@ -64,7 +63,7 @@ impl TryClone for InterfaceMixinDefinition<'_> {
             interface: self.interface,
             mixin: self.mixin,
             identifier: self.identifier,
-            members: copy_mixin_members(&self.members, alloc)?,
+            members: self.members.try_clone(alloc)?,
             semi_colon: self.semi_colon,
         })
     }
@@ -80,7 +79,7 @@ pub struct PartialInterfaceMixinDefinition<'a> {
     pub interface: Interface,
     pub mixin: Mixin,
     pub identifier: Identifier<'a>,
-    pub members: Braced<MixinMembers<'a>>,
+    pub members: BracedMixinMembers<'a>,
     pub semi_colon: SemiColon,
 }
 
@@ -94,7 +93,7 @@ impl<'a> Parse<'a> for PartialInterfaceMixinDefinition<'a> {
         let (rest, interface) = Interface::parse(alloc, rest)?;
         let (rest, mixin) = Mixin::parse(alloc, rest)?;
         let (rest, identifier) = Identifier::parse(alloc, rest)?;
-        let (rest, members) = Braced::parse(alloc, rest)?;
+        let (rest, members) = BracedMixinMembers::parse(alloc, rest)?;
         let (rest, semi_colon) = SemiColon::parse(alloc, rest)?;
         Ok((
             rest,
@@ -123,7 +122,7 @@ impl TryClone for PartialInterfaceMixinDefinition<'_> {
             interface: self.interface,
             mixin: self.mixin,
             identifier: self.identifier,
-            members: copy_mixin_members(&self.members, alloc)?,
+            members: self.members.try_clone(alloc)?,
             semi_colon: self.semi_colon,
         })
     }

@@ -21,9 +21,6 @@ use weedle_members::{
     StringifierMember,
 };
 
-/// The members of an interface, one after another; none included.
-pub type InterfaceMembers<'a> = Vec<InterfaceMember<'a>>;
-
 /// A member of an interface, as `attribute long length;`: the first of the nine kinds that fits, so
 /// `stringifier();`, which begins an operation without a name but has no second list of arguments, is
 /// none of them.

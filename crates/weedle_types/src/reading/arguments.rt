@@ -14,7 +14,7 @@ use super::types::{attributed_type, type_};
 use crate::argument::{Argument, ArgumentList, SingleArgument, VariadicArgument};
 use std::alloc::Global;
 use weedle_base::{Err, IResult, out_of_memory};
-use weedle_parts::common::{Parenthesized, Punctuated};
+use weedle_parts::common::Parenthesized;
 use weedle_term::Comma;
 
 /// Reads an argument, as `long x` or `long... xs`.
@@ -128,7 +128,7 @@ pub(crate) fn arguments<'a>(
 pub(crate) fn argument_list<'a>(
     alloc: Global,
     input: &'a str,
-) -> IResult<&'a str, Punctuated<Argument<'a>, Comma>>
+) -> IResult<&'a str, ArgumentList<'a>>
     ensures reads { Answers (own ARGUMENT_LIST argument_list_tree (Unit {0})) input.now result }
     ensures no_longer { IfOk result (λ x. length x.0.now ≤ length input.now) }
 {
@@ -137,7 +137,7 @@ pub(crate) fn argument_list<'a>(
             let (rest, list) = more_arguments(alloc, first, rest)?;
             Ok((
                 rest,
-                Punctuated {
+                ArgumentList {
                     list,
                     separator: Comma,
                 },
@@ -147,7 +147,7 @@ pub(crate) fn argument_list<'a>(
             let list = Vec::new(alloc);
             Ok((
                 input,
-                Punctuated {
+                ArgumentList {
                     list,
                     separator: Comma,
                 },
