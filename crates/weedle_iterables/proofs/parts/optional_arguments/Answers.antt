@@ -6,4 +6,4 @@ use Rattle.weedle_types.proofs.AliasRules.{arguments_law}
 use Rattle.weedle_types.proofs.SharedRules.{answers_rule}
 
 pub returns : goal.returns
-returns c = answers_rule _ (option_rule (arguments_law _) OPT_PARENTHESIZED_ARGUMENT_LIST refl refl) _ c.parse.ensures
+returns c = answers_rule _ (option_rule arguments_law OPT_PARENTHESIZED_ARGUMENT_LIST refl refl) _ c.parse.ensures
