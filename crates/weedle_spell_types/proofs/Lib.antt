@@ -1,0 +1,4 @@
+pub mod ArgumentLaws
+pub mod PlainAttributeLaws
+pub mod RecursiveTypeFacts
+pub mod TypeLaws

@@ -1,0 +1,4 @@
+pub mod Arguments
+pub mod PlainAttributes
+pub mod RecursiveTypes
+pub mod Types
