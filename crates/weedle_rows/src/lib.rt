@@ -10,6 +10,8 @@ mod generic_parts;
 #[cfg(test)]
 mod members;
 #[cfg(test)]
+mod orders;
+#[cfg(test)]
 mod program;
 #[cfg(test)]
 mod readme;
