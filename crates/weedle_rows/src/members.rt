@@ -17,7 +17,9 @@ use weedle::namespace::{AttributeNamespaceMember, NamespaceMember, OperationName
 use weedle::types::{ConstType, ReturnType, SingleType, Type};
 use weedle::{Parse, TryClone, term};
 use weedle_answers::{is_mismatch, reads};
-use weedle_samples::{LONG, angled, argument, arguments, bare, flag, integer, named, plain, single};
+use weedle_samples::{
+    LONG, angled, argument, arguments, bare, flag, integer, named, plain, single,
+};
 
 #[test]
 fn an_iterable_member_has_one_type_or_two(rt: HostRuntime) -> Result<(), Fail> {

@@ -55,7 +55,10 @@ fn members_go_by_their_kinds(rt: HostRuntime) -> Result<(), Fail> {
     let definitions = parse(rt.alloc(), MEMBERS).expect(rt, "an interface");
     for definition in &definitions {
         match definition {
-            Definition::Interface(interface) => members_rise(&rt, interface.members.body.as_slice())?,
+            Definition::Interface(interface) => members_rise(
+                &rt,
+                interface.members.body.as_slice(),
+            )?,
             _ => assert!(rt; false),
         }
     }

@@ -17,8 +17,8 @@ use weedle::{
     name_of, parse, term,
 };
 use weedle_samples::{
-    argument, arguments, attributes, flag, flagged_member, frozen_array_of, member, named, nullable, plain,
-    record_of, sequence_of, single, union_of,
+    argument, arguments, attributes, flag, flagged_member, frozen_array_of, member, named,
+    nullable, plain, record_of, sequence_of, single, union_of,
 };
 
 const SOUNDS: &str = "\

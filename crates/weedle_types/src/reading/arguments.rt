@@ -125,10 +125,7 @@ pub(crate) fn arguments<'a>(
 /// Reads arguments, as `long x, long y`, none included.
 #[cycle(group)]
 #[tactic(auto, using(crate::proofs::ArgumentRules::argument_list_steps))]
-pub(crate) fn argument_list<'a>(
-    alloc: Global,
-    input: &'a str,
-) -> IResult<&'a str, ArgumentList<'a>>
+pub(crate) fn argument_list<'a>(alloc: Global, input: &'a str) -> IResult<&'a str, ArgumentList<'a>>
     ensures reads { Answers (own ARGUMENT_LIST argument_list_tree (Unit {0})) input.now result }
     ensures no_longer { IfOk result (λ x. length x.0.now ≤ length input.now) }
 {

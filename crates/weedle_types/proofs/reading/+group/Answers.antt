@@ -141,7 +141,7 @@ pub unions::union_member_type-returns-in_err-rest-clause-reads : goal.unions::un
 unions::union_member_type-returns-in_err-rest-clause-reads t c = exit_answers c.from_residual.result (union_member_type_fault (stop_next _ _ c.in-Err-Error.ensures.reads c.in-Err-Error.field-0-is c.in_err-rest.ensures.reads)) c.from_residual.ensures.1
 
 pub unions::more_union_member_types-items-init : goal.unions::more_union_member_types-items-init
-unions::more_union_member_types-items-init t c = 
+unions::more_union_member_types-items-init t c =
     let pushed : c.push.new.self.items ≡ c.new-list.result.items ++ (c.args.first ∷ []) = rw c.if-is_err.ensures.negation at c.push.ensures.items in
     let one : c.push.new.self.items ≡ c.args.first ∷ [] = pushed ∙ ap (λ (l : List UnionMemberType). l ++ (c.args.first ∷ [])) c.new-list.ensures.items in
     (search rules, omega arith, ([], one, reached_none (next_step (own UNION_MEMBER_TYPE union_member_type_tree (Unit {0})) (mark {V = Or} OR)) c.args.input.now (search rules)))
@@ -165,7 +165,7 @@ pub unions::more_union_member_types-returns-in-Err-Failure-union_member_type-cla
 unions::more_union_member_types-returns-in-Err-Failure-union_member_type-clause-reads t c = rw c.in-Err-Failure-union_member_type.field-0-is (item_fault (own UNION_MEMBER_TYPE union_member_type_tree (Unit {0})) (mark {V = Or} OR) (λ (l : Vec UnionMemberType Global). l.items) c.args.first c.items.invariant.2.2 c.in-Ok.ensures.reads (λ e. omega (arith, e, c.in-Ok.ensures.shorter)) (direct_stop _ c.in-Err-Failure-union_member_type.ensures.reads c.in-Err-Failure-union_member_type.field-0-is))
 
 pub unions::more_union_member_types-items-preserved : goal.unions::more_union_member_types-items-preserved
-unions::more_union_member_types-items-preserved t c = 
+unions::more_union_member_types-items-preserved t c =
     let pushed : c.push-in-Ok-union_member_type.new.self.items ≡ c.items.list.items ++ (c.in-Ok-union_member_type.item ∷ []) = rw c.if-is_err-2.ensures.negation at c.push-in-Ok-union_member_type.ensures.items in
     let next = reached_next (own UNION_MEMBER_TYPE union_member_type_tree (Unit {0})) (mark {V = Or} OR) c.items.invariant.2.2 c.in-Ok.ensures.reads (λ e. omega (arith, e, c.in-Ok.ensures.shorter)) c.in-Ok-union_member_type.ensures.reads in
     (search rules, omega (arith, c.items.invariant.1, c.in-Ok.ensures.shorter, c.in-Ok-union_member_type.ensures.shorter), (c.items.invariant.2.0 ++ (c.in-Ok-union_member_type.item ∷ []), pushed ∙ ap (λ (l : List UnionMemberType). l ++ (c.in-Ok-union_member_type.item ∷ [])) c.items.invariant.2.1, next))
@@ -216,7 +216,7 @@ pub attributes::extended_attribute-returns-in_err-rest-clause-reads : goal.attri
 attributes::extended_attribute-returns-in_err-rest-clause-reads t c = exit_answers c.from_residual.result (extended_attribute_fault (stop_next _ _ c.in-Err-Error.ensures.reads c.in-Err-Error.field-0-is (stop_next _ _ c.in-Err-Error-extended_attribute_named_arg_list.ensures.reads c.in-Err-Error-extended_attribute_named_arg_list.field-0-is (stop_next _ _ c.in-Err-Error-word.ensures.reads c.in-Err-Error-word.field-0-is (stop_next _ _ c.in-Err-Error-word-2.ensures.reads c.in-Err-Error-word-2.field-0-is c.in_err-rest.ensures.reads))))) c.from_residual.ensures.1
 
 pub attributes::more_extended_attributes-items-init : goal.attributes::more_extended_attributes-items-init
-attributes::more_extended_attributes-items-init t c = 
+attributes::more_extended_attributes-items-init t c =
     let pushed : c.push.new.self.items ≡ c.new-list.result.items ++ (c.args.first ∷ []) = rw c.if-is_err.ensures.negation at c.push.ensures.items in
     let one : c.push.new.self.items ≡ c.args.first ∷ [] = pushed ∙ ap (λ (l : List ExtendedAttribute). l ++ (c.args.first ∷ [])) c.new-list.ensures.items in
     (search rules, omega arith, ([], one, reached_none (next_step (own EXTENDED_ATTRIBUTE extended_attribute_tree (Unit {0})) (mark {V = Comma} COMMA)) c.args.input.now (search rules)))
@@ -240,7 +240,7 @@ pub attributes::more_extended_attributes-returns-in-Err-Failure-extended_attribu
 attributes::more_extended_attributes-returns-in-Err-Failure-extended_attribute-clause-reads t c = rw c.in-Err-Failure-extended_attribute.field-0-is (item_fault (own EXTENDED_ATTRIBUTE extended_attribute_tree (Unit {0})) (mark {V = Comma} COMMA) (λ (l : Vec ExtendedAttribute Global). l.items) c.args.first c.items.invariant.2.2 c.in-Ok.ensures.reads (λ e. omega (arith, e, c.in-Ok.ensures.shorter)) (direct_stop _ c.in-Err-Failure-extended_attribute.ensures.reads c.in-Err-Failure-extended_attribute.field-0-is))
 
 pub attributes::more_extended_attributes-items-preserved : goal.attributes::more_extended_attributes-items-preserved
-attributes::more_extended_attributes-items-preserved t c = 
+attributes::more_extended_attributes-items-preserved t c =
     let pushed : c.push-in-Ok-extended_attribute.new.self.items ≡ c.items.list.items ++ (c.in-Ok-extended_attribute.item ∷ []) = rw c.if-is_err-2.ensures.negation at c.push-in-Ok-extended_attribute.ensures.items in
     let next = reached_next (own EXTENDED_ATTRIBUTE extended_attribute_tree (Unit {0})) (mark {V = Comma} COMMA) c.items.invariant.2.2 c.in-Ok.ensures.reads (λ e. omega (arith, e, c.in-Ok.ensures.shorter)) c.in-Ok-extended_attribute.ensures.reads in
     (search rules, omega (arith, c.items.invariant.1, c.in-Ok.ensures.shorter, c.in-Ok-extended_attribute.ensures.shorter), (c.items.invariant.2.0 ++ (c.in-Ok-extended_attribute.item ∷ []), pushed ∙ ap (λ (l : List ExtendedAttribute). l ++ (c.in-Ok-extended_attribute.item ∷ [])) c.items.invariant.2.1, next))
@@ -274,7 +274,7 @@ arguments::single_argument-returns-in_err-rest-in-Some-clause-reads t c =
     c.from_residual-in_err-rest-in-Some.ensures.1
 
 pub arguments::more_arguments-items-init : goal.arguments::more_arguments-items-init
-arguments::more_arguments-items-init t c = 
+arguments::more_arguments-items-init t c =
     let pushed : c.push.new.self.items ≡ c.new-list.result.items ++ (c.args.first ∷ []) = rw c.if-is_err.ensures.negation at c.push.ensures.items in
     let one : c.push.new.self.items ≡ c.args.first ∷ [] = pushed ∙ ap (λ (l : List Argument). l ++ (c.args.first ∷ [])) c.new-list.ensures.items in
     (search rules, omega arith, ([], one, reached_none (next_step (own ARGUMENT argument_tree (Unit {0})) (mark {V = Comma} COMMA)) c.args.input.now (search rules)))
@@ -298,7 +298,7 @@ pub arguments::more_arguments-returns-in-Err-Failure-argument-clause-reads : goa
 arguments::more_arguments-returns-in-Err-Failure-argument-clause-reads t c = rw c.in-Err-Failure-argument.field-0-is (item_fault (own ARGUMENT argument_tree (Unit {0})) (mark {V = Comma} COMMA) (λ (l : Vec Argument Global). l.items) c.args.first c.items.invariant.2.2 c.in-Ok.ensures.reads (λ e. omega (arith, e, c.in-Ok.ensures.shorter)) (direct_stop _ c.in-Err-Failure-argument.ensures.reads c.in-Err-Failure-argument.field-0-is))
 
 pub arguments::more_arguments-items-preserved : goal.arguments::more_arguments-items-preserved
-arguments::more_arguments-items-preserved t c = 
+arguments::more_arguments-items-preserved t c =
     let pushed : c.push-in-Ok-argument.new.self.items ≡ c.items.list.items ++ (c.in-Ok-argument.item ∷ []) = rw c.if-is_err-2.ensures.negation at c.push-in-Ok-argument.ensures.items in
     let next = reached_next (own ARGUMENT argument_tree (Unit {0})) (mark {V = Comma} COMMA) c.items.invariant.2.2 c.in-Ok.ensures.reads (λ e. omega (arith, e, c.in-Ok.ensures.shorter)) c.in-Ok-argument.ensures.reads in
     (search rules, omega (arith, c.items.invariant.1, c.in-Ok.ensures.shorter, c.in-Ok-argument.ensures.shorter), (c.items.invariant.2.0 ++ (c.in-Ok-argument.item ∷ []), pushed ∙ ap (λ (l : List Argument). l ++ (c.in-Ok-argument.item ∷ [])) c.items.invariant.2.1, next))
