@@ -75,6 +75,8 @@ ALIASES = {
     "FrozenArrayType": "FrozenArrayType «Type»",
     "SequenceType": "SequenceType «Type»",
     "UnionType": "Parenthesized (Punctuated UnionMemberType Or)",
+    "ExtendedAttributeList": "Bracketed (Punctuated ExtendedAttribute Comma)",
+    "ArgumentList": "Punctuated Argument Comma",
 }
 
 
@@ -172,9 +174,9 @@ TABLE = {
     "variadic_argument": struct(ARGUMENTS, "VariadicArgument", "VARIADIC_ARGUMENT", "variadic_argument_tree",
                                 ("attributes", Call("attributes")), ("type_", Call("type_")), ("ellipsis", "Ellipsis"),
                                 ("identifier", "Identifier")),
-    "arguments": enclosed(ARGUMENTS, "Parenthesized<ArgumentList>", "PARENTHESIZED_ARGUMENT_LIST", "arguments_tree",
+    "arguments": enclosed(ARGUMENTS, "ParenthesizedArgumentList", "PARENTHESIZED_ARGUMENT_LIST", "arguments_tree",
                           "OpenParen", "CloseParen", "paren", "argument_list"),
-    "argument_list": listed(ARGUMENTS, "ArgumentList", "ARGUMENT_LIST", "TAIL_ARGUMENT_COMMA", "argument_list_tree",
+    "argument_list": listed(ARGUMENTS, "Punctuated<Argument, Comma>", "ARGUMENT_LIST", "TAIL_ARGUMENT_COMMA", "argument_list_tree",
                             "argument", "Comma", "more_arguments"),
 }
 

@@ -8,8 +8,8 @@ use Rattle.weedle_base.specs.Rules.{HasRule, IsRule}
 use Rattle.weedle_term.specs.declared.symbols.Comma.{Comma}
 use Rattle.weedle_term.specs.declared.type_keywords.Or.{Or}
 use Rattle.weedle_parts.proofs.ListRules.{punctuated_rule}
-use Rattle.weedle_parts.proofs.PartRules.{may_be_null_rule, parenthesized_rule}
-use Rattle.weedle_parts.specs.Brackets.{parenthesized_reading}
+use Rattle.weedle_parts.proofs.PartRules.{bracketed_rule, may_be_null_rule, parenthesized_rule}
+use Rattle.weedle_parts.specs.Brackets.{bracketed_reading, parenthesized_reading}
 use Rattle.weedle_parts.specs.Lists.{punctuated_reading}
 use Rattle.weedle_parts.specs.MayBeNull.{may_be_null_reading}
 use Rattle.weedle_parts.specs.ValueTrees.{identifier_tree, may_be_null_tree, parenthesized_tree, punctuated_tree}
@@ -19,10 +19,10 @@ use Rattle.weedle_grammar.specs.Table.Keywords.{OR}
 use Rattle.weedle_grammar.specs.Table.Leaves.{IDENTIFIER}
 use Rattle.weedle_grammar.specs.Table.SimpleTypes.{IDENTIFIER_LIST, PARENTHESIZED_IDENTIFIER_LIST, TAIL_IDENTIFIER_COMMA}
 use Rattle.weedle_grammar.specs.Table.Symbols.{COMMA}
-use Rattle.weedle_grammar.specs.Table.Types.{ARGUMENT_LIST, EXTENDED_ATTRIBUTE_LIST, LIST_UNION_MEMBER_TYPE_OR, MAY_BE_NULL_UNION_TYPE, OPT_EXTENDED_ATTRIBUTE_LIST, PARENTHESIZED_ARGUMENT_LIST, TAIL_UNION_MEMBER_TYPE_OR, UNION_MEMBER_TYPE, UNION_TYPE}
-use Rattle.weedle_types.specs.Trees.{argument_list_tree, arguments_tree, attributes_tree, extended_attribute_list_tree, union_member_type_tree, union_type_tree}
-use Rattle.weedle_types.specs.declared.argument.ArgumentList.{ArgumentList}
-use Rattle.weedle_types.specs.declared.attribute.ExtendedAttributeList.{ExtendedAttributeList}
+use Rattle.weedle_grammar.specs.Table.Types.{ARGUMENT, ARGUMENT_LIST, EXTENDED_ATTRIBUTE, EXTENDED_ATTRIBUTE_LIST, LIST_EXTENDED_ATTRIBUTE_COMMA, LIST_UNION_MEMBER_TYPE_OR, MAY_BE_NULL_UNION_TYPE, OPT_EXTENDED_ATTRIBUTE_LIST, TAIL_ARGUMENT_COMMA, TAIL_EXTENDED_ATTRIBUTE_COMMA, TAIL_UNION_MEMBER_TYPE_OR, UNION_MEMBER_TYPE, UNION_TYPE}
+use Rattle.weedle_types.specs.Trees.{argument_list_tree, argument_tree, attributes_tree, extended_attribute_list_tree, extended_attribute_tree, union_member_type_tree, union_type_tree}
+use Rattle.weedle_types.specs.declared.argument.Argument.{Argument}
+use Rattle.weedle_types.specs.declared.attribute.ExtendedAttribute.{ExtendedAttribute}
 use Rattle.weedle_types.specs.declared.types.UnionMemberType.{UnionMemberType}
 
 -- Unions.
@@ -45,26 +45,35 @@ module _ (known : Punctuated UnionMemberType Or → Type 0) where
   nullable_union_type_has_rule = wider_rule (λ g. inl (inr (inl g))) nullable_union_type_law
 
 -- Attributes.
-abbrev pub attributes_reading : Reading (Option ExtendedAttributeList)
-attributes_reading = option_reading (own EXTENDED_ATTRIBUTE_LIST extended_attribute_list_tree (Unit {0}))
+module _ (known : Punctuated ExtendedAttribute Comma → Type 0) where
+  abbrev pub extended_attributes_reading : Reading (Punctuated ExtendedAttribute Comma)
+  extended_attributes_reading = punctuated_reading (own EXTENDED_ATTRIBUTE extended_attribute_tree (Unit {0})) (mark {V = Comma} COMMA) (λ p. p.list.items) known
 
-pub attributes_law : IsRule attributes_reading OPT_EXTENDED_ATTRIBUTE_LIST attributes_tree (Unit {0})
-attributes_law = option_rule (own_rule EXTENDED_ATTRIBUTE_LIST extended_attribute_list_tree (Unit {0})) OPT_EXTENDED_ATTRIBUTE_LIST refl refl
+  pub extended_attribute_list_law : IsRule (bracketed_reading extended_attributes_reading) EXTENDED_ATTRIBUTE_LIST extended_attribute_list_tree (Unit {0})
+  extended_attribute_list_law = bracketed_rule (punctuated_rule (own_rule EXTENDED_ATTRIBUTE extended_attribute_tree (Unit {0})) (still_rule (mark_rule COMMA)) TAIL_EXTENDED_ATTRIBUTE_COMMA refl refl (λ p. p.list.items) known LIST_EXTENDED_ATTRIBUTE_COMMA refl refl tt) EXTENDED_ATTRIBUTE_LIST refl refl
 
-pub attributes_has_rule : HasRule attributes_reading OPT_EXTENDED_ATTRIBUTE_LIST attributes_tree
-unfolding option_reading
-attributes_has_rule = attributes_law
+  pub attributes_law : IsRule (option_reading (bracketed_reading extended_attributes_reading)) OPT_EXTENDED_ATTRIBUTE_LIST attributes_tree (Unit {0})
+  attributes_law = option_rule extended_attribute_list_law OPT_EXTENDED_ATTRIBUTE_LIST refl refl
+
+  pub extended_attribute_list_has_rule : HasRule (bracketed_reading extended_attributes_reading) EXTENDED_ATTRIBUTE_LIST extended_attribute_list_tree
+  unfolding punctuated_reading pair_reading seen_reading
+  extended_attribute_list_has_rule = wider_rule (λ g. inr (inl g)) extended_attribute_list_law
+
+  pub attributes_has_rule : HasRule (option_reading (bracketed_reading extended_attributes_reading)) OPT_EXTENDED_ATTRIBUTE_LIST attributes_tree
+  unfolding punctuated_reading pair_reading seen_reading option_reading
+  attributes_has_rule = wider_rule (λ g. inr (inl g)) attributes_law
 
 -- Arguments.
-abbrev pub argument_list_reading : Reading ArgumentList
-argument_list_reading = own ARGUMENT_LIST argument_list_tree (Unit {0})
+module _ (known : Punctuated Argument Comma → Type 0) where
+  abbrev pub argument_list_reading : Reading (Punctuated Argument Comma)
+  argument_list_reading = punctuated_reading (own ARGUMENT argument_tree (Unit {0})) (mark {V = Comma} COMMA) (λ p. p.list.items) known
 
-pub arguments_law : IsRule (parenthesized_reading argument_list_reading) PARENTHESIZED_ARGUMENT_LIST arguments_tree (Unit {0})
-arguments_law = parenthesized_rule (own_rule ARGUMENT_LIST argument_list_tree (Unit {0})) PARENTHESIZED_ARGUMENT_LIST refl refl
+  pub argument_list_law : IsRule argument_list_reading ARGUMENT_LIST argument_list_tree (Unit {0})
+  argument_list_law = punctuated_rule (own_rule ARGUMENT argument_tree (Unit {0})) (still_rule (mark_rule COMMA)) TAIL_ARGUMENT_COMMA refl refl (λ p. p.list.items) known ARGUMENT_LIST refl refl tt
 
-pub arguments_has_rule : HasRule (parenthesized_reading argument_list_reading) PARENTHESIZED_ARGUMENT_LIST arguments_tree
-unfolding pair_reading seen_reading
-arguments_has_rule = wider_rule (λ g. inr (inl g)) arguments_law
+  pub argument_list_has_rule : HasRule argument_list_reading ARGUMENT_LIST argument_list_tree
+  unfolding punctuated_reading
+  argument_list_has_rule = argument_list_law
 
 -- Names.
 module _ (known : Punctuated Identifier Comma → Type 0) where

@@ -25,7 +25,7 @@ use Rattle.weedle_parts.proofs.ListRules.{punctuated_rule}
 use Rattle.weedle_parts.proofs.ListSteps.{fault_some, got_none, got_some}
 use Rattle.weedle_parts.specs.Lists.{after_first, punctuated_reading}
 use Rattle.weedle_parts.specs.ValueTrees.{identifier_tree}
-use Rattle.weedle_parts.specs.declared.common.brackets.Parenthesized.{Parenthesized}
+use Rattle.weedle_parts.specs.declared.common.brackets.Bracketed.{Bracketed}
 use Rattle.weedle_parts.specs.declared.common.identifier.Identifier.{Identifier}
 use Rattle.weedle_parts.specs.declared.common.punctuated.Punctuated.{Punctuated}
 use Rattle.weedle_term.specs.declared.symbols.Assign.{Assign}
@@ -35,18 +35,17 @@ use Rattle.weedle_term.specs.declared.symbols.OpenBracket.{OpenBracket}
 use Rattle.weedle_types.proofs.Direct.{direct_choice, direct_none, direct_some, direct_stop, list_stop, pair_takes, refused_by, seen_takes}
 use Rattle.weedle_types.proofs.TreeLaws.{arg_list_of, named_arg_list_of}
 use Rattle.weedle_types.specs.Trees.{arguments_tree, extended_attribute_arg_list_tree, extended_attribute_ident_list_tree, extended_attribute_ident_tree, extended_attribute_list_tree, extended_attribute_named_arg_list_tree, extended_attribute_no_args_tree, extended_attribute_tree, extended_attributes_tree}
-use Rattle.weedle_types.specs.declared.argument.ArgumentList.{ArgumentList}
+use Rattle.weedle_types.specs.declared.argument.ParenthesizedArgumentList.{ParenthesizedArgumentList}
 use Rattle.weedle_types.specs.declared.attribute.ExtendedAttribute.TheVariants.{ArgList as ExtendedAttribute-ArgList, Ident as ExtendedAttribute-Ident, IdentList as ExtendedAttribute-IdentList, NamedArgList as ExtendedAttribute-NamedArgList, NoArgs as ExtendedAttribute-NoArgs}
 use Rattle.weedle_types.specs.declared.attribute.ExtendedAttribute.{ExtendedAttribute}
 use Rattle.weedle_types.specs.declared.attribute.ExtendedAttributeArgList.{ExtendedAttributeArgList}
 use Rattle.weedle_types.specs.declared.attribute.ExtendedAttributeIdent.{ExtendedAttributeIdent}
 use Rattle.weedle_types.specs.declared.attribute.ExtendedAttributeIdentList.{ExtendedAttributeIdentList}
-use Rattle.weedle_types.specs.declared.attribute.ExtendedAttributeList.{ExtendedAttributeList}
 use Rattle.weedle_types.specs.declared.attribute.ExtendedAttributeNamedArgList.{ExtendedAttributeNamedArgList}
 use Rattle.weedle_types.specs.declared.attribute.ExtendedAttributeNoArgs.{ExtendedAttributeNoArgs}
 
 -- `attributes`
-pub attributes_some : {s rest : List ℕ} {v : ExtendedAttributeList} → Got (own EXTENDED_ATTRIBUTE_LIST extended_attribute_list_tree (Unit {0})) s v rest → Got (own OPT_EXTENDED_ATTRIBUTE_LIST (option_tree extended_attribute_list_tree) (Unit {0})) s (Some v) rest
+pub attributes_some : {s rest : List ℕ} {v : (Bracketed (Punctuated ExtendedAttribute Comma))} → Got (own EXTENDED_ATTRIBUTE_LIST extended_attribute_list_tree (Unit {0})) s v rest → Got (own OPT_EXTENDED_ATTRIBUTE_LIST (option_tree extended_attribute_list_tree) (Unit {0})) s (Some v) rest
 attributes_some h = got_rule (option_rule (own_rule EXTENDED_ATTRIBUTE_LIST extended_attribute_list_tree (Unit {0})) OPT_EXTENDED_ATTRIBUTE_LIST refl refl) (option_tree extended_attribute_list_tree) _ (direct_some _ h) refl
 
 pub attributes_none : {s : List ℕ} {f : Fault (Error (Bor (List ℕ)))} {e : Error (Bor (List ℕ))} → Faults (own EXTENDED_ATTRIBUTE_LIST extended_attribute_list_tree (Unit {0})) s f → f ≡ Recoverable e → IsUtf8 s → Got (own OPT_EXTENDED_ATTRIBUTE_LIST (option_tree extended_attribute_list_tree) (Unit {0})) s None s
@@ -61,7 +60,7 @@ pub ruleset attributes_steps = (attributes_some, attributes_none, attributes_fau
 abbrev extended_attribute_list_parts : Reading (OpenBracket × ((Punctuated ExtendedAttribute Comma) × CloseBracket))
 extended_attribute_list_parts = (pair_reading (mark OPEN_BRACKET) (pair_reading (own LIST_EXTENDED_ATTRIBUTE_COMMA extended_attributes_tree (Unit {0})) (mark CLOSE_BRACKET)))
 
-pub extended_attribute_list_got : {s rest : List ℕ} (x : ExtendedAttributeList) → Got extended_attribute_list_parts s (x.open_bracket, (x.body, x.close_bracket)) rest → Got (own EXTENDED_ATTRIBUTE_LIST extended_attribute_list_tree (Unit {0})) s x rest
+pub extended_attribute_list_got : {s rest : List ℕ} (x : Bracketed (Punctuated ExtendedAttribute Comma)) → Got extended_attribute_list_parts s (x.open_bracket, (x.body, x.close_bracket)) rest → Got (own EXTENDED_ATTRIBUTE_LIST extended_attribute_list_tree (Unit {0})) s x rest
 extended_attribute_list_got x h = got_rule (seq_rule (seq_next (still_rule (mark_rule OPEN_BRACKET)) (seq_next (own_rule LIST_EXTENDED_ATTRIBUTE_COMMA extended_attributes_tree (Unit {0})) (seq_last (still_rule (mark_rule CLOSE_BRACKET))))) EXTENDED_ATTRIBUTE_LIST refl refl) extended_attribute_list_tree x h refl
 
 pub extended_attribute_list_fault : {s : List ℕ} {e : Fault (Error (Bor (List ℕ)))} → Faults extended_attribute_list_parts s e → Faults (own EXTENDED_ATTRIBUTE_LIST extended_attribute_list_tree (Unit {0})) s e
@@ -97,7 +96,7 @@ extended_attribute_fault h = fault_rule extended_attribute_rule extended_attribu
 pub ruleset extended_attribute_steps = (direct_choice, extended_attribute_got_0, extended_attribute_got_1, extended_attribute_got_2, extended_attribute_got_3, extended_attribute_got_4, extended_attribute_fault, own_takes, pair_takes, seen_takes)
 
 -- `extended_attribute_arg_list`
-abbrev extended_attribute_arg_list_parts : Reading (Identifier × (Parenthesized ArgumentList))
+abbrev extended_attribute_arg_list_parts : Reading (Identifier × ParenthesizedArgumentList)
 extended_attribute_arg_list_parts = (pair_reading (own IDENTIFIER identifier_tree ⊥) (own PARENTHESIZED_ARGUMENT_LIST arguments_tree (Unit {0})))
 
 pub extended_attribute_arg_list_got : {s rest : List ℕ} (x : ExtendedAttributeArgList) → Got extended_attribute_arg_list_parts s (x.identifier, x.args) rest → Got (own EXTENDED_ATTRIBUTE_ARG_LIST extended_attribute_arg_list_tree (Unit {0})) s x rest
@@ -109,7 +108,7 @@ extended_attribute_arg_list_fault h = fault_rule (seq_rule (seq_next (still_rule
 pub ruleset extended_attribute_arg_list_steps = (part_steps, extended_attribute_arg_list_got, extended_attribute_arg_list_fault, own_takes)
 
 -- `extended_attribute_named_arg_list`
-abbrev extended_attribute_named_arg_list_parts : Reading (Identifier × (Assign × (Identifier × (Parenthesized ArgumentList))))
+abbrev extended_attribute_named_arg_list_parts : Reading (Identifier × (Assign × (Identifier × ParenthesizedArgumentList)))
 extended_attribute_named_arg_list_parts = (pair_reading (own IDENTIFIER identifier_tree ⊥) (pair_reading (mark ASSIGN) (pair_reading (own IDENTIFIER identifier_tree ⊥) (own PARENTHESIZED_ARGUMENT_LIST arguments_tree (Unit {0})))))
 
 pub extended_attribute_named_arg_list_got : {s rest : List ℕ} (x : ExtendedAttributeNamedArgList) → Got extended_attribute_named_arg_list_parts s (x.lhs_identifier, (x.assign, (x.rhs_identifier, x.args))) rest → Got (own EXTENDED_ATTRIBUTE_NAMED_ARG_LIST extended_attribute_named_arg_list_tree (Unit {0})) s x rest

@@ -7,8 +7,8 @@ use Rattle.weedle_base.specs.Rules.{option_tree}
 use Rattle.weedle_parts.specs.ValueTrees.{bracket_tree, docstring_tree}
 use Rattle.weedle_parts.specs.declared.common.docstring.Docstring.{Docstring}
 use Rattle.weedle_grammar.specs.Trees.{Items, Lines, Present, Tree, trees}
-use Rattle.weedle_types.specs.PartTrees.{Arguments, Attributes, members_tree}
-use Rattle.weedle_types.specs.Trees.{argument_list_tree, arguments_tree, attributes_tree, extended_attribute_list_tree}
+use Rattle.weedle_types.specs.PartTrees.{Attributes, members_tree}
+use Rattle.weedle_types.specs.Trees.{attributes_tree, extended_attribute_list_tree, extended_attribute_tree}
 
 -- items
 pub items_alike : {V : Type 0} (tree : V → Tree) (vs ws : List V) → all_alike (λ v w. tree v ≡ tree w) vs ws → trees (map tree vs) ≡ trees (map tree ws)
@@ -29,12 +29,8 @@ pub docstring_alike : (a b : Option Docstring) → option_alike (λ v w. string_
 docstring_alike a b h = option_same docstring_tree (λ v w. string_bytes v.0 ≡ string_bytes w.0) (λ v w e. ap Lines e) a b h
 
 -- attributes
-pub attributes_alike : (a b : Attributes) → option_alike (λ v w. extended_attribute_list_tree v ≡ extended_attribute_list_tree w) a b → attributes_tree a ≡ attributes_tree b
-attributes_alike a b h = option_same extended_attribute_list_tree (λ v w. extended_attribute_list_tree v ≡ extended_attribute_list_tree w) (λ v w e. e) a b h
-
--- arguments
-pub arguments_alike : (a b : Arguments) → argument_list_tree a.body ≡ argument_list_tree b.body → arguments_tree a ≡ arguments_tree b
-arguments_alike a b h = ap bracket_tree h
+pub attributes_alike : (a b : Attributes) → option_alike (λ v w. all_alike (λ x y. extended_attribute_tree x ≡ extended_attribute_tree y) v.body.list.items w.body.list.items × (v.body.separator ≡ w.body.separator)) a b → attributes_tree a ≡ attributes_tree b
+attributes_alike a b h = option_same extended_attribute_list_tree _ (λ v w e. ap (λ ts. bracket_tree (Items ts)) (items_alike extended_attribute_tree v.body.list.items w.body.list.items e.0)) a b h
 
 -- members one after another
 pub members_alike : {V : Type 0} (tree : V → Tree) (a b : Vec V) → all_alike (λ v w. tree v ≡ tree w) a.items b.items → members_tree tree a ≡ members_tree tree b

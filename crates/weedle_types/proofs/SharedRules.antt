@@ -14,11 +14,11 @@ use Rattle.weedle_base.specs.declared.fault.Err.{Err as Fault}
 use Rattle.weedle_base.specs.declared.fault.Error.{Error}
 use Rattle.weedle_grammar.specs.Meaning.{Plain}
 use Rattle.weedle_grammar.specs.Rows.{Many, Opt}
-use Rattle.weedle_grammar.specs.Table.Types.{OPT_EXTENDED_ATTRIBUTE_LIST, PARENTHESIZED_ARGUMENT_LIST}
+use Rattle.weedle_grammar.specs.Table.Types.{OPT_EXTENDED_ATTRIBUTE_LIST}
 use Rattle.weedle_grammar.specs.Table.{row_of, shape_of}
 use Rattle.weedle_grammar.specs.Trees.{Tree}
-use Rattle.weedle_types.specs.PartTrees.{Arguments, Attributes, members_tree}
-use Rattle.weedle_types.specs.Trees.{arguments_tree, attributes_tree}
+use Rattle.weedle_types.specs.PartTrees.{Attributes, members_tree}
+use Rattle.weedle_types.specs.Trees.{attributes_tree}
 
 -- a terminal, among parts that may want memory
 pub word : {V : Type 0} (r : ℕ) → IsRule (mark {V = V} r) r mark_tree (Unit {0})
@@ -35,13 +35,6 @@ attributes_reading = own OPT_EXTENDED_ATTRIBUTE_LIST attributes_tree (Unit {0})
 
 pub attributes_rule : IsRule attributes_reading OPT_EXTENDED_ATTRIBUTE_LIST attributes_tree (Unit {0})
 attributes_rule = own_rule OPT_EXTENDED_ATTRIBUTE_LIST attributes_tree (Unit {0})
-
--- arguments in parentheses
-abbrev pub arguments_reading : Reading Arguments
-arguments_reading = own PARENTHESIZED_ARGUMENT_LIST arguments_tree (Unit {0})
-
-pub arguments_rule : IsRule arguments_reading PARENTHESIZED_ARGUMENT_LIST arguments_tree (Unit {0})
-arguments_rule = own_rule PARENTHESIZED_ARGUMENT_LIST arguments_tree (Unit {0})
 
 -- members one after another
 abbrev pub members_reading : {V : Type 0} → Reading V → Reading (Vec V)

@@ -2,9 +2,11 @@
 use Rattle.std.proofs.Common.{◌≡◌, refl, ap, sym, ◌∙◌, Option, None, Some, map, Vec, Global}
 use Rattle.std.specs.Prelude.{[], ◌∷◌}
 use Rattle.weedle_base.specs.Rules.{option_tree, mark_tree}
+use Rattle.weedle_term.specs.declared.symbols.Comma.{Comma}
 use Rattle.weedle_term.specs.declared.type_keywords.Or.{Or}
 use Rattle.weedle_literal.specs.LiteralTrees.{default_tree}
 use Rattle.weedle_parts.specs.ValueTrees.{identifier_tree, bracket_tree, may_be_null_tree}
+use Rattle.weedle_parts.specs.declared.common.brackets.Bracketed.{Bracketed}
 use Rattle.weedle_parts.specs.declared.common.brackets.Parenthesized.{Parenthesized}
 use Rattle.weedle_parts.specs.declared.common.punctuated.Punctuated.{Punctuated}
 use Rattle.weedle_parts.specs.declared.types.may_be_null.MayBeNull.{MayBeNull}
@@ -19,7 +21,6 @@ use Rattle.weedle_types.specs.declared.attribute.ExtendedAttribute.TheVariants.{
 use Rattle.weedle_types.specs.declared.attribute.ExtendedAttribute.{ExtendedAttribute}
 use Rattle.weedle_types.specs.declared.attribute.ExtendedAttributeArgList.{ExtendedAttributeArgList}
 use Rattle.weedle_types.specs.declared.attribute.ExtendedAttributeNamedArgList.{ExtendedAttributeNamedArgList}
-use Rattle.weedle_types.specs.declared.attribute.ExtendedAttributeList.{ExtendedAttributeList}
 use Rattle.weedle_types.specs.declared.formers.PromiseType.{PromiseType}
 use Rattle.weedle_types.specs.declared.formers.RecordKeyType.TheVariants.{Byte as RecordKeyType-Byte, DOM as RecordKeyType-DOM, USV as RecordKeyType-USV, NonAny as RecordKeyType-NonAny}
 use Rattle.weedle_types.specs.declared.formers.RecordKeyType.{RecordKeyType}
@@ -91,7 +92,7 @@ pub record_of : (x : MayBeNull (RecordType RecordTypes)) → non_any_type_tree (
 record_of x = ap (λ t. Alt 27 (Node (trees (Node (trees (Mark ∷ bracket_tree (Node (trees (t ∷ Mark ∷ type_tree x.type_.generics.body.2.value ∷ []))) ∷ [])) ∷ option_tree mark_tree x.q_mark ∷ [])))) (key_of x.type_.generics.body.0.value)
 
 -- attributes, or none
-pub attributes_of : (o : Option ExtendedAttributeList) → held_attributes (back-SingleArgument-attributes o) ≡ attributes_tree o
+pub attributes_of : (o : Option (Bracketed (Punctuated ExtendedAttribute Comma))) → held_attributes (back-SingleArgument-attributes o) ≡ attributes_tree o
 attributes_of None = refl
 attributes_of (Some x) = ap (λ ts. Present (bracket_tree (Items ts))) (attribute_row_of x.body.list)
 

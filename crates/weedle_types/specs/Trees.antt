@@ -7,18 +7,19 @@
 -- are what contracts name.
 use Rattle.std.specs.Global.{Box}
 use Rattle.std.specs.Prelude.{[], ◌∷◌, Option}
-use Rattle.weedle_base.specs.Rules.{items_tree, option_tree, mark_tree}
+use Rattle.weedle_base.specs.Rules.{option_tree, mark_tree}
 use Rattle.weedle_term.specs.declared.symbols.Comma.{Comma}
 use Rattle.weedle_term.specs.declared.type_keywords.Or.{Or}
 use Rattle.weedle_literal.specs.LiteralTrees.{string_tree, default_tree}
-use Rattle.weedle_parts.specs.ValueTrees.{identifier_tree, bracket_tree, parenthesized_tree, generics_tree, may_be_null_tree, punctuated_tree, integer_type_tree, floating_point_type_tree}
+use Rattle.weedle_parts.specs.ValueTrees.{identifier_tree, bracket_tree, parenthesized_tree, bracketed_tree, generics_tree, may_be_null_tree, punctuated_tree, integer_type_tree, floating_point_type_tree}
+use Rattle.weedle_parts.specs.declared.common.brackets.Bracketed.{Bracketed}
 use Rattle.weedle_parts.specs.declared.common.brackets.Parenthesized.{Parenthesized}
 use Rattle.weedle_parts.specs.declared.common.punctuated.Punctuated.{Punctuated}
 use Rattle.weedle_grammar.specs.Trees.{Tree, Trees, Done, Then, Mark, Node, Alt, Absent, Present, Items, trees}
 use Rattle.weedle_types.specs.declared.argument.Argument.TheBlock.{Held-NonAnyType-Promise-0-4, Undefined', Type_', Held-RecordTypes-0-4, RecordTypes-0-4-Byte', DOM', USV', RecordTypes-0-4-NonAny', Held-Type-Single-0, Any', Type-Single-0-NonAny', Held-SingleArgument-attributes, None', Some', Row_of-Argument, end_of-Argument, more_of-Argument, Row_of-UnionMemberType, end_of-UnionMemberType, more_of-UnionMemberType, Row_of-ExtendedAttribute, end_of-ExtendedAttribute, more_of-ExtendedAttribute}
 use Rattle.weedle_types.specs.declared.argument.Argument.TheVariants.{Single' as Argument-Single', Variadic' as Argument-Variadic'}
 use Rattle.weedle_types.specs.declared.argument.Argument.{Argument}
-use Rattle.weedle_types.specs.declared.argument.ArgumentList.{ArgumentList}
+use Rattle.weedle_types.specs.declared.argument.ParenthesizedArgumentList.{ParenthesizedArgumentList}
 use Rattle.weedle_types.specs.declared.argument.SingleArgument.{SingleArgument}
 use Rattle.weedle_types.specs.declared.argument.VariadicArgument.{VariadicArgument}
 use Rattle.weedle_types.specs.declared.attribute.ExtendedAttributeIdent.{ExtendedAttributeIdent}
@@ -30,7 +31,6 @@ use Rattle.weedle_types.specs.declared.attribute.ExtendedAttribute.TheVariants.{
 use Rattle.weedle_types.specs.declared.attribute.ExtendedAttribute.{ExtendedAttribute}
 use Rattle.weedle_types.specs.declared.attribute.ExtendedAttributeArgList.{ExtendedAttributeArgList}
 use Rattle.weedle_types.specs.declared.attribute.ExtendedAttributeNamedArgList.{ExtendedAttributeNamedArgList}
-use Rattle.weedle_types.specs.declared.attribute.ExtendedAttributeList.{ExtendedAttributeList}
 use Rattle.weedle_types.specs.declared.formers.FrozenArrayType.{FrozenArrayType}
 use Rattle.weedle_types.specs.declared.formers.PromiseType.{PromiseType}
 use Rattle.weedle_types.specs.declared.formers.RecordKeyType.TheVariants.{Byte as RecordKeyType-Byte, DOM as RecordKeyType-DOM, USV as RecordKeyType-USV, NonAny as RecordKeyType-NonAny}
@@ -215,12 +215,12 @@ abbrev pub union_type_tree : Parenthesized (Punctuated UnionMemberType Or) → T
 union_type_tree = parenthesized_tree union_member_types_tree
 
 -- arguments
-abbrev pub argument_list_tree : ArgumentList → Tree
-argument_list_tree v = items_tree argument_tree v.list.items
+abbrev pub argument_list_tree : Punctuated Argument Comma → Tree
+argument_list_tree = punctuated_tree argument_tree
 
 -- arguments in parentheses
-abbrev pub arguments_tree : Parenthesized ArgumentList → Tree
-arguments_tree = parenthesized_tree argument_list_tree
+abbrev pub arguments_tree : ParenthesizedArgumentList → Tree
+arguments_tree v = bracket_tree (argument_list_tree v.body)
 
 -- an attribute with arguments
 abbrev pub extended_attribute_arg_list_tree : ExtendedAttributeArgList → Tree
@@ -235,11 +235,11 @@ abbrev pub extended_attributes_tree : Punctuated ExtendedAttribute Comma → Tre
 extended_attributes_tree = punctuated_tree extended_attribute_tree
 
 -- attributes in brackets
-abbrev pub extended_attribute_list_tree : ExtendedAttributeList → Tree
-extended_attribute_list_tree v = bracket_tree (extended_attributes_tree v.body)
+abbrev pub extended_attribute_list_tree : Bracketed (Punctuated ExtendedAttribute Comma) → Tree
+extended_attribute_list_tree = bracketed_tree extended_attributes_tree
 
 -- attributes in brackets, or none
-abbrev pub attributes_tree : Option ExtendedAttributeList → Tree
+abbrev pub attributes_tree : Option (Bracketed (Punctuated ExtendedAttribute Comma)) → Tree
 attributes_tree = option_tree extended_attribute_list_tree
 
 -- a type with its attributes

@@ -9,21 +9,15 @@ ghost use Rattle.weedle_base.specs.OwnLaws.{own_lawful};
 ghost use Rattle.weedle_grammar.specs.Table.Types.{EXTENDED_ATTRIBUTE_IDENT, EXTENDED_ATTRIBUTE_IDENT_LIST, EXTENDED_ATTRIBUTE_NO_ARGS, IDENTIFIER_OR_STRING};
 ghost use Rattle.weedle_types.specs.Trees.{extended_attribute_ident_list_tree, extended_attribute_ident_tree, extended_attribute_no_args_tree, identifier_or_string_tree};
 
-use crate::argument::ArgumentList;
+use crate::argument::ParenthesizedArgumentList;
 use std::alloc::Global;
 use weedle_base::{IResult, Parse};
 use weedle_literal::StringLit;
-use weedle_parts::common::{Identifier, Parenthesized, Punctuated};
-use weedle_term::{Assign, CloseBracket, Comma, OpenBracket};
+use weedle_parts::common::{Bracketed, Identifier, Parenthesized, Punctuated};
+use weedle_term::{Assign, Comma};
 
 /// Attributes in brackets, as `[Exposed=Window, SecureContext]`; `[]` too.
-#[cycle(types)]
-#[derive(Debug, PartialEq, Eq, PartialOrd, Ord, Hash, Drop)]
-pub struct ExtendedAttributeList<'a> {
-    pub open_bracket: OpenBracket,
-    pub body: Punctuated<ExtendedAttribute<'a>, Comma>,
-    pub close_bracket: CloseBracket,
-}
+pub type ExtendedAttributeList<'a> = Bracketed<Punctuated<ExtendedAttribute<'a>, Comma>>;
 
 /// Names, as `Window, Worker`, none included.
 pub type IdentifierList<'a> = Punctuated<Identifier<'a>, Comma>;
@@ -44,7 +38,7 @@ pub enum ExtendedAttribute<'a> {
 #[derive(Debug, PartialEq, Eq, PartialOrd, Ord, Hash, Drop)]
 pub struct ExtendedAttributeArgList<'a> {
     pub identifier: Identifier<'a>,
-    pub args: Parenthesized<ArgumentList<'a>>,
+    pub args: ParenthesizedArgumentList<'a>,
 }
 
 /// An attribute with a name and arguments, as `NamedConstructor=Image(long x)`.
@@ -54,7 +48,7 @@ pub struct ExtendedAttributeNamedArgList<'a> {
     pub lhs_identifier: Identifier<'a>,
     pub assign: Assign,
     pub rhs_identifier: Identifier<'a>,
-    pub args: Parenthesized<ArgumentList<'a>>,
+    pub args: ParenthesizedArgumentList<'a>,
 }
 
 /// An attribute with names, as `Exposed=(Window, Worker)`.

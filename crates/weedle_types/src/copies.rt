@@ -3,13 +3,12 @@
 ghost use Rattle.std.specs.Prelude.{IfOk, ◌≡◌};
 ghost use Rattle.weedle_base.specs.Rules.{option_tree};
 ghost use Rattle.weedle_parts.specs.ValueTrees.{docstring_tree};
-ghost use Rattle.weedle_types.specs.Trees.{arguments_tree, attributes_tree};
+ghost use Rattle.weedle_types.specs.Trees.{attributes_tree};
 
-use crate::argument::ArgumentList;
 use crate::attribute::ExtendedAttributeList;
 use std::alloc::{AllocError, Global};
 use weedle_base::TryClone;
-use weedle_parts::common::{Docstring, Parenthesized};
+use weedle_parts::common::Docstring;
 
 /// Copies attributes.
 #[tactic(auto, using(crate::proofs::CopyFacts::attributes_alike))]
@@ -20,18 +19,6 @@ pub fn copy_attributes<'a>(
     ensures { IfOk result (λ copy. attributes_tree copy ≡ attributes_tree attributes.now) }
 {
     let copy = attributes.try_clone(alloc)?;
-    Ok(copy)
-}
-
-/// Copies arguments.
-#[tactic(auto, using(crate::proofs::CopyFacts::arguments_alike))]
-pub fn copy_arguments<'a>(
-    arguments: &Parenthesized<ArgumentList<'a>>,
-    alloc: Global,
-) -> Result<Parenthesized<ArgumentList<'a>>, AllocError>
-    ensures { IfOk result (λ copy. arguments_tree copy ≡ arguments_tree arguments.now) }
-{
-    let copy = arguments.try_clone(alloc)?;
     Ok(copy)
 }
 

@@ -2,19 +2,18 @@
 
 ghost use Rattle.std.specs.Prelude.{◌≡◌};
 ghost use Rattle.weedle_base.specs.AlikeLaws.{equal_equivalence, seen_equivalence};
-ghost use Rattle.weedle_types.specs.Trees.{argument_list_tree, argument_tree, attributed_non_any_type_tree, attributed_type_tree, extended_attribute_arg_list_tree, extended_attribute_ident_list_tree, extended_attribute_list_tree, extended_attribute_named_arg_list_tree, extended_attribute_tree, frozen_array_type_tree, non_any_type_tree, promise_type_tree, record_key_type_tree, record_type_tree, record_types_tree, return_type_tree, sequence_type_tree, single_argument_tree, single_type_tree, type_tree, union_member_type_tree, variadic_argument_tree};
+ghost use Rattle.weedle_types.specs.Trees.{argument_tree, arguments_tree, attributed_non_any_type_tree, attributed_type_tree, extended_attribute_arg_list_tree, extended_attribute_ident_list_tree, extended_attribute_named_arg_list_tree, extended_attribute_tree, frozen_array_type_tree, non_any_type_tree, promise_type_tree, record_key_type_tree, record_type_tree, record_types_tree, return_type_tree, sequence_type_tree, single_argument_tree, single_type_tree, type_tree, union_member_type_tree, variadic_argument_tree};
 
-use crate::argument::{Argument, ArgumentList, SingleArgument, VariadicArgument};
+use crate::argument::{Argument, ParenthesizedArgumentList, SingleArgument, VariadicArgument};
 use crate::attribute::{
-    ExtendedAttribute, ExtendedAttributeArgList, ExtendedAttributeIdentList, ExtendedAttributeList,
+    ExtendedAttribute, ExtendedAttributeArgList, ExtendedAttributeIdentList,
     ExtendedAttributeNamedArgList,
 };
 use crate::clones::arguments::{
-    clone_argument, clone_argument_list, clone_single_argument, clone_variadic_argument,
+    clone_argument, clone_arguments, clone_single_argument, clone_variadic_argument,
 };
 use crate::clones::attributes::{
-    clone_arg_list, clone_extended_attribute, clone_extended_attribute_list, clone_ident_list,
-    clone_named_arg_list,
+    clone_arg_list, clone_extended_attribute, clone_ident_list, clone_named_arg_list,
 };
 use crate::clones::generic_types::{
     clone_frozen_array_type, clone_promise_type, clone_record_type, clone_record_types,
@@ -172,16 +171,6 @@ impl<'a> TryClone for ExtendedAttribute<'a> {
     ghost equivalence = { seen_equivalence extended_attribute_tree equal_equivalence };
 }
 
-impl<'a> TryClone for ExtendedAttributeList<'a> {
-    ghost alike = { λ a b. extended_attribute_list_tree a ≡ extended_attribute_list_tree b };
-
-    fn try_clone(&self, alloc: Global) -> Result<Self, AllocError> {
-        clone_extended_attribute_list(self, alloc)
-    }
-
-    ghost equivalence = { seen_equivalence extended_attribute_list_tree equal_equivalence };
-}
-
 impl<'a> TryClone for ExtendedAttributeArgList<'a> {
     ghost alike = { λ a b. extended_attribute_arg_list_tree a ≡ extended_attribute_arg_list_tree b };
 
@@ -212,14 +201,14 @@ impl<'a> TryClone for ExtendedAttributeIdentList<'a> {
     ghost equivalence = { seen_equivalence extended_attribute_ident_list_tree equal_equivalence };
 }
 
-impl<'a> TryClone for ArgumentList<'a> {
-    ghost alike = { λ a b. argument_list_tree a ≡ argument_list_tree b };
+impl<'a> TryClone for ParenthesizedArgumentList<'a> {
+    ghost alike = { λ a b. arguments_tree a ≡ arguments_tree b };
 
     fn try_clone(&self, alloc: Global) -> Result<Self, AllocError> {
-        clone_argument_list(self, alloc)
+        clone_arguments(self, alloc)
     }
 
-    ghost equivalence = { seen_equivalence argument_list_tree equal_equivalence };
+    ghost equivalence = { seen_equivalence arguments_tree equal_equivalence };
 }
 
 impl<'a> TryClone for Argument<'a> {

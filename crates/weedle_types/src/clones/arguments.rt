@@ -2,40 +2,29 @@
 #![tactic(auto, using(crate::proofs::TreeLaws::clone_steps))]
 
 ghost use Rattle.std.specs.Prelude.{◌≡◌, IfOk, map};
-ghost use Rattle.weedle_types.specs.Trees.{argument_list_tree, argument_tree, arguments_tree, single_argument_tree, variadic_argument_tree};
+ghost use Rattle.weedle_types.specs.Trees.{argument_tree, arguments_tree, single_argument_tree, variadic_argument_tree};
 
 use super::attributes::clone_attributes;
 use super::types::{clone_attributed_type, clone_type};
-use crate::argument::{Argument, ArgumentList, SingleArgument, VariadicArgument};
+use crate::argument::{Argument, ParenthesizedArgumentList, SingleArgument, VariadicArgument};
 use std::alloc::{AllocError, Global};
-use weedle_parts::common::Parenthesized;
+use weedle_parts::common::Punctuated;
 
 /// Clones arguments in parentheses.
 #[cycle(clones)]
 pub(crate) fn clone_arguments<'a>(
-    original: &Parenthesized<ArgumentList<'a>>,
+    original: &ParenthesizedArgumentList<'a>,
     alloc: Global,
-) -> Result<Parenthesized<ArgumentList<'a>>, AllocError>
+) -> Result<ParenthesizedArgumentList<'a>, AllocError>
     ensures { IfOk result (λ v. arguments_tree v ≡ arguments_tree original.now) }
 {
-    Ok(Parenthesized {
+    Ok(ParenthesizedArgumentList {
         open_paren: original.open_paren,
-        body: clone_argument_list(&original.body, alloc)?,
+        body: Punctuated {
+            list: clone_argument_items(&original.body.list, alloc)?,
+            separator: original.body.separator,
+        },
         close_paren: original.close_paren,
-    })
-}
-
-/// Clones arguments.
-#[cycle(clones)]
-pub(crate) fn clone_argument_list<'a>(
-    original: &ArgumentList<'a>,
-    alloc: Global,
-) -> Result<ArgumentList<'a>, AllocError>
-    ensures { IfOk result (λ v. argument_list_tree v ≡ argument_list_tree original.now) }
-{
-    Ok(ArgumentList {
-        list: clone_argument_items(&original.list, alloc)?,
-        separator: original.separator,
     })
 }
 

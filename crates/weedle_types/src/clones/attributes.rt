@@ -3,7 +3,7 @@
 
 ghost use Rattle.std.specs.Prelude.{◌≡◌, IfOk, map};
 ghost use Rattle.weedle_parts.specs.ValueTrees.{identifier_tree};
-ghost use Rattle.weedle_types.specs.Trees.{attributes_tree, extended_attribute_arg_list_tree, extended_attribute_ident_list_tree, extended_attribute_list_tree, extended_attribute_named_arg_list_tree, extended_attribute_tree};
+ghost use Rattle.weedle_types.specs.Trees.{attributes_tree, extended_attribute_arg_list_tree, extended_attribute_ident_list_tree, extended_attribute_named_arg_list_tree, extended_attribute_tree};
 
 use super::arguments::clone_arguments;
 use crate::attribute::{
@@ -11,7 +11,7 @@ use crate::attribute::{
     ExtendedAttributeNamedArgList,
 };
 use std::alloc::{AllocError, Global};
-use weedle_parts::common::{Identifier, Parenthesized, Punctuated};
+use weedle_parts::common::{Bracketed, Identifier, Parenthesized, Punctuated};
 
 /// Clones attributes in brackets, where they stand.
 #[cycle(clones)]
@@ -23,26 +23,15 @@ pub(crate) fn clone_attributes<'a>(
 {
     match original {
         None => Ok(None),
-        Some(list) => Ok(Some(clone_extended_attribute_list(list, alloc)?)),
+        Some(list) => Ok(Some(Bracketed {
+            open_bracket: list.open_bracket,
+            body: Punctuated {
+                list: clone_extended_attributes(&list.body.list, alloc)?,
+                separator: list.body.separator,
+            },
+            close_bracket: list.close_bracket,
+        })),
     }
-}
-
-/// Clones attributes in brackets.
-#[cycle(clones)]
-pub(crate) fn clone_extended_attribute_list<'a>(
-    original: &ExtendedAttributeList<'a>,
-    alloc: Global,
-) -> Result<ExtendedAttributeList<'a>, AllocError>
-    ensures { IfOk result (λ v. extended_attribute_list_tree v ≡ extended_attribute_list_tree original.now) }
-{
-    Ok(ExtendedAttributeList {
-        open_bracket: original.open_bracket,
-        body: Punctuated {
-            list: clone_extended_attributes(&original.body.list, alloc)?,
-            separator: original.body.separator,
-        },
-        close_bracket: original.close_bracket,
-    })
 }
 
 /// Clones attributes, in their order.

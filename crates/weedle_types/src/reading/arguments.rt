@@ -11,10 +11,12 @@ ghost use Rattle.weedle_types.specs.Trees.{argument_list_tree, argument_tree, ar
 use super::attributes::attributes;
 use super::steps::{part, word};
 use super::types::{attributed_type, type_};
-use crate::argument::{Argument, ArgumentList, SingleArgument, VariadicArgument};
+use crate::argument::{
+    Argument, ArgumentList, ParenthesizedArgumentList, SingleArgument, VariadicArgument,
+};
 use std::alloc::Global;
 use weedle_base::{Err, IResult, out_of_memory};
-use weedle_parts::common::Parenthesized;
+use weedle_parts::common::Punctuated;
 use weedle_term::Comma;
 
 /// Reads an argument, as `long x` or `long... xs`.
@@ -105,7 +107,7 @@ pub(crate) fn variadic_argument<'a>(
 pub(crate) fn arguments<'a>(
     alloc: Global,
     input: &'a str,
-) -> IResult<&'a str, Parenthesized<ArgumentList<'a>>>
+) -> IResult<&'a str, ParenthesizedArgumentList<'a>>
     ensures reads { Answers (own PARENTHESIZED_ARGUMENT_LIST arguments_tree (Unit {0})) input.now result }
     ensures shorter { IfOk result (λ x. length x.0.now < length input.now) }
 {
@@ -114,7 +116,7 @@ pub(crate) fn arguments<'a>(
     let (rest, close_paren) = part(alloc, rest)?;
     Ok((
         rest,
-        Parenthesized {
+        ParenthesizedArgumentList {
             open_paren,
             body,
             close_paren,
@@ -134,7 +136,7 @@ pub(crate) fn argument_list<'a>(alloc: Global, input: &'a str) -> IResult<&'a st
             let (rest, list) = more_arguments(alloc, first, rest)?;
             Ok((
                 rest,
-                ArgumentList {
+                Punctuated {
                     list,
                     separator: Comma,
                 },
@@ -144,7 +146,7 @@ pub(crate) fn argument_list<'a>(alloc: Global, input: &'a str) -> IResult<&'a st
             let list = Vec::new(alloc);
             Ok((
                 input,
-                ArgumentList {
+                Punctuated {
                     list,
                     separator: Comma,
                 },

@@ -17,7 +17,7 @@ use crate::attribute::{
 };
 use std::alloc::Global;
 use weedle_base::{Err, IResult, out_of_memory};
-use weedle_parts::common::Punctuated;
+use weedle_parts::common::{Bracketed, Punctuated};
 use weedle_term::Comma;
 
 /// Reads attributes in brackets, where they stand.
@@ -52,7 +52,7 @@ pub(crate) fn extended_attribute_list<'a>(
     let (rest, close_bracket) = part(alloc, rest)?;
     Ok((
         rest,
-        ExtendedAttributeList {
+        Bracketed {
             open_bracket,
             body,
             close_bracket,

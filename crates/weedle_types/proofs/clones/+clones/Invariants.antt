@@ -5,7 +5,7 @@ use Rattle.weedle_parts.specs.ValueTrees.{may_be_null_tree}
 use Rattle.weedle_grammar.specs.Trees.{trees}
 use Rattle.weedle_types.proofs.clones.+clones.Given as goal
 use Rattle.weedle_types.specs.TreeSize.{tree_size, trees_size}
-use Rattle.weedle_types.specs.Trees.{argument_list_tree, argument_tree, arguments_tree, attributed_non_any_type_tree, attributed_type_tree, attributes_tree, extended_attribute_arg_list_tree, extended_attribute_list_tree, extended_attribute_named_arg_list_tree, extended_attribute_tree, frozen_array_type_tree, non_any_type_tree, promise_type_tree, record_key_type_tree, record_type_tree, record_types_tree, return_type_tree, sequence_type_tree, single_argument_tree, single_type_tree, type_tree, union_member_type_tree, union_type_tree, variadic_argument_tree}
+use Rattle.weedle_types.specs.Trees.{argument_tree, arguments_tree, attributed_non_any_type_tree, attributed_type_tree, attributes_tree, extended_attribute_arg_list_tree, extended_attribute_named_arg_list_tree, extended_attribute_tree, frozen_array_type_tree, non_any_type_tree, promise_type_tree, record_key_type_tree, record_type_tree, record_types_tree, return_type_tree, sequence_type_tree, single_argument_tree, single_type_tree, type_tree, union_member_type_tree, union_type_tree, variadic_argument_tree}
 
 abbrev pub invariant-arguments::clone_argument_items-loop-item : goal.invariant-arguments::clone_argument_items-loop-item
 invariant-arguments::clone_argument_items-loop-item l = map argument_tree l.clones.items ≡ map argument_tree (take l.item-index l.original.items)
@@ -66,12 +66,6 @@ decreases-arguments::clone_argument_items l = suc (trees_size (trees (map argume
 
 abbrev pub decreases-attributes::clone_extended_attributes : goal.decreases-attributes::clone_extended_attributes
 decreases-attributes::clone_extended_attributes l = suc (trees_size (trees (map extended_attribute_tree l.original.now.items)))
-
-abbrev pub decreases-arguments::clone_argument_list : goal.decreases-arguments::clone_argument_list
-decreases-arguments::clone_argument_list l = suc (tree_size (argument_list_tree l.original.now))
-
-abbrev pub decreases-attributes::clone_extended_attribute_list : goal.decreases-attributes::clone_extended_attribute_list
-decreases-attributes::clone_extended_attribute_list l = tree_size (extended_attribute_list_tree l.original.now)
 
 abbrev pub decreases-types::clone_attributed_type : goal.decreases-types::clone_attributed_type
 decreases-types::clone_attributed_type l = tree_size (attributed_type_tree l.original.now)
