@@ -21,7 +21,7 @@ HEAD = "Written by tools/idl_proofs.py."
 # From so many fields on the search for a struct's `parse` doesn't end.
 LONG = 7
 GROWS = "(Unit {0})"
-TREE_NAMES = {"StringLit": "string_tree"}
+TREE_NAMES = {"StringLit": "string_tree", "ParenthesizedArgumentList": "arguments_tree"}
 
 
 def snake(name):
@@ -111,7 +111,7 @@ class File:
 
 
 ATTRIBUTES = ("attributes", shared("attributes", "Attributes"))
-ARGUMENTS = shared("arguments", "Arguments")
+ARGUMENTS = own("ParenthesizedArgumentList")
 ONE = ("generics", shared("one_type", "OneType"))
 TWO = ("generics", shared("two_types", "TwoTypes"))
 ASYNC_ITERABLE = ("async_iterable", shared("async_iterable", "AsyncIterable"))
@@ -165,9 +165,9 @@ FILES = [
          Struct("DoubleTypedIterable", "two types", ATTRIBUTES, ("iterable", word("Iterable")), TWO, SEMI_COLON),
          Enum("IterableInterfaceMember", "either", *owned(("Single", "SingleTypedIterable"), ("Double", "DoubleTypedIterable")))),
     File("iterables", "AsyncIterableRules", "async_iterable", "Asynchronous iterations.",
-         Struct("SingleTypedAsyncIterable", "one type", ATTRIBUTES, ASYNC_ITERABLE, ONE, ("args", shared("optional_arguments", "(Option Arguments)")),
+         Struct("SingleTypedAsyncIterable", "one type", ATTRIBUTES, ASYNC_ITERABLE, ONE, ("args", shared("optional_arguments", "(Option ParenthesizedArgumentList)")),
                 SEMI_COLON),
-         Struct("DoubleTypedAsyncIterable", "two types", ATTRIBUTES, ASYNC_ITERABLE, TWO, ("args", shared("optional_arguments", "(Option Arguments)")),
+         Struct("DoubleTypedAsyncIterable", "two types", ATTRIBUTES, ASYNC_ITERABLE, TWO, ("args", shared("optional_arguments", "(Option ParenthesizedArgumentList)")),
                 SEMI_COLON),
          Enum("AsyncIterableInterfaceMember", "either", *owned(("Single", "SingleTypedAsyncIterable"), ("Double", "DoubleTypedAsyncIterable")))),
     File("iterables", "CollectionRules", "collection", "Maps and sets.",
@@ -270,11 +270,12 @@ HOMES = {
     f"{IDL}.specs.Pieces": "main_member_rules iterable_member_rules collection_member_rules callback_or_interface_rules main_definition_rules "
                            "partial_definition_rules other_definition_rules",
     f"{TYPES}.specs.Trees": "type_tree return_type_tree attributed_type_tree attributes_tree arguments_tree",
+    f"{TYPES}.specs.declared.argument.ParenthesizedArgumentList": "ParenthesizedArgumentList",
     f"{TYPES}.specs.declared.types.AttributedType": "AttributedType",
     f"{TYPES}.specs.declared.types.«Type»": "«Type»",
     f"{TYPES}.specs.declared.formers.ReturnType": "ReturnType",
-    f"{TYPES}.specs.PartTrees": "Attributes Arguments members_tree",
-    f"{TYPES}.proofs.SharedRules": "word perhaps attributes_reading attributes_rule arguments_reading arguments_rule members_reading members_rule",
+    f"{TYPES}.specs.PartTrees": "Attributes members_tree",
+    f"{TYPES}.proofs.SharedRules": "word perhaps attributes_reading attributes_rule members_reading members_rule",
     f"{ITERABLES}.specs.PartTrees": "OneType TwoTypes AsyncIterable optional_arguments_tree one_type_tree two_types_tree async_iterable_tree",
     f"{ITERABLES}.proofs.PartRules": "optional_arguments_reading optional_arguments_rule one_type_reading one_type_rule two_types_reading "
                                      "two_types_rule async_iterable_reading async_iterable_rule",

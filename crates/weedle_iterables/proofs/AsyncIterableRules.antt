@@ -23,11 +23,12 @@ use Rattle.weedle_iterables.specs.declared.async_iterable.DoubleTypedAsyncIterab
 use Rattle.weedle_iterables.specs.declared.async_iterable.SingleTypedAsyncIterable.{SingleTypedAsyncIterable}
 use Rattle.weedle_term.specs.declared.symbols.SemiColon.{SemiColon}
 use Rattle.weedle_types.proofs.SharedRules.{attributes_reading, attributes_rule, word}
-use Rattle.weedle_types.specs.PartTrees.{Arguments, Attributes}
+use Rattle.weedle_types.specs.PartTrees.{Attributes}
 use Rattle.weedle_types.specs.Trees.{attributes_tree}
+use Rattle.weedle_types.specs.declared.argument.ParenthesizedArgumentList.{ParenthesizedArgumentList}
 
 -- one type
-abbrev single_typed_async_iterable_parts : Reading (Attributes × (AsyncIterable × (OneType × ((Option Arguments) × SemiColon))))
+abbrev single_typed_async_iterable_parts : Reading (Attributes × (AsyncIterable × (OneType × ((Option ParenthesizedArgumentList) × SemiColon))))
 single_typed_async_iterable_parts = pair_reading attributes_reading (pair_reading async_iterable_reading (pair_reading one_type_reading (pair_reading optional_arguments_reading (mark SEMI_COLON))))
 
 single_typed_async_iterable_rule : IsRule single_typed_async_iterable_parts SINGLE_TYPED_ASYNC_ITERABLE (λ x. Node (trees (attributes_tree x.0 ∷ async_iterable_tree x.1.0 ∷ one_type_tree x.1.1.0 ∷ optional_arguments_tree x.1.1.1.0 ∷ Mark ∷ []))) (Unit {0})
@@ -42,7 +43,7 @@ pub single_typed_async_iterable_fault : {s : List ℕ} {e : Fault (Error (Bor (L
 single_typed_async_iterable_fault h = fault_rule single_typed_async_iterable_rule single_typed_async_iterable_tree h
 
 -- two types
-abbrev double_typed_async_iterable_parts : Reading (Attributes × (AsyncIterable × (TwoTypes × ((Option Arguments) × SemiColon))))
+abbrev double_typed_async_iterable_parts : Reading (Attributes × (AsyncIterable × (TwoTypes × ((Option ParenthesizedArgumentList) × SemiColon))))
 double_typed_async_iterable_parts = pair_reading attributes_reading (pair_reading async_iterable_reading (pair_reading two_types_reading (pair_reading optional_arguments_reading (mark SEMI_COLON))))
 
 double_typed_async_iterable_rule : IsRule double_typed_async_iterable_parts DOUBLE_TYPED_ASYNC_ITERABLE (λ x. Node (trees (attributes_tree x.0 ∷ async_iterable_tree x.1.0 ∷ two_types_tree x.1.1.0 ∷ optional_arguments_tree x.1.1.1.0 ∷ Mark ∷ []))) (Unit {0})

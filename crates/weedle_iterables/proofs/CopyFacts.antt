@@ -4,13 +4,13 @@ use Rattle.std.specs.Prelude.{Option, ◌≡◌}
 use Rattle.weedle_base.specs.Alike.{option_alike}
 use Rattle.weedle_iterables.specs.PartTrees.{OneType, TwoTypes, one_type_tree, optional_arguments_tree, two_types_tree}
 use Rattle.weedle_parts.specs.ValueTrees.{bracket_tree}
-use Rattle.weedle_types.proofs.CopyFacts.{arguments_alike, option_same}
-use Rattle.weedle_types.specs.PartTrees.{Arguments}
-use Rattle.weedle_types.specs.Trees.{argument_list_tree, arguments_tree, attributed_type_tree}
+use Rattle.weedle_types.proofs.CopyFacts.{option_same}
+use Rattle.weedle_types.specs.Trees.{arguments_tree, attributed_type_tree}
+use Rattle.weedle_types.specs.declared.argument.ParenthesizedArgumentList.{ParenthesizedArgumentList}
 
 -- arguments that may be absent
-pub optional_arguments_alike : (a b : Option Arguments) → option_alike (λ v w. argument_list_tree v.body ≡ argument_list_tree w.body) a b → optional_arguments_tree a ≡ optional_arguments_tree b
-optional_arguments_alike a b h = option_same arguments_tree (λ v w. argument_list_tree v.body ≡ argument_list_tree w.body) arguments_alike a b h
+pub optional_arguments_alike : (a b : Option ParenthesizedArgumentList) → option_alike (λ v w. arguments_tree v ≡ arguments_tree w) a b → optional_arguments_tree a ≡ optional_arguments_tree b
+optional_arguments_alike a b h = option_same arguments_tree (λ v w. arguments_tree v ≡ arguments_tree w) (λ v w e. e) a b h
 
 -- a type between angle brackets
 pub one_type_alike : (a b : OneType) → attributed_type_tree a.body ≡ attributed_type_tree b.body → one_type_tree a ≡ one_type_tree b

@@ -13,11 +13,11 @@ use Rattle.weedle_grammar.specs.Table.InterfaceMembers.{ASYNC_ITERABLE, GENERICS
 use Rattle.weedle_grammar.specs.Table.Symbols.{COMMA}
 use Rattle.weedle_grammar.specs.Table.Types.{ATTRIBUTED_TYPE}
 use Rattle.weedle_types.proofs.SharedRules.{word}
-use Rattle.weedle_types.specs.PartTrees.{Arguments}
 use Rattle.weedle_types.specs.Trees.{attributed_type_tree}
+use Rattle.weedle_types.specs.declared.argument.ParenthesizedArgumentList.{ParenthesizedArgumentList}
 
 -- arguments in parentheses, or none
-abbrev pub optional_arguments_reading : Reading (Option Arguments)
+abbrev pub optional_arguments_reading : Reading (Option ParenthesizedArgumentList)
 optional_arguments_reading = own OPT_PARENTHESIZED_ARGUMENT_LIST optional_arguments_tree (Unit {0})
 
 pub optional_arguments_rule : IsRule optional_arguments_reading OPT_PARENTHESIZED_ARGUMENT_LIST optional_arguments_tree (Unit {0})

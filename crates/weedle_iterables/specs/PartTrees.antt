@@ -7,12 +7,12 @@ use Rattle.weedle_grammar.specs.Trees.{Mark, Node, Tree, trees}
 use Rattle.weedle_term.specs.declared.definition_keywords.Async.{Async}
 use Rattle.weedle_term.specs.declared.definition_keywords.Iterable.{Iterable}
 use Rattle.weedle_term.specs.declared.symbols.Comma.{Comma}
-use Rattle.weedle_types.specs.PartTrees.{Arguments}
 use Rattle.weedle_types.specs.Trees.{arguments_tree, attributed_type_tree}
+use Rattle.weedle_types.specs.declared.argument.ParenthesizedArgumentList.{ParenthesizedArgumentList}
 use Rattle.weedle_types.specs.declared.types.AttributedType.{AttributedType}
 
 -- arguments in parentheses, or none
-abbrev pub optional_arguments_tree : Option Arguments → Tree
+abbrev pub optional_arguments_tree : Option ParenthesizedArgumentList → Tree
 optional_arguments_tree = option_tree arguments_tree
 
 -- a type between angle brackets

@@ -11,9 +11,9 @@ use crate::copies::{copy_one_type, copy_optional_arguments, copy_two_types};
 use crate::parts::{async_iterable, optional_arguments};
 use std::alloc::{AllocError, Global};
 use weedle_base::{IResult, Parse, TryClone};
-use weedle_parts::common::{Generics, Parenthesized};
+use weedle_parts::common::Generics;
 use weedle_term::{Async, Comma, Iterable, SemiColon};
-use weedle_types::argument::ArgumentList;
+use weedle_types::argument::ParenthesizedArgumentList;
 use weedle_types::attribute::ExtendedAttributeList;
 use weedle_types::copies::copy_attributes;
 use weedle_types::parts::attributes;
@@ -25,7 +25,7 @@ pub struct SingleTypedAsyncIterable<'a> {
     pub attributes: Option<ExtendedAttributeList<'a>>,
     pub async_iterable: (Async, Iterable),
     pub generics: Generics<AttributedType<'a>>,
-    pub args: Option<Parenthesized<ArgumentList<'a>>>,
+    pub args: Option<ParenthesizedArgumentList<'a>>,
     pub semi_colon: SemiColon,
 }
 
@@ -77,7 +77,7 @@ pub struct DoubleTypedAsyncIterable<'a> {
     pub attributes: Option<ExtendedAttributeList<'a>>,
     pub async_iterable: (Async, Iterable),
     pub generics: Generics<(AttributedType<'a>, Comma, AttributedType<'a>)>,
-    pub args: Option<Parenthesized<ArgumentList<'a>>>,
+    pub args: Option<ParenthesizedArgumentList<'a>>,
     pub semi_colon: SemiColon,
 }
 

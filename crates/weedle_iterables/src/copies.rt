@@ -5,17 +5,17 @@ ghost use Rattle.weedle_iterables.specs.PartTrees.{one_type_tree, optional_argum
 
 use std::alloc::{AllocError, Global};
 use weedle_base::TryClone;
-use weedle_parts::common::{Generics, Parenthesized};
+use weedle_parts::common::Generics;
 use weedle_term::Comma;
-use weedle_types::argument::ArgumentList;
+use weedle_types::argument::ParenthesizedArgumentList;
 use weedle_types::types::AttributedType;
 
 /// Copies arguments that may be absent.
 #[tactic(auto, using(crate::proofs::CopyFacts::optional_arguments_alike))]
 pub(crate) fn copy_optional_arguments<'a>(
-    arguments: &Option<Parenthesized<ArgumentList<'a>>>,
+    arguments: &Option<ParenthesizedArgumentList<'a>>,
     alloc: Global,
-) -> Result<Option<Parenthesized<ArgumentList<'a>>>, AllocError>
+) -> Result<Option<ParenthesizedArgumentList<'a>>, AllocError>
     ensures { IfOk result (λ copy. optional_arguments_tree copy ≡ optional_arguments_tree arguments.now) }
 {
     let copy = arguments.try_clone(alloc)?;

@@ -7,15 +7,14 @@ ghost use Rattle.weedle_grammar.specs.Table.InterfaceMembers.{ASYNC_ITERABLE, OP
 
 use std::alloc::Global;
 use weedle_base::{IResult, Parse};
-use weedle_parts::common::Parenthesized;
 use weedle_term::{Async, Iterable};
-use weedle_types::argument::ArgumentList;
+use weedle_types::argument::ParenthesizedArgumentList;
 
 /// Reads arguments where they stand.
 pub(crate) fn optional_arguments<'a>(
     alloc: Global,
     input: &'a str,
-) -> IResult<&'a str, Option<Parenthesized<ArgumentList<'a>>>>
+) -> IResult<&'a str, Option<ParenthesizedArgumentList<'a>>>
     ensures { Answers (own OPT_PARENTHESIZED_ARGUMENT_LIST optional_arguments_tree (Unit {0})) input.now result }
 {
     Option::parse(alloc, input)

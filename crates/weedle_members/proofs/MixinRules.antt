@@ -17,7 +17,7 @@ use Rattle.weedle_grammar.specs.Table.Keywords.{ATTRIBUTE, READ_ONLY, STRINGIFIE
 use Rattle.weedle_grammar.specs.Table.Leaves.{IDENTIFIER}
 use Rattle.weedle_grammar.specs.Table.OtherMembers.{ATTRIBUTE_MIXIN_MEMBER, BRACED_MIXIN_MEMBERS, MIXIN_MEMBER, MIXIN_MEMBERS, OPERATION_MIXIN_MEMBER, OPT_STRINGIFIER}
 use Rattle.weedle_grammar.specs.Table.Symbols.{CLOSE_BRACE, OPEN_BRACE, SEMI_COLON}
-use Rattle.weedle_grammar.specs.Table.Types.{ATTRIBUTED_TYPE, RETURN_TYPE}
+use Rattle.weedle_grammar.specs.Table.Types.{ATTRIBUTED_TYPE, PARENTHESIZED_ARGUMENT_LIST, RETURN_TYPE}
 use Rattle.weedle_grammar.specs.Trees.{Alt, Mark, Node, trees}
 use Rattle.weedle_members.specs.Trees.{attribute_mixin_member_tree, braced_mixin_members_tree, const_member_tree, mixin_member_tree, operation_mixin_member_tree, stringifier_member_tree}
 use Rattle.weedle_members.specs.declared.constant.ConstMember.{ConstMember}
@@ -35,19 +35,20 @@ use Rattle.weedle_term.specs.declared.definition_keywords.Stringifier.{Stringifi
 use Rattle.weedle_term.specs.declared.symbols.CloseBrace.{CloseBrace}
 use Rattle.weedle_term.specs.declared.symbols.OpenBrace.{OpenBrace}
 use Rattle.weedle_term.specs.declared.symbols.SemiColon.{SemiColon}
-use Rattle.weedle_types.proofs.SharedRules.{arguments_reading, arguments_rule, attributes_reading, attributes_rule, members_reading, members_rule, perhaps, word}
-use Rattle.weedle_types.specs.PartTrees.{Arguments, Attributes, members_tree}
+use Rattle.weedle_types.proofs.SharedRules.{attributes_reading, attributes_rule, members_reading, members_rule, perhaps, word}
+use Rattle.weedle_types.specs.PartTrees.{Attributes, members_tree}
 use Rattle.weedle_types.specs.Trees.{arguments_tree, attributed_type_tree, attributes_tree, return_type_tree}
+use Rattle.weedle_types.specs.declared.argument.ParenthesizedArgumentList.{ParenthesizedArgumentList}
 use Rattle.weedle_types.specs.declared.formers.ReturnType.{ReturnType}
 use Rattle.weedle_types.specs.declared.types.AttributedType.{AttributedType}
 use Rattle.weedle_types.specs.declared.types.«Type».{«Type»}
 
 -- an operation
-abbrev operation_mixin_member_parts : Reading (Attributes × ((Option Stringifier) × ((ReturnType «Type») × ((Option Identifier) × (Arguments × SemiColon)))))
-operation_mixin_member_parts = pair_reading attributes_reading (pair_reading (option_reading (mark STRINGIFIER)) (pair_reading (own RETURN_TYPE return_type_tree (Unit {0})) (pair_reading (option_reading (own IDENTIFIER identifier_tree ⊥)) (pair_reading arguments_reading (mark SEMI_COLON)))))
+abbrev operation_mixin_member_parts : Reading (Attributes × ((Option Stringifier) × ((ReturnType «Type») × ((Option Identifier) × (ParenthesizedArgumentList × SemiColon)))))
+operation_mixin_member_parts = pair_reading attributes_reading (pair_reading (option_reading (mark STRINGIFIER)) (pair_reading (own RETURN_TYPE return_type_tree (Unit {0})) (pair_reading (option_reading (own IDENTIFIER identifier_tree ⊥)) (pair_reading (own PARENTHESIZED_ARGUMENT_LIST arguments_tree (Unit {0})) (mark SEMI_COLON)))))
 
 operation_mixin_member_rule : IsRule operation_mixin_member_parts OPERATION_MIXIN_MEMBER (λ x. Node (trees (attributes_tree x.0 ∷ option_tree mark_tree x.1.0 ∷ return_type_tree x.1.1.0 ∷ option_tree identifier_tree x.1.1.1.0 ∷ arguments_tree x.1.1.1.1.0 ∷ Mark ∷ []))) (Unit {0})
-operation_mixin_member_rule = seq_rule (seq_next attributes_rule (seq_next (perhaps (mark_rule STRINGIFIER) OPT_STRINGIFIER refl refl) (seq_next (own_rule RETURN_TYPE return_type_tree (Unit {0})) (seq_next (perhaps (own_rule IDENTIFIER identifier_tree ⊥) OPT_IDENTIFIER refl refl) (seq_next arguments_rule (seq_last (word SEMI_COLON))))))) OPERATION_MIXIN_MEMBER refl refl
+operation_mixin_member_rule = seq_rule (seq_next attributes_rule (seq_next (perhaps (mark_rule STRINGIFIER) OPT_STRINGIFIER refl refl) (seq_next (own_rule RETURN_TYPE return_type_tree (Unit {0})) (seq_next (perhaps (own_rule IDENTIFIER identifier_tree ⊥) OPT_IDENTIFIER refl refl) (seq_next (own_rule PARENTHESIZED_ARGUMENT_LIST arguments_tree (Unit {0})) (seq_last (word SEMI_COLON))))))) OPERATION_MIXIN_MEMBER refl refl
 
 -- the parts give what the rule gives
 pub operation_mixin_member_got : {s rest : List ℕ} (x : OperationMixinMember) → Got operation_mixin_member_parts s (x.attributes, (x.stringifier, (x.return_type, (x.identifier, (x.args, x.semi_colon))))) rest → Got (own OPERATION_MIXIN_MEMBER operation_mixin_member_tree (Unit {0})) s x rest

@@ -11,12 +11,12 @@ use crate::copies::copy_mixin_members;
 use crate::{ConstMember, StringifierMember};
 use std::alloc::{AllocError, Global};
 use weedle_base::{IResult, Parse, TryClone};
-use weedle_parts::common::{Identifier, Parenthesized};
+use weedle_parts::common::Identifier;
 use weedle_term::{Attribute, CloseBrace, OpenBrace, ReadOnly, SemiColon, Stringifier};
-use weedle_types::argument::ArgumentList;
+use weedle_types::argument::ParenthesizedArgumentList;
 use weedle_types::attribute::ExtendedAttributeList;
-use weedle_types::copies::{copy_arguments, copy_attributes};
-use weedle_types::parts::{arguments, attributes};
+use weedle_types::copies::copy_attributes;
+use weedle_types::parts::attributes;
 use weedle_types::types::{AttributedType, ReturnType};
 
 /// The members of a mixin, one after another; none included.
@@ -73,7 +73,7 @@ pub struct OperationMixinMember<'a> {
     pub stringifier: Option<Stringifier>,
     pub return_type: ReturnType<'a>,
     pub identifier: Option<Identifier<'a>>,
-    pub args: Parenthesized<ArgumentList<'a>>,
+    pub args: ParenthesizedArgumentList<'a>,
     pub semi_colon: SemiColon,
 }
 
@@ -86,7 +86,7 @@ impl<'a> Parse<'a> for OperationMixinMember<'a> {
         let (rest, stringifier) = Option::parse(alloc, rest)?;
         let (rest, return_type) = ReturnType::parse(alloc, rest)?;
         let (rest, identifier) = Option::parse(alloc, rest)?;
-        let (rest, args) = arguments(alloc, rest)?;
+        let (rest, args) = ParenthesizedArgumentList::parse(alloc, rest)?;
         let (rest, semi_colon) = SemiColon::parse(alloc, rest)?;
         Ok((
             rest,
@@ -113,7 +113,7 @@ impl TryClone for OperationMixinMember<'_> {
             stringifier: self.stringifier,
             return_type: self.return_type.try_clone(alloc)?,
             identifier: self.identifier,
-            args: copy_arguments(&self.args, alloc)?,
+            args: self.args.try_clone(alloc)?,
             semi_colon: self.semi_colon,
         })
     }

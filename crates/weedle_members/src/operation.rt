@@ -10,12 +10,12 @@ ghost use Rattle.weedle_grammar.specs.Table.InterfaceMembers.{CONSTRUCTOR_INTERF
 use std::alloc::{AllocError, Global};
 use weedle_base::{IResult, Parse, TryClone};
 use weedle_modifier::{Special, StringifierOrStatic};
-use weedle_parts::common::{Docstring, Identifier, Parenthesized};
+use weedle_parts::common::{Docstring, Identifier};
 use weedle_term::{Constructor, SemiColon};
-use weedle_types::argument::ArgumentList;
+use weedle_types::argument::ParenthesizedArgumentList;
 use weedle_types::attribute::ExtendedAttributeList;
-use weedle_types::copies::{copy_arguments, copy_attributes, copy_docstring};
-use weedle_types::parts::{arguments, attributes};
+use weedle_types::copies::{copy_attributes, copy_docstring};
+use weedle_types::parts::attributes;
 use weedle_types::types::ReturnType;
 
 /// A constructor, as `constructor(long x);`. A docstring may stand before it.
@@ -24,7 +24,7 @@ pub struct ConstructorInterfaceMember<'a> {
     pub docstring: Option<Docstring>,
     pub attributes: Option<ExtendedAttributeList<'a>>,
     pub constructor: Constructor,
-    pub args: Parenthesized<ArgumentList<'a>>,
+    pub args: ParenthesizedArgumentList<'a>,
     pub semi_colon: SemiColon,
 }
 
@@ -36,7 +36,7 @@ impl<'a> Parse<'a> for ConstructorInterfaceMember<'a> {
         let (rest, docstring) = Option::parse(alloc, input)?;
         let (rest, attributes) = attributes(alloc, rest)?;
         let (rest, constructor) = Constructor::parse(alloc, rest)?;
-        let (rest, args) = arguments(alloc, rest)?;
+        let (rest, args) = ParenthesizedArgumentList::parse(alloc, rest)?;
         let (rest, semi_colon) = SemiColon::parse(alloc, rest)?;
         Ok((
             rest,
@@ -61,7 +61,7 @@ impl TryClone for ConstructorInterfaceMember<'_> {
             docstring: copy_docstring(&self.docstring, alloc)?,
             attributes: copy_attributes(&self.attributes, alloc)?,
             constructor: self.constructor,
-            args: copy_arguments(&self.args, alloc)?,
+            args: self.args.try_clone(alloc)?,
             semi_colon: self.semi_colon,
         })
     }
@@ -79,7 +79,7 @@ pub struct OperationInterfaceMember<'a> {
     pub special: Option<Special>,
     pub return_type: ReturnType<'a>,
     pub identifier: Option<Identifier<'a>>,
-    pub args: Parenthesized<ArgumentList<'a>>,
+    pub args: ParenthesizedArgumentList<'a>,
     pub semi_colon: SemiColon,
 }
 
@@ -94,7 +94,7 @@ impl<'a> Parse<'a> for OperationInterfaceMember<'a> {
         let (rest, special) = Option::parse(alloc, rest)?;
         let (rest, return_type) = ReturnType::parse(alloc, rest)?;
         let (rest, identifier) = Option::parse(alloc, rest)?;
-        let (rest, args) = arguments(alloc, rest)?;
+        let (rest, args) = ParenthesizedArgumentList::parse(alloc, rest)?;
         let (rest, semi_colon) = SemiColon::parse(alloc, rest)?;
         Ok((
             rest,
@@ -125,7 +125,7 @@ impl TryClone for OperationInterfaceMember<'_> {
             special: self.special,
             return_type: self.return_type.try_clone(alloc)?,
             identifier: self.identifier,
-            args: copy_arguments(&self.args, alloc)?,
+            args: self.args.try_clone(alloc)?,
             semi_colon: self.semi_colon,
         })
     }

@@ -10,12 +10,12 @@ ghost use Rattle.weedle_grammar.specs.Table.OtherMembers.{ATTRIBUTE_NAMESPACE_ME
 use crate::copies::copy_namespace_members;
 use std::alloc::{AllocError, Global};
 use weedle_base::{IResult, Parse, TryClone};
-use weedle_parts::common::{Docstring, Identifier, Parenthesized};
+use weedle_parts::common::{Docstring, Identifier};
 use weedle_term::{Attribute, CloseBrace, OpenBrace, ReadOnly, SemiColon};
-use weedle_types::argument::ArgumentList;
+use weedle_types::argument::ParenthesizedArgumentList;
 use weedle_types::attribute::ExtendedAttributeList;
-use weedle_types::copies::{copy_arguments, copy_attributes, copy_docstring};
-use weedle_types::parts::{arguments, attributes};
+use weedle_types::copies::{copy_attributes, copy_docstring};
+use weedle_types::parts::attributes;
 use weedle_types::types::{AttributedType, ReturnType};
 
 /// The members of a namespace, one after another; none included.
@@ -72,7 +72,7 @@ pub struct OperationNamespaceMember<'a> {
     pub attributes: Option<ExtendedAttributeList<'a>>,
     pub return_type: ReturnType<'a>,
     pub identifier: Option<Identifier<'a>>,
-    pub args: Parenthesized<ArgumentList<'a>>,
+    pub args: ParenthesizedArgumentList<'a>,
     pub semi_colon: SemiColon,
 }
 
@@ -85,7 +85,7 @@ impl<'a> Parse<'a> for OperationNamespaceMember<'a> {
         let (rest, attributes) = attributes(alloc, rest)?;
         let (rest, return_type) = ReturnType::parse(alloc, rest)?;
         let (rest, identifier) = Option::parse(alloc, rest)?;
-        let (rest, args) = arguments(alloc, rest)?;
+        let (rest, args) = ParenthesizedArgumentList::parse(alloc, rest)?;
         let (rest, semi_colon) = SemiColon::parse(alloc, rest)?;
         Ok((
             rest,
@@ -112,7 +112,7 @@ impl TryClone for OperationNamespaceMember<'_> {
             attributes: copy_attributes(&self.attributes, alloc)?,
             return_type: self.return_type.try_clone(alloc)?,
             identifier: self.identifier,
-            args: copy_arguments(&self.args, alloc)?,
+            args: self.args.try_clone(alloc)?,
             semi_colon: self.semi_colon,
         })
     }

@@ -2,7 +2,7 @@
 #![tactic(auto)]
 
 use std::alloc::{AllocError, Global};
-use weedle_parts::common::{Generics, Identifier, Parenthesized, Punctuated};
+use weedle_parts::common::{Bracketed, Generics, Identifier, Parenthesized, Punctuated};
 use weedle_parts::types::{
     FloatType, FloatingPointType, IntegerType, LongType, MayBeNull, ShortType,
 };
@@ -10,7 +10,7 @@ use weedle_term::{
     CloseBracket, CloseParen, Comma, Float, FrozenArray, GreaterThan, LessThan, Long, OpenBracket,
     OpenParen, Or, Promise, QMark, Record, Sequence, Short,
 };
-use weedle_types::argument::{Argument, ArgumentList, SingleArgument};
+use weedle_types::argument::{Argument, ParenthesizedArgumentList, SingleArgument};
 use weedle_types::attribute::{ExtendedAttribute, ExtendedAttributeList, ExtendedAttributeNoArgs};
 use weedle_types::types::{
     AttributedNonAnyType, AttributedType, FrozenArrayType, NonAnyType, PromiseType, RecordKeyType,
@@ -133,17 +133,13 @@ pub fn parenthesized<T>(body: T) -> Parenthesized<T> {
     }
 }
 
-/// Arguments with commas between them.
-pub fn argument_list(list: Vec<Argument<'_>>) -> ArgumentList<'_> {
-    ArgumentList {
-        list,
-        separator: Comma,
-    }
-}
-
 /// `(items)`.
-pub fn arguments(items: Vec<Argument<'_>>) -> Parenthesized<ArgumentList<'_>> {
-    parenthesized(argument_list(items))
+pub fn arguments(items: Vec<Argument<'_>>) -> ParenthesizedArgumentList<'_> {
+    ParenthesizedArgumentList {
+        open_paren: OpenParen,
+        body: list(items),
+        close_paren: CloseParen,
+    }
 }
 
 /// A union of these members.
@@ -184,7 +180,7 @@ pub fn bare(type_: Type<'_>) -> AttributedType<'_> {
 
 /// Attributes in brackets.
 pub fn attributes(items: Vec<ExtendedAttribute<'_>>) -> ExtendedAttributeList<'_> {
-    ExtendedAttributeList {
+    Bracketed {
         open_bracket: OpenBracket,
         body: list(items),
         close_bracket: CloseBracket,

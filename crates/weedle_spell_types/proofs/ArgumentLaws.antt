@@ -11,11 +11,10 @@ use Rattle.weedle_spell.proofs.LeafLaws.{identifier}
 use Rattle.weedle_spell.proofs.PartFacts.{parenthesized, bracketed, punctuated}
 use Rattle.weedle_spell_types.proofs.RecursiveTypeFacts.{type_, argument, extended_attribute, default_absent, default_present}
 use Rattle.weedle_spell.proofs.Spelt.{IsSpelt, part, last, node, option_spelt}
-use Rattle.weedle_spell.proofs.SpeltLists.{all_spelt, list_spelt}
 use Rattle.weedle_spell.proofs.TriviaFacts.{symbol, symbol_always, keyword}
 
 pub argument_list : IsSpelt ARGUMENT_LIST argument_list_tree argument_list_spelling
-argument_list v = list_spelt argument_tree argument_spelling refl refl refl (symbol_always refl refl) refl refl v.list.items (all_spelt argument v.list.items)
+argument_list = punctuated argument_tree argument_spelling argument refl (symbol_always refl refl) refl refl refl refl
 
 pub arguments : IsSpelt PARENTHESIZED_ARGUMENT_LIST arguments_tree arguments_spelling
 arguments v = parenthesized (argument_list v.body) refl refl

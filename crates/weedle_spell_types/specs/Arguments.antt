@@ -1,25 +1,28 @@
 -- How attributes and arguments are spelt.
 use Rattle.std.specs.Prelude.{codes, Option}
-use Rattle.weedle_parts.specs.declared.common.brackets.Parenthesized.{Parenthesized}
-use Rattle.weedle_types.specs.declared.argument.ArgumentList.{ArgumentList}
+use Rattle.weedle_parts.specs.declared.common.brackets.Bracketed.{Bracketed}
+use Rattle.weedle_parts.specs.declared.common.punctuated.Punctuated.{Punctuated}
+use Rattle.weedle_term.specs.declared.symbols.Comma.{Comma}
+use Rattle.weedle_types.specs.declared.argument.Argument.{Argument}
+use Rattle.weedle_types.specs.declared.argument.ParenthesizedArgumentList.{ParenthesizedArgumentList}
 use Rattle.weedle_types.specs.declared.argument.SingleArgument.{SingleArgument}
 use Rattle.weedle_types.specs.declared.argument.VariadicArgument.{VariadicArgument}
 use Rattle.weedle_types.specs.declared.attribute.ExtendedAttributeArgList.{ExtendedAttributeArgList}
-use Rattle.weedle_types.specs.declared.attribute.ExtendedAttributeList.{ExtendedAttributeList}
+use Rattle.weedle_types.specs.declared.attribute.ExtendedAttribute.{ExtendedAttribute}
 use Rattle.weedle_types.specs.declared.attribute.ExtendedAttributeNamedArgList.{ExtendedAttributeNamedArgList}
-use Rattle.weedle_spell.specs.Forms.{Form, ◌then◌, optional, separated_by}
-use Rattle.weedle_spell.specs.GenericParts.{parenthesized_spelling, punctuated_spelling}
+use Rattle.weedle_spell.specs.Forms.{Form, ◌then◌, optional}
+use Rattle.weedle_spell.specs.GenericParts.{bracketed_spelling, punctuated_spelling}
 use Rattle.weedle_spell.specs.Leaves.{terminal, identifier_spelling}
 use Rattle.weedle_spell_types.specs.RecursiveTypes.{type_spelling, argument_spelling, extended_attribute_spelling, default_where_optional}
 use Rattle.weedle_spell.specs.Tokens.{word}
 
 -- arguments with commas between them
-abbrev pub argument_list_spelling : ArgumentList → Form
-argument_list_spelling v = separated_by argument_spelling (word (codes ",")) v.list.items
+abbrev pub argument_list_spelling : Punctuated Argument Comma → Form
+argument_list_spelling = punctuated_spelling argument_spelling (word (codes ","))
 
 -- arguments in parentheses
-abbrev pub arguments_spelling : Parenthesized ArgumentList → Form
-arguments_spelling = parenthesized_spelling argument_list_spelling
+abbrev pub arguments_spelling : ParenthesizedArgumentList → Form
+arguments_spelling v = terminal (codes "(") v.open_paren then argument_list_spelling v.body then terminal (codes ")") v.close_paren
 
 -- an attribute with arguments
 abbrev pub extended_attribute_arg_list_spelling : ExtendedAttributeArgList → Form
@@ -32,12 +35,11 @@ extended_attribute_named_arg_list_spelling v =
     then arguments_spelling v.args
 
 -- attributes in brackets, with commas between them
-abbrev pub extended_attribute_list_spelling : ExtendedAttributeList → Form
-extended_attribute_list_spelling v =
-    terminal (codes "[") v.open_bracket then punctuated_spelling extended_attribute_spelling (word (codes ",")) v.body then terminal (codes "]") v.close_bracket
+abbrev pub extended_attribute_list_spelling : Bracketed (Punctuated ExtendedAttribute Comma) → Form
+extended_attribute_list_spelling = bracketed_spelling (punctuated_spelling extended_attribute_spelling (word (codes ",")))
 
 -- attributes, or none
-abbrev pub attributes_spelling : Option ExtendedAttributeList → Form
+abbrev pub attributes_spelling : Option (Bracketed (Punctuated ExtendedAttribute Comma)) → Form
 attributes_spelling = optional extended_attribute_list_spelling
 
 -- an argument; a default stands only where `optional` does

@@ -9,12 +9,12 @@ ghost use Rattle.weedle_statements.specs.Trees.{callback_definition_tree};
 
 use std::alloc::{AllocError, Global};
 use weedle_base::{IResult, Parse, TryClone};
-use weedle_parts::common::{Identifier, Parenthesized};
+use weedle_parts::common::Identifier;
 use weedle_term::{Assign, Callback, SemiColon};
-use weedle_types::argument::ArgumentList;
+use weedle_types::argument::ParenthesizedArgumentList;
 use weedle_types::attribute::ExtendedAttributeList;
-use weedle_types::copies::{copy_arguments, copy_attributes};
-use weedle_types::parts::{arguments, attributes};
+use weedle_types::copies::copy_attributes;
+use weedle_types::parts::attributes;
 use weedle_types::types::ReturnType;
 
 /// A callback, as `callback F = undefined (long x);`. No docstring may stand before it.
@@ -25,7 +25,7 @@ pub struct CallbackDefinition<'a> {
     pub identifier: Identifier<'a>,
     pub assign: Assign,
     pub return_type: ReturnType<'a>,
-    pub arguments: Parenthesized<ArgumentList<'a>>,
+    pub arguments: ParenthesizedArgumentList<'a>,
     pub semi_colon: SemiColon,
 }
 
@@ -39,7 +39,7 @@ impl<'a> Parse<'a> for CallbackDefinition<'a> {
         let (rest, identifier) = Identifier::parse(alloc, rest)?;
         let (rest, assign) = Assign::parse(alloc, rest)?;
         let (rest, return_type) = ReturnType::parse(alloc, rest)?;
-        let (rest, arguments) = arguments(alloc, rest)?;
+        let (rest, arguments) = ParenthesizedArgumentList::parse(alloc, rest)?;
         let (rest, semi_colon) = SemiColon::parse(alloc, rest)?;
         Ok((
             rest,
@@ -68,7 +68,7 @@ impl TryClone for CallbackDefinition<'_> {
             identifier: self.identifier,
             assign: self.assign,
             return_type: self.return_type.try_clone(alloc)?,
-            arguments: copy_arguments(&self.arguments, alloc)?,
+            arguments: self.arguments.try_clone(alloc)?,
             semi_colon: self.semi_colon,
         })
     }

@@ -5,9 +5,9 @@ use weedle_answers::{is_mismatch, reads, reads_up_to};
 use weedle_base::Parse;
 use weedle_literal::{DecLit, Default, DefaultValue, IntegerLit};
 use weedle_parts::common::Identifier;
-use weedle_samples::{LONG, argument, argument_list, flag, integer, named, single};
+use weedle_samples::{LONG, argument, flag, integer, list, named, single};
 use weedle_term::{Assign, Ellipsis, Optional};
-use weedle_types::argument::{Argument, SingleArgument, VariadicArgument};
+use weedle_types::argument::{Argument, ArgumentList, SingleArgument, VariadicArgument};
 use weedle_types::types::AttributedType;
 
 #[test]
@@ -71,7 +71,7 @@ fn an_argument_may_stand_for_any_number(rt: HostRuntime) -> Result<(), Fail> {
 fn a_list_of_arguments_gives_back_a_separator(rt: HostRuntime) -> Result<(), Fail> {
     let alloc = rt.alloc();
     let one = Argument::Single(argument(single(integer(LONG)), "x"));
-    let one = vec![in alloc; one]?;
-    reads_up_to(&rt, alloc, "long x, long", ", long", argument_list(one))?;
+    let one: ArgumentList<'_> = list(vec![in alloc; one]?);
+    reads_up_to(&rt, alloc, "long x, long", ", long", one)?;
     Ok(())
 }
