@@ -1,9 +1,9 @@
 -- What is written of a text that was read.
 use Rattle.std.specs.Prelude.{◌≡◌, ℕ, ◌-◌, ◌<◌, List, [], ◌∷◌, ◌++◌, length, take, flat_map, decimal, codes, Option}
 use Rattle.std.specs.Io.KnownBytes.{Appends, Consumes, IsAtEnd}
-use Rattle.weedle_first_path.specs.Titles.{kind_text, name_text}
+use Rattle.weedle.specs.Titles.{kind_text, name_text}
 use Rattle.weedle.specs.Whole.{IsWhole, IsLeft}
-use Rattle.weedle_first_path.specs.declared.definition.Definition.{Definition}
+use Rattle.weedle_idl.specs.declared.definition.Definition.{Definition}
 use Rattle.weedle.specs.declared.program.Status.{Status}
 use Rattle.weedle.specs.declared.program.Status.TheVariants.{Read, Unread}
 

@@ -1,6 +1,7 @@
 //! Whole texts.
 
 ghost use Rattle.weedle.specs.Whole.{ParseAnswers};
+ghost use Rattle.weedle.specs.WholeOf.{WholeAnswers};
 
 use crate::Definitions;
 use std::alloc::Global;
@@ -17,22 +18,30 @@ use weedle_base::{Err, Error, ErrorKind, Parse, out_of_memory};
 ///
 /// It takes memory for the list of definitions and for the list of members of each, and ends with
 /// [`Err::Failure`] where that is refused. Names aren't copied: each is a part of the text.
-#[tactic(auto, using(crate::proofs::WholeFacts::whole))]
 pub fn parse(alloc: Global, raw: &str) -> Result<Definitions<'_>, Err<Error<&str>>>
     ensures { ParseAnswers raw.now result }
 {
-    match Definitions::parse(alloc, raw) {
-        Ok((rest, definitions)) => {
+    whole(alloc, raw)
+}
+
+/// Reads a whole text as a value, or says what is left of it: all of it where it has no value.
+fn whole<'a, T: Parse<'a>>(alloc: Global, raw: &'a str) -> Result<T, Err<Error<&'a str>>>
+    ensures { WholeAnswers T.reading raw.now result }
+{
+    match T::parse(alloc, raw) {
+        Ok((rest, value)) => {
             if rest.is_empty() {
-                return Ok(definitions);
+                return Ok(value);
             }
             Err(Err::Error(Error {
                 input: rest,
                 code: ErrorKind::Unread,
             }))
         }
-        // A definition takes a byte or more, so that a list of them is read from any text.
-        Err(Err::Error(_)) => unreachable!(),
+        Err(Err::Error(_)) => Err(Err::Error(Error {
+            input: raw,
+            code: ErrorKind::Unread,
+        })),
         Err(Err::Failure(_)) => Err(out_of_memory(raw)),
     }
 }

@@ -1,7 +1,10 @@
 //! What the tests ask of an answer.
 #![tactic(auto)]
 
+mod whole;
+
 use weedle_base::{Err, Error, ErrorKind, IResult};
+pub use whole::{reads, reads_copied, reads_up_to};
 
 /// Whether the answer is a mismatch.
 pub fn is_mismatch<'a, T>(answer: &IResult<&'a str, T>) -> bool {

@@ -2,13 +2,21 @@
 #![tactic(auto)]
 
 #[cfg(test)]
+mod definition_values;
+#[cfg(test)]
 mod definitions;
 #[cfg(test)]
 mod generic_parts;
 #[cfg(test)]
+mod members;
+#[cfg(test)]
+mod orders;
+#[cfg(test)]
 mod program;
 #[cfg(test)]
 mod readme;
+#[cfg(test)]
+mod real_text;
 #[cfg(test)]
 mod standard;
 #[cfg(test)]

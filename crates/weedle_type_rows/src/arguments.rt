@@ -1,12 +1,11 @@
 //! Arguments.
 
-use crate::values::{LONG, argument, flag, integer, list, named, single};
-use crate::whole::{reads, reads_up_to};
 use std::test::Fail;
-use weedle_answers::is_mismatch;
+use weedle_answers::{is_mismatch, reads, reads_up_to};
 use weedle_base::Parse;
 use weedle_literal::{DecLit, Default, DefaultValue, IntegerLit};
 use weedle_parts::common::Identifier;
+use weedle_samples::{LONG, argument, flag, integer, list, named, single};
 use weedle_term::{Assign, Ellipsis, Optional};
 use weedle_types::argument::{Argument, ArgumentList, SingleArgument, VariadicArgument};
 use weedle_types::types::AttributedType;

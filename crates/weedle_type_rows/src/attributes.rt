@@ -1,12 +1,11 @@
 //! Attributes.
 
-use crate::values::{argument, attributes, list, parenthesized, plain, single};
-use crate::whole::reads;
 use std::test::Fail;
-use weedle_answers::is_mismatch;
+use weedle_answers::{is_mismatch, reads};
 use weedle_base::Parse;
 use weedle_literal::StringLit;
 use weedle_parts::common::Identifier;
+use weedle_samples::{argument, arguments, attributes, list, parenthesized, plain, single};
 use weedle_term::{Assign, DOMString};
 use weedle_types::argument::Argument;
 use weedle_types::attribute::{
@@ -33,13 +32,13 @@ fn an_attribute_may_have_arguments(rt: HostRuntime) -> Result<(), Fail> {
         lhs_identifier: Identifier("NamedConstructor"),
         assign: Assign,
         rhs_identifier: Identifier("Image"),
-        args: parenthesized(list(args)),
+        args: arguments(args),
     });
     let text = "NamedConstructor=Image(DOMString src)";
     reads(&rt, alloc, text, image)?;
     let constructor = ExtendedAttribute::ArgList(ExtendedAttributeArgList {
         identifier: Identifier("Constructor"),
-        args: parenthesized(list(Vec::new(alloc))),
+        args: arguments(Vec::new(alloc)),
     });
     reads(&rt, alloc, "Constructor()", constructor)?;
     Ok(())

@@ -10,8 +10,4 @@ mod plain_types;
 #[cfg(test)]
 mod recursive_types;
 #[cfg(test)]
-mod values;
-#[cfg(test)]
-mod whole;
-#[cfg(test)]
 mod word_types;

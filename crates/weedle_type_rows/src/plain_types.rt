@@ -1,13 +1,13 @@
 //! Types that hold no others, each alone.
 
-use crate::values::{FLOAT, LONG, SHORT, nullable, plain};
-use crate::whole::reads_copied;
 use std::test::Fail;
+use weedle_answers::reads_copied;
 use weedle_parts::common::Identifier;
 use weedle_parts::types::{
     ConstType, DoubleType, FloatType, FloatingPointType, IntegerType, LongLongType, LongType,
     ShortType,
 };
+use weedle_samples::{FLOAT, LONG, SHORT, nullable, plain};
 use weedle_term::{Boolean, Byte, Double, Float, Long, Octet, Short};
 
 const LONG_LONG: LongLongType = LongLongType {

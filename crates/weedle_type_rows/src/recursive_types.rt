@@ -1,14 +1,13 @@
 //! Types that hold others.
 
-use crate::values::{
+use std::test::Fail;
+use weedle_answers::{is_mismatch, reads, reads_up_to};
+use weedle_base::Parse;
+use weedle_parts::types::{IntegerType, LongType};
+use weedle_samples::{
     FLOAT, LONG, SHORT, bare, flag, flagged_member, frozen_array_of, integer, member, named,
     nullable, plain, promise_of, record_of, sequence_of, single, union_of,
 };
-use crate::whole::{reads, reads_up_to};
-use std::test::Fail;
-use weedle_answers::is_mismatch;
-use weedle_base::Parse;
-use weedle_parts::types::{IntegerType, LongType};
 use weedle_term::{Any, Byte, ByteString, DOMString, Long, USVString, Undefined, Unsigned};
 use weedle_types::types::{
     AttributedType, NonAnyType, RecordKeyType, RecordType, ReturnType, SingleType, Type,

@@ -1,10 +1,10 @@
 //! Types that are one word.
 
-use crate::values::plain;
-use crate::whole::reads;
 use std::alloc::Global;
 use std::process::Abort;
 use std::test::Fail;
+use weedle_answers::reads;
+use weedle_samples::plain;
 use weedle_term::{
     ArrayBuffer, ArrayBufferView, Boolean, BufferSource, Byte, ByteString, DOMString, DataView,
     Error, Float32Array, Float64Array, Int8Array, Int16Array, Int32Array, Object, Octet, Symbol,

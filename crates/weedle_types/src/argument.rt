@@ -9,10 +9,19 @@ use crate::attribute::ExtendedAttributeList;
 use crate::types::{AttributedType, Type};
 use weedle_literal::Default;
 use weedle_parts::common::{Identifier, Punctuated};
-use weedle_term::{Comma, Ellipsis, Optional};
+use weedle_term::{CloseParen, Comma, Ellipsis, OpenParen, Optional};
 
 /// Arguments, as `long x, long y`, none included.
 pub type ArgumentList<'a> = Punctuated<Argument<'a>, Comma>;
+
+/// Arguments in parentheses, as `(long x, long y)`.
+#[cycle(types)]
+#[derive(Debug, PartialEq, Eq, PartialOrd, Ord, Hash, Drop)]
+pub struct ParenthesizedArgumentList<'a> {
+    pub open_paren: OpenParen,
+    pub body: ArgumentList<'a>,
+    pub close_paren: CloseParen,
+}
 
 /// An argument, as `long x`, or `long... xs` for any number of them.
 #[cycle(types)]

@@ -1,0 +1,4 @@
+pub mod InterfaceTrees
+pub mod DefinitionTrees
+pub mod Pieces
+pub mod Laws

@@ -1,0 +1,32 @@
+-- The rules of members of interfaces and of definitions, a few at a time: a function reads so many.
+use Rattle.std.specs.Prelude.{List, [], ℕ, ◌∷◌}
+use Rattle.weedle_grammar.specs.Table.Definitions.{CALLBACK_DEFINITION, CALLBACK_INTERFACE_DEFINITION, DICTIONARY_DEFINITION, ENUM_DEFINITION, IMPLEMENTS_DEFINITION, INCLUDES_STATEMENT_DEFINITION, INTERFACE_DEFINITION, INTERFACE_MIXIN_DEFINITION, NAMESPACE_DEFINITION, PARTIAL_DICTIONARY_DEFINITION, PARTIAL_INTERFACE_DEFINITION, PARTIAL_INTERFACE_MIXIN_DEFINITION, PARTIAL_NAMESPACE_DEFINITION, TYPEDEF_DEFINITION}
+use Rattle.weedle_grammar.specs.Table.InterfaceMembers.{ASYNC_ITERABLE_INTERFACE_MEMBER, ATTRIBUTE_INTERFACE_MEMBER, CONSTRUCTOR_INTERFACE_MEMBER, CONST_MEMBER, ITERABLE_INTERFACE_MEMBER, MAPLIKE_INTERFACE_MEMBER, OPERATION_INTERFACE_MEMBER, SETLIKE_INTERFACE_MEMBER, STRINGIFIER_MEMBER}
+
+-- the members up to operations
+abbrev pub main_member_rules : List ℕ
+main_member_rules = CONST_MEMBER ∷ ATTRIBUTE_INTERFACE_MEMBER ∷ CONSTRUCTOR_INTERFACE_MEMBER ∷ OPERATION_INTERFACE_MEMBER ∷ []
+
+-- iterations
+abbrev pub iterable_member_rules : List ℕ
+iterable_member_rules = ITERABLE_INTERFACE_MEMBER ∷ ASYNC_ITERABLE_INTERFACE_MEMBER ∷ []
+
+-- maps, sets, stringifiers
+abbrev pub collection_member_rules : List ℕ
+collection_member_rules = MAPLIKE_INTERFACE_MEMBER ∷ SETLIKE_INTERFACE_MEMBER ∷ STRINGIFIER_MEMBER ∷ []
+
+-- callbacks and interfaces
+abbrev pub callback_or_interface_rules : List ℕ
+callback_or_interface_rules = CALLBACK_DEFINITION ∷ CALLBACK_INTERFACE_DEFINITION ∷ INTERFACE_DEFINITION ∷ []
+
+-- mixins, namespaces and dictionaries
+abbrev pub main_definition_rules : List ℕ
+main_definition_rules = INTERFACE_MIXIN_DEFINITION ∷ NAMESPACE_DEFINITION ∷ DICTIONARY_DEFINITION ∷ []
+
+-- parts of interfaces, mixins, dictionaries and namespaces
+abbrev pub partial_definition_rules : List ℕ
+partial_definition_rules = PARTIAL_INTERFACE_DEFINITION ∷ PARTIAL_INTERFACE_MIXIN_DEFINITION ∷ PARTIAL_DICTIONARY_DEFINITION ∷ PARTIAL_NAMESPACE_DEFINITION ∷ []
+
+-- enums, names for types, statements
+abbrev pub other_definition_rules : List ℕ
+other_definition_rules = ENUM_DEFINITION ∷ TYPEDEF_DEFINITION ∷ INCLUDES_STATEMENT_DEFINITION ∷ IMPLEMENTS_DEFINITION ∷ []

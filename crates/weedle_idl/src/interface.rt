@@ -1,0 +1,19 @@
+//! The members of interfaces.
+
+mod member;
+mod members;
+
+pub use member::InterfaceMember;
+pub use members::{BracedInterfaceMembers, InterfaceMembers};
+pub use weedle_iterables::{
+    AsyncIterableInterfaceMember, DoubleTypedAsyncIterable, DoubleTypedIterable,
+    IterableInterfaceMember, MaplikeInterfaceMember, SetlikeInterfaceMember,
+    SingleTypedAsyncIterable, SingleTypedIterable,
+};
+pub use weedle_members::{
+    AttributeInterfaceMember, ConstMember, ConstructorInterfaceMember, OperationInterfaceMember,
+    StringifierMember,
+};
+pub use weedle_modifier::{
+    Inheritance, Special, StringifierOrInheritOrStatic, StringifierOrStatic,
+};

@@ -1,0 +1,5 @@
+pub mod ConstantRules
+pub mod AttributeRules
+pub mod OperationRules
+pub mod StringifierRules
+pub mod MixinRules

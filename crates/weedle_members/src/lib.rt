@@ -1,0 +1,28 @@
+//! The members that interfaces and mixins have: constants, attributes, operations, constructors and
+//! stringifiers, and the choice among those of mixins.
+//!
+//! Each struct reads its fields in order, with blanks and comments between them. Where one of them
+//! isn't there it is a mismatch. Memory is taken for attributes, types, arguments and docstrings; where
+//! it is refused that is a failure, and no other alternative is tried.
+//!
+//! ```rust
+//! use weedle_base::Parse;
+//! use weedle_members::AttributeInterfaceMember;
+//!
+//! let text = "readonly attribute Storage sessionStorage; void f();";
+//! let (rest, member) = AttributeInterfaceMember::parse(rt.alloc(), text).expect(rt, "member");
+//! assert!(rt; rest == "void f();" && member.identifier.0 == "sessionStorage");
+//! ```
+#![tactic(auto)]
+
+mod attribute;
+mod constant;
+mod copies;
+pub mod mixin;
+mod operation;
+mod stringifier;
+
+pub use attribute::AttributeInterfaceMember;
+pub use constant::ConstMember;
+pub use operation::{ConstructorInterfaceMember, OperationInterfaceMember};
+pub use stringifier::StringifierMember;
