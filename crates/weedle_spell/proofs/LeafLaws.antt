@@ -29,8 +29,8 @@ float_value v = float_spelt v.0.now
 pub string : IsSpelt STRING_LIT string_tree string_spelling
 string v = string_spelt v.0.now
 
--- a docstring, which needs its last LF
-pub docstring : (v : Docstring) → Spelt ⊥ DOCSTRING (docstring_tree v) (docstring_spelling v)
+-- a docstring: whatever else may end without an LF, it does not
+pub docstring : {L : Type 0} (v : Docstring) → Spelt L DOCSTRING (docstring_tree v) (docstring_spelling v)
 docstring v = doc_spelt (string_bytes v.0)
 
 -- the laws

@@ -144,7 +144,7 @@ alternative {L} {r} {x} {rs} {t} {A} i row shape here h = record {
       (subst (λ (us : List Tree). Reads text (get_or rs w.0 0) p (Gives us e)) m.1 w.2));
 }
 
-absent_spelt : {L : Type 0} {r x : ℕ} → row_of r ≡ Opt x → shape_of r ≡ Plain → is_single x ≡ true → Spelt L r Absent empty
+pub absent_spelt : {L : Type 0} {r x : ℕ} → row_of r ≡ Opt x → shape_of r ≡ Plain → is_single x ≡ true → Spelt L r Absent empty
 absent_spelt {L} {r} {x} row shape s = record {
   single = rw (shape, row) refl;
   of = λ text p e d.
@@ -155,7 +155,7 @@ absent_spelt {L} {r} {x} row shape s = record {
       ];
 }
 
-present_spelt : {L : Type 0} {r x : ℕ} {t : Tree} {A : Form} → row_of r ≡ Opt x → shape_of r ≡ Plain → Spelt L x t A → Spelt L r (Present t) A
+pub present_spelt : {L : Type 0} {r x : ℕ} {t : Tree} {A : Form} → row_of r ≡ Opt x → shape_of r ≡ Plain → Spelt L x t A → Spelt L r (Present t) A
 present_spelt {L} {r} {x} {t} row shape h = record {
   single = rw (shape, row) refl;
   of = λ text p e d.
