@@ -1,7 +1,7 @@
 #!/usr/bin/env python3
-"""Writes the tables of `weedle_rules` from the grammar below.
+"""Writes the tables of `weedle_grammar`, and the filling of those of `weedle_rules`, from the grammar below.
 
-Run it at the top of the repository, then `rt fmt` in crates/weedle_rules:
+Run it at the top of the repository, then `rt fmt` in crates/weedle_grammar and crates/weedle_rules:
 
     python3 tools/grammar.py
 
@@ -9,13 +9,15 @@ A rule is written once, in a section, above the rules that read it before a
 byte is taken: its number is its place in that order. Two places that write the
 same part (the same row and the same shape) share one rule.
 
-It writes, for each section S of the grammar,
+It writes, for each section S of the grammar, in crates/weedle_grammar
     specs/Table/S.antt      the numbers of its rules, and their rows and shapes
     src/grammar/s.rt        the same for the program: numbers, constants of `Rule`, rows
-    src/fill/place/s.rt     the filling of the cells of its rules at a place
     proofs/Takes/S.antt     which of its rules always take a byte
-and over all sections specs/Table.antt, specs/Bound.antt, src/grammar.rt,
-src/fill/place.rt, proofs/Takes.antt and the numbers RULES and READS in src/lib.rt.
+in crates/weedle_rules
+    src/fill/place/s.rt     the filling of the cells of its rules at a place
+and over all sections, in the first specs/Table.antt, specs/Bound.antt, src/grammar.rt,
+proofs/Takes.antt and the number RULES in src/lib.rt, in the second specs/Bound.antt,
+src/fill/place.rt and the number READS in src/lib.rt.
 
 A rule has a constant of `Rule` where it has a doc line, or where a scanner names it.
 """
@@ -24,7 +26,8 @@ import re
 import sys
 from pathlib import Path
 
-CRATE = Path("crates/weedle_rules")
+GRAMMAR = Path("crates/weedle_grammar")
+ENDS = Path("crates/weedle_rules")
 HEAD = "written by tools/grammar.py"
 
 
@@ -386,16 +389,6 @@ first("DEFINITION", "CALLBACK_DEFINITION", "CALLBACK_INTERFACE_DEFINITION", "INT
       "INCLUDES_STATEMENT_DEFINITION", "IMPLEMENTS_DEFINITION", doc="A definition.")
 many("DEFINITIONS", "DEFINITION", doc="Definitions, none included: the whole of a text.")
 
-# The first path.
-section("FirstPath", "A first path: interfaces with attributes whose types are names.")
-seq("FIRST_ATTRIBUTE", "OPT_READ_ONLY", "ATTRIBUTE", "IDENTIFIER", "IDENTIFIER", "SEMI_COLON", doc="An attribute, as `readonly attribute Node x;`.")
-first("FIRST_MEMBER", "FIRST_ATTRIBUTE", doc="A member of an interface.")
-many("FIRST_MEMBERS", "FIRST_MEMBER", doc="The members of an interface, none included.")
-bracketed("BRACED", "FIRST_MEMBERS", doc="The members between braces.")
-seq("FIRST_INTERFACE", "INTERFACE", "IDENTIFIER", "BRACED_FIRST_MEMBERS", "SEMI_COLON", doc="An interface, as `interface A {};`.")
-first("FIRST_DEFINITION", "FIRST_INTERFACE", doc="A definition.")
-many("FIRST_DEFINITIONS", "FIRST_DEFINITION", doc="Definitions, none included: the whole of a text.")
-
 # The parts that the scanners of weedle_base and weedle_parts name.
 SCANNED = (
     "BYTES_SLASH_SLASH BYTES_SLASH_STAR ONE_OF_BLANK RUN_BLANK BYTES_THREE_SLASHES BYTES_UNDERSCORE ONE_OF_LETTER RUN_NAME "
@@ -499,7 +492,6 @@ for r in RULES:
 
 # Writing.
 def write(path, text):
-    path = CRATE / path
     path.parent.mkdir(parents=True, exist_ok=True)
     path.write_text(text)
 
@@ -546,13 +538,13 @@ def spec_section(s):
     out = [f"-- {s.about}", f"-- {HEAD[0].upper() + HEAD[1:]}: the number of each rule, and its row and shape, in the order of the numbers."]
     out.append("use Rattle.std.specs.Prelude.{ℕ, List, [], ◌∷◌" + (", codes" if numerals else "") + "}")
     if classes:
-        out.append("use Rattle.weedle_rules.specs.declared.class.Class.TheVariants.{" + ", ".join(classes) + "}")
-    out.append("use Rattle.weedle_rules.specs.Rows.{" + ", ".join(kinds) + "}")
-    out.append("use Rattle.weedle_rules.specs.Meaning.{" + ", ".join(shapes) + "}")
-    out.append("use Rattle.weedle_rules.specs.Entry.{Entry, rule}")
+        out.append("use Rattle.weedle_grammar.specs.declared.class.Class.TheVariants.{" + ", ".join(classes) + "}")
+    out.append("use Rattle.weedle_grammar.specs.Rows.{" + ", ".join(kinds) + "}")
+    out.append("use Rattle.weedle_grammar.specs.Meaning.{" + ", ".join(shapes) + "}")
+    out.append("use Rattle.weedle_grammar.specs.Entry.{Entry, rule}")
     for home in SECTIONS:
         if home.name in used:
-            out.append(f"use Rattle.weedle_rules.specs.Table.{home.name}.{{" + ", ".join(sorted(used[home.name], key=NUMBER.get)) + "}")
+            out.append(f"use Rattle.weedle_grammar.specs.Table.{home.name}.{{" + ", ".join(sorted(used[home.name], key=NUMBER.get)) + "}")
     out.append("")
     for r in s.rules:
         out += [f"abbrev pub {r.name} : ℕ", f"{r.name} = {NUMBER[r.name]}", ""]
@@ -561,17 +553,17 @@ def spec_section(s):
         shape = r.shape if " " not in r.shape else f"({r.shape})"
         out.append(f"    rule {r.name} {shape} ({spec_row(r.row)}) ∷")
     out.append("    []")
-    write(f"specs/Table/{s.name}.antt", "\n".join(out) + "\n")
+    write(GRAMMAR / f"specs/Table/{s.name}.antt", "\n".join(out) + "\n")
 
 
 def spec_table():
     out = ["-- The grammar: the rows and shapes of all rules, section by section. " + HEAD[0].upper() + HEAD[1:] + "."]
     out += ["use Rattle.std.specs.Prelude.{ℕ, zero, suc, List, [], ◌∷◌, ◌++◌}",
-            "use Rattle.weedle_rules.specs.Rows.{Row, First}",
-            "use Rattle.weedle_rules.specs.Trees.{Outcome}",
-            "use Rattle.weedle_rules.specs.Meaning.{Shape, Silent, Grammar, ReadsBy}",
-            "use Rattle.weedle_rules.specs.Entry.{Entry, entry_at}"]
-    out += [f"use Rattle.weedle_rules.specs.Table.{s.name}.{{{s.module}}}" for s in SECTIONS]
+            "use Rattle.weedle_grammar.specs.Rows.{Row, First}",
+            "use Rattle.weedle_grammar.specs.Trees.{Outcome}",
+            "use Rattle.weedle_grammar.specs.Meaning.{Shape, Silent, Grammar, ReadsBy}",
+            "use Rattle.weedle_grammar.specs.Entry.{Entry, entry_at}"]
+    out += [f"use Rattle.weedle_grammar.specs.Table.{s.name}.{{{s.module}}}" for s in SECTIONS]
     out.append("")
     out += [f"pub mod {s.name}" for s in SECTIONS]
     out.append("")
@@ -584,7 +576,7 @@ def spec_table():
             "-- the grammar", "abbrev pub webidl : Grammar", "webidl = record { row = row_of; shape = shape_of }", "",
             "-- rule r at place p of the text has the outcome o",
             "abbrev pub Reads : List ℕ → ℕ → ℕ → Outcome → Type 0", "Reads text r p o = ReadsBy webidl text r p o"]
-    write("specs/Table.antt", "\n".join(out) + "\n")
+    write(GRAMMAR / "specs/Table.antt", "\n".join(out) + "\n")
 
 
 def plain_text(row):
@@ -628,8 +620,8 @@ def code_section(s):
     text = "".join(code_row(r.row) for r in s.rules)
     out = [f"//! {s.about}", "//!", f"//! {HEAD[0].upper() + HEAD[1:]}.", "",
            "ghost use Rattle.std.specs.Prelude.{◌≡◌, ◌<◌, ◌≤◌};",
-           "ghost use Rattle.weedle_rules.specs.Table.{row_of};",
-           "ghost use Rattle.weedle_rules.specs.View.{row_view};", ""]
+           "ghost use Rattle.weedle_grammar.specs.Table.{row_of};",
+           "ghost use Rattle.weedle_grammar.specs.View.{row_view};", ""]
     if "Class::" in text:
         out.append("use crate::class::Class;")
     own = {r.name for r in s.rules}
@@ -640,7 +632,7 @@ def code_section(s):
             out.append(f"use crate::grammar::{home.module}::{{{', '.join(names)}}};")
     out.append("use crate::row::{" + ("Row, parts_of" if "parts_of(" in text else "Row") + "};")
     out += ["use crate::rule::Rule;", ""]
-    out += [f"pub(crate) const {r.name}: u16 = {NUMBER[r.name]};" for r in s.rules]
+    out += [f"pub const {r.name}: u16 = {NUMBER[r.name]};" for r in s.rules]
     constants = [(r.name, doc_of(r)) for r in s.rules if doc_of(r)]
     out += ["", "impl Rule {"] + [line for name, doc in constants for line in (f"    /// {doc}", f"    pub const {name}: Rule = Rule({name});")] + ["}"]
     requires = [f"    requires low {{ {low} ≤ number }}", f"    requires high {{ number < {high} }}"]
@@ -651,17 +643,18 @@ def code_section(s):
         pattern = r.name if i + 1 < len(s.rules) else "_"
         out.append(f"        {pattern} => {code_row(r.row)},")
     out += ["    }", "}"]
-    write(f"src/grammar/{s.module}.rt", "\n".join(out) + "\n")
+    write(GRAMMAR / f"src/grammar/{s.module}.rt", "\n".join(out) + "\n")
 
 
 def code_grammar():
-    out = ["//! The grammar: the number, the name and the row of each rule, section by section.", "//!",
+    out = ["//! The rules of each section, by name: for the table of ends.", "//!",
+           "//! A constant is a rule's number. The rows of a section stand beside its constants.", "//!",
            f"//! {HEAD[0].upper() + HEAD[1:]}.", "",
            "ghost use Rattle.std.specs.Prelude.{◌≡◌};",
-           "ghost use Rattle.weedle_rules.specs.Table.{row_of as row_of_lem};",
-           "ghost use Rattle.weedle_rules.specs.View.{row_view};", "",
+           "ghost use Rattle.weedle_grammar.specs.Table.{row_of as row_of_lem};",
+           "ghost use Rattle.weedle_grammar.specs.View.{row_view};", "",
            "use crate::row::Row;", "use crate::rule::Rule;", ""]
-    out += [f"pub(crate) mod {s.module};" for s in SECTIONS]
+    out += [f"pub mod {s.module};" for s in SECTIONS]
     out += ["", "/// What a rule reads. It takes no memory.", "#[inline(always)]", "pub fn row_of(rule: Rule) -> Row",
             "    ensures { row_view result ≡ row_of_lem rule }", "{", "    let number = rule.number();"]
     for i, s in enumerate(SECTIONS):
@@ -670,22 +663,30 @@ def code_grammar():
         out.append(f"{lead} number < {high} {{" if i + 1 < len(SECTIONS) else "    } else {")
         out.append(f"        {s.module}::row(number)")
     out += ["    }", "}"]
-    write("src/grammar.rt", "\n".join(out) + "\n")
+    write(GRAMMAR / "src/grammar.rt", "\n".join(out) + "\n")
+
+
+def set_number(crate, name, value):
+    path = crate / "src/lib.rt"
+    if path.exists():
+        path.write_text(re.sub(rf"pub const {name}: usize = \d+;", f"pub const {name}: usize = {value};", path.read_text()))
 
 
 def spec_bound():
-    write("specs/Bound.antt", "\n".join([
-        f"-- How many rules there are, and how much is looked at for one cell. {HEAD[0].upper() + HEAD[1:]}.",
+    write(GRAMMAR / "specs/Bound.antt", "\n".join([
+        f"-- How many rules there are. {HEAD[0].upper() + HEAD[1:]}.",
         "use Rattle.std.specs.Prelude.{ℕ}", "",
-        "-- one more than the greatest number", "abbrev pub rule_count : ℕ", f"rule_count = {len(RULES)}", "",
+        "-- one more than the greatest number", "abbrev pub rule_count : ℕ", f"rule_count = {len(RULES)}"]) + "\n")
+    set_number(GRAMMAR, "RULES", len(RULES))
+
+
+def spec_reads():
+    write(ENDS / "specs/Bound.antt", "\n".join([
+        f"-- How much is looked at for one cell. {HEAD[0].upper() + HEAD[1:]}.",
+        "use Rattle.std.specs.Prelude.{ℕ}", "",
         "-- how often a byte or a cell is looked at, at most, to work a rule out at a place", "abbrev pub most_reads : ℕ",
         f"most_reads = {MOST_READS}"]) + "\n")
-    path = CRATE / "src/lib.rt"
-    if path.exists():
-        text = path.read_text()
-        for name, value in (("RULES", len(RULES)), ("READS", MOST_READS)):
-            text = re.sub(rf"pub const {name}: usize = \d+;", f"pub const {name}: usize = {value};", text)
-        path.write_text(text)
+    set_number(ENDS, "READS", MOST_READS)
 
 
 FILL_GHOSTS = ["ghost use Rattle.std.specs.Prelude.{◌≤◌, length};", "ghost use Rattle.weedle_rules.specs.Filling.{IsFilling};", ""]
@@ -704,23 +705,22 @@ def code_fill_section(s):
     low, high = NUMBER[names[0]], NUMBER[names[-1]] + 1
     out = [f"//! Works out the cells of a place, section: {s.about}", "//!", f"//! {HEAD[0].upper() + HEAD[1:]}.", ""]
     out += FILL_GHOSTS
-    out += ["use crate::cell::Cell;", "use crate::fill::fill_cell;",
-            f"use crate::grammar::{s.module}::{{{', '.join(sorted(names))}}};" if len(names) > 1 else f"use crate::grammar::{s.module}::{names[0]};",
-            "use crate::reader::Reader;", "use crate::rule::Rule;", ""]
+    out += ["use crate::cell::Cell;", "use crate::fill::fill_cell;", "use crate::reader::Reader;",
+            f"use weedle_grammar::grammar::{s.module};", ""]
     starts = range(low, high, CALLS)
     out += [f"/// Works out the cells of the rules from {low} to {high - 1}."] + fill_head("pub(super) ", "fill", low, high)
     out += [f"    fill_from_{start}(reader, place);" for start in starts] + ["}"]
     for start in starts:
         stop = min(start + CALLS, high)
         out += [""] + fill_head("", f"fill_from_{start}", start, stop)
-        out += [f"    fill_cell(reader, Rule({RULES[n].name}), place);" for n in range(start, stop)] + ["}"]
-    write(f"src/fill/place/{s.module}.rt", "\n".join(out) + "\n")
+        out += [f"    fill_cell(reader, {s.module}::{RULES[n].name}, place);" for n in range(start, stop)] + ["}"]
+    write(ENDS / f"src/fill/place/{s.module}.rt", "\n".join(out) + "\n")
 
 
 def code_fill_place():
     out = ["//! Works out the cells of one place, section by section.", "//!", f"//! {HEAD[0].upper() + HEAD[1:]}.", "",
            "ghost use Rattle.std.specs.Prelude.{◌≤◌, ◌+◌, ◌-◌, ◌*◌, length};",
-           "ghost use Rattle.weedle_rules.specs.Bound.{rule_count};",
+           "ghost use Rattle.weedle_grammar.specs.Bound.{rule_count};",
            "ghost use Rattle.weedle_rules.specs.Filling.{IsFilled};", "",
            "use crate::cell::Cell;", "use crate::reader::Reader;", ""]
     out += [f"mod {s.module};" for s in SECTIONS]
@@ -731,7 +731,7 @@ def code_fill_place():
             "    ensures { IsFilled reader.new reader.old.text ((length reader.old.text - place) * rule_count + rule_count) }",
             "{", "    reader.lay();"]
     out += [f"    {s.module}::fill(reader, place);" for s in SECTIONS] + ["}"]
-    write("src/fill/place.rt", "\n".join(out) + "\n")
+    write(ENDS / "src/fill/place.rt", "\n".join(out) + "\n")
 
 
 def proof_takes():
@@ -744,13 +744,13 @@ def proof_takes():
         for i in range(0, len(flags), 12):
             out.append("    " + " ∷ ".join(flags[i:i + 12]) + " ∷")
         out.append("    []")
-        write(f"proofs/Takes/{s.name}.antt", "\n".join(out) + "\n")
+        write(GRAMMAR / f"proofs/Takes/{s.name}.antt", "\n".join(out) + "\n")
     joined = SECTIONS[-1].module
     for s in reversed(SECTIONS[:-1]):
         joined = f"{s.module} ++ {joined}" if s is SECTIONS[-2] else f"{s.module} ++ ({joined})"
     out = [f"-- Which rules always take a byte. {HEAD[0].upper() + HEAD[1:]}.",
            "use Rattle.std.proofs.Common.{ℕ, zero, suc, List, [], ◌∷◌, ◌++◌, Bool, false}"]
-    out += [f"use Rattle.weedle_rules.proofs.Takes.{s.name}.{{{s.module}}}" for s in SECTIONS]
+    out += [f"use Rattle.weedle_grammar.proofs.Takes.{s.name}.{{{s.module}}}" for s in SECTIONS]
     out.append("")
     out += [f"pub mod {s.name}" for s in SECTIONS]
     out += ["", "-- whether each rule does, in the order of their numbers", "abbrev pub flags : List Bool", f"flags = {joined}", "",
@@ -758,7 +758,7 @@ def proof_takes():
             "abbrev pub flag_at : List Bool → ℕ → Bool", "flag_at [] r = false", "flag_at (b ∷ bs) zero = b",
             "flag_at (b ∷ bs) (suc r) = flag_at bs r", "", "-- the rule takes a byte wherever it doesn't fail",
             "abbrev pub takes : ℕ → Bool", "takes r = flag_at flags r"]
-    write("proofs/Takes.antt", "\n".join(out) + "\n")
+    write(GRAMMAR / "proofs/Takes.antt", "\n".join(out) + "\n")
 
 
 def main():
@@ -768,6 +768,7 @@ def main():
         code_fill_section(s)
     spec_table()
     spec_bound()
+    spec_reads()
     code_grammar()
     code_fill_place()
     proof_takes()

@@ -75,10 +75,7 @@ ALIASES = {
     "FrozenArrayType": "FrozenArrayType «Type»",
     "SequenceType": "SequenceType «Type»",
     "UnionType": "Parenthesized (Punctuated UnionMemberType Or)",
-    "ExtendedAttribute": "ExtendedAttribute Argument",
-    "ExtendedAttributeNamedArgList": "ExtendedAttributeNamedArgList Argument",
-    "ExtendedAttributeArgList": "ExtendedAttributeArgList Argument",
-    "ExtendedAttributeList": "Bracketed (Punctuated (ExtendedAttribute Argument) Comma)",
+    "ExtendedAttributeList": "Bracketed (Punctuated ExtendedAttribute Comma)",
     "ArgumentList": "Punctuated Argument Comma",
 }
 
@@ -177,7 +174,7 @@ TABLE = {
     "variadic_argument": struct(ARGUMENTS, "VariadicArgument", "VARIADIC_ARGUMENT", "variadic_argument_tree",
                                 ("attributes", Call("attributes")), ("type_", Call("type_")), ("ellipsis", "Ellipsis"),
                                 ("identifier", "Identifier")),
-    "arguments": enclosed(ARGUMENTS, "Parenthesized<ArgumentList>", "PARENTHESIZED_ARGUMENT_LIST", "arguments_tree",
+    "arguments": enclosed(ARGUMENTS, "ParenthesizedArgumentList", "PARENTHESIZED_ARGUMENT_LIST", "arguments_tree",
                           "OpenParen", "CloseParen", "paren", "argument_list"),
     "argument_list": listed(ARGUMENTS, "Punctuated<Argument, Comma>", "ARGUMENT_LIST", "TAIL_ARGUMENT_COMMA", "argument_list_tree",
                             "argument", "Comma", "more_arguments"),
@@ -212,6 +209,8 @@ TREE_LAWS = {
     ("non_any_type", "RecordType"): "record_of",
     ("union_member_type", "Single"): "member_single_of",
     ("union_member_type", "Union"): "member_union_of",
+    ("extended_attribute", "ArgList"): "arg_list_of",
+    ("extended_attribute", "NamedArgList"): "named_arg_list_of",
     ("argument", "Single"): "argument_single_of",
     ("argument", "Variadic"): "argument_variadic_of",
 }
@@ -671,9 +670,9 @@ def declared():
 def stated():
     """the public definitions and lemmas of the crates, with their modules"""
     found = {}
-    for crate in ("weedle_rules", "weedle_base", "weedle_term", "weedle_parts", "weedle_literal", "weedle_types"):
+    for crate in ("weedle_grammar", "weedle_base", "weedle_term", "weedle_parts", "weedle_literal", "weedle_types"):
         # (what the grammar's own crate proves of its table is cited by no answer)
-        for folder in ("specs",) if crate == "weedle_rules" else ("specs", "proofs"):
+        for folder in ("specs",) if crate == "weedle_grammar" else ("specs", "proofs"):
             for path in sorted((CRATES / crate / folder).glob("*.antt")) + sorted((CRATES / crate / folder / "Table").glob("*.antt")):
                 if path.name == "Lib.antt" or path.stem in WRITTEN:
                     continue
@@ -692,7 +691,7 @@ STANDARD = {
     "Rattle.std.specs.Global": ("Box", "Vec"),
     "Rattle.std.specs.Prelude": ("ℕ", "List", "[]", "Option", "Some", "None", "Bool", "length", "◌∷◌", "◌≡◌", "◌⊎◌", "◌++◌", "◌≤◌", "◌+◌", "◌*◌"),
     "Rattle.std.specs.Str": ("IsUtf8",),
-    "Rattle.weedle_rules.specs.Trees": ("Tree", "Node", "Alt"),
+    "Rattle.weedle_grammar.specs.Trees": ("Tree", "Node", "Alt"),
     "denote.Shadow": ("shadow",),
     "denote.Text": ("Utf8",),
 }
@@ -716,7 +715,7 @@ def imports(text, more=()):
         wanted.setdefault(module, set()).add(logic if logic == name else f"{logic} as {name}")
     for shown, module in (("Type", "types.«Type»"), ("SingleType", "formers.SingleType"), ("RecordKeyType", "formers.RecordKeyType"),
                           ("ReturnType", "formers.ReturnType"), ("UnionMemberType", "types.UnionMemberType"), ("NonAnyType", "types.NonAnyType"),
-                          ("ExtendedAttribute", "formers.ExtendedAttribute"), ("Argument", "argument.Argument")):
+                          ("ExtendedAttribute", "attribute.ExtendedAttribute"), ("Argument", "argument.Argument")):
         for name in set(re.findall(rf"\({shown}-(\w+)", text)):
             wanted.setdefault(f"Rattle.weedle_types.specs.declared.{module}.TheVariants", set()).add(f"{name} as {shown}-{name}")
     if "Fault" in words:

@@ -1,2 +1,4 @@
 pub mod Whole
+pub mod WholeOf
+pub mod Titles
 pub mod Report

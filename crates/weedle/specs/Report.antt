@@ -1,9 +1,9 @@
 -- What is written of a text that was read.
 use Rattle.std.specs.Prelude.{◌≡◌, ℕ, ◌-◌, ◌<◌, List, [], ◌∷◌, ◌++◌, length, take, flat_map, decimal, codes, Option}
 use Rattle.std.specs.Io.KnownBytes.{Appends, Consumes, IsAtEnd}
-use Rattle.weedle_first_path.specs.Titles.{kind_text, name_text}
+use Rattle.weedle.specs.Titles.{kind_text, name_text}
 use Rattle.weedle.specs.Whole.{IsWhole, IsLeft}
-use Rattle.weedle_first_path.specs.declared.definition.Definition.{Definition}
+use Rattle.weedle_idl.specs.declared.definition.Definition.{Definition}
 use Rattle.weedle.specs.declared.program.Status.{Status}
 use Rattle.weedle.specs.declared.program.Status.TheVariants.{Read, Unread}
 
@@ -15,10 +15,13 @@ line text = text ++ 10 ∷ []
 abbrev pub definition_line : Definition → List ℕ
 definition_line definition = line (kind_text definition ++ 32 ∷ name_text definition)
 
+-- a line for each of a list in order, and then how many they are
+abbrev pub list_report : {T : Type 0} → (T → List ℕ) → List T → List ℕ
+list_report line_of items = flat_map line_of items ++ line (codes "definitions " ++ decimal (length items))
+
 -- a line for each definition in order, and then how many they are
 abbrev pub whole_report : List Definition → List ℕ
-whole_report definitions =
-    flat_map definition_line definitions ++ line (codes "definitions " ++ decimal (length definitions))
+whole_report definitions = list_report definition_line definitions
 
 -- the line of a text that is not read whole: the byte at which the unread rest begins
 abbrev pub unread_report : List ℕ → List ℕ → List ℕ

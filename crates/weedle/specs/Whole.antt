@@ -6,19 +6,30 @@ use Rattle.weedle_base.specs.declared.fault.Err.{Err}
 use Rattle.weedle_base.specs.declared.fault.Err.TheVariants.{Error as Stopped, Failure}
 use Rattle.weedle_base.specs.declared.fault.Error.{Error}
 use Rattle.weedle_base.specs.declared.fault.ErrorKind.TheVariants.{Unread, Memory}
-use Rattle.weedle_rules.specs.Table.{Reads}
-use Rattle.weedle_rules.specs.Table.FirstPath.{FIRST_DEFINITIONS}
-use Rattle.weedle_rules.specs.Trees.{Tree, Gives}
-use Rattle.weedle_first_path.specs.ValueTrees.{definitions_tree}
-use Rattle.weedle_first_path.specs.declared.definition.Definition.{Definition}
+use Rattle.weedle_grammar.specs.Table.{Reads}
+use Rattle.weedle_grammar.specs.Table.Definitions.{DEFINITIONS}
+use Rattle.weedle_grammar.specs.Trees.{Tree, Gives}
+use Rattle.weedle_idl.specs.DefinitionTrees.{definitions_tree}
+use Rattle.weedle_idl.specs.declared.definition.Definition.{Definition}
+use Rattle.weedle_spell.specs.Laws.{Spells}
+use Rattle.weedle_spell.specs.Pieces.{IsInPieces}
+use Rattle.weedle_spell_idl.specs.Definitions.{definitions_spelling}
 
 -- the grammar reads the whole text as these definitions
 unfoldable pub IsWhole : List ℕ → List Definition → Type 0
-IsWhole raw definitions = Reads raw FIRST_DEFINITIONS 0 (Gives (definitions_tree definitions ∷ []) (length raw))
+IsWhole raw definitions = Reads raw DEFINITIONS 0 (Gives (definitions_tree definitions ∷ []) (length raw))
 
 -- the grammar reads the text as definitions up to some place, and this is the rest from there on
 unfoldable pub IsLeft : List ℕ → List ℕ → Type 0
-IsLeft raw rest = (ts : List Tree) × (end : ℕ) × Reads raw FIRST_DEFINITIONS 0 (Gives ts end) × (rest ≡ drop end raw)
+IsLeft raw rest = (ts : List Tree) × (end : ℕ) × Reads raw DEFINITIONS 0 (Gives ts end) × (rest ≡ drop end raw)
+
+-- the text spells these definitions
+unfoldable pub SpellsList : List ℕ → List Definition → Type 0
+SpellsList raw definitions = Spells definitions_spelling definitions raw
+
+-- the texts of these definitions stand in the text in their order
+unfoldable pub HasTexts : List ℕ → List Definition → Type 0
+HasTexts raw definitions = IsInPieces (definitions_tree definitions) raw
 
 -- the text is not read whole, and the fault has what the grammar leaves of it
 pub record LeavesRest (raw : List ℕ) (e : Error (Bor (List ℕ))) : Type 0 where

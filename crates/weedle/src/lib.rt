@@ -7,23 +7,34 @@
 //! use weedle::{name_of, parse};
 //!
 //! let text = "interface Window { readonly attribute Storage sessionStorage; };";
-//! for definition in &parse(rt.alloc(), text)? {
-//!     assert_eq!(rt; name_of(definition), "Window");
+//! for definition in parse(rt.alloc(), text)? {
+//!     assert_eq!(rt; name_of(&definition), "Window");
 //! }
 //! ```
 //!
-//! The types stand in `weedle_first_path`. What the grammar reads of a text is said in the crate
-//! `weedle_rules`, and in `specs/ValueTrees.antt` of the types which of its trees each value stands
-//! for.
+//! The types stand in the crates below, and under one path each here. What the grammar reads of a
+//! text is said in the crate `weedle_grammar`, and in each crate's `specs/` which of its trees a
+//! value stands for.
 #![tactic(auto)]
 
+pub mod common;
+pub mod literal;
 mod program;
 mod reader;
+mod report;
+mod titles;
+pub mod types;
 
 pub use program::{RunFault, Status, run};
 pub use reader::parse;
-pub use weedle_base::{Err, Error, ErrorKind, IResult, Parse};
-pub use weedle_first_path::{
-    Definition, Definitions, InterfaceDefinition, common, interface, kind_of, laws, name_of,
+pub use titles::{kind_of, name_of};
+pub use weedle_base::{Err, Error, ErrorKind, IResult, Parse, TryClone};
+pub use weedle_idl::{
+    CallbackDefinition, CallbackInterfaceDefinition, Definition, Definitions, DictionaryDefinition,
+    EnumDefinition, EnumValueList, EnumVariant, ImplementsDefinition, IncludesStatementDefinition,
+    InterfaceDefinition, InterfaceMixinDefinition, NamespaceDefinition,
+    PartialDictionaryDefinition, PartialInterfaceDefinition, PartialInterfaceMixinDefinition,
+    PartialNamespaceDefinition, TypedefDefinition, dictionary, interface, mixin, namespace,
 };
 pub use weedle_term as term;
+pub use weedle_types::{argument, attribute};

@@ -1,11 +1,12 @@
 //! A run of the program: it reads a text, and writes a report of it.
-ghost use Rattle.std.specs.Prelude.{◌≡◌, ◌≢◌, ℕ, List, ◌++◌, IfOk, IfErr, OnOk, OnErr, IsErrOf, IsUtf8, string_bytes};
+ghost use Rattle.std.specs.Prelude.{◌≡◌, ◌≢◌, ℕ, List, IfOk, IfErr, OnOk, OnErr, IsErrOf, IsUtf8, string_bytes};
 ghost use Rattle.std.specs.Io.KnownBytes.{Keeps, Appends};
 ghost use Rattle.std.specs.IoError.{error_kind};
 ghost use Rattle.weedle.specs.declared.program.RunFault.TheVariants.{Memory};
-ghost use Rattle.weedle.specs.Report.{definition_line, whole_report, IsReport, ReadsAll, AppendsPart};
+ghost use Rattle.weedle.specs.Report.{IsReport, ReadsAll, AppendsPart};
 
-use crate::{Definition, kind_of, name_of, parse};
+use crate::parse;
+use crate::report::list_report;
 use std::alloc::{AllocError, Global};
 use std::io;
 use std::io::{ErrorKind, Read, Write};
@@ -98,35 +99,13 @@ fn report_of(alloc: Global, text: &str) -> Result<(String, Status), RunFault>
     ensures err { IfErr result (λ fault. fault ≡ RunFault.Memory) }
 {
     match parse(alloc, text) {
-        Ok(definitions) => Ok((whole_report(alloc, &definitions)?, Status::Read)),
+        Ok(definitions) => Ok((list_report(alloc, definitions)?, Status::Read)),
         Err(crate::Err::Error(error)) => {
             let at = text.len() - error.input.len();
             Ok((format!(in alloc; "unread at byte {at}\n")?, Status::Unread))
         }
         Err(crate::Err::Failure(_)) => Err(RunFault::Memory),
     }
-}
-
-/// A line for each definition, and their count.
-fn whole_report(alloc: Global, definitions: &[Definition<'_>]) -> Result<String, AllocError>
-    ensures { IfOk result (λ report. string_bytes report ≡ whole_report definitions.now) }
-{
-    let mut report = String::new(alloc);
-    for definition in definitions {
-        push_definition(&mut report, definition)?;
-    }
-    let count = definitions.len();
-    writeln!(report, "definitions {count}")?;
-    Ok(report)
-}
-
-/// Adds the line of a definition.
-fn push_definition(report: &mut String, definition: &Definition<'_>) -> Result<(), AllocError>
-    ensures { OnOk result (string_bytes report.new ≡ string_bytes report.old ++ definition_line definition.now) }
-{
-    let kind = kind_of(definition);
-    let name = name_of(definition);
-    writeln!(report, "{kind} {name}")
 }
 
 /// Writes all the bytes, in as many writes as the writer needs.

@@ -1,23 +1,8 @@
-//! What the tests ask of an answer.
+//! What the tests ask of an answer: tables of rows, each a text and what is to be read of it.
 #![tactic(auto)]
 
-use weedle_base::{Err, Error, ErrorKind, IResult};
+mod refused;
+mod rows;
 
-/// Whether the answer is a mismatch.
-pub fn is_mismatch<'a, T>(answer: &IResult<&'a str, T>) -> bool {
-    matches!(
-        answer,
-        Err(Err::Error(Error {
-            code: ErrorKind::Mismatch,
-            ..
-        }))
-    )
-}
-
-/// Whether the answer is a failure at this input.
-pub fn is_failure<'a, T>(answer: &IResult<&'a str, T>, input: &str) -> bool {
-    match answer {
-        Err(Err::Failure(error)) => error.input == input,
-        _ => false,
-    }
-}
+pub use refused::{fails_at, is_failure, is_mismatch, refuses};
+pub use rows::{Unlike, reads, reads_copied, reads_copied_up_to, reads_up_to, reads_whole};

@@ -4,7 +4,7 @@ use Rattle.std.specs.Borrow.{Bor}
 use Rattle.std.specs.Prelude.{◌≡◌, ℕ, suc, List, [], ◌∷◌, ◌⊎◌, Some, None}
 use Rattle.weedle_base.proofs.RuleFacts.{of_row}
 use Rattle.weedle_base.proofs.Steps.{fault_along}
-use Rattle.weedle_base.specs.Generic.{option_reading}
+use Rattle.weedle_base.specs.Generic.{choice_gives, choice_reading, option_reading}
 use Rattle.weedle_base.specs.Own.{stops_for_memory}
 use Rattle.weedle_base.specs.Reading.{Reading, Got, Faults, FaultSays}
 use Rattle.weedle_base.specs.Rules.{IsRule}
@@ -12,33 +12,10 @@ use Rattle.weedle_base.specs.declared.fault.Err.{Err as Fault}
 use Rattle.weedle_base.specs.declared.fault.Err.TheVariants.{Error as Recoverable, Failure}
 use Rattle.weedle_base.specs.declared.fault.Error.{Error}
 use Rattle.weedle_base.specs.declared.fault.ErrorKind.{ErrorKind}
-use Rattle.weedle_rules.specs.Meaning.{Plain, ReadsFirst, by_first, first_none, first_here, first_next}
-use Rattle.weedle_rules.specs.Rows.{First}
-use Rattle.weedle_rules.specs.Table.{webidl, row_of, shape_of}
-use Rattle.weedle_rules.specs.Trees.{Tree, Alt, Fails, Gives}
-
-module _ {V W : Type 0} (R : Reading V) (S : Reading W) where
-  -- the first type's value, or the second's where the first refuses
-  abbrev pub choice_gives : List ℕ → V ⊎ W → ℕ → Type 0
-  choice_gives s (inl v) k = R.gives s v k
-  choice_gives s (inr w) k = R.refuses s × S.gives s w k
-
-  -- values of the same type that are alike
-  abbrev pub choice_alike : V ⊎ W → V ⊎ W → Type 0
-  choice_alike (inl v) (inl x) = R.alike v x
-  choice_alike (inl v) (inr x) = ⊥
-  choice_alike (inr w) (inl x) = ⊥
-  choice_alike (inr w) (inr x) = S.alike w x
-
-  -- the first of two types that fits
-  unfoldable pub choice_reading : Reading (V ⊎ W)
-  choice_reading = record {
-    gives = choice_gives;
-    refuses = λ s. R.refuses s × S.refuses s;
-    stops = λ s r code. R.stops s r code ⊎ (R.refuses s × S.stops s r code);
-    grows = R.grows ⊎ S.grows;
-    alike = choice_alike;
-  }
+use Rattle.weedle_grammar.specs.Meaning.{Plain, ReadsFirst, by_first, first_none, first_here, first_next}
+use Rattle.weedle_grammar.specs.Rows.{First}
+use Rattle.weedle_grammar.specs.Table.{webidl, row_of, shape_of}
+use Rattle.weedle_grammar.specs.Trees.{Tree, Alt, Fails, Gives}
 
 -- the reading is that of rules of which the first that fits is taken, counted from i
 pub record IsFirst {V : Type 0} (R : Reading V) (rs : List ℕ) (i : ℕ) (tree : V → Tree) (grows : Type 0) : Type 0 where

@@ -8,13 +8,13 @@ use Rattle.std.specs.Str.{IsCharBoundary, IsUtf8}
 use Rattle.std.specs.Str.Pattern.{LacksTextAt}
 use Rattle.memchr.specs.Find.{IsFirstByte, FindsNeedle, is_byte, OccursAt, Passes}
 use Rattle.weedle_base.proofs.RuleFacts.{of_row}
-use Rattle.weedle_rules.proofs.GrammarFacts.{at_boundary}
-use Rattle.weedle_rules.proofs.Leaves.{both}
-use Rattle.weedle_rules.specs.Meaning.{Silent, leaf, ReadsRow, by_bytes, by_one, by_not_next, by_run, by_past}
-use Rattle.weedle_rules.specs.Rows.{Row, Bytes, OneOf, NotNext, Run, Past, begins, take_bytes, take_one, take_not_next, take_past, run_length}
-use Rattle.weedle_rules.specs.Table.{webidl, row_of, shape_of, Reads}
-use Rattle.weedle_rules.specs.Trees.{Tree, Outcome, Fails, Gives}
-use Rattle.weedle_rules.specs.declared.class.Class.{Class}
+use Rattle.weedle_grammar.proofs.GrammarFacts.{at_boundary}
+use Rattle.weedle_grammar.proofs.Leaves.{both}
+use Rattle.weedle_grammar.specs.Meaning.{Silent, leaf, ReadsRow, by_bytes, by_one, by_not_next, by_run, by_past}
+use Rattle.weedle_grammar.specs.Rows.{Row, Bytes, OneOf, NotNext, Run, Past, begins, take_bytes, take_one, take_not_next, take_past, run_length}
+use Rattle.weedle_grammar.specs.Table.{webidl, row_of, shape_of, Reads}
+use Rattle.weedle_grammar.specs.Trees.{Tree, Outcome, Fails, Gives}
+use Rattle.weedle_grammar.specs.declared.class.Class.{Class}
 
 -- the outcome of a silent rule that takes so many bytes
 abbrev pub silent : Option ℕ → Outcome

@@ -7,6 +7,7 @@ pub mod TakesFacts
 pub mod RuleFacts
 pub mod RunRules
 pub mod Choice
+pub mod Direct
 pub mod LeafFacts
 pub mod TriviaFacts
 pub mod TokenFacts

@@ -4,16 +4,16 @@ use Rattle.std.specs.Str.{IsUtf8}
 use Rattle.std.proofs.Common.{refl, sym, ap, ◌∙◌, subst, arith, append-nil, append_assoc, drop-drop, take-take, length-take-le}
 use Rattle.std.proofs.lemmas.List.{length-drop}
 use Rattle.memchr.specs.Find.{IsFirstByte, is_byte}
-use Rattle.weedle_rules.specs.Rows.{Many}
-use Rattle.weedle_rules.specs.Trees.{Tree, Lines, Items, trees, Fails, Gives}
-use Rattle.weedle_rules.specs.Meaning.{Yields, ReadsRow, by_seq, many_end, many_more, more_lines, but_last}
-use Rattle.weedle_rules.specs.Table.{webidl, Reads}
-use Rattle.weedle_rules.specs.Table.Trivia.{RUN_BLANK}
-use Rattle.weedle_rules.specs.Table.Leaves.{BYTES_THREE_SLASHES, PAST_LF, DOC_LINE, MANY_DOC_LINE, DOCSTRING}
-use Rattle.weedle_rules.proofs.Suffix.{then_on, fails, nothing, no_node}
-use Rattle.weedle_rules.proofs.Checked.{rank, ranked}
-use Rattle.weedle_rules.proofs.Takes.{takes}
-use Rattle.weedle_rules.proofs.Exists.{advances}
+use Rattle.weedle_grammar.specs.Rows.{Many}
+use Rattle.weedle_grammar.specs.Trees.{Tree, Lines, Items, trees, Fails, Gives}
+use Rattle.weedle_grammar.specs.Meaning.{Yields, ReadsRow, by_seq, many_end, many_more, more_lines, but_last}
+use Rattle.weedle_grammar.specs.Table.{webidl, Reads}
+use Rattle.weedle_grammar.specs.Table.Trivia.{RUN_BLANK}
+use Rattle.weedle_grammar.specs.Table.Leaves.{BYTES_THREE_SLASHES, PAST_LF, DOC_LINE, MANY_DOC_LINE, DOCSTRING}
+use Rattle.weedle_grammar.proofs.Suffix.{then_on, fails, nothing, no_node}
+use Rattle.weedle_grammar.proofs.Checked.{rank, ranked}
+use Rattle.weedle_grammar.proofs.Takes.{takes}
+use Rattle.weedle_grammar.proofs.Exists.{advances}
 use Rattle.weedle_base.proofs.RuleFacts.{of_row}
 use Rattle.weedle_base.proofs.RunRules.{row_forth}
 use Rattle.weedle_base.proofs.Steps.{rest_add}

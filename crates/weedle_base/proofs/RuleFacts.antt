@@ -11,12 +11,12 @@ use Rattle.weedle_base.specs.declared.fault.Err.{Err as Fault}
 use Rattle.weedle_base.specs.declared.fault.Err.TheVariants.{Error as Recoverable, Failure}
 use Rattle.weedle_base.specs.declared.fault.Error.{Error}
 use Rattle.weedle_base.specs.declared.fault.ErrorKind.{ErrorKind}
-use Rattle.weedle_rules.proofs.Shift.{given_same, last_moved}
-use Rattle.weedle_rules.proofs.Suffix.{nothing, then, then_on, then_fails, fails}
-use Rattle.weedle_rules.specs.Meaning.{Plain, Raw, Piece, ReadsRow, ReadsSeq, by_row, by_opt, by_seq, shaped, given_of, last_end}
-use Rattle.weedle_rules.specs.Rows.{Row, Seq, Opt}
-use Rattle.weedle_rules.specs.Table.{webidl, row_of, shape_of, Reads}
-use Rattle.weedle_rules.specs.Trees.{Tree, Node, trees, Outcome, Fails, Gives}
+use Rattle.weedle_grammar.proofs.Shift.{given_same, last_moved}
+use Rattle.weedle_grammar.proofs.Suffix.{nothing, then, then_on, then_fails, fails}
+use Rattle.weedle_grammar.specs.Meaning.{Plain, Raw, Piece, ReadsRow, ReadsSeq, by_row, by_opt, by_seq, shaped, given_of, last_end}
+use Rattle.weedle_grammar.specs.Rows.{Row, Seq, Opt}
+use Rattle.weedle_grammar.specs.Table.{webidl, row_of, shape_of, Reads}
+use Rattle.weedle_grammar.specs.Trees.{Tree, Node, trees, Outcome, Fails, Gives}
 
 -- the rules read these trees one after another
 pub record Parts (s : List ℕ) (rs : List ℕ) (ts : List Tree) (k : ℕ) : Type 0 where

@@ -7,11 +7,11 @@ use Rattle.weedle_base.proofs.RuleFacts.{of_row}
 use Rattle.weedle_base.specs.Reading.{Reading}
 use Rattle.weedle_base.specs.Rules.{IsRule, items_tree}
 use Rattle.weedle_base.specs.Runs.{Items, run_reading, vec_step}
-use Rattle.weedle_rules.proofs.Shift.{row_behind, raw_moved}
-use Rattle.weedle_rules.specs.Meaning.{Plain, Raw, Breaks, Yields, ReadsRow, many_end, many_stuck, many_more}
-use Rattle.weedle_rules.specs.Rows.{Row, Many}
-use Rattle.weedle_rules.specs.Table.{webidl, row_of, shape_of}
-use Rattle.weedle_rules.specs.Trees.{Tree}
+use Rattle.weedle_grammar.proofs.Shift.{row_behind, raw_moved}
+use Rattle.weedle_grammar.specs.Meaning.{Plain, Raw, Breaks, Yields, ReadsRow, many_end, many_stuck, many_more}
+use Rattle.weedle_grammar.specs.Rows.{Row, Many}
+use Rattle.weedle_grammar.specs.Table.{webidl, row_of, shape_of}
+use Rattle.weedle_grammar.specs.Trees.{Tree}
 
 -- what a row does at the front of what is left
 pub row_forth : (s : List ℕ) (k : ℕ) {row : Row} {w : Raw} → ReadsRow webidl (drop k s) row 0 w → ReadsRow webidl s row k (raw_moved k w)

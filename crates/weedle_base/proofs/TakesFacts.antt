@@ -7,11 +7,11 @@ use Rattle.weedle_base.specs.Reading.{Reading, Faults, TakesSome}
 use Rattle.weedle_base.specs.Runs.{run_reading, vec_step}
 use Rattle.weedle_base.specs.declared.fault.Err.TheVariants.{Error as Recoverable}
 use Rattle.weedle_base.specs.declared.fault.Error.{Error}
-use Rattle.weedle_rules.proofs.Checked.{rank, ranked}
-use Rattle.weedle_rules.proofs.Exists.{advances}
-use Rattle.weedle_rules.proofs.Takes.{takes}
-use Rattle.weedle_rules.specs.Table.{webidl}
-use Rattle.weedle_rules.specs.Trees.{Tree}
+use Rattle.weedle_grammar.proofs.Checked.{rank, ranked}
+use Rattle.weedle_grammar.proofs.Exists.{advances}
+use Rattle.weedle_grammar.proofs.Takes.{takes}
+use Rattle.weedle_grammar.specs.Table.{webidl}
+use Rattle.weedle_grammar.specs.Trees.{Tree}
 
 -- a rule that takes a byte wherever it doesn't fail
 pub own_takes : {V : Type 0} (r : ℕ) (tree : V → Tree) (grows : Type 0) → takes r ≡ true → TakesSome (own r tree grows)

@@ -18,13 +18,13 @@ use Rattle.weedle_base.specs.Tokens.{IsSymbol, IsKeyword, core}
 use Rattle.weedle_base.specs.Trivia.{Took, is_next}
 use Rattle.weedle_base.specs.declared.fault.Err.{Err as Fault}
 use Rattle.weedle_base.specs.declared.fault.Error.{Error}
-use Rattle.weedle_rules.proofs.Suffix.{fails, no_node}
-use Rattle.weedle_rules.specs.Rows.{begins}
-use Rattle.weedle_rules.specs.Table.{Reads}
-use Rattle.weedle_rules.specs.Table.Keywords.{NOT_NEXT_NAME}
-use Rattle.weedle_rules.specs.Table.Trivia.{TRIVIA}
-use Rattle.weedle_rules.specs.Trees.{Tree, Mark, Fails, Gives}
-use Rattle.weedle_rules.specs.declared.class.Class.TheVariants.{Name}
+use Rattle.weedle_grammar.proofs.Suffix.{fails, no_node}
+use Rattle.weedle_grammar.specs.Rows.{begins}
+use Rattle.weedle_grammar.specs.Table.{Reads}
+use Rattle.weedle_grammar.specs.Table.Keywords.{NOT_NEXT_NAME}
+use Rattle.weedle_grammar.specs.Table.Trivia.{TRIVIA}
+use Rattle.weedle_grammar.specs.Trees.{Tree, Mark, Fails, Gives}
+use Rattle.weedle_grammar.specs.declared.class.Class.TheVariants.{Name}
 
 module _ {V : Type 0} {r : ℕ} (tree : V → Tree) (grows : Type 0) {s : List ℕ} where
   -- what the rule took is what the type with the rule reads

@@ -8,15 +8,15 @@ use Rattle.weedle_base.proofs.LeafFacts.{silent, cut}
 use Rattle.weedle_base.proofs.RuleFacts.{of_row}
 use Rattle.weedle_base.proofs.RunRules.{row_forth}
 use Rattle.weedle_base.specs.Trivia.{Took, Trial}
-use Rattle.weedle_rules.proofs.Checked.{rank, ranked}
-use Rattle.weedle_rules.proofs.Exists.{advances}
-use Rattle.weedle_rules.proofs.Takes.{takes}
-use Rattle.weedle_rules.specs.Meaning.{Yields, ReadsRow, by_first, first_here, first_next, first_none, many_end, many_more}
-use Rattle.weedle_rules.specs.Rows.{Many, run_length, is_in}
-use Rattle.weedle_rules.specs.Table.{webidl, Reads}
-use Rattle.weedle_rules.specs.Table.Trivia.{LINE_COMMENT, BLANKS, BLOCK_COMMENT, PIECE, TRIVIA}
-use Rattle.weedle_rules.specs.Trees.{Tree, Fails, Gives}
-use Rattle.weedle_rules.specs.declared.class.Class.{Class}
+use Rattle.weedle_grammar.proofs.Checked.{rank, ranked}
+use Rattle.weedle_grammar.proofs.Exists.{advances}
+use Rattle.weedle_grammar.proofs.Takes.{takes}
+use Rattle.weedle_grammar.specs.Meaning.{Yields, ReadsRow, by_first, first_here, first_next, first_none, many_end, many_more}
+use Rattle.weedle_grammar.specs.Rows.{Many, run_length, is_in}
+use Rattle.weedle_grammar.specs.Table.{webidl, Reads}
+use Rattle.weedle_grammar.specs.Table.Trivia.{LINE_COMMENT, BLANKS, BLOCK_COMMENT, PIECE, TRIVIA}
+use Rattle.weedle_grammar.specs.Trees.{Tree, Fails, Gives}
+use Rattle.weedle_grammar.specs.declared.class.Class.{Class}
 
 -- so many bytes of the class, and no more, are the run at the front
 pub run_is : (c : Class) (s : List ℕ) (n : ℕ) → n ≤ length s → ((k : ℕ) → k < n → is_in c (get_or s k 0) ≡ true)

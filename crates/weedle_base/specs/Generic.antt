@@ -1,4 +1,5 @@
 -- The meanings of the generic parts, by cases over the meanings of their parameters.
+use Rattle.std.proofs.Common.{inl, inr}
 use Rattle.std.specs.Prelude.{◌≡◌, ℕ, ◌+◌, List, drop, Option, Some, None, ◌⊎◌}
 use Rattle.weedle_base.specs.Reading.{Reading}
 use Rattle.weedle_base.specs.Runs.{for_memory}
@@ -55,4 +56,28 @@ module _ {V X : Type 0} (view : X → V) (R : Reading V) where
     stops = R.stops;
     grows = R.grows;
     alike = λ x y. R.alike (view x) (view y);
+  }
+
+-- the first of two types that fits
+module _ {V W : Type 0} (R : Reading V) (S : Reading W) where
+  -- the first type's value, or the second's where the first refuses
+  abbrev pub choice_gives : List ℕ → V ⊎ W → ℕ → Type 0
+  choice_gives s (inl v) k = R.gives s v k
+  choice_gives s (inr w) k = R.refuses s × S.gives s w k
+
+  -- values of the same type that are alike
+  abbrev pub choice_alike : V ⊎ W → V ⊎ W → Type 0
+  choice_alike (inl v) (inl x) = R.alike v x
+  choice_alike (inl v) (inr x) = ⊥
+  choice_alike (inr w) (inl x) = ⊥
+  choice_alike (inr w) (inr x) = S.alike w x
+
+  -- the first of two types that fits
+  unfoldable pub choice_reading : Reading (V ⊎ W)
+  choice_reading = record {
+    gives = choice_gives;
+    refuses = λ s. R.refuses s × S.refuses s;
+    stops = λ s r code. R.stops s r code ⊎ (R.refuses s × S.stops s r code);
+    grows = R.grows ⊎ S.grows;
+    alike = choice_alike;
   }

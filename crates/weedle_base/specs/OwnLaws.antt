@@ -5,9 +5,9 @@ use Rattle.std.specs.Prelude.{◌≡◌, ℕ, [], ◌∷◌}
 use Rattle.weedle_base.specs.AlikeLaws.{equal_equivalence, seen_equivalence}
 use Rattle.weedle_base.specs.Own.{own}
 use Rattle.weedle_base.specs.Reading.{IsLawful}
-use Rattle.weedle_rules.proofs.GrammarFacts.{at_boundary}
-use Rattle.weedle_rules.proofs.Unique.{one_outcome}
-use Rattle.weedle_rules.specs.Trees.{Tree, Fails, Gives}
+use Rattle.weedle_grammar.proofs.GrammarFacts.{at_boundary}
+use Rattle.weedle_grammar.proofs.Unique.{one_outcome}
+use Rattle.weedle_grammar.specs.Trees.{Tree, Fails, Gives}
 
 -- a rule that gives two trees gives one
 gave_same : {t u : Tree} {k l : ℕ} → Gives (t ∷ []) k ≡ Gives (u ∷ []) l → (t ≡ u) × (k ≡ l)

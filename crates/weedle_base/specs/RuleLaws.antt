@@ -2,10 +2,10 @@
 -- so of the rules of the parts. R, S and T read the parts, and Whole is the reading of the type that is made of them.
 use Rattle.std.specs.Prelude.{◌≡◌, ℕ, [], ◌∷◌, Option}
 use Rattle.std.specs.Global.{Box, Vec}
-use Rattle.weedle_rules.specs.Rows.{Seq, Opt, Many}
-use Rattle.weedle_rules.specs.Trees.{Tree, Node, trees}
-use Rattle.weedle_rules.specs.Meaning.{Plain}
-use Rattle.weedle_rules.specs.Table.{row_of, shape_of}
+use Rattle.weedle_grammar.specs.Rows.{Seq, Opt, Many}
+use Rattle.weedle_grammar.specs.Trees.{Tree, Node, trees}
+use Rattle.weedle_grammar.specs.Meaning.{Plain}
+use Rattle.weedle_grammar.specs.Table.{row_of, shape_of}
 use Rattle.weedle_base.specs.Reading.{Reading}
 use Rattle.weedle_base.specs.Rules.{HasRule, option_tree, items_tree}
 

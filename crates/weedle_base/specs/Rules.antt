@@ -3,8 +3,8 @@ use Rattle.std.specs.Prelude.{ℕ, List, [], ◌∷◌, map, Option, Some, None}
 use Rattle.weedle_base.specs.Own.{stops_for_memory}
 use Rattle.weedle_base.specs.Reading.{Reading}
 use Rattle.weedle_base.specs.declared.fault.ErrorKind.{ErrorKind}
-use Rattle.weedle_rules.specs.Table.{Reads}
-use Rattle.weedle_rules.specs.Trees.{Tree, Absent, Present, trees, Fails, Gives, Mark, Items as Listed}
+use Rattle.weedle_grammar.specs.Table.{Reads}
+use Rattle.weedle_grammar.specs.Trees.{Tree, Absent, Present, trees, Fails, Gives, Mark, Items as Listed}
 
 -- the reading is that of the rule, with this tree of a value
 pub record IsRule {V : Type 0} (R : Reading V) (r : ℕ) (tree : V → Tree) (grows : Type 0) : Type 0 where

@@ -1,10 +1,10 @@
 -- What the scanners of trivia and of names answer.
 use Rattle.std.specs.Borrow.{Bor}
 use Rattle.std.specs.Prelude.{◌≡◌, ℕ, List, [], drop, Bool, length, ◌&&◌, nat_lt, slice_index, Option, MatchOption, take}
-use Rattle.weedle_rules.specs.Rows.{is_in}
-use Rattle.weedle_rules.specs.Table.{Reads}
-use Rattle.weedle_rules.specs.Trees.{Tree, Fails, Gives}
-use Rattle.weedle_rules.specs.declared.class.Class.{Class}
+use Rattle.weedle_grammar.specs.Rows.{is_in}
+use Rattle.weedle_grammar.specs.Table.{Reads}
+use Rattle.weedle_grammar.specs.Trees.{Tree, Fails, Gives}
+use Rattle.weedle_grammar.specs.declared.class.Class.{Class}
 
 -- the rule gave these trees at the front of s, and rest follows what it took
 pub record Took (r : ℕ) (s : List ℕ) (ts : List Tree) (rest : List ℕ) : Type 0 where

@@ -1,9 +1,9 @@
 //! The lines of a docstring.
 
 ghost use Rattle.std.specs.Prelude.{◌≡◌, [], ◌∷◌, ◌++◌, OnOk, MatchOption, string_bytes};
-ghost use Rattle.weedle_rules.specs.Trees.{Fails, Lines};
-ghost use Rattle.weedle_rules.specs.Table.{Reads};
-ghost use Rattle.weedle_rules.specs.Table.Leaves.{DOC_LINE, DOCSTRING};
+ghost use Rattle.weedle_grammar.specs.Trees.{Fails, Lines};
+ghost use Rattle.weedle_grammar.specs.Table.{Reads};
+ghost use Rattle.weedle_grammar.specs.Table.Leaves.{DOC_LINE, DOCSTRING};
 ghost use Rattle.weedle_base.specs.Reading.{Answers};
 ghost use Rattle.weedle_base.specs.Own.{own};
 ghost use Rattle.weedle_base.specs.Trivia.{Took};
@@ -12,7 +12,7 @@ use crate::fault::{IResult, mismatch, out_of_memory};
 use crate::scan::{after_run, after_word};
 use memchr::memchr;
 use std::alloc::{AllocError, Global};
-use weedle_rules::{Class, Rule};
+use weedle_grammar::{Class, Rule};
 
 /// The text of the line at the front, and what follows it: blanks, `///`, the text and an LF.
 fn doc_line(input: &str) -> Option<(&str, &str)>

@@ -1,17 +1,17 @@
 //! The scanners of names.
 
 ghost use Rattle.std.specs.Prelude.{◌≡◌, [], ◌∷◌, MatchOption};
-ghost use Rattle.weedle_rules.specs.Rows.{is_in};
-ghost use Rattle.weedle_rules.specs.declared.class.Class.TheVariants.{Name};
-ghost use Rattle.weedle_rules.specs.Table.{Reads};
-ghost use Rattle.weedle_rules.specs.Table.Leaves.{IDENTIFIER, IDENTIFIER_TEXT, OPT_BYTES_UNDERSCORE};
-ghost use Rattle.weedle_rules.specs.Trees.{Text, Fails};
+ghost use Rattle.weedle_grammar.specs.Rows.{is_in};
+ghost use Rattle.weedle_grammar.specs.declared.class.Class.TheVariants.{Name};
+ghost use Rattle.weedle_grammar.specs.Table.{Reads};
+ghost use Rattle.weedle_grammar.specs.Table.Leaves.{IDENTIFIER, IDENTIFIER_TEXT, OPT_BYTES_UNDERSCORE};
+ghost use Rattle.weedle_grammar.specs.Trees.{Text, Fails};
 ghost use Rattle.weedle_base.specs.Names.{IsTagged, LacksTag};
 ghost use Rattle.weedle_base.specs.Trivia.{Took, TookText};
 
 use crate::scan::{after_one, after_run, after_word, next_is, taken};
 use crate::trivia::skip_trivia;
-use weedle_rules::{Class, Rule};
+use weedle_grammar::{Class, Rule};
 
 /// Whether the character may stand in a name: an ASCII letter or digit, `_` or `-`. It takes no
 /// memory.

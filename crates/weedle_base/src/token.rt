@@ -1,7 +1,7 @@
 //! What all symbols, and all keywords, share.
 
 ghost use Rattle.std.specs.Prelude.{◌≡◌, IfOk};
-ghost use Rattle.weedle_rules.specs.Trees.{Mark};
+ghost use Rattle.weedle_grammar.specs.Trees.{Mark};
 ghost use Rattle.weedle_base.specs.Reading.{Answers};
 ghost use Rattle.weedle_base.specs.Own.{own};
 ghost use Rattle.weedle_base.specs.Tokens.{IsSymbol, IsKeyword};
@@ -9,7 +9,7 @@ ghost use Rattle.weedle_base.specs.Tokens.{IsSymbol, IsKeyword};
 use crate::fault::{IResult, mismatch};
 use crate::names::ident_tag;
 use crate::trivia::skip_trivia;
-use weedle_rules::Rule;
+use weedle_grammar::Rule;
 
 /// Reads a symbol, with the trivia around it.
 pub fn symbol<'a, T: Drop>(

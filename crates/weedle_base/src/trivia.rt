@@ -1,12 +1,12 @@
 //! The scanners of trivia.
 
 ghost use Rattle.std.specs.Prelude.{List, ℕ, []};
-ghost use Rattle.weedle_rules.specs.Table.Trivia.{RUN_NOT_LINE_FEED, LINE_END, LINE_COMMENT, BLANKS, BLOCK_COMMENT, PIECE, TRIVIA};
+ghost use Rattle.weedle_grammar.specs.Table.Trivia.{RUN_NOT_LINE_FEED, LINE_END, LINE_COMMENT, BLANKS, BLOCK_COMMENT, PIECE, TRIVIA};
 ghost use Rattle.weedle_base.specs.Trivia.{Trial, Took, TookText};
 
 use crate::scan::{after_one, after_run, after_word, next_is, taken};
 use memchr::{memchr, memmem};
-use weedle_rules::{Class, Rule};
+use weedle_grammar::{Class, Rule};
 
 /// What follows the line at the front and its LF. Where there is no LF, the line ends with the text.
 fn after_line(input: &str) -> &str

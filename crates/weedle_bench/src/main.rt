@@ -12,11 +12,10 @@
 #![tactic(auto)]
 
 mod filling;
-mod random;
-mod text;
 
 use anyhow::anyhow;
 use weedle_rules::Ends;
+use weedle_texts::definitions;
 
 const SEED: u64 = 7;
 
@@ -26,11 +25,11 @@ fn main(rt: HostRuntime) -> anyhow::Result<()> {
             let Ok(size) = size.parse::<usize>() else {
                 return Err(anyhow!("usage: weedle_bench [SIZE]"));
             };
-            filling::time(&rt, &text::definitions(rt.alloc(), SEED, size)?)
+            filling::time(&rt, &definitions(rt.alloc(), SEED, size)?)
         }
         None => {
             for size in [0, 1_000, 10_000] {
-                let text = text::definitions(rt.alloc(), SEED, size)?;
+                let text = definitions(rt.alloc(), SEED, size)?;
                 filling::count(&rt, &Ends::new(rt.alloc(), &text)?)?;
                 filling::count(&rt, &Ends::new_wide(rt.alloc(), &text)?)?;
             }

@@ -1,11 +1,18 @@
-//! Tests of scanners, terminals and leaves: worked examples whose answers come from outside.
+//! Tests of scanners, terminals, standard types, generic parts and leaves: worked examples whose answers come from
+//! outside.
 #![tactic(auto)]
 
+#[cfg(test)]
+mod generic_parts;
 #[cfg(test)]
 mod leaves;
 #[cfg(test)]
 mod scanners;
 #[cfg(test)]
+mod standard;
+#[cfg(test)]
 mod terminals;
 #[cfg(test)]
 mod types;
+#[cfg(test)]
+mod users;

@@ -2,7 +2,7 @@
 
 use std::alloc::Global;
 use std::test::Fail;
-use weedle_answers::is_mismatch;
+use weedle_answers::{is_mismatch, reads_copied, reads_copied_up_to, refuses};
 use weedle_base::{Parse, docstring, ident_tag, is_alphanum_underscore_dash, sp};
 use weedle_term::{Dot, Ellipsis, Long, NegInfinity, OpenParen};
 
@@ -64,14 +64,15 @@ fn a_docstring_stands_at_the_front_and_ends_its_line(rt: HostRuntime) {
 }
 
 #[test]
-fn terminals_take_their_bytes_alone(rt: HostRuntime) {
+fn terminals_take_their_bytes_alone(rt: HostRuntime) -> Result<(), Fail> {
     let alloc = rt.alloc();
-    assert!(rt; OpenParen::parse(alloc, "(  anything") == Ok(("anything", OpenParen)));
-    assert!(rt; NegInfinity::parse(alloc, "  -Infinity  ") == Ok(("", NegInfinity)));
-    assert!(rt; Dot::parse(alloc, "...") == Ok(("..", Dot)));
-    assert!(rt; is_mismatch(&Ellipsis::parse(alloc, "..")));
-    assert!(rt; is_mismatch(&NegInfinity::parse(alloc, "- Infinity")));
-    assert!(rt; is_mismatch(&Long::parse(alloc, "long-x")));
+    reads_copied_up_to::<OpenParen>(alloc, &[("(  anything", "anything", "OpenParen")])
+        .and(reads_copied::<NegInfinity>(alloc, &[("  -Infinity  ", "NegInfinity")]))
+        .and(reads_copied_up_to::<Dot>(alloc, &[("...", "..", "Dot")]))
+        .and(refuses::<Ellipsis>(alloc, &[".."]))
+        .and(refuses::<NegInfinity>(alloc, &["- Infinity"]))
+        .and(refuses::<Long>(alloc, &["long-x"]))?;
+    Ok(())
 }
 
 /// Reads the text in every way, and says whether what is left and what is taken are the text.

@@ -11,14 +11,13 @@ use weedle_term::*;
 /// with the blanks before it, with those behind it, and with both.
 fn reads<'a, T: Parse<'a>>(rt: &impl Abort, alloc: Global, text: &'a str) {
     let padded = text.strip_suffix("anything").unwrap_or("");
-    let texts = [
-        padded.trim(),
-        padded.trim_end(),
-        padded.trim_start(),
-        padded,
-        text.trim_start(),
-    ];
-    for (text, rest) in texts.into_iter().zip(["", "", "", "", "anything"]) {
+    for (text, rest) in [
+        (padded.trim(), ""),
+        (padded.trim_end(), ""),
+        (padded.trim_start(), ""),
+        (padded, ""),
+        (text.trim_start(), "anything"),
+    ] {
         match T::parse(alloc, text) {
             Ok((left, _)) => assert!(rt; left == rest, "in {text}"),
             Err(_) => assert!(rt; false, "{text} is not read"),

@@ -1,13 +1,9 @@
 //! Types of numbers and of constants.
 
-use weedle_answers::is_mismatch;
-use weedle_base::Parse;
-use weedle_parts::common::Identifier;
-use weedle_parts::types::{
-    ConstType, DoubleType, FloatType, FloatingPointType, IntegerType, LongLongType, LongType,
-    MayBeNull, ShortType,
-};
-use weedle_term::{Boolean, Double, Float, Long, QMark, Short, Unrestricted, Unsigned};
+use std::test::Fail;
+use weedle_answers::{reads_copied, reads_copied_up_to, refuses};
+use weedle_parts::types::{ConstType, FloatingPointType, IntegerType, LongType, MayBeNull};
+use weedle_term::Long;
 
 const LONG: IntegerType = IntegerType::Long(LongType {
     unsigned: None,
@@ -15,83 +11,81 @@ const LONG: IntegerType = IntegerType::Long(LongType {
 });
 
 #[test]
-fn an_integer_type_is_the_first_that_fits(rt: HostRuntime) {
+fn an_integer_type_is_the_first_that_fits(rt: HostRuntime) -> Result<(), Fail> {
     let alloc = rt.alloc();
-    let long_long = LongLongType {
-        unsigned: Some(Unsigned),
-        long_long: (Long, Long),
-    };
-    let read = MayBeNull {
-        type_: IntegerType::LongLong(long_long),
-        q_mark: Some(QMark),
-    };
-    assert!(rt; MayBeNull::<IntegerType>::parse(alloc, "unsigned long long ?x") == Ok(("x", read)));
-    assert!(rt; IntegerType::parse(alloc, "long longx") == Ok(("longx", LONG)));
-    assert!(rt; is_mismatch(&IntegerType::parse(alloc, "unsigned x")));
-    let short = ShortType {
-        unsigned: None,
-        short: Short,
-    };
-    assert!(rt; IntegerType::parse(alloc, "short") == Ok(("", IntegerType::Short(short))));
+    reads_copied_up_to::<MayBeNull<IntegerType>>(
+        alloc,
+        &[(
+            "unsigned long long ?x",
+            "x",
+            "MayBeNull { type_: LongLong(LongLongType { unsigned: Some(Unsigned), long_long: (Long, Long) }), \
+             q_mark: Some(QMark) }",
+        )],
+    )
+    .and(reads_copied_up_to::<IntegerType>(
+        alloc,
+        &[
+            (
+                "long longx",
+                "longx",
+                "Long(LongType { unsigned: None, long: Long })",
+            ),
+            (
+                "short",
+                "",
+                "Short(ShortType { unsigned: None, short: Short })",
+            ),
+        ],
+    ))
+    .and(refuses::<IntegerType>(alloc, &["unsigned x"]))?;
+    Ok(())
 }
 
 #[test]
-fn a_floating_point_type_may_be_unrestricted(rt: HostRuntime) {
-    let alloc = rt.alloc();
-    let float = FloatType {
-        unrestricted: None,
-        float: Float,
-    };
-    let double = DoubleType {
-        unrestricted: Some(Unrestricted),
-        double: Double,
-    };
-    assert!(rt;
-        FloatingPointType::parse(alloc, "float") == Ok(("", FloatingPointType::Float(float)))
-    );
-    assert!(rt;
-        FloatingPointType::parse(alloc, "unrestricted double")
-            == Ok(("", FloatingPointType::Double(double)))
-    );
+fn a_floating_point_type_may_be_unrestricted(rt: HostRuntime) -> Result<(), Fail> {
+    reads_copied::<FloatingPointType>(
+        rt.alloc(),
+        &[
+            (
+                "float",
+                "Float(FloatType { unrestricted: None, float: Float })",
+            ),
+            (
+                "unrestricted double",
+                "Double(DoubleType { unrestricted: Some(Unrestricted), double: Double })",
+            ),
+        ],
+    )?;
+    Ok(())
 }
 
 #[test]
-fn a_constant_has_a_type_that_may_be_null(rt: HostRuntime) {
-    let alloc = rt.alloc();
-    let boolean = MayBeNull {
-        type_: Boolean,
-        q_mark: Some(QMark),
-    };
-    let name = MayBeNull {
-        type_: Identifier("name"),
-        q_mark: None,
-    };
-    assert!(rt; ConstType::parse(alloc, "boolean?") == Ok(("", ConstType::Boolean(boolean))));
-    assert!(rt; ConstType::parse(alloc, "name") == Ok(("", ConstType::Identifier(name))));
-    assert!(rt;
-        matches!(
-            ConstType::parse(alloc, "octet"),
-            Ok(("", ConstType::Octet(_)))
-        )
-    );
-    assert!(rt;
-        matches!(
-            ConstType::parse(alloc, "byte"),
-            Ok(("", ConstType::Byte(_)))
-        )
-    );
-    assert!(rt;
-        matches!(
-            ConstType::parse(alloc, "short"),
-            Ok(("", ConstType::Integer(_)))
-        )
-    );
-    assert!(rt;
-        matches!(
-            ConstType::parse(alloc, "float"),
-            Ok(("", ConstType::FloatingPoint(_)))
-        )
-    );
+fn a_constant_has_a_type_that_may_be_null(rt: HostRuntime) -> Result<(), Fail> {
+    reads_copied::<ConstType>(
+        rt.alloc(),
+        &[
+            (
+                "boolean?",
+                "Boolean(MayBeNull { type_: Boolean, q_mark: Some(QMark) })",
+            ),
+            (
+                "name",
+                "Identifier(MayBeNull { type_: Identifier(\"name\"), q_mark: None })",
+            ),
+            ("octet", "Octet(MayBeNull { type_: Octet, q_mark: None })"),
+            ("byte", "Byte(MayBeNull { type_: Byte, q_mark: None })"),
+            (
+                "short",
+                "Integer(MayBeNull { type_: Short(ShortType { unsigned: None, short: Short }), q_mark: None })",
+            ),
+            (
+                "float",
+                "FloatingPoint(MayBeNull { type_: Float(FloatType { unrestricted: None, float: Float }), \
+                 q_mark: None })",
+            ),
+        ],
+    )?;
+    Ok(())
 }
 
 #[test]

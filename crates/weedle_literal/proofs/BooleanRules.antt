@@ -2,16 +2,16 @@
 use Rattle.std.specs.Prelude.{ℕ, List, ◌⊎◌, true, false, Some, None}
 use Rattle.std.specs.Borrow.{Bor}
 use Rattle.std.proofs.Common.{refl}
-use Rattle.weedle_rules.specs.Trees.{Mark, Alt}
-use Rattle.weedle_rules.specs.Table.Keywords.{TRUE, FALSE}
-use Rattle.weedle_rules.specs.Table.Literals.{BOOLEAN_LIT}
+use Rattle.weedle_grammar.specs.Trees.{Mark, Alt}
+use Rattle.weedle_grammar.specs.Table.Keywords.{TRUE, FALSE}
+use Rattle.weedle_grammar.specs.Table.Literals.{BOOLEAN_LIT}
 use Rattle.weedle_base.specs.declared.fault.Error.{Error}
 use Rattle.weedle_base.specs.declared.fault.Err.{Err as Fault}
 use Rattle.weedle_term.specs.declared.type_keywords.True.{True}
 use Rattle.weedle_term.specs.declared.type_keywords.False.{False}
 use Rattle.weedle_base.specs.Reading.{Reading, Got, Faults}
-use Rattle.weedle_base.specs.Generic.{option_reading}
-use Rattle.weedle_base.proofs.Choice.{choice_reading, choice_tree, choose_left, choose_right, end_left, end_right, first_last, first_more, first_rule}
+use Rattle.weedle_base.specs.Generic.{choice_reading, option_reading}
+use Rattle.weedle_base.proofs.Choice.{choice_tree, choose_left, choose_right, end_left, end_right, first_last, first_more, first_rule}
 use Rattle.weedle_base.specs.Own.{own}
 use Rattle.weedle_base.specs.Rules.{IsRule}
 use Rattle.weedle_base.proofs.RuleFacts.{own_rule, got_rule, fault_rule}

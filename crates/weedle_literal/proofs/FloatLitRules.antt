@@ -2,10 +2,10 @@
 use Rattle.std.specs.Prelude.{ℕ, List, ◌⊎◌}
 use Rattle.std.specs.Borrow.{Bor}
 use Rattle.std.proofs.Common.{refl, inl, inr}
-use Rattle.weedle_rules.specs.Trees.{Mark, Alt}
-use Rattle.weedle_rules.specs.Table.CapitalizedKeywords.{INFINITY, NAN, NEG_INFINITY}
-use Rattle.weedle_rules.specs.Table.Leaves.{FLOAT_VALUE_LIT}
-use Rattle.weedle_rules.specs.Table.Literals.{FLOAT_LIT}
+use Rattle.weedle_grammar.specs.Trees.{Mark, Alt}
+use Rattle.weedle_grammar.specs.Table.CapitalizedKeywords.{INFINITY, NAN, NEG_INFINITY}
+use Rattle.weedle_grammar.specs.Table.Leaves.{FLOAT_VALUE_LIT}
+use Rattle.weedle_grammar.specs.Table.Literals.{FLOAT_LIT}
 use Rattle.weedle_base.specs.declared.fault.Err.{Err as Fault}
 use Rattle.weedle_base.specs.declared.fault.Error.{Error}
 use Rattle.weedle_term.specs.declared.capitalized_keywords.Infinity.{Infinity}
@@ -14,7 +14,8 @@ use Rattle.weedle_term.specs.declared.capitalized_keywords.NegInfinity.{NegInfin
 use Rattle.weedle_base.specs.Own.{own}
 use Rattle.weedle_base.specs.Reading.{Reading, Got, Faults}
 use Rattle.weedle_base.specs.Rules.{IsRule}
-use Rattle.weedle_base.proofs.Choice.{choice_reading, choice_tree, first_last, first_more, first_rule, choice_steps}
+use Rattle.weedle_base.proofs.Choice.{choice_tree, first_last, first_more, first_rule, choice_steps}
+use Rattle.weedle_base.specs.Generic.{choice_reading}
 use Rattle.weedle_base.proofs.RuleFacts.{own_rule, got_rule, fault_rule}
 use Rattle.weedle_literal.specs.declared.float.FloatValueLit.{FloatValueLit}
 use Rattle.weedle_literal.specs.declared.float.FloatLit.{FloatLit}

@@ -4,12 +4,12 @@ use Rattle.std.proofs.Common.{refl, ap, ◌∙◌, arith}
 use Rattle.weedle_base.specs.Trivia.{Took, TookText}
 use Rattle.weedle_base.proofs.RuleFacts.{of_row}
 use Rattle.weedle_base.proofs.Steps.{rest_add}
-use Rattle.weedle_rules.specs.Rows.{Seq}
-use Rattle.weedle_rules.specs.Trees.{Text, Fails, Gives}
-use Rattle.weedle_rules.specs.Meaning.{Kept, by_seq}
-use Rattle.weedle_rules.specs.Table.{row_of, shape_of, Reads}
-use Rattle.weedle_rules.specs.Table.Trivia.{TRIVIA}
-use Rattle.weedle_rules.proofs.Suffix.{then_on, then_fails_on, fails, nothing, no_node}
+use Rattle.weedle_grammar.specs.Rows.{Seq}
+use Rattle.weedle_grammar.specs.Trees.{Text, Fails, Gives}
+use Rattle.weedle_grammar.specs.Meaning.{Kept, by_seq}
+use Rattle.weedle_grammar.specs.Table.{row_of, shape_of, Reads}
+use Rattle.weedle_grammar.specs.Table.Trivia.{TRIVIA}
+use Rattle.weedle_grammar.proofs.Suffix.{then_on, then_fails_on, fails, nothing, no_node}
 
 -- a rule that keeps the text of its middle part
 module _ {s start : List ℕ} (a : Took TRIVIA s [] start) {r t : ℕ} (row : row_of r ≡ Seq (TRIVIA ∷ t ∷ TRIVIA ∷ [])) where

@@ -3,14 +3,14 @@ use Rattle.std.specs.Prelude.{◌≡◌, ℕ, suc, ◌+◌, ◌-◌, List, [], �
 use Rattle.std.proofs.Common.{refl, sym, ap, ◌∙◌, subst, arith, drop-drop}
 use Rattle.std.proofs.lemmas.List.{drop_all}
 use Rattle.memchr.specs.Find.{IsFirstByte, is_byte}
-use Rattle.weedle_rules.specs.declared.class.Class.TheVariants.{NotQuote}
-use Rattle.weedle_rules.specs.Rows.{run_length, take_bytes}
-use Rattle.weedle_rules.specs.Trees.{Text, Fails, Gives}
-use Rattle.weedle_rules.specs.Meaning.{by_seq}
-use Rattle.weedle_rules.specs.Table.{Reads}
-use Rattle.weedle_rules.specs.Table.Trivia.{TRIVIA}
-use Rattle.weedle_rules.specs.Table.Leaves.{BYTES_QUOTE, RUN_NOT_QUOTE, STRING_LIT}
-use Rattle.weedle_rules.proofs.Suffix.{then_on, then_fails_on, then_fails, fails, nothing, no_node}
+use Rattle.weedle_grammar.specs.declared.class.Class.TheVariants.{NotQuote}
+use Rattle.weedle_grammar.specs.Rows.{run_length, take_bytes}
+use Rattle.weedle_grammar.specs.Trees.{Text, Fails, Gives}
+use Rattle.weedle_grammar.specs.Meaning.{by_seq}
+use Rattle.weedle_grammar.specs.Table.{Reads}
+use Rattle.weedle_grammar.specs.Table.Trivia.{TRIVIA}
+use Rattle.weedle_grammar.specs.Table.Leaves.{BYTES_QUOTE, RUN_NOT_QUOTE, STRING_LIT}
+use Rattle.weedle_grammar.proofs.Suffix.{then_on, then_fails_on, then_fails, fails, nothing, no_node}
 use Rattle.weedle_base.proofs.RuleFacts.{of_row}
 use Rattle.weedle_base.proofs.Steps.{rest_add}
 use Rattle.weedle_base.proofs.LeafFacts.{reads_bytes, reads_run, takes_some}

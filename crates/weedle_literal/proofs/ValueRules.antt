@@ -2,17 +2,18 @@
 use Rattle.std.specs.Prelude.{ℕ, List, ◌⊎◌}
 use Rattle.std.specs.Borrow.{Bor}
 use Rattle.std.proofs.Common.{refl, inl, inr}
-use Rattle.weedle_rules.specs.Trees.{Mark, Alt}
-use Rattle.weedle_rules.specs.Table.Keywords.{NULL}
-use Rattle.weedle_rules.specs.Table.Leaves.{STRING_LIT}
-use Rattle.weedle_rules.specs.Table.Literals.{BOOLEAN_LIT, INTEGER_LIT, FLOAT_LIT, EMPTY_ARRAY_LIT, EMPTY_DICTIONARY_LIT, DEFAULT_VALUE, CONST_VALUE}
+use Rattle.weedle_grammar.specs.Trees.{Mark, Alt}
+use Rattle.weedle_grammar.specs.Table.Keywords.{NULL}
+use Rattle.weedle_grammar.specs.Table.Leaves.{STRING_LIT}
+use Rattle.weedle_grammar.specs.Table.Literals.{BOOLEAN_LIT, INTEGER_LIT, FLOAT_LIT, EMPTY_ARRAY_LIT, EMPTY_DICTIONARY_LIT, DEFAULT_VALUE, CONST_VALUE}
 use Rattle.weedle_base.specs.declared.fault.Err.{Err as Fault}
 use Rattle.weedle_base.specs.declared.fault.Error.{Error}
 use Rattle.weedle_term.specs.declared.type_keywords.Null.{Null}
 use Rattle.weedle_base.specs.Own.{own}
 use Rattle.weedle_base.specs.Reading.{Reading, Got, Faults}
 use Rattle.weedle_base.specs.Rules.{IsRule}
-use Rattle.weedle_base.proofs.Choice.{choice_reading, choice_tree, first_last, first_more, first_rule, choice_steps}
+use Rattle.weedle_base.proofs.Choice.{choice_tree, first_last, first_more, first_rule, choice_steps}
+use Rattle.weedle_base.specs.Generic.{choice_reading}
 use Rattle.weedle_base.proofs.RuleFacts.{own_rule, got_rule, fault_rule}
 use Rattle.weedle_literal.specs.declared.boolean.BooleanLit.{BooleanLit}
 use Rattle.weedle_literal.specs.declared.empty.EmptyArrayLit.{EmptyArrayLit}

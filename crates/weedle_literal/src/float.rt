@@ -1,8 +1,8 @@
 //! Numbers with a point or an exponent, and the words among floats.
 
 ghost use Rattle.std.specs.Prelude.{◌≡◌, []};
-ghost use Rattle.weedle_rules.specs.Table.Leaves.{DIGITS, OPT_ONE_OF_SIGN, EXPONENT, OPT_EXPONENT, POINT_AFTER_DIGITS, POINT_BEFORE_DIGITS, POINT, POINT_FORM, EXPONENT_FORM, FLOAT_FORM, FLOAT_VALUE_LIT, FLOAT_VALUE_LIT_TEXT};
-ghost use Rattle.weedle_rules.specs.Table.Literals.{FLOAT_LIT};
+ghost use Rattle.weedle_grammar.specs.Table.Leaves.{DIGITS, OPT_ONE_OF_SIGN, EXPONENT, OPT_EXPONENT, POINT_AFTER_DIGITS, POINT_BEFORE_DIGITS, POINT, POINT_FORM, EXPONENT_FORM, FLOAT_FORM, FLOAT_VALUE_LIT, FLOAT_VALUE_LIT_TEXT};
+ghost use Rattle.weedle_grammar.specs.Table.Literals.{FLOAT_LIT};
 ghost use Rattle.weedle_base.specs.Own.{own};
 ghost use Rattle.weedle_base.specs.OwnLaws.{own_lawful};
 ghost use Rattle.weedle_base.specs.Trivia.{Took, Trial};
@@ -12,7 +12,7 @@ use crate::integer::skip_minus;
 use std::alloc::Global;
 use weedle_base::scan::{after_one, after_run, after_word, skip_trivia, taken};
 use weedle_base::{IResult, Parse, mismatch};
-use weedle_rules::{Class, Rule};
+use weedle_grammar::{Class, Rule};
 use weedle_term::{Infinity, NaN, NegInfinity};
 
 /// A number with a point or an exponent, as `-.5E+3`, `5.` or `1e3`. An exponent without digits is

@@ -1,8 +1,8 @@
 //! Whole numbers.
 
 ghost use Rattle.std.specs.Prelude.{◌≡◌, []};
-ghost use Rattle.weedle_rules.specs.Table.Leaves.{DEC_LIT, DEC_LIT_TEXT, HEX_LIT, HEX_LIT_TEXT, OCT_LIT, OCT_LIT_TEXT, OPT_BYTES_MINUS};
-ghost use Rattle.weedle_rules.specs.Table.Literals.{INTEGER_LIT};
+ghost use Rattle.weedle_grammar.specs.Table.Leaves.{DEC_LIT, DEC_LIT_TEXT, HEX_LIT, HEX_LIT_TEXT, OCT_LIT, OCT_LIT_TEXT, OPT_BYTES_MINUS};
+ghost use Rattle.weedle_grammar.specs.Table.Literals.{INTEGER_LIT};
 ghost use Rattle.weedle_base.specs.Own.{own};
 ghost use Rattle.weedle_base.specs.OwnLaws.{own_lawful};
 ghost use Rattle.weedle_base.specs.Trivia.{Took, Trial};
@@ -11,7 +11,7 @@ ghost use Rattle.weedle_literal.specs.LiteralTrees.{dec_tree, hex_tree, oct_tree
 use std::alloc::Global;
 use weedle_base::scan::{after_one, after_run, after_word, skip_trivia, taken};
 use weedle_base::{IResult, Parse, mismatch};
-use weedle_rules::{Class, Rule};
+use weedle_grammar::{Class, Rule};
 
 /// A decimal number, as `-12`: a digit other than `0` and any digits, perhaps behind a `-`. Anything
 /// else is a mismatch, as `012` is.

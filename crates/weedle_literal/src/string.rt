@@ -1,6 +1,6 @@
 //! Texts in quotes.
 
-ghost use Rattle.weedle_rules.specs.Table.Leaves.{STRING_LIT};
+ghost use Rattle.weedle_grammar.specs.Table.Leaves.{STRING_LIT};
 ghost use Rattle.weedle_base.specs.Own.{own};
 ghost use Rattle.weedle_base.specs.OwnLaws.{own_lawful};
 ghost use Rattle.weedle_literal.specs.LiteralTrees.{string_tree};
@@ -9,7 +9,7 @@ use memchr::memchr;
 use std::alloc::Global;
 use weedle_base::scan::{after_word, skip_trivia};
 use weedle_base::{IResult, Parse, mismatch};
-use weedle_rules::Rule;
+use weedle_grammar::Rule;
 
 /// A text in quotes, as `"blob"`. It holds what stands between them, in which nothing is an escape
 /// and a line may end. Without both quotes it is a mismatch.

@@ -2,7 +2,8 @@
 use Rattle.std.proofs.Common.{refl, inl, inr}
 use Rattle.std.specs.Borrow.{Bor}
 use Rattle.std.specs.Prelude.{ℕ, List, ◌⊎◌}
-use Rattle.weedle_base.proofs.Choice.{choice_reading, choice_tree, first_last, first_more, first_rule, choice_steps}
+use Rattle.weedle_base.proofs.Choice.{choice_tree, first_last, first_more, first_rule, choice_steps}
+use Rattle.weedle_base.specs.Generic.{choice_reading}
 use Rattle.weedle_base.proofs.RuleFacts.{mark, mark_rule, own_rule, got_rule, fault_rule}
 use Rattle.weedle_base.specs.Own.{own}
 use Rattle.weedle_base.specs.Reading.{Reading, Got, Faults}
@@ -21,10 +22,10 @@ use Rattle.weedle_parts.specs.declared.types.const_type.ConstType.TheVariants.{I
 use Rattle.weedle_parts.specs.declared.types.floating_point.FloatingPointType.{FloatingPointType}
 use Rattle.weedle_parts.specs.declared.types.integer.IntegerType.{IntegerType}
 use Rattle.weedle_parts.specs.declared.types.may_be_null.MayBeNull.{MayBeNull}
-use Rattle.weedle_rules.specs.Table.Keywords.{BOOLEAN, BYTE, OCTET}
-use Rattle.weedle_rules.specs.Table.Leaves.{IDENTIFIER}
-use Rattle.weedle_rules.specs.Table.SimpleTypes.{INTEGER_TYPE, FLOATING_POINT_TYPE, MAY_BE_NULL_INTEGER_TYPE, MAY_BE_NULL_FLOATING_POINT_TYPE, MAY_BE_NULL_BOOLEAN, MAY_BE_NULL_BYTE, MAY_BE_NULL_OCTET, MAY_BE_NULL_IDENTIFIER, CONST_TYPE}
-use Rattle.weedle_rules.specs.Trees.{Tree, Alt}
+use Rattle.weedle_grammar.specs.Table.Keywords.{BOOLEAN, BYTE, OCTET}
+use Rattle.weedle_grammar.specs.Table.Leaves.{IDENTIFIER}
+use Rattle.weedle_grammar.specs.Table.SimpleTypes.{INTEGER_TYPE, FLOATING_POINT_TYPE, MAY_BE_NULL_INTEGER_TYPE, MAY_BE_NULL_FLOATING_POINT_TYPE, MAY_BE_NULL_BOOLEAN, MAY_BE_NULL_BYTE, MAY_BE_NULL_OCTET, MAY_BE_NULL_IDENTIFIER, CONST_TYPE}
+use Rattle.weedle_grammar.specs.Trees.{Tree, Alt}
 
 -- the readings of the six, one after the other fails
 abbrev const_type_parts : Reading (MayBeNull IntegerType ⊎ (MayBeNull FloatingPointType ⊎ (MayBeNull Boolean ⊎ (MayBeNull Byte ⊎ (MayBeNull Octet ⊎ MayBeNull Identifier)))))

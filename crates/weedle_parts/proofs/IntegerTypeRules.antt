@@ -3,9 +3,9 @@ use Rattle.weedle_base.proofs.Steps.{part_steps}
 use Rattle.std.proofs.Common.{refl, inl, inr}
 use Rattle.std.specs.Borrow.{Bor}
 use Rattle.std.specs.Prelude.{ℕ, List, [], ◌∷◌, ◌⊎◌, Option}
-use Rattle.weedle_base.proofs.Choice.{choice_reading, choice_tree, first_last, first_more, first_rule, choice_steps}
+use Rattle.weedle_base.proofs.Choice.{choice_tree, first_last, first_more, first_rule, choice_steps}
+use Rattle.weedle_base.specs.Generic.{choice_reading, option_reading, pair_reading}
 use Rattle.weedle_base.proofs.RuleFacts.{mark, mark_rule, own_rule, option_rule, pair_rule, got_rule, fault_rule}
-use Rattle.weedle_base.specs.Generic.{pair_reading, option_reading}
 use Rattle.weedle_base.specs.Own.{own}
 use Rattle.weedle_base.specs.Reading.{Reading, Got, Faults}
 use Rattle.weedle_base.specs.Rules.{IsRule, option_tree, mark_tree}
@@ -20,9 +20,9 @@ use Rattle.weedle_parts.specs.declared.types.integer.IntegerType.TheVariants.{Lo
 use Rattle.weedle_parts.specs.declared.types.integer.LongLongType.{LongLongType}
 use Rattle.weedle_parts.specs.declared.types.integer.LongType.{LongType}
 use Rattle.weedle_parts.specs.declared.types.integer.ShortType.{ShortType}
-use Rattle.weedle_rules.specs.Table.Keywords.{LONG, SHORT, UNSIGNED}
-use Rattle.weedle_rules.specs.Table.SimpleTypes.{OPT_UNSIGNED, LONG_LONG, LONG_LONG_TYPE, LONG_TYPE, SHORT_TYPE, INTEGER_TYPE}
-use Rattle.weedle_rules.specs.Trees.{Mark, Node, Alt, trees}
+use Rattle.weedle_grammar.specs.Table.Keywords.{LONG, SHORT, UNSIGNED}
+use Rattle.weedle_grammar.specs.Table.SimpleTypes.{OPT_UNSIGNED, LONG_LONG, LONG_LONG_TYPE, LONG_TYPE, SHORT_TYPE, INTEGER_TYPE}
+use Rattle.weedle_grammar.specs.Trees.{Mark, Node, Alt, trees}
 
 abbrev unsigned_reading : Reading (Option Unsigned)
 unsigned_reading = option_reading (mark UNSIGNED)

@@ -7,12 +7,12 @@ use Rattle.weedle_base.specs.Rules.{IsRule}
 use Rattle.weedle_parts.specs.Brackets.{bracket_reading, parenthesized_view, parenthesized_reading, bracketed_view, bracketed_reading, braced_view, braced_reading, generics_view, generics_reading}
 use Rattle.weedle_parts.specs.MayBeNull.{may_be_null_reading}
 use Rattle.weedle_parts.specs.ValueTrees.{bracket_tree, parenthesized_tree, bracketed_tree, braced_tree, generics_tree, may_be_null_tree}
-use Rattle.weedle_rules.specs.Meaning.{Plain}
-use Rattle.weedle_rules.specs.Rows.{Seq}
-use Rattle.weedle_rules.specs.Table.{row_of, shape_of}
-use Rattle.weedle_rules.specs.Table.SimpleTypes.{OPT_Q_MARK}
-use Rattle.weedle_rules.specs.Table.Symbols.{OPEN_PAREN, CLOSE_PAREN, OPEN_BRACKET, CLOSE_BRACKET, OPEN_BRACE, CLOSE_BRACE, LESS_THAN, GREATER_THAN, Q_MARK}
-use Rattle.weedle_rules.specs.Trees.{Tree}
+use Rattle.weedle_grammar.specs.Meaning.{Plain}
+use Rattle.weedle_grammar.specs.Rows.{Seq}
+use Rattle.weedle_grammar.specs.Table.{row_of, shape_of}
+use Rattle.weedle_grammar.specs.Table.SimpleTypes.{OPT_Q_MARK}
+use Rattle.weedle_grammar.specs.Table.Symbols.{OPEN_PAREN, CLOSE_PAREN, OPEN_BRACKET, CLOSE_BRACKET, OPEN_BRACE, CLOSE_BRACE, LESS_THAN, GREATER_THAN, Q_MARK}
+use Rattle.weedle_grammar.specs.Trees.{Tree}
 
 module _ {T : Type 0} {R : Reading T} {x : ℕ} {tree : T → Tree} {grows : Type 0} (rule : IsRule R x tree grows) (r : ℕ) where
   bracket_rule : {O C B : Type 0} (left right : ℕ) (view : B → O × (T × C)) → row_of r ≡ Seq (left ∷ x ∷ right ∷ []) → shape_of r ≡ Plain

@@ -15,8 +15,8 @@ use Rattle.weedle_parts.specs.declared.common.brackets.Parenthesized.{Parenthesi
 use Rattle.weedle_parts.specs.declared.common.brackets.Bracketed.{Bracketed}
 use Rattle.weedle_parts.specs.declared.common.brackets.Braced.{Braced}
 use Rattle.weedle_parts.specs.declared.common.brackets.Generics.{Generics}
-use Rattle.weedle_rules.specs.Table.Symbols.{OPEN_PAREN, CLOSE_PAREN, OPEN_BRACKET, CLOSE_BRACKET, OPEN_BRACE, CLOSE_BRACE, LESS_THAN, GREATER_THAN}
-use Rattle.weedle_rules.specs.Trees.{Mark}
+use Rattle.weedle_grammar.specs.Table.Symbols.{OPEN_PAREN, CLOSE_PAREN, OPEN_BRACKET, CLOSE_BRACKET, OPEN_BRACE, CLOSE_BRACE, LESS_THAN, GREATER_THAN}
+use Rattle.weedle_grammar.specs.Trees.{Mark}
 
 -- Between brackets of the rules left and right, a body that R reads; `view` sees the whole as its three parts.
 module _ {O C T B : Type 0} (left right : ℕ) (view : B → O × (T × C)) (R : Reading T) where

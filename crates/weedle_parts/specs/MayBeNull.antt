@@ -5,8 +5,8 @@ use Rattle.weedle_base.specs.Own.{own}
 use Rattle.weedle_base.specs.Reading.{Reading}
 use Rattle.weedle_term.specs.declared.symbols.QMark.{QMark}
 use Rattle.weedle_parts.specs.declared.types.may_be_null.MayBeNull.{MayBeNull}
-use Rattle.weedle_rules.specs.Table.Symbols.{Q_MARK}
-use Rattle.weedle_rules.specs.Trees.{Mark}
+use Rattle.weedle_grammar.specs.Table.Symbols.{Q_MARK}
+use Rattle.weedle_grammar.specs.Trees.{Mark}
 
 -- a question mark, or nothing
 abbrev pub q_mark_reading : Reading (Option QMark)

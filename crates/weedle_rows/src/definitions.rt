@@ -1,14 +1,10 @@
 //! What is read of texts.
 
-use std::alloc::{AllocError, Global};
+use std::alloc::Global;
 use std::process::Abort;
 use std::test::Fail;
-use weedle::common::{Braced, Identifier};
-use weedle::interface::{AttributeInterfaceMember, InterfaceMember};
-use weedle::{
-    Definition, Definitions, Err, ErrorKind, InterfaceDefinition, Parse, kind_of, name_of, parse,
-    term,
-};
+use weedle::{Definitions, Err, ErrorKind, kind_of, name_of, parse};
+use weedle_answers::{Unlike, reads_whole};
 
 const WINDOW: &str = "interface Window { readonly attribute Storage sessionStorage; };";
 
@@ -18,42 +14,51 @@ const WINDOW_IN_LINES: &str = "
     };
 ";
 
-fn attribute<'a>(
-    readonly: Option<term::ReadOnly>,
-    type_: &'a str,
-    identifier: &'a str,
-) -> InterfaceMember<'a> {
-    InterfaceMember::Attribute(AttributeInterfaceMember {
-        readonly,
-        attribute: term::Attribute,
-        type_: Identifier(type_),
-        identifier: Identifier(identifier),
-        semi_colon: term::SemiColon,
-    })
+// What both texts hold.
+const WINDOW_VALUE: &str = "\
+    [Interface(InterfaceDefinition { docstring: None, attributes: None, interface: Interface, \
+    identifier: Identifier(\"Window\"), inheritance: None, \
+    members: BracedInterfaceMembers { open_brace: OpenBrace, \
+    body: [Attribute(AttributeInterfaceMember { attributes: None, modifier: None, \
+    readonly: Some(ReadOnly), attribute: Attribute, \
+    type_: AttributedType { attributes: None, type_: Single(NonAny(Identifier(MayBeNull { \
+    type_: Identifier(\"Storage\"), q_mark: None }))) }, \
+    identifier: Identifier(\"sessionStorage\"), semi_colon: SemiColon })], \
+    close_brace: CloseBrace }, semi_colon: SemiColon })]";
+
+/// A definition of each kind.
+pub const KINDS: &str = "\
+callback C = undefined ();
+callback interface D {};
+interface E {};
+interface mixin F {};
+namespace G {};
+dictionary H {};
+partial interface I {};
+partial interface mixin J {};
+partial dictionary K {};
+partial namespace L {};
+enum M {\"m\"};
+typedef long N;
+O includes P;
+Q implements R;
+";
+
+/// Checks that each whole text is read as these definitions, by `parse` and by their type.
+pub fn reads_all<'a>(alloc: Global, rows: &[(&'a str, &str)]) -> Result<(), Unlike<'a>> {
+    for (text, value) in rows {
+        reads_whole::<Definitions<'_>>(alloc, text, parse(alloc, text), value)?;
+    }
+    Ok(())
 }
 
-fn interface<'a>(
-    alloc: Global,
-    identifier: &'a str,
-    members: &[InterfaceMember<'a>],
-) -> Result<Definition<'a>, AllocError> {
-    let mut body = Vec::new(alloc);
-    body.extend_from_slice(members)?;
-    Ok(Definition::Interface(InterfaceDefinition {
-        interface: term::Interface,
-        identifier: Identifier(identifier),
-        members: Braced {
-            open_brace: term::OpenBrace,
-            body,
-            close_brace: term::CloseBrace,
-        },
-        semi_colon: term::SemiColon,
-    }))
-}
-
-fn window(alloc: Global) -> Result<Definitions<'static>, AllocError> {
-    let member = attribute(Some(term::ReadOnly), "Storage", "sessionStorage");
-    Ok(vec![in alloc; interface(alloc, "Window", &[member])?]?)
+/// The kinds and names of a text's definitions.
+pub fn titles(alloc: Global, text: &str) -> Result<Vec<(&'static str, &str)>, Fail> {
+    let mut titles = Vec::new(alloc);
+    for definition in parse(alloc, text)? {
+        titles.push((kind_of(&definition), name_of(&definition)))?;
+    }
+    Ok(titles)
 }
 
 // The rest that is left of a text that is not read whole.
@@ -70,28 +75,157 @@ fn rest_of<'a>(rt: &impl Abort, alloc: Global, text: &'a str) -> Option<&'a str>
 
 #[test]
 fn reads_an_interface(rt: HostRuntime) -> Result<(), Fail> {
-    let alloc = rt.alloc();
-    let expected = window(alloc)?;
-    assert!(rt; parse(alloc, WINDOW)? == expected);
-    assert!(rt; parse(alloc, WINDOW_IN_LINES)? == expected);
-    let (rest, definitions) = Definitions::parse(alloc, WINDOW_IN_LINES)?;
-    assert!(rt; definitions == expected);
-    assert_eq!(rt; rest, "");
+    reads_all(
+        rt.alloc(),
+        &[(WINDOW, WINDOW_VALUE), (WINDOW_IN_LINES, WINDOW_VALUE)],
+    )?;
     Ok(())
 }
 
 #[test]
 fn reads_texts_whole(rt: HostRuntime) -> Result<(), Fail> {
-    let alloc = rt.alloc();
-    let one = vec![in alloc; interface(alloc, "A", &[])?]?;
-    assert!(rt; parse(alloc, "")?.is_empty());
-    assert!(rt; parse(alloc, "/*/*/interface A {};")? == one);
-    assert!(rt; parse(alloc, "/**/interface A {};")? == one);
-    assert!(rt; parse(alloc, "interface A {}; // end")? == one);
-    let named_mixin = vec![in alloc; interface(alloc, "mixin", &[])?]?;
-    assert!(rt; parse(alloc, "interface mixin {};")? == named_mixin);
-    let with_long = vec![in alloc; interface(alloc, "A", &[attribute(None, "long", "x")])?]?;
-    assert!(rt; parse(alloc, "interface A { attribute long x; };")? == with_long);
+    reads_all(
+        rt.alloc(),
+        &[
+            ("", "[]"),
+            (
+                "/*/*/interface A {};",
+                "[Interface(InterfaceDefinition { docstring: None, attributes: None, \
+                 interface: Interface, identifier: Identifier(\"A\"), inheritance: None, \
+                 members: BracedInterfaceMembers { open_brace: OpenBrace, body: [], \
+                 close_brace: CloseBrace }, semi_colon: SemiColon })]",
+            ),
+            (
+                "/**/interface A {};",
+                "[Interface(InterfaceDefinition { docstring: None, attributes: None, \
+                 interface: Interface, identifier: Identifier(\"A\"), inheritance: None, \
+                 members: BracedInterfaceMembers { open_brace: OpenBrace, body: [], \
+                 close_brace: CloseBrace }, semi_colon: SemiColon })]",
+            ),
+            (
+                "interface A {}; // end",
+                "[Interface(InterfaceDefinition { docstring: None, attributes: None, \
+                 interface: Interface, identifier: Identifier(\"A\"), inheritance: None, \
+                 members: BracedInterfaceMembers { open_brace: OpenBrace, body: [], \
+                 close_brace: CloseBrace }, semi_colon: SemiColon })]",
+            ),
+            (
+                "interface mixin {};",
+                "[Interface(InterfaceDefinition { docstring: None, attributes: None, \
+                 interface: Interface, identifier: Identifier(\"mixin\"), inheritance: None, \
+                 members: BracedInterfaceMembers { open_brace: OpenBrace, body: [], \
+                 close_brace: CloseBrace }, semi_colon: SemiColon })]",
+            ),
+            (
+                "interface A { attribute long x; };",
+                "[Interface(InterfaceDefinition { docstring: None, attributes: None, \
+                 interface: Interface, identifier: Identifier(\"A\"), inheritance: None, \
+                 members: BracedInterfaceMembers { open_brace: OpenBrace, \
+                 body: [Attribute(AttributeInterfaceMember { attributes: None, modifier: None, \
+                 readonly: None, attribute: Attribute, \
+                 type_: AttributedType { attributes: None, \
+                 type_: Single(NonAny(Integer(MayBeNull { \
+                 type_: Long(LongType { unsigned: None, long: Long }), q_mark: None }))) }, \
+                 identifier: Identifier(\"x\"), semi_colon: SemiColon })], \
+                 close_brace: CloseBrace }, semi_colon: SemiColon })]",
+            ),
+        ],
+    )?;
+    Ok(())
+}
+
+#[test]
+fn a_docstring_stands_where_the_grammar_has_one(rt: HostRuntime) -> Result<(), Fail> {
+    reads_all(
+        rt.alloc(),
+        &[
+            (
+                "interface A {}; // c\n///d\ninterface B {};",
+                "[Interface(InterfaceDefinition { docstring: None, attributes: None, \
+                 interface: Interface, identifier: Identifier(\"A\"), inheritance: None, \
+                 members: BracedInterfaceMembers { open_brace: OpenBrace, body: [], \
+                 close_brace: CloseBrace }, semi_colon: SemiColon }), \
+                 Interface(InterfaceDefinition { docstring: Some(Docstring(\"d\")), \
+                 attributes: None, interface: Interface, identifier: Identifier(\"B\"), \
+                 inheritance: None, members: BracedInterfaceMembers { open_brace: OpenBrace, \
+                 body: [], close_brace: CloseBrace }, semi_colon: SemiColon })]",
+            ),
+            (
+                "interface A { ///d\n void f(); };",
+                "[Interface(InterfaceDefinition { docstring: None, attributes: None, \
+                 interface: Interface, identifier: Identifier(\"A\"), inheritance: None, \
+                 members: BracedInterfaceMembers { open_brace: OpenBrace, \
+                 body: [Operation(OperationInterfaceMember { docstring: Some(Docstring(\"d\")), \
+                 attributes: None, modifier: None, special: None, \
+                 return_type: Type_(Single(NonAny(Identifier(MayBeNull { \
+                 type_: Identifier(\"void\"), q_mark: None })))), \
+                 identifier: Some(Identifier(\"f\")), \
+                 args: ParenthesizedArgumentList { open_paren: OpenParen, \
+                 body: Punctuated { list: [], separator: Comma }, close_paren: CloseParen }, \
+                 semi_colon: SemiColon })], close_brace: CloseBrace }, semi_colon: SemiColon })]",
+            ),
+        ],
+    )?;
+    Ok(())
+}
+
+#[test]
+fn an_enum_has_a_value_and_may_end_in_a_comma(rt: HostRuntime) -> Result<(), Fail> {
+    reads_all(
+        rt.alloc(),
+        &[(
+            "enum E {\"a\",\"b\",};",
+            "[Enum(EnumDefinition { docstring: None, attributes: None, enum_: Enum, \
+             identifier: Identifier(\"E\"), values: Braced { open_brace: OpenBrace, \
+             body: PunctuatedNonEmpty { list: [EnumVariant { docstring: None, \
+             value: StringLit(\"a\") }, EnumVariant { docstring: None, \
+             value: StringLit(\"b\") }], separator: Comma }, close_brace: CloseBrace }, \
+             semi_colon: SemiColon })]",
+        )],
+    )?;
+    Ok(())
+}
+
+#[test]
+fn a_keyword_may_be_a_name(rt: HostRuntime) -> Result<(), Fail> {
+    reads_all(
+        rt.alloc(),
+        &[
+            (
+                "interface mixin M {};",
+                "[InterfaceMixin(InterfaceMixinDefinition { attributes: None, \
+                 interface: Interface, mixin: Mixin, identifier: Identifier(\"M\"), \
+                 members: BracedMixinMembers { open_brace: OpenBrace, body: [], \
+                 close_brace: CloseBrace }, semi_colon: SemiColon })]",
+            ),
+            (
+                "interface includes B;",
+                "[IncludesStatement(IncludesStatementDefinition { attributes: None, \
+                 lhs_identifier: Identifier(\"interface\"), includes: Includes, \
+                 rhs_identifier: Identifier(\"B\"), semi_colon: SemiColon })]",
+            ),
+        ],
+    )?;
+    Ok(())
+}
+
+#[test]
+fn a_callback_has_arguments(rt: HostRuntime) -> Result<(), Fail> {
+    reads_all(
+        rt.alloc(),
+        &[(
+            "callback F = undefined (long x);",
+            "[Callback(CallbackDefinition { attributes: None, callback: Callback, \
+             identifier: Identifier(\"F\"), assign: Assign, return_type: Undefined(Undefined), \
+             arguments: ParenthesizedArgumentList { open_paren: OpenParen, \
+             body: Punctuated { list: [Single(SingleArgument { attributes: None, \
+             optional: None, type_: AttributedType { attributes: None, \
+             type_: Single(NonAny(Integer(MayBeNull { \
+             type_: Long(LongType { unsigned: None, long: Long }), q_mark: None }))) }, \
+             identifier: Identifier(\"x\"), default: None })], separator: Comma }, \
+             close_paren: CloseParen }, semi_colon: SemiColon })]",
+        )],
+    )?;
     Ok(())
 }
 
@@ -101,21 +235,6 @@ fn leaves_the_rest(rt: HostRuntime) {
         ("  ", 0, "  "),
         ("interface A {}; ///d", 16, "///d"),
         ("interface A {};interface B {}", 15, "interface B {}"),
-        ("// c", 0, "// c"),
-        ("// c\n", 0, "// c\n"),
-        ("interface 9 {};", 0, "interface 9 {};"),
-        ("/*/interface A {};", 0, "/*/interface A {};"),
-        ("interface É {};", 0, "interface É {};"),
-        (
-            "interface A { readonly attribute x; };",
-            0,
-            "interface A { readonly attribute x; };",
-        ),
-        (
-            "interface A {}; // c\n///d\ninterface B {};",
-            21,
-            "///d\ninterface B {};",
-        ),
     ];
     for (text, place, rest) in table {
         assert_eq!(rt; rest_of(&rt, rt.alloc(), text), Some(rest), "of {text:?}");
@@ -124,10 +243,49 @@ fn leaves_the_rest(rt: HostRuntime) {
 }
 
 #[test]
+fn leaves_the_whole_text(rt: HostRuntime) {
+    let table = [
+        "// c",
+        "// c\n",
+        "interface 9 {};",
+        "/*/interface A {};",
+        "interface É {};",
+        "interface A { readonly attribute x; };",
+        "interface A { ///d\n attribute long x; };",
+        "enum E {};",
+        "// c\n///d\ninterface A {};",
+    ];
+    for text in table {
+        assert_eq!(rt; rest_of(&rt, rt.alloc(), text), Some(text), "of {text:?}");
+    }
+}
+
+#[test]
 fn names_a_definition(rt: HostRuntime) -> Result<(), Fail> {
-    let definitions = parse(rt.alloc(), "interface _Window {};")?;
-    assert_eq!(rt; definitions.len(), 1);
-    assert_eq!(rt; kind_of(&definitions[0]), "interface");
-    assert_eq!(rt; name_of(&definitions[0]), "Window");
+    let titles = titles(rt.alloc(), "interface _Window {};")?;
+    assert!(rt; titles.as_slice() == [("interface", "Window")].as_slice());
+    Ok(())
+}
+
+#[test]
+fn names_the_fourteen_kinds(rt: HostRuntime) -> Result<(), Fail> {
+    let table = [
+        ("callback", "C"),
+        ("callback interface", "D"),
+        ("interface", "E"),
+        ("interface mixin", "F"),
+        ("namespace", "G"),
+        ("dictionary", "H"),
+        ("partial interface", "I"),
+        ("partial interface mixin", "J"),
+        ("partial dictionary", "K"),
+        ("partial namespace", "L"),
+        ("enum", "M"),
+        ("typedef", "N"),
+        ("includes", "O"),
+        ("implements", "Q"),
+    ];
+    let titles = titles(rt.alloc(), KINDS)?;
+    assert!(rt; titles.as_slice() == table.as_slice());
     Ok(())
 }

@@ -1,15 +1,17 @@
-//! Tests of generic parts, definitions and the program: worked examples whose answers come from outside.
+//! Tests of members, definitions and the program: worked examples whose answers come from outside.
 #![tactic(auto)]
 
 #[cfg(test)]
 mod definitions;
 #[cfg(test)]
-mod generic_parts;
+mod members;
+#[cfg(test)]
+mod orders;
 #[cfg(test)]
 mod program;
 #[cfg(test)]
 mod readme;
 #[cfg(test)]
-mod standard;
+mod real_text;
 #[cfg(test)]
-mod users;
+mod spelling;

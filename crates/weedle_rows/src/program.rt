@@ -1,10 +1,29 @@
 //! What a run writes of texts.
 
+use crate::definitions::KINDS;
 use std::alloc::Global;
 use std::io;
 use std::io::{ErrorKind, Read, Write};
 use std::test::Fail;
 use weedle::{RunFault, Status, run};
+
+const REPORT_OF_KINDS: &str = "\
+callback C
+callback interface D
+interface E
+interface mixin F
+namespace G
+dictionary H
+partial interface I
+partial interface mixin J
+partial dictionary K
+partial namespace L
+enum M
+typedef N
+includes O
+implements Q
+definitions 14
+";
 
 // Gives at most so many bytes a call.
 #[derive(Drop)]
@@ -79,6 +98,13 @@ fn reports_what_is_read_and_what_is_left(rt: HostRuntime) -> Result<(), Fail> {
             Status::Read,
             "interface A\ninterface B\ndefinitions 2\n",
         ),
+        (
+            "interface A {};\nenum E {\"a\"};",
+            Status::Read,
+            "interface A\nenum E\ndefinitions 2\n",
+        ),
+        ("A includes B;", Status::Read, "includes A\ndefinitions 1\n"),
+        (KINDS, Status::Read, REPORT_OF_KINDS),
         ("  ", Status::Unread, "unread at byte 0\n"),
         ("interface A {};}", Status::Unread, "unread at byte 15\n"),
         (
@@ -95,7 +121,7 @@ fn reports_what_is_read_and_what_is_left(rt: HostRuntime) -> Result<(), Fail> {
     for (text, status, report) in table {
         for most in [1, 100] {
             let mut reader = short_reader(text.as_bytes(), most);
-            let mut writer = short_writer(rt.alloc(), most, 100);
+            let mut writer = short_writer(rt.alloc(), most, 1_000);
             assert_eq!(rt;
                 run(rt.alloc(), &mut reader, &mut writer),
                 Ok(status),

@@ -2,18 +2,27 @@
 
 use std::alloc::Global;
 use std::test::Fail;
+use weedle::interface::InterfaceMember;
 use weedle::{Definition, Err, parse};
 use weedle_base::{IResult, Parse};
 use weedle_parts::common::{Identifier, Punctuated};
 use weedle_term::Comma;
 
-/// The names of a text's definitions, or where the text is unread, or that memory was refused.
-fn describe<'a>(alloc: Global, text: &'a str) -> &'a str {
+/// The first attribute of a text's interfaces, or where the text is unread, or that memory was refused.
+fn first_attribute(alloc: Global, text: &str) -> &str {
     match parse(alloc, text) {
-        Ok(definitions) => match definitions.first() {
-            Some(Definition::Interface(interface)) => interface.identifier.0,
-            None => "nothing",
-        },
+        Ok(definitions) => {
+            for definition in definitions {
+                if let Definition::Interface(interface) = &definition {
+                    for member in &interface.members.body {
+                        if let InterfaceMember::Attribute(attribute) = member {
+                            return attribute.identifier.0;
+                        }
+                    }
+                }
+            }
+            "no attribute"
+        }
         Err(Err::Error(left)) => left.input,
         Err(Err::Failure(_)) => "out of memory",
     }
@@ -27,9 +36,10 @@ fn count(alloc: Global, text: &str) -> IResult<&str, usize> {
 
 #[test]
 fn a_text_is_read_or_left(rt: HostRuntime) -> Result<(), Fail> {
-    let text = "interface Window { readonly attribute Storage sessionStorage; };";
-    assert!(rt; describe(rt.alloc(), text) == "Window");
-    assert!(rt; describe(rt.alloc(), "interface A") == "interface A");
+    let text =
+        "[Exposed=Window] interface Window : EventTarget { readonly attribute Storage sessionStorage; };";
+    assert!(rt; first_attribute(rt.alloc(), text) == "sessionStorage");
+    assert!(rt; first_attribute(rt.alloc(), "interface A") == "interface A");
     assert!(rt; count(rt.alloc(), "a, b ,") == Ok((",", 2)));
     Ok(())
 }

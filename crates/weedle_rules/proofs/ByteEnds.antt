@@ -3,13 +3,13 @@ use Rattle.std.proofs.Common.{◌≡◌, ◌≢◌, inl, inr, ℕ, suc, ◌+◌,
 use Rattle.std.specs.Prelude.{option_map, slice_get, ◌==◌}
 use Rattle.std.proofs.lemmas.Bool.Decides.{eqb_tells}
 use Rattle.std.proofs.lemmas.Bool.{cases_lt}
-use Rattle.weedle_rules.specs.Rows.{Bytes, OneOf, NotNext, Run, Past, take_past, run_length, is_in, begins}
-use Rattle.weedle_rules.specs.declared.class.Class.{Class}
-use Rattle.weedle_rules.proofs.Leaves.{begins_le}
+use Rattle.weedle_grammar.specs.Rows.{Bytes, OneOf, NotNext, Run, Past, take_past, run_length, is_in, begins}
+use Rattle.weedle_grammar.specs.declared.class.Class.{Class}
+use Rattle.weedle_grammar.proofs.Leaves.{begins_le}
 use Rattle.std.proofs.Math.Seq.{drop-cons}
 use Rattle.std.proofs.lemmas.Option.{slice_get_within, get_or_from_slice_get, slice_get-get_or}
 use Rattle.std.proofs.lemmas.List.{length-drop}
-use Rattle.weedle_rules.specs.Table.{webidl}
+use Rattle.weedle_grammar.specs.Table.{webidl}
 use Rattle.weedle_rules.proofs.RowEnds.{RowEnds, bytes_ends, one_ends, not_next_ends, run_ends, past_ends, run_end_is, past_end_is}
 use Rattle.weedle_rules.proofs.ListFrom.{parts_from, past_end}
 

@@ -2,15 +2,15 @@
 use Rattle.std.proofs.Common.{◌≡◌, ◌≢◌, ◌⊎◌, inl, inr, ℕ, zero, suc, ◌+◌, ◌++◌, ◌-◌, ◌<◌, ◌≤◌, List, [], ◌∷◌, length, map, Bool, true, false, Option, Some, None, refl, ap, sym, subst, ◌∙◌, arith}
 use Rattle.std.specs.Prelude.{◌==◌, nat_le, not, if◌then◌else◌}
 use Rattle.std.proofs.lemmas.Bool.{cases_lt}
-use Rattle.weedle_rules.specs.Bound.{rule_count}
-use Rattle.weedle_rules.specs.Rows.{Opt, If}
-use Rattle.weedle_rules.specs.Trees.{Tree, Mark, Absent, Present, Outcome, Fails, Gives}
-use Rattle.weedle_rules.specs.Meaning.{Grammar, Marked, Plain, Piece, piece, Breaks, Yields, ReadsBy, ReadsSeq, by_row, if_fails, if_absent, if_present, seq_end, seq_fails, seq_more, shaped, raw_of, opted, before, with_piece, gave_some, is_present, given_of, last_end}
+use Rattle.weedle_grammar.specs.Bound.{rule_count}
+use Rattle.weedle_grammar.specs.Rows.{Opt, If}
+use Rattle.weedle_grammar.specs.Trees.{Tree, Mark, Absent, Present, Outcome, Fails, Gives}
+use Rattle.weedle_grammar.specs.Meaning.{Grammar, Marked, Plain, Piece, piece, Breaks, Yields, ReadsBy, ReadsSeq, by_row, if_fails, if_absent, if_present, seq_end, seq_fails, seq_more, shaped, raw_of, opted, before, with_piece, gave_some, is_present, given_of, last_end}
 use Rattle.weedle_rules.specs.Cells.{EndsBy, cell_number}
-use Rattle.weedle_rules.proofs.Ranked.{is_ranked, low_parts}
-use Rattle.weedle_rules.proofs.Leaves.{both, one_of}
-use Rattle.weedle_rules.proofs.Inversion.{at_row, of_opt}
-use Rattle.weedle_rules.proofs.Exists.{grows, stays_inside, advances, seq_advances}
+use Rattle.weedle_grammar.proofs.Ranked.{is_ranked, low_parts}
+use Rattle.weedle_grammar.proofs.Leaves.{both, one_of}
+use Rattle.weedle_grammar.proofs.Inversion.{at_row, of_opt}
+use Rattle.weedle_grammar.proofs.Exists.{grows, stays_inside, advances, seq_advances}
 use Rattle.std.proofs.lemmas.Bool.Decides.{leb_tells}
 use Rattle.weedle_rules.proofs.RowEnds.{is_before, pieces_end, piece_end, before_end, raw_of_end, RowEnds, gave, failed}
 use Rattle.weedle_rules.proofs.PartEnds.{below, low_row}
@@ -70,7 +70,7 @@ module _ (G : Grammar) (text : List ℕ) where
     where
       by : (o : Option (List Piece)) → ReadsSeq G text parts p o → Some q ≡ pieces_end p o → ((ps : List Piece) → o ≡ Some ps → noted (inl k) ps ≡ false) → RowEnds G text (If parts k y) p (Some q)
       by None d e f = cc
-      by (Some ps) d e f = record { raw = Yields (given_of ps ++ Rattle.weedle_rules.specs.Trees.Tree.Absent ∷ []) [] (last_end p ps); reads = if_absent d (f ps refl) refl; is = e }
+      by (Some ps) d e f = record { raw = Yields (given_of ps ++ Rattle.weedle_grammar.specs.Trees.Tree.Absent ∷ []) [] (last_end p ps); reads = if_absent d (f ps refl) refl; is = e }
 
   pub if_ends_present : (parts : List ℕ) (k y p q : ℕ) (e : Option ℕ) → NoteEnds (inl k) parts p (Some q) true → EndsBy G text y q e → RowEnds G text (If parts k y) p e
   if_ends_present parts k y p q e h m = by h.pieces h.reads h.is h.note_is

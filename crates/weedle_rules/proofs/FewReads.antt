@@ -2,13 +2,14 @@
 use Rattle.std.proofs.Common.{◌≡◌, ℕ, zero, suc, ◌<◌, List, [], ◌∷◌, length, get_or, Bool, true, false, refl, subst, arith}
 use Rattle.std.specs.Prelude.{◌&&◌, nat_lt}
 use borrow.Author.Tests.{ltb-true}
-use Rattle.weedle_rules.specs.Rows.{Row, Bytes, OneOf, NotNext, Run, Past, Seq, First, Opt, Many, ListOf, List1, Tail, If}
-use Rattle.weedle_rules.specs.Entry.{Entry, entry_at}
-use Rattle.weedle_rules.specs.Table.{table, row_of, shape_of}
-use Rattle.weedle_rules.specs.Meaning.{Shape, Silent, Marked, Kept, Line, Joined, Inner, Plain}
-use Rattle.weedle_rules.proofs.Takes.{takes}
-use Rattle.weedle_rules.specs.Bound.{rule_count, most_reads}
-use Rattle.weedle_rules.proofs.Leaves.{both}
+use Rattle.weedle_grammar.specs.Rows.{Row, Bytes, OneOf, NotNext, Run, Past, Seq, First, Opt, Many, ListOf, List1, Tail, If}
+use Rattle.weedle_grammar.specs.Entry.{Entry, entry_at}
+use Rattle.weedle_grammar.specs.Table.{table, row_of, shape_of}
+use Rattle.weedle_grammar.specs.Meaning.{Shape, Silent, Marked, Kept, Line, Joined, Inner, Plain}
+use Rattle.weedle_grammar.proofs.Takes.{takes}
+use Rattle.weedle_grammar.specs.Bound.{rule_count}
+use Rattle.weedle_rules.specs.Bound.{most_reads}
+use Rattle.weedle_grammar.proofs.Leaves.{both}
 
 -- one at least, and fewer than so many
 abbrev pub is_some_below : ℕ → List ℕ → Bool

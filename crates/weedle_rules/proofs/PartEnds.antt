@@ -2,14 +2,14 @@
 use Rattle.std.proofs.Common.{◌≡◌, inl, inr, ℕ, ◌+◌, ◌-◌, ◌<◌, ◌≤◌, List, [], ◌∷◌, length, map, Bool, true, ◌&&◌, ◌||◌, Option, Some, None, refl, sym, subst, ◌∙◌, add-one, arith}
 use Rattle.std.specs.Prelude.{nat_lt}
 use borrow.Author.Tests.{ltb-true}
-use Rattle.weedle_rules.specs.Bound.{rule_count}
-use Rattle.weedle_rules.specs.Rows.{Row, Seq, First, Opt, Many, ListOf, List1, Tail}
-use Rattle.weedle_rules.specs.Trees.{Tree, Fails, Gives}
-use Rattle.weedle_rules.specs.Meaning.{Grammar, piece, seq_end, seq_fails, seq_more, first_none, first_here, first_next, with_piece}
+use Rattle.weedle_grammar.specs.Bound.{rule_count}
+use Rattle.weedle_grammar.specs.Rows.{Row, Seq, First, Opt, Many, ListOf, List1, Tail}
+use Rattle.weedle_grammar.specs.Trees.{Tree, Fails, Gives}
+use Rattle.weedle_grammar.specs.Meaning.{Grammar, piece, seq_end, seq_fails, seq_more, first_none, first_here, first_next, with_piece}
 use Rattle.weedle_rules.specs.Cells.{EndsBy, cell_number}
-use Rattle.weedle_rules.proofs.Ranked.{is_ranked, is_low, low_parts, all_low}
-use Rattle.weedle_rules.proofs.Leaves.{both, one_of}
-use Rattle.weedle_rules.proofs.Exists.{grows, stays_inside, advances}
+use Rattle.weedle_grammar.proofs.Ranked.{is_ranked, is_low, low_parts, all_low}
+use Rattle.weedle_grammar.proofs.Leaves.{both, one_of}
+use Rattle.weedle_grammar.proofs.Exists.{grows, stays_inside, advances}
 use Rattle.weedle_rules.proofs.RowEnds.{is_before, piece_end, SeqEnds, FirstEnds, gave, failed}
 
 module _ (G : Grammar) (text : List ℕ) where
@@ -19,7 +19,7 @@ module _ (G : Grammar) (text : List ℕ) where
     pub low : all_low (λ r. r) takes r rest ≡ true
 
   pub first_fits : (takes : ℕ → Bool) (r i p x q : ℕ) (parts rest : List ℕ) → Trying takes r parts (x ∷ rest) i p → EndsBy G text x p (Some q) → FirstEnds G text parts 0 p (Some q)
-  first_fits takes r i p x q parts rest t h = let g = gave h in t.onward (Some q) (record { outcome = Gives (Rattle.std.proofs.Common.map (Rattle.weedle_rules.specs.Trees.Tree.Alt i) g.0) q; reads = first_here g.1 refl; is = refl })
+  first_fits takes r i p x q parts rest t h = let g = gave h in t.onward (Some q) (record { outcome = Gives (Rattle.std.proofs.Common.map (Rattle.weedle_grammar.specs.Trees.Tree.Alt i) g.0) q; reads = first_here g.1 refl; is = refl })
 
   pub first_tries_on : (takes : ℕ → Bool) (r i p x : ℕ) (parts rest : List ℕ) → Trying takes r parts (x ∷ rest) i p → EndsBy G text x p None → Trying takes r parts rest (i + 1) p
   first_tries_on takes r i p x parts rest t h = subst (λ z. Trying takes r parts rest z p) (sym (add-one i)) (record {

@@ -6,14 +6,15 @@ use Rattle.std.proofs.Math.Seq.{get_or-append_seam}
 use Rattle.std.proofs.Math.ListN.{get_or-append}
 use Rattle.std.proofs.Math.Nat.{max-le}
 use Rattle.std.proofs.lemmas.Bool.{cases_lt}
-use Rattle.weedle_rules.specs.Bound.{rule_count, most_reads}
-use Rattle.weedle_rules.specs.Trees.{Outcome, Fails, Gives}
-use Rattle.weedle_rules.specs.Table.{webidl, Reads}
+use Rattle.weedle_grammar.specs.Bound.{rule_count}
+use Rattle.weedle_rules.specs.Bound.{most_reads}
+use Rattle.weedle_grammar.specs.Trees.{Outcome, Fails, Gives}
+use Rattle.weedle_grammar.specs.Table.{webidl, Reads}
 use Rattle.weedle_rules.specs.Cells.{end_of, HasEnd, cell_number, cell_of, AllRight}
 use Rattle.weedle_rules.specs.TableOfEnds.{IsCounted}
 use Rattle.weedle_rules.specs.ReaderView.{cells_of, known_of, AreRows, IsReader}
 use Rattle.weedle_rules.proofs.CellRows.{cells_length, cells_get, cells_set, set_even, push_even, cells_push}
-use Rattle.weedle_rules.proofs.Exists.{stays_inside}
+use Rattle.weedle_grammar.proofs.Exists.{stays_inside}
 
 outcome_within : (text : List ℕ) (r p : ℕ) (o : Outcome) → Reads text r p o → p ≤ length text → (g : ℕ) → length text ≤ g → IfSome (end_of o) (λ q. q ≤ g)
 outcome_within text r p Fails d l g h = tt

@@ -1,6 +1,7 @@
 -- A table of ends.
 use Rattle.std.specs.Prelude.{◌≡◌, ◌≤◌, ◌+◌, ◌*◌, ℕ, Bool, List, length, Option}
-use Rattle.weedle_rules.specs.Bound.{rule_count, most_reads}
+use Rattle.weedle_grammar.specs.Bound.{rule_count}
+use Rattle.weedle_rules.specs.Bound.{most_reads}
 use Rattle.weedle_rules.specs.Cells.{AllRight}
 
 -- a table of ends as contracts see it

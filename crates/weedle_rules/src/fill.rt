@@ -3,26 +3,28 @@
 //! All of it is inlined into the function that makes the table: so the compiler knows the row of each
 //! rule, and keeps the reader's fields in registers.
 
-ghost use Rattle.std.specs.Prelude.{◌≡◌, ◌≤◌, ◌+◌, ◌-◌, ◌*◌, length};
-ghost use Rattle.weedle_rules.specs.Bound.{rule_count};
+ghost use Rattle.std.specs.Prelude.{◌≡◌, ◌<◌, ◌≤◌, ◌+◌, ◌-◌, ◌*◌, length};
+ghost use Rattle.weedle_grammar.specs.Bound.{rule_count};
 ghost use Rattle.weedle_rules.specs.Filling.{IsUnfilled, IsFilled, IsFilling};
 
 use crate::cell::Cell;
 use crate::reader::Reader;
-use crate::rule::Rule;
 use crate::work::work_out;
+use weedle_grammar::rule_of;
 
 mod place;
 
 use place::fill_place;
 
-/// Works out the next cell, of this rule at this place.
+/// Works out the next cell, of the rule of this number at this place.
 #[inline(always)]
-fn fill_cell<C: Cell>(reader: &mut Reader<'_, C>, rule: Rule, place: usize)
+fn fill_cell<C: Cell>(reader: &mut Reader<'_, C>, number: u16, place: usize)
+    requires low { number < rule_count }
     requires within { place ≤ length reader.old.text }
-    requires next { IsFilling reader.old reader.old.text place rule }
-    ensures { IsFilling reader.new reader.old.text place (rule + 1) }
+    requires next { IsFilling reader.old reader.old.text place number }
+    ensures { IsFilling reader.new reader.old.text place (number + 1) }
 {
+    let rule = rule_of(number);
     let mut working = reader.begin(rule, place);
     let outcome = work_out(reader, &mut working, rule, place);
     reader.close(working, outcome);

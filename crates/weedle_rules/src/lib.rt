@@ -1,38 +1,24 @@
-//! The grammar of WebIDL definitions as data: a row for each rule, by number.
+//! The table of ends: where each rule of the grammar ends at each place of one text.
 //!
 //! ```rust
-//! use weedle_rules::{Row, Rule, row_of};
+//! use weedle_rules::{Ends, Rule};
 //!
-//! match row_of(Rule::DEFINITIONS) {
-//!     Row::Many(rule) => assert!(rt; rule == Rule::DEFINITION),
-//!     _ => {}
-//! }
+//! let ends = Ends::new(rt.alloc(), "interface A {}; // end")?;
+//! assert_eq!(rt; ends.end(Rule::DEFINITIONS, 0), Some(22));
 //! ```
 //!
-//! What a rule reads from a text, and what it gives, is said once for any such table, in
-//! `specs/Meaning.antt`; the table itself is `specs/Table`, and [`laws`] has what always holds.
+//! The grammar stands in the crate `weedle_grammar`; its names have a path here too.
 #![tactic(auto)]
 
 mod cell;
-mod class;
 mod ends;
 mod fill;
-mod grammar;
-pub mod laws;
 mod reader;
-mod row;
-mod rule;
 mod work;
 
 pub use cell::{Cell, Narrow, Wide};
-pub use class::{Class, holds};
 pub use ends::Ends;
-pub use grammar::row_of;
-pub use row::{Parts, Row};
-pub use rule::Rule;
-
-/// How many rules there are.
-pub const RULES: usize = 393;
+pub use weedle_grammar::{Class, Parts, RULES, Row, Rule, holds, laws, row_of};
 
 /// How often a byte or a cell is looked at, at most, where one cell is worked out.
 pub const READS: usize = 29;

@@ -4,16 +4,16 @@
 //! by `byte` and `cell` alone, each of which counts; the text is never handed out.
 
 ghost use Rattle.std.specs.Prelude.{◌≡◌, ◌≤◌, ◌<◌, ◌+◌, ◌*◌, ◌∷◌, ◌++◌, [], ℕ, true, false, length, max, slice_get, slice_index_or, Option, Some, None, IfSome, IfOk};
-ghost use Rattle.weedle_rules.specs.Bound.{rule_count};
+ghost use Rattle.weedle_grammar.specs.Bound.{rule_count};
 ghost use Rattle.weedle_rules.specs.Cells.{HasEnd, cell_number, cell_of, AllRight};
 ghost use Rattle.weedle_rules.specs.Filling.{Filling, IsUnfilled, IsFilled};
 ghost use Rattle.weedle_rules.specs.TableOfEnds.{IsCounted};
 
+use crate::READS;
 use crate::cell::Cell;
-use crate::rule::Rule;
-use crate::{READS, RULES};
 use std::alloc::{AllocError, Global};
 use std::marker::Model;
+use weedle_grammar::{RULES, Rule};
 
 /// A table that is being filled, from the last place to the first.
 #[derive(Drop)]
@@ -31,7 +31,7 @@ pub(crate) struct Reader<'a, C: Cell> {
 
 impl<'a, C: Cell> Model for Reader<'a, C> {
     ghost use Rattle.std.specs.Prelude.{◌+◌, ◌*◌, length, vec_capacity};
-    ghost use Rattle.weedle_rules.specs.Bound.{rule_count};
+    ghost use Rattle.weedle_grammar.specs.Bound.{rule_count};
     ghost use Rattle.weedle_rules.specs.Filling.{Filling};
 
     ghost Value = { Filling };

@@ -5,10 +5,8 @@
 ghost use Rattle.weedle_rules.specs.Filling.{IsBegun, IsWorked};
 
 use crate::cell::Cell;
-use crate::grammar::row_of;
 use crate::reader::{Reader, Working};
-use crate::row::Row;
-use crate::rule::Rule;
+use weedle_grammar::{Row, Rule, row_of};
 
 mod items;
 mod parts;

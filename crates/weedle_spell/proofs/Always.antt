@@ -1,12 +1,12 @@
 -- What a rule takes whatever it gives: one lemma for each kind of row.
 use Rattle.std.proofs.Common.{◌≡◌, inl, inr, ℕ, suc, List, [], ◌∷◌, ◌++◌, take, drop, Some, refl, sym, ap, ◌∙◌, subst}
-use Rattle.weedle_rules.proofs.Leaves.{taken_le}
-use Rattle.weedle_rules.proofs.Inversion.{of_bytes, of_one, of_not_next, of_run, of_past, of_choice}
-use Rattle.weedle_rules.specs.Meaning.{Piece, piece, Raw, Yields, ReadsRow, ReadsSeq, ReadsFirst, many_end, many_stuck, many_more, last_end}
-use Rattle.weedle_rules.specs.Rows.{Bytes, OneOf, NotNext, Run, Past, Seq, First, Opt, Many, take_bytes, take_one, take_not_next, run_length, take_past}
-use Rattle.weedle_rules.specs.Table.{webidl, row_of, Reads}
-use Rattle.weedle_rules.specs.Trees.{Tree, Gives}
-use Rattle.weedle_rules.specs.declared.class.Class.{Class}
+use Rattle.weedle_grammar.proofs.Leaves.{taken_le}
+use Rattle.weedle_grammar.proofs.Inversion.{of_bytes, of_one, of_not_next, of_run, of_past, of_choice}
+use Rattle.weedle_grammar.specs.Meaning.{Piece, piece, Raw, Yields, ReadsRow, ReadsSeq, ReadsFirst, many_end, many_stuck, many_more, last_end}
+use Rattle.weedle_grammar.specs.Rows.{Bytes, OneOf, NotNext, Run, Past, Seq, First, Opt, Many, take_bytes, take_one, take_not_next, run_length, take_past}
+use Rattle.weedle_grammar.specs.Table.{webidl, row_of, Reads}
+use Rattle.weedle_grammar.specs.Trees.{Tree, Gives}
+use Rattle.weedle_grammar.specs.declared.class.Class.{Class}
 use Rattle.weedle_spell.specs.Forms.{Form, empty, exactly, ◌then◌, ◌or◌, perhaps, Chain, chain_ends, chain_goes_on, one, any, up_to}
 use Rattle.weedle_spell.proofs.Given.{gave, leaf_end, pieced, unpieced, pieces_of, no_choice, chosen_by, optional_was, after}
 use Rattle.weedle_spell.proofs.RowBytes.{took_leaf, bytes_form, one_form, run_form, not_next_form, past_form}

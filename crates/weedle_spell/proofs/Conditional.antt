@@ -1,14 +1,14 @@
 -- What a rule takes whose last part is read only where another was there.
 use Rattle.std.proofs.Common.{◌≡◌, inl, inr, ℕ, zero, suc, List, [], ◌∷◌, ◌++◌, Bool, true, false, Some, refl, sym, ap, ◌∙◌, subst}
 use Rattle.std.proofs.lemmas.List.{same_from_push}
-use Rattle.weedle_rules.proofs.Inversion.{of_if}
-use Rattle.weedle_rules.proofs.Leaves.{both}
-use Rattle.weedle_rules.specs.Meaning.{Plain, Piece, Yields, ReadsRow, ReadsSeq, raw_of, before, given_of, last_end, gave_some, is_present}
-use Rattle.weedle_rules.specs.Rows.{If}
-use Rattle.weedle_rules.specs.Table.{webidl, row_of, shape_of, Reads}
-use Rattle.weedle_rules.specs.Trees.{Tree, Node, Absent, trees, Outcome, Fails, Gives}
+use Rattle.weedle_grammar.proofs.Inversion.{of_if}
+use Rattle.weedle_grammar.proofs.Leaves.{both}
+use Rattle.weedle_grammar.specs.Meaning.{Plain, Piece, Yields, ReadsRow, ReadsSeq, raw_of, before, given_of, last_end, gave_some, is_present}
+use Rattle.weedle_grammar.specs.Rows.{If}
+use Rattle.weedle_grammar.specs.Table.{webidl, row_of, shape_of, Reads}
+use Rattle.weedle_grammar.specs.Trees.{Tree, Node, Absent, trees, Outcome, Fails, Gives}
 use Rattle.weedle_spell.specs.Forms.{Form, ◌then◌}
-use Rattle.weedle_rules.proofs.OneTree.{is_single, all_single, gives_one}
+use Rattle.weedle_grammar.proofs.OneTree.{is_single, all_single, gives_one}
 use Rattle.weedle_spell.proofs.Given.{gave, pieced, unpieced}
 use Rattle.weedle_spell.proofs.Spelt.{Spelt, SpeltParts, same_node}
 use Rattle.weedle_spell.proofs.Took.{Taken, nothing_taken, taken_then}

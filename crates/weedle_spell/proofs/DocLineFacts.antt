@@ -2,15 +2,15 @@
 use Rattle.std.proofs.Common.{◌≡◌, inl, inr, ℕ, suc, List, [], ◌∷◌, ◌++◌, map, take, drop, codes, Bool, true, false, Some, refl, sym, ap, ◌∙◌, subst, arith, length-append, take_at}
 use Rattle.std.proofs.lemmas.Bool.Decides.{nat_tests}
 use Rattle.std.specs.Prelude.{option_map, ◌&&◌, ◌==◌, if◌then◌else◌}
-use Rattle.weedle_rules.proofs.Inversion.{of_past}
-use Rattle.weedle_rules.proofs.Leaves.{chosen, suc_some, taken_le}
-use Rattle.weedle_rules.specs.Meaning.{Piece, piece, Raw, Yields, ReadsRow, many_end, many_stuck, many_more, kept, between, but_last, more_lines, joined, last_end, ends_of, given_of}
-use Rattle.weedle_rules.specs.Rows.{Many, Past, begins, take_past, is_in}
-use Rattle.weedle_rules.specs.Table.{webidl, Reads}
-use Rattle.weedle_rules.specs.Table.Trivia.{RUN_BLANK}
-use Rattle.weedle_rules.specs.Table.Leaves.{PAST_LF, BYTES_THREE_SLASHES, DOC_LINE, MANY_DOC_LINE, DOCSTRING}
-use Rattle.weedle_rules.specs.Trees.{Tree, Lines, Items, trees, Gives}
-use Rattle.weedle_rules.specs.declared.class.Class.TheVariants.{Blank, NotLineFeed}
+use Rattle.weedle_grammar.proofs.Inversion.{of_past}
+use Rattle.weedle_grammar.proofs.Leaves.{chosen, suc_some, taken_le}
+use Rattle.weedle_grammar.specs.Meaning.{Piece, piece, Raw, Yields, ReadsRow, many_end, many_stuck, many_more, kept, between, but_last, more_lines, joined, last_end, ends_of, given_of}
+use Rattle.weedle_grammar.specs.Rows.{Many, Past, begins, take_past, is_in}
+use Rattle.weedle_grammar.specs.Table.{webidl, Reads}
+use Rattle.weedle_grammar.specs.Table.Trivia.{RUN_BLANK}
+use Rattle.weedle_grammar.specs.Table.Leaves.{PAST_LF, BYTES_THREE_SLASHES, DOC_LINE, MANY_DOC_LINE, DOCSTRING}
+use Rattle.weedle_grammar.specs.Trees.{Tree, Lines, Items, trees, Gives}
+use Rattle.weedle_grammar.specs.declared.class.Class.TheVariants.{Blank, NotLineFeed}
 use Rattle.weedle_spell.specs.Forms.{◌then◌, exactly, any, each}
 use Rattle.weedle_spell.specs.Tokens.{doc_line, cut, before_first, documented}
 use Rattle.weedle_spell.proofs.Always.{Always, run_always, bytes_always}

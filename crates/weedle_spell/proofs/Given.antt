@@ -1,10 +1,10 @@
 -- What the parts of a rule gave, from what the rule gave.
 use Rattle.std.proofs.Common.{◌≡◌, ◌⊎◌, inl, inr, ℕ, suc, ◌+◌, List, [], ◌∷◌, ◌++◌, map, get_or, Option, Some, None, refl, sym, ap, ◌∙◌, subst, arith}
-use Rattle.weedle_rules.proofs.Inversion.{at_row, of_seq, of_first, of_opt, of_no_parts, of_parts, of_choice}
-use Rattle.weedle_rules.specs.Meaning.{Plain, Piece, piece, Raw, Breaks, Yields, ReadsRow, ReadsSeq, ReadsFirst, first_none, formed, shaped, leaf, together, raw_of, opted, before, with_piece, given_of, ends_of, last_end}
-use Rattle.weedle_rules.specs.Rows.{Row, Seq, First, Opt}
-use Rattle.weedle_rules.specs.Table.{webidl, row_of, shape_of, Reads}
-use Rattle.weedle_rules.specs.Trees.{Tree, Alt, Absent, Present, Outcome, Fails, Gives}
+use Rattle.weedle_grammar.proofs.Inversion.{at_row, of_seq, of_first, of_opt, of_no_parts, of_parts, of_choice}
+use Rattle.weedle_grammar.specs.Meaning.{Plain, Piece, piece, Raw, Breaks, Yields, ReadsRow, ReadsSeq, ReadsFirst, first_none, formed, shaped, leaf, together, raw_of, opted, before, with_piece, given_of, ends_of, last_end}
+use Rattle.weedle_grammar.specs.Rows.{Row, Seq, First, Opt}
+use Rattle.weedle_grammar.specs.Table.{webidl, row_of, shape_of, Reads}
+use Rattle.weedle_grammar.specs.Trees.{Tree, Alt, Absent, Present, Outcome, Fails, Gives}
 
 abbrev pub Gave : List ℕ → ℕ → Row → ℕ → ℕ → List Tree → Type 0
 Gave text r row p e ts = (us : List Tree) × (ends : List ℕ) × ReadsRow webidl text row p (Yields us ends e) × (ts ≡ formed text row (shape_of r) p us ends)

@@ -1,7 +1,7 @@
 -- From what a rule takes to the laws.
 use Rattle.std.proofs.Common.{inl, inr, ℕ, List, [], ◌∷◌, ◌++◌, sym, subst}
-use Rattle.weedle_rules.specs.Meaning.{between}
-use Rattle.weedle_rules.specs.Trees.{Tree}
+use Rattle.weedle_grammar.specs.Meaning.{between}
+use Rattle.weedle_grammar.specs.Trees.{Tree}
 use Rattle.weedle_spell.proofs.PieceFacts.{in_pieces}
 use Rattle.weedle_spell.proofs.Spelt.{Spelt}
 use Rattle.weedle_spell.proofs.Took.{Took, Taken, exact, took_between}

@@ -1,12 +1,12 @@
 -- What names, numbers and strings take.
 use Rattle.std.proofs.Common.{◌≡◌, ℕ, List, [], ◌∷◌, refl}
-use Rattle.weedle_rules.specs.Meaning.{Kept}
-use Rattle.weedle_rules.specs.Rows.{Seq}
-use Rattle.weedle_rules.specs.Table.{row_of, shape_of}
-use Rattle.weedle_rules.specs.Table.Leaves.{OPT_BYTES_MINUS, IDENTIFIER, DEC_LIT, HEX_LIT, OCT_LIT, DIGITS, EXPONENT, FLOAT_VALUE_LIT, FLOAT_VALUE_LIT_TEXT, POINT, STRING_LIT}
-use Rattle.weedle_rules.specs.Table.Trivia.{TRIVIA}
-use Rattle.weedle_rules.specs.Trees.{Text}
-use Rattle.weedle_rules.specs.declared.class.Class.TheVariants.{Digit}
+use Rattle.weedle_grammar.specs.Meaning.{Kept}
+use Rattle.weedle_grammar.specs.Rows.{Seq}
+use Rattle.weedle_grammar.specs.Table.{row_of, shape_of}
+use Rattle.weedle_grammar.specs.Table.Leaves.{OPT_BYTES_MINUS, IDENTIFIER, DEC_LIT, HEX_LIT, OCT_LIT, DIGITS, EXPONENT, FLOAT_VALUE_LIT, FLOAT_VALUE_LIT_TEXT, POINT, STRING_LIT}
+use Rattle.weedle_grammar.specs.Table.Trivia.{TRIVIA}
+use Rattle.weedle_grammar.specs.Trees.{Text}
+use Rattle.weedle_grammar.specs.declared.class.Class.TheVariants.{Digit}
 use Rattle.weedle_spell.specs.Forms.{Form, some}
 use Rattle.weedle_spell.specs.Tokens.{minus, decimal, hexadecimal, octal, exponent, with_point, floating, named, number, quoted}
 use Rattle.weedle_spell.proofs.Always.{Always, bytes_always, one_always, run_always, always_last, always_part, seq_always, always_only, always_first, first_always, opt_always}

@@ -3,7 +3,7 @@ use Rattle.std.proofs.Common.{string_bytes}
 use Rattle.weedle_literal.specs.LiteralTrees.{dec_tree, hex_tree, oct_tree, float_value_tree, string_tree}
 use Rattle.weedle_parts.specs.ValueTrees.{identifier_tree, docstring_tree}
 use Rattle.weedle_parts.specs.declared.common.docstring.Docstring.{Docstring}
-use Rattle.weedle_rules.specs.Table.Leaves.{IDENTIFIER, DEC_LIT, HEX_LIT, OCT_LIT, FLOAT_VALUE_LIT, STRING_LIT, DOCSTRING}
+use Rattle.weedle_grammar.specs.Table.Leaves.{IDENTIFIER, DEC_LIT, HEX_LIT, OCT_LIT, FLOAT_VALUE_LIT, STRING_LIT, DOCSTRING}
 use Rattle.weedle_spell.specs.Leaves.{identifier_spelling, dec_spelling, hex_spelling, oct_spelling, float_value_spelling, string_spelling, docstring_spelling}
 use Rattle.weedle_spell.specs.Laws.{SpellsValues, SpellsExactly}
 use Rattle.weedle_spell.proofs.DocLineFacts.{doc_spelt}
@@ -29,8 +29,8 @@ float_value v = float_spelt v.0.now
 pub string : IsSpelt STRING_LIT string_tree string_spelling
 string v = string_spelt v.0.now
 
--- a docstring, which needs its last LF
-pub docstring : (v : Docstring) → Spelt ⊥ DOCSTRING (docstring_tree v) (docstring_spelling v)
+-- a docstring: whatever else may end without an LF, it does not
+pub docstring : {L : Type 0} (v : Docstring) → Spelt L DOCSTRING (docstring_tree v) (docstring_spelling v)
 docstring v = doc_spelt (string_bytes v.0)
 
 -- the laws

@@ -1,11 +1,11 @@
 -- The texts of what a rule gives stand in what it takes, in their order: one induction for every rule.
 use Rattle.std.proofs.Common.{◌≡◌, ℕ, zero, suc, ◌-◌, ◌≤◌, List, [], ◌∷◌, ◌++◌, map, length, take, drop, Option, Some, None, refl, sym, ap, ◌∙◌, subst, arith, append_assoc, length-append, take_at, drop_at, append-nil}
 use Rattle.std.proofs.lemmas.List.{drop-drop, take-append-drop, take-append-le, drop-append-le, length-drop}
-use Rattle.weedle_rules.proofs.Leaves.{taken_le}
-use Rattle.weedle_rules.specs.Meaning.{Shape, Silent, Marked, Kept, Line, Joined, Inner, Plain, Piece, piece, Raw, Breaks, Yields, ReadsBy, ReadsRow, ReadsSeq, ReadsFirst, by_row, by_bytes, by_one, by_not_next, by_run, by_past, by_seq, by_first, by_opt, many_end, many_stuck, many_more, list_none, list_more, list1_fails, list1_more, tail_end, tail_stuck, tail_back, tail_more, if_fails, if_absent, if_present, seq_end, seq_fails, seq_more, first_none, first_here, first_next, leaf, together, raw_of, opted, before, with_piece, given_of, ends_of, last_end, formed, shaped, plain, kept, between}
-use Rattle.weedle_rules.specs.Rows.{Row, Bytes, OneOf, NotNext, Run, Past, Seq, First, Opt, Many, ListOf, List1, Tail, If}
-use Rattle.weedle_rules.specs.Table.{webidl, row_of, shape_of, Reads}
-use Rattle.weedle_rules.specs.Trees.{Tree, trees, Node, Alt, Absent, Present, Items, Outcome, Fails, Gives}
+use Rattle.weedle_grammar.proofs.Leaves.{taken_le}
+use Rattle.weedle_grammar.specs.Meaning.{Shape, Silent, Marked, Kept, Line, Joined, Inner, Plain, Piece, piece, Raw, Breaks, Yields, ReadsBy, ReadsRow, ReadsSeq, ReadsFirst, by_row, by_bytes, by_one, by_not_next, by_run, by_past, by_seq, by_first, by_opt, many_end, many_stuck, many_more, list_none, list_more, list1_fails, list1_more, tail_end, tail_stuck, tail_back, tail_more, if_fails, if_absent, if_present, seq_end, seq_fails, seq_more, first_none, first_here, first_next, leaf, together, raw_of, opted, before, with_piece, given_of, ends_of, last_end, formed, shaped, plain, kept, between}
+use Rattle.weedle_grammar.specs.Rows.{Row, Bytes, OneOf, NotNext, Run, Past, Seq, First, Opt, Many, ListOf, List1, Tail, If}
+use Rattle.weedle_grammar.specs.Table.{webidl, row_of, shape_of, Reads}
+use Rattle.weedle_grammar.specs.Trees.{Tree, trees, Node, Alt, Absent, Present, Items, Outcome, Fails, Gives}
 use Rattle.weedle_spell.specs.Forms.{Form}
 use Rattle.weedle_spell.specs.Pieces.{texts, all_texts, stand_from, IsInPieces}
 use Rattle.weedle_spell.proofs.Took.{Took, took_as, took_none, took_between}

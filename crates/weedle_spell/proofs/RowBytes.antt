@@ -3,9 +3,9 @@ use Rattle.std.proofs.Common.{◌≡◌, inl, inr, ℕ, zero, suc, ◌+◌, ◌�
 use Rattle.std.proofs.lemmas.List.{drop-drop, take-append-drop}
 use Rattle.std.specs.Prelude.{option_map, ◌==◌, if◌then◌else◌}
 use borrow.Author.Tests.{eqb-true, eq-eqb}
-use Rattle.weedle_rules.proofs.Leaves.{both, chosen, suc_some, not_next_zero}
-use Rattle.weedle_rules.specs.Rows.{take_bytes, take_one, take_not_next, run_length, take_past, begins, is_in}
-use Rattle.weedle_rules.specs.declared.class.Class.{Class}
+use Rattle.weedle_grammar.proofs.Leaves.{both, chosen, suc_some, not_next_zero}
+use Rattle.weedle_grammar.specs.Rows.{take_bytes, take_one, take_not_next, run_length, take_past, begins, is_in}
+use Rattle.weedle_grammar.specs.declared.class.Class.{Class}
 use Rattle.weedle_spell.specs.Forms.{Form, empty, exactly, ◌then◌, one, any, up_to}
 use Rattle.weedle_spell.proofs.Took.{Took}
 

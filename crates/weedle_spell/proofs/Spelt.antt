@@ -1,12 +1,12 @@
 -- What a rule takes where it gives the tree of a value: one lemma for each kind of row.
 use Rattle.std.proofs.Common.{◌≡◌, inl, inr, ℕ, zero, suc, ◌+◌, List, [], ◌∷◌, ◌++◌, map, get_or, true, Option, Some, None, refl, sym, ap, ◌∙◌, subst, arith}
 use Rattle.weedle_base.specs.Rules.{option_tree}
-use Rattle.weedle_rules.specs.Meaning.{Kept, Plain, Piece, piece, ReadsSeq, given_of, ends_of, last_end, kept, between}
-use Rattle.weedle_rules.specs.Rows.{Seq, First, Opt}
-use Rattle.weedle_rules.specs.Table.{webidl, row_of, shape_of, Reads}
-use Rattle.weedle_rules.specs.Trees.{Tree, Trees, Done, Then, trees, Text, Node, Alt, Absent, Present, Items, Gives}
+use Rattle.weedle_grammar.specs.Meaning.{Kept, Plain, Piece, piece, ReadsSeq, given_of, ends_of, last_end, kept, between}
+use Rattle.weedle_grammar.specs.Rows.{Seq, First, Opt}
+use Rattle.weedle_grammar.specs.Table.{webidl, row_of, shape_of, Reads}
+use Rattle.weedle_grammar.specs.Trees.{Tree, Trees, Done, Then, trees, Text, Node, Alt, Absent, Present, Items, Gives}
 use Rattle.weedle_spell.specs.Forms.{Form, empty, ◌then◌, that, optional}
-use Rattle.weedle_rules.proofs.OneTree.{is_single, gives_one}
+use Rattle.weedle_grammar.proofs.OneTree.{is_single, gives_one}
 use Rattle.weedle_spell.proofs.Always.{Always, AlwaysParts}
 use Rattle.weedle_spell.proofs.Given.{Pieced, pieced, unpieced, pieces_of, chosen_by, was, optional_was}
 use Rattle.weedle_spell.proofs.Took.{Took, Taken, nothing_taken, taken_then, took_between}
@@ -144,7 +144,7 @@ alternative {L} {r} {x} {rs} {t} {A} i row shape here h = record {
       (subst (λ (us : List Tree). Reads text (get_or rs w.0 0) p (Gives us e)) m.1 w.2));
 }
 
-absent_spelt : {L : Type 0} {r x : ℕ} → row_of r ≡ Opt x → shape_of r ≡ Plain → is_single x ≡ true → Spelt L r Absent empty
+pub absent_spelt : {L : Type 0} {r x : ℕ} → row_of r ≡ Opt x → shape_of r ≡ Plain → is_single x ≡ true → Spelt L r Absent empty
 absent_spelt {L} {r} {x} row shape s = record {
   single = rw (shape, row) refl;
   of = λ text p e d.
@@ -155,7 +155,7 @@ absent_spelt {L} {r} {x} row shape s = record {
       ];
 }
 
-present_spelt : {L : Type 0} {r x : ℕ} {t : Tree} {A : Form} → row_of r ≡ Opt x → shape_of r ≡ Plain → Spelt L x t A → Spelt L r (Present t) A
+pub present_spelt : {L : Type 0} {r x : ℕ} {t : Tree} {A : Form} → row_of r ≡ Opt x → shape_of r ≡ Plain → Spelt L x t A → Spelt L r (Present t) A
 present_spelt {L} {r} {x} {t} row shape h = record {
   single = rw (shape, row) refl;
   of = λ text p e d.

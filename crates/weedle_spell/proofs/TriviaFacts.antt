@@ -1,14 +1,14 @@
 -- What trivia and terminals take.
 use Rattle.std.proofs.Common.{◌≡◌, ◌≢◌, ◌⊎◌, inl, inr, ℕ, zero, suc, List, [], ◌∷◌, ◌++◌, take, drop, codes, Some, refl, sym, ap, ◌∙◌, subst, arith, append_assoc}
-use Rattle.weedle_rules.proofs.Inversion.{of_not_next, of_run, of_choice}
-use Rattle.weedle_rules.proofs.Leaves.{taken_le, not_next_zero}
-use Rattle.weedle_rules.specs.Meaning.{Piece, ReadsFirst, Marked, last_end}
-use Rattle.weedle_rules.specs.Rows.{Bytes, Run, Seq, take_not_next, run_length}
-use Rattle.weedle_rules.specs.Table.{webidl, row_of, shape_of, Reads}
-use Rattle.weedle_rules.specs.Table.Keywords.{NOT_NEXT_NAME}
-use Rattle.weedle_rules.specs.Table.Trivia.{BYTES_SLASH_SLASH, BYTES_LF, LINE_COMMENT, NOT_NEXT_SLASH, RUN_NOT_LINE_FEED, LINE_END, NOT_NEXT_ANY, BLANKS, BLOCK_COMMENT, TRIVIA}
-use Rattle.weedle_rules.specs.Trees.{Tree, Mark, Gives}
-use Rattle.weedle_rules.specs.declared.class.Class.TheVariants.{Slash, NotLineFeed, Any}
+use Rattle.weedle_grammar.proofs.Inversion.{of_not_next, of_run, of_choice}
+use Rattle.weedle_grammar.proofs.Leaves.{taken_le, not_next_zero}
+use Rattle.weedle_grammar.specs.Meaning.{Piece, ReadsFirst, Marked, last_end}
+use Rattle.weedle_grammar.specs.Rows.{Bytes, Run, Seq, take_not_next, run_length}
+use Rattle.weedle_grammar.specs.Table.{webidl, row_of, shape_of, Reads}
+use Rattle.weedle_grammar.specs.Table.Keywords.{NOT_NEXT_NAME}
+use Rattle.weedle_grammar.specs.Table.Trivia.{BYTES_SLASH_SLASH, BYTES_LF, LINE_COMMENT, NOT_NEXT_SLASH, RUN_NOT_LINE_FEED, LINE_END, NOT_NEXT_ANY, BLANKS, BLOCK_COMMENT, TRIVIA}
+use Rattle.weedle_grammar.specs.Trees.{Tree, Mark, Gives}
+use Rattle.weedle_grammar.specs.declared.class.Class.TheVariants.{Slash, NotLineFeed, Any}
 use Rattle.weedle_spell.specs.Forms.{◌then◌, exactly, any}
 use Rattle.weedle_spell.specs.Tokens.{comment_text, line_comment, blanks, block_comment, IsTrivia, word}
 use Rattle.weedle_spell.proofs.Always.{Always, bytes_always, one_always, not_next_always, run_always, past_always, always_last, always_part, always_skip, seq_always, always_only, always_first, first_always, many_always}

@@ -1,7 +1,7 @@
 -- Forms of texts: sets of byte strings, and how they are made of one another. Nothing here knows of places, rules or an order of choices.
 use Rattle.std.specs.Prelude.{◌≡◌, ℕ, true, List, [], ◌∷◌, ◌++◌, Option, Some, None, ◌⊎◌}
-use Rattle.weedle_rules.specs.Rows.{is_in}
-use Rattle.weedle_rules.specs.declared.class.Class.{Class}
+use Rattle.weedle_grammar.specs.Rows.{is_in}
+use Rattle.weedle_grammar.specs.declared.class.Class.{Class}
 
 -- a form: the texts that are of it
 abbrev pub Form : Type 1

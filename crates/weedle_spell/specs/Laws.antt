@@ -1,11 +1,11 @@
 -- The law of spelling: the text that a rule takes spells the value that it gives.
 use Rattle.std.specs.Prelude.{◌≡◌, ℕ, List, [], ◌∷◌, ◌++◌, ◌⊎◌}
-use Rattle.weedle_rules.specs.Meaning.{between, Marked}
-use Rattle.weedle_rules.specs.Rows.{Seq, Bytes}
-use Rattle.weedle_rules.specs.Table.{Reads, row_of, shape_of}
-use Rattle.weedle_rules.specs.Table.Keywords.{NOT_NEXT_NAME}
-use Rattle.weedle_rules.specs.Table.Trivia.{TRIVIA}
-use Rattle.weedle_rules.specs.Trees.{Tree, Mark, Gives}
+use Rattle.weedle_grammar.specs.Meaning.{between, Marked}
+use Rattle.weedle_grammar.specs.Rows.{Seq, Bytes}
+use Rattle.weedle_grammar.specs.Table.{Reads, row_of, shape_of}
+use Rattle.weedle_grammar.specs.Table.Keywords.{NOT_NEXT_NAME}
+use Rattle.weedle_grammar.specs.Table.Trivia.{TRIVIA}
+use Rattle.weedle_grammar.specs.Trees.{Tree, Mark, Gives}
 use Rattle.weedle_spell.specs.Forms.{Form}
 use Rattle.weedle_spell.specs.Pieces.{IsInPieces}
 use Rattle.weedle_spell.specs.Tokens.{word}

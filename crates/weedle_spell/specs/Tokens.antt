@@ -1,6 +1,6 @@
 -- Trivia, terminals, names, numbers, strings and docstrings, as texts.
 use Rattle.std.specs.Prelude.{◌≢◌, ℕ, List, [], ◌∷◌, codes, if◌then◌else◌, ◌==◌}
-use Rattle.weedle_rules.specs.declared.class.Class.TheVariants.{Blank, Digit, OneToNine, Octal, Hex, Name, XLetter, ELetter, Sign, NotQuote, Letter, NotLineFeed}
+use Rattle.weedle_grammar.specs.declared.class.Class.TheVariants.{Blank, Digit, OneToNine, Octal, Hex, Name, XLetter, ELetter, Sign, NotQuote, Letter, NotLineFeed}
 use Rattle.weedle_spell.specs.Forms.{Form, Chain, ◌then◌, ◌or◌, exactly, perhaps, that, one, any, some, up_to, each}
 
 -- blanks, one at least

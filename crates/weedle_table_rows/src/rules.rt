@@ -1,6 +1,7 @@
 //! Rows of the grammar, each public call once.
 
-use weedle_rules::{Class, RULES, Row, Rule, holds, row_of};
+use weedle_grammar::grammar::keywords;
+use weedle_grammar::{Class, RULES, Row, Rule, holds, row_of, rule_of};
 
 #[test]
 fn a_sequence_names_its_parts(rt: HostRuntime) {
@@ -9,6 +10,7 @@ fn a_sequence_names_its_parts(rt: HostRuntime) {
             assert_eq!(rt; parts.len(), 2);
             assert!(rt; !parts.is_empty());
             assert!(rt; parts.at(1) == Some(Rule::LONG));
+            assert!(rt; parts.len() > 1 && parts.rule(1) == Rule::LONG);
             assert!(rt; parts.at(2).is_none());
         }
         _ => assert!(rt; false),
@@ -25,6 +27,7 @@ fn definitions_repeat_a_definition(rt: HostRuntime) {
 
 #[test]
 fn numbers_below_the_bound_are_rules(rt: HostRuntime) {
+    assert!(rt; rule_of(keywords::LONG) == Rule::LONG);
     assert!(rt; Rule::new(0).is_some());
     assert!(rt; Rule::new((RULES - 1) as u16).is_some());
     assert!(rt; Rule::new(RULES as u16).is_none());

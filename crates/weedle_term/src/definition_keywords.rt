@@ -2,14 +2,14 @@
 //!
 //! Written by tools/terminals.py.
 
-ghost use Rattle.weedle_rules.specs.Trees.{Mark};
-ghost use Rattle.weedle_rules.specs.Table.Keywords.{ASYNC, ATTRIBUTE, CALLBACK, CONST, DELETER, DICTIONARY, ENUM, GETTER, INCLUDES, INHERIT, INTERFACE, ITERABLE, MAPLIKE, NAMESPACE, PARTIAL, REQUIRED, SETLIKE, SETTER, STATIC, STRINGIFIER, TYPEDEF, READ_ONLY, MIXIN, IMPLEMENTS, LEGACY_CALLER, CONSTRUCTOR};
+ghost use Rattle.weedle_grammar.specs.Trees.{Mark};
+ghost use Rattle.weedle_grammar.specs.Table.Keywords.{ASYNC, ATTRIBUTE, CALLBACK, CONST, DELETER, DICTIONARY, ENUM, GETTER, INCLUDES, INHERIT, INTERFACE, ITERABLE, MAPLIKE, NAMESPACE, PARTIAL, REQUIRED, SETLIKE, SETTER, STATIC, STRINGIFIER, TYPEDEF, READ_ONLY, MIXIN, IMPLEMENTS, LEGACY_CALLER, CONSTRUCTOR};
 ghost use Rattle.weedle_base.specs.Own.{own};
 ghost use Rattle.weedle_base.specs.OwnLaws.{own_lawful};
 
 use std::alloc::Global;
 use weedle_base::{IResult, Parse, keyword};
-use weedle_rules::Rule;
+use weedle_grammar::Rule;
 
 /// The keyword `async`, with the trivia around it.
 #[derive(Clone, Copy, Debug, Default, PartialEq, Eq, PartialOrd, Ord, Hash)]

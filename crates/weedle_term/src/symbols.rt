@@ -2,14 +2,14 @@
 //!
 //! Written by tools/terminals.py.
 
-ghost use Rattle.weedle_rules.specs.Trees.{Mark};
-ghost use Rattle.weedle_rules.specs.Table.Symbols.{OPEN_PAREN, CLOSE_PAREN, OPEN_BRACKET, CLOSE_BRACKET, OPEN_BRACE, CLOSE_BRACE, COMMA, MINUS, DOT, ELLIPSIS, COLON, SEMI_COLON, LESS_THAN, ASSIGN, GREATER_THAN, Q_MARK};
+ghost use Rattle.weedle_grammar.specs.Trees.{Mark};
+ghost use Rattle.weedle_grammar.specs.Table.Symbols.{OPEN_PAREN, CLOSE_PAREN, OPEN_BRACKET, CLOSE_BRACKET, OPEN_BRACE, CLOSE_BRACE, COMMA, MINUS, DOT, ELLIPSIS, COLON, SEMI_COLON, LESS_THAN, ASSIGN, GREATER_THAN, Q_MARK};
 ghost use Rattle.weedle_base.specs.Own.{own};
 ghost use Rattle.weedle_base.specs.OwnLaws.{own_lawful};
 
 use std::alloc::Global;
 use weedle_base::{IResult, Parse, symbol};
-use weedle_rules::Rule;
+use weedle_grammar::Rule;
 
 /// The symbol `(`, with the trivia around it.
 #[derive(Clone, Copy, Debug, Default, PartialEq, Eq, PartialOrd, Ord, Hash)]

@@ -2,14 +2,14 @@
 //!
 //! Written by tools/terminals.py.
 
-ghost use Rattle.weedle_rules.specs.Trees.{Mark};
-ghost use Rattle.weedle_rules.specs.Table.Keywords.{OR, OPTIONAL, UNRESTRICTED, SYMBOL, ANY, BOOLEAN, BYTE, DOUBLE, FALSE, FLOAT, LONG, NULL, OBJECT, OCTET, SEQUENCE, SHORT, TRUE, UNSIGNED, UNDEFINED, RECORD};
+ghost use Rattle.weedle_grammar.specs.Trees.{Mark};
+ghost use Rattle.weedle_grammar.specs.Table.Keywords.{OR, OPTIONAL, UNRESTRICTED, SYMBOL, ANY, BOOLEAN, BYTE, DOUBLE, FALSE, FLOAT, LONG, NULL, OBJECT, OCTET, SEQUENCE, SHORT, TRUE, UNSIGNED, UNDEFINED, RECORD};
 ghost use Rattle.weedle_base.specs.Own.{own};
 ghost use Rattle.weedle_base.specs.OwnLaws.{own_lawful};
 
 use std::alloc::Global;
 use weedle_base::{IResult, Parse, keyword};
-use weedle_rules::Rule;
+use weedle_grammar::Rule;
 
 /// The keyword `or`, with the trivia around it.
 #[derive(Clone, Copy, Debug, Default, PartialEq, Eq, PartialOrd, Ord, Hash)]

@@ -1,74 +1,89 @@
 //! Attributes.
 
-use crate::values::{argument, attributes, list, parenthesized, plain, single};
-use crate::whole::reads;
+use std::alloc::Global;
 use std::test::Fail;
-use weedle_answers::is_mismatch;
-use weedle_base::Parse;
-use weedle_literal::StringLit;
-use weedle_parts::common::Identifier;
-use weedle_term::{Assign, DOMString};
-use weedle_types::argument::Argument;
-use weedle_types::attribute::{
-    ExtendedAttribute, ExtendedAttributeArgList, ExtendedAttributeIdent,
-    ExtendedAttributeIdentList, ExtendedAttributeList, ExtendedAttributeNamedArgList,
-    ExtendedAttributeNoArgs, IdentifierOrString,
-};
-use weedle_types::types::NonAnyType;
+use weedle_answers::{Unlike, reads, refuses};
+use weedle_types::attribute::{ExtendedAttribute, ExtendedAttributeList};
+
+/// What is read of each text, as one attribute.
+fn reads_attributes<'a>(alloc: Global, rows: &[(&'a str, &str)]) -> Result<(), Unlike<'a>> {
+    reads::<ExtendedAttribute<'_>>(alloc, rows)
+}
 
 #[test]
 fn brackets_may_be_empty(rt: HostRuntime) -> Result<(), Fail> {
-    let alloc = rt.alloc();
-    reads(&rt, alloc, "[]", attributes(Vec::new(alloc)))?;
-    assert!(rt; is_mismatch(&ExtendedAttributeList::parse(alloc, "[A,]")));
+    reads::<ExtendedAttributeList<'_>>(
+        rt.alloc(),
+        &[(
+            "[]",
+            "Bracketed { open_bracket: OpenBracket, \
+             body: Punctuated { list: [], separator: Comma }, close_bracket: CloseBracket }",
+        )],
+    )?;
+    Ok(())
+}
+
+#[test]
+fn attributes_do_not_end_in_a_comma(rt: HostRuntime) -> Result<(), Fail> {
+    refuses::<ExtendedAttributeList<'_>>(rt.alloc(), &["[A,]"])?;
     Ok(())
 }
 
 #[test]
 fn an_attribute_may_have_arguments(rt: HostRuntime) -> Result<(), Fail> {
-    let alloc = rt.alloc();
-    let string = single(NonAnyType::DOMString(plain(DOMString)));
-    let args = vec![in alloc; Argument::Single(argument(string, "src"))]?;
-    let image = ExtendedAttribute::NamedArgList(ExtendedAttributeNamedArgList {
-        lhs_identifier: Identifier("NamedConstructor"),
-        assign: Assign,
-        rhs_identifier: Identifier("Image"),
-        args: parenthesized(list(args)),
-    });
-    let text = "NamedConstructor=Image(DOMString src)";
-    reads(&rt, alloc, text, image)?;
-    let constructor = ExtendedAttribute::ArgList(ExtendedAttributeArgList {
-        identifier: Identifier("Constructor"),
-        args: parenthesized(list(Vec::new(alloc))),
-    });
-    reads(&rt, alloc, "Constructor()", constructor)?;
+    reads_attributes(
+        rt.alloc(),
+        &[
+            (
+                "NamedConstructor=Image(DOMString src)",
+                "NamedArgList(ExtendedAttributeNamedArgList { \
+                 lhs_identifier: Identifier(\"NamedConstructor\"), assign: Assign, \
+                 rhs_identifier: Identifier(\"Image\"), \
+                 args: ParenthesizedArgumentList { open_paren: OpenParen, \
+                 body: Punctuated { list: [Single(SingleArgument { attributes: None, \
+                 optional: None, type_: AttributedType { attributes: None, \
+                 type_: Single(NonAny(DOMString(MayBeNull { type_: DOMString, q_mark: None }))) }, \
+                 identifier: Identifier(\"src\"), default: None })], separator: Comma }, \
+                 close_paren: CloseParen } })",
+            ),
+            (
+                "Constructor()",
+                "ArgList(ExtendedAttributeArgList { identifier: Identifier(\"Constructor\"), \
+                 args: ParenthesizedArgumentList { open_paren: OpenParen, \
+                 body: Punctuated { list: [], separator: Comma }, close_paren: CloseParen } })",
+            ),
+        ],
+    )?;
     Ok(())
 }
 
 #[test]
 fn an_attribute_may_have_names(rt: HostRuntime) -> Result<(), Fail> {
-    let alloc = rt.alloc();
-    let names = vec![in alloc; Identifier("Window"), Identifier("Worker")]?;
-    let exposed = ExtendedAttribute::IdentList(ExtendedAttributeIdentList {
-        identifier: Identifier("Exposed"),
-        assign: Assign,
-        list: parenthesized(list(names)),
-    });
-    reads(&rt, alloc, "Exposed=(Window,Worker)", exposed)?;
-    let forwards = ExtendedAttribute::Ident(ExtendedAttributeIdent {
-        lhs_identifier: Identifier("PutForwards"),
-        assign: Assign,
-        rhs: IdentifierOrString::Identifier(Identifier("name")),
-    });
-    reads(&rt, alloc, "PutForwards=name", forwards)?;
-    let reflect = ExtendedAttribute::Ident(ExtendedAttributeIdent {
-        lhs_identifier: Identifier("Reflect"),
-        assign: Assign,
-        rhs: IdentifierOrString::String(StringLit("x")),
-    });
-    reads(&rt, alloc, "Reflect=\"x\"", reflect)?;
-    let replaceable = ExtendedAttributeNoArgs(Identifier("Replaceable"));
-    let replaceable = ExtendedAttribute::NoArgs(replaceable);
-    reads(&rt, alloc, "Replaceable", replaceable)?;
+    reads_attributes(
+        rt.alloc(),
+        &[
+            (
+                "Exposed=(Window,Worker)",
+                "IdentList(ExtendedAttributeIdentList { identifier: Identifier(\"Exposed\"), \
+                 assign: Assign, list: Parenthesized { open_paren: OpenParen, \
+                 body: Punctuated { list: [Identifier(\"Window\"), Identifier(\"Worker\")], \
+                 separator: Comma }, close_paren: CloseParen } })",
+            ),
+            (
+                "PutForwards=name",
+                "Ident(ExtendedAttributeIdent { lhs_identifier: Identifier(\"PutForwards\"), \
+                 assign: Assign, rhs: Identifier(Identifier(\"name\")) })",
+            ),
+            (
+                "Reflect=\"x\"",
+                "Ident(ExtendedAttributeIdent { lhs_identifier: Identifier(\"Reflect\"), \
+                 assign: Assign, rhs: String(StringLit(\"x\")) })",
+            ),
+            (
+                "Replaceable",
+                r#"NoArgs(ExtendedAttributeNoArgs(Identifier("Replaceable")))"#,
+            ),
+        ],
+    )?;
     Ok(())
 }

@@ -1,4 +1,4 @@
-//! Tests of types, attributes and arguments: whole values.
+//! Tests of types, attributes and arguments: whole values, and how values compare.
 #![tactic(auto)]
 
 #[cfg(test)]
@@ -6,12 +6,12 @@ mod arguments;
 #[cfg(test)]
 mod attributes;
 #[cfg(test)]
+mod choices;
+#[cfg(test)]
+mod comparisons;
+#[cfg(test)]
 mod plain_types;
 #[cfg(test)]
 mod recursive_types;
-#[cfg(test)]
-mod values;
-#[cfg(test)]
-mod whole;
 #[cfg(test)]
 mod word_types;

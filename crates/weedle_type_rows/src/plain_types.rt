@@ -1,70 +1,126 @@
 //! Types that hold no others, each alone.
 
-use crate::values::{FLOAT, LONG, SHORT, nullable, plain};
-use crate::whole::reads_copied;
 use std::test::Fail;
-use weedle_parts::common::Identifier;
+use weedle_answers::reads_copied;
 use weedle_parts::types::{
     ConstType, DoubleType, FloatType, FloatingPointType, IntegerType, LongLongType, LongType,
-    ShortType,
-};
-use weedle_term::{Boolean, Byte, Double, Float, Long, Octet, Short};
-
-const LONG_LONG: LongLongType = LongLongType {
-    unsigned: None,
-    long_long: (Long, Long),
-};
-
-const DOUBLE: DoubleType = DoubleType {
-    unrestricted: None,
-    double: Double,
+    MayBeNull, ShortType,
 };
 
 #[test]
 fn a_number_has_its_type(rt: HostRuntime) -> Result<(), Fail> {
     let alloc = rt.alloc();
-    let long = LongType {
-        unsigned: None,
-        long: Long,
-    };
-    let short = ShortType {
-        unsigned: None,
-        short: Short,
-    };
-    let float = FloatType {
-        unrestricted: None,
-        float: Float,
-    };
-    reads_copied(&rt, alloc, "long long", LONG_LONG)?;
-    reads_copied(&rt, alloc, "long", long)?;
-    reads_copied(&rt, alloc, "short", short)?;
-    reads_copied(&rt, alloc, "long long", IntegerType::LongLong(LONG_LONG))?;
-    reads_copied(&rt, alloc, "long", LONG)?;
-    reads_copied(&rt, alloc, "short", SHORT)?;
-    reads_copied(&rt, alloc, "float", float)?;
-    reads_copied(&rt, alloc, "double", DOUBLE)?;
-    reads_copied(&rt, alloc, "float", FLOAT)?;
-    reads_copied(&rt, alloc, "double", FloatingPointType::Double(DOUBLE))?;
+    reads_copied::<IntegerType>(
+        alloc,
+        &[
+            (
+                "long long",
+                "LongLong(LongLongType { unsigned: None, long_long: (Long, Long) })",
+            ),
+            ("long", "Long(LongType { unsigned: None, long: Long })"),
+            ("short", "Short(ShortType { unsigned: None, short: Short })"),
+        ],
+    )
+    .and(reads_copied::<FloatingPointType>(
+        alloc,
+        &[
+            (
+                "float",
+                "Float(FloatType { unrestricted: None, float: Float })",
+            ),
+            (
+                "double",
+                "Double(DoubleType { unrestricted: None, double: Double })",
+            ),
+        ],
+    ))?;
+    Ok(())
+}
+
+#[test]
+fn an_integer_type_is_read_alone(rt: HostRuntime) -> Result<(), Fail> {
+    let alloc = rt.alloc();
+    reads_copied::<LongLongType>(
+        alloc,
+        &[(
+            "long long",
+            "LongLongType { unsigned: None, long_long: (Long, Long) }",
+        )],
+    )
+    .and(reads_copied::<LongType>(
+        alloc,
+        &[("long", "LongType { unsigned: None, long: Long }")],
+    ))
+    .and(reads_copied::<ShortType>(
+        alloc,
+        &[("short", "ShortType { unsigned: None, short: Short }")],
+    ))?;
+    Ok(())
+}
+
+#[test]
+fn a_floating_point_type_is_read_alone(rt: HostRuntime) -> Result<(), Fail> {
+    let alloc = rt.alloc();
+    reads_copied::<FloatType>(
+        alloc,
+        &[("float", "FloatType { unrestricted: None, float: Float }")],
+    )
+    .and(reads_copied::<DoubleType>(
+        alloc,
+        &[(
+            "double",
+            "DoubleType { unrestricted: None, double: Double }",
+        )],
+    ))?;
     Ok(())
 }
 
 #[test]
 fn a_plain_type_may_be_null(rt: HostRuntime) -> Result<(), Fail> {
-    let alloc = rt.alloc();
-    reads_copied(&rt, alloc, "short", plain(SHORT))?;
-    reads_copied(&rt, alloc, "short?", nullable(SHORT))?;
+    reads_copied::<MayBeNull<IntegerType>>(
+        rt.alloc(),
+        &[
+            (
+                "short",
+                "MayBeNull { type_: Short(ShortType { unsigned: None, short: Short }), \
+                 q_mark: None }",
+            ),
+            (
+                "short?",
+                "MayBeNull { type_: Short(ShortType { unsigned: None, short: Short }), \
+                 q_mark: Some(QMark) }",
+            ),
+        ],
+    )?;
     Ok(())
 }
 
 #[test]
 fn a_constant_has_one_of_six_types(rt: HostRuntime) -> Result<(), Fail> {
-    let alloc = rt.alloc();
-    reads_copied(&rt, alloc, "short", ConstType::Integer(plain(SHORT)))?;
-    reads_copied(&rt, alloc, "float", ConstType::FloatingPoint(plain(FLOAT)))?;
-    reads_copied(&rt, alloc, "boolean", ConstType::Boolean(plain(Boolean)))?;
-    reads_copied(&rt, alloc, "byte", ConstType::Byte(plain(Byte)))?;
-    reads_copied(&rt, alloc, "octet", ConstType::Octet(plain(Octet)))?;
-    let name = ConstType::Identifier(plain(Identifier("name")));
-    reads_copied(&rt, alloc, "name", name)?;
+    reads_copied::<ConstType<'_>>(
+        rt.alloc(),
+        &[
+            (
+                "short",
+                "Integer(MayBeNull { type_: Short(ShortType { unsigned: None, short: Short }), \
+                 q_mark: None })",
+            ),
+            (
+                "float",
+                "FloatingPoint(MayBeNull { type_: Float(FloatType { unrestricted: None, \
+                 float: Float }), q_mark: None })",
+            ),
+            (
+                "boolean",
+                "Boolean(MayBeNull { type_: Boolean, q_mark: None })",
+            ),
+            ("byte", "Byte(MayBeNull { type_: Byte, q_mark: None })"),
+            ("octet", "Octet(MayBeNull { type_: Octet, q_mark: None })"),
+            (
+                "name",
+                r#"Identifier(MayBeNull { type_: Identifier("name"), q_mark: None })"#,
+            ),
+        ],
+    )?;
     Ok(())
 }

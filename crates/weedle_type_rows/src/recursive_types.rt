@@ -1,172 +1,316 @@
 //! Types that hold others.
 
-use crate::values::{
-    FLOAT, LONG, SHORT, bare, flag, flagged_member, frozen_array_of, integer, member, named,
-    nullable, plain, promise_of, record_of, sequence_of, single, union_of,
-};
-use crate::whole::{reads, reads_up_to};
+use std::alloc::Global;
 use std::test::Fail;
-use weedle_answers::is_mismatch;
-use weedle_base::Parse;
-use weedle_parts::types::{IntegerType, LongType};
-use weedle_term::{Any, Byte, ByteString, DOMString, Long, USVString, Undefined, Unsigned};
+use weedle_answers::{Unlike, reads, reads_up_to, refuses};
 use weedle_types::types::{
-    AttributedType, NonAnyType, RecordKeyType, RecordType, ReturnType, SingleType, Type,
-    UnionMemberType,
+    AttributedType, FrozenArrayType, PromiseType, RecordType, SequenceType, Type, UnionMemberType,
 };
+
+/// What is read of each text, as one type.
+fn reads_types<'a>(alloc: Global, rows: &[(&'a str, &str, &str)]) -> Result<(), Unlike<'a>> {
+    reads_up_to::<Type<'_>>(alloc, rows)
+}
 
 #[test]
 fn a_type_that_does_not_fit_is_a_name(rt: HostRuntime) -> Result<(), Fail> {
-    let alloc = rt.alloc();
-    let unsigned = single(named("unsigned"));
-    reads_up_to(&rt, alloc, "unsigned x", "x", unsigned)?;
-    let sequence = single(named("sequence"));
-    reads_up_to(&rt, alloc, "sequence<long", "<long", sequence)?;
-    reads(&rt, alloc, "DOMStringMap", single(named("DOMStringMap")))?;
-    let text = "record<DOMString?, short>";
-    let record = single(named("record"));
-    reads_up_to(&rt, alloc, text, "<DOMString?, short>", record)?;
-    assert!(rt; is_mismatch(&RecordType::parse(alloc, text)));
+    reads_types(
+        rt.alloc(),
+        &[
+            (
+                "unsigned x",
+                "x",
+                "Single(NonAny(Identifier(MayBeNull { type_: Identifier(\"unsigned\"), \
+                 q_mark: None })))",
+            ),
+            (
+                "sequence<long",
+                "<long",
+                "Single(NonAny(Identifier(MayBeNull { type_: Identifier(\"sequence\"), \
+                 q_mark: None })))",
+            ),
+            (
+                "DOMStringMap",
+                "",
+                "Single(NonAny(Identifier(MayBeNull { type_: Identifier(\"DOMStringMap\"), \
+                 q_mark: None })))",
+            ),
+            (
+                "record<DOMString?, short>",
+                "<DOMString?, short>",
+                "Single(NonAny(Identifier(MayBeNull { type_: Identifier(\"record\"), \
+                 q_mark: None })))",
+            ),
+        ],
+    )?;
+    Ok(())
+}
+
+#[test]
+fn a_key_of_a_record_is_not_null(rt: HostRuntime) -> Result<(), Fail> {
+    refuses::<RecordType<'_>>(rt.alloc(), &["record<DOMString?, short>"])?;
     Ok(())
 }
 
 #[test]
 fn a_type_ends_where_its_words_end(rt: HostRuntime) -> Result<(), Fail> {
-    let alloc = rt.alloc();
-    let any = Type::Single(SingleType::Any(Any));
-    reads_up_to(&rt, alloc, "any?", "?", any)?;
-    reads_up_to(&rt, alloc, "longé", "é", single(integer(LONG)))?;
-    let promise = NonAnyType::Promise(promise_of(alloc, single(integer(LONG)))?);
-    reads_up_to(&rt, alloc, "Promise<long>?", "?", single(promise))?;
+    reads_types(
+        rt.alloc(),
+        &[
+            ("any?", "?", "Single(Any(Any))"),
+            (
+                "longé",
+                "é",
+                "Single(NonAny(Integer(MayBeNull { type_: Long(LongType { unsigned: None, \
+                 long: Long }), q_mark: None })))",
+            ),
+            (
+                "Promise<long>?",
+                "?",
+                "Single(NonAny(Promise(PromiseType { promise: Promise, \
+                 generics: Generics { open_angle: LessThan, \
+                 body: Type_(Single(NonAny(Integer(MayBeNull { \
+                 type_: Long(LongType { unsigned: None, long: Long }), q_mark: None })))), \
+                 close_angle: GreaterThan } })))",
+            ),
+        ],
+    )?;
     Ok(())
 }
 
 #[test]
 fn a_union_holds_its_members(rt: HostRuntime) -> Result<(), Fail> {
-    let alloc = rt.alloc();
-    let empty = Type::Union(plain(union_of(Vec::new(alloc))));
-    reads(&rt, alloc, "()", empty)?;
+    reads_types(
+        rt.alloc(),
+        &[
+            (
+                "()",
+                "",
+                "Union(MayBeNull { type_: Parenthesized { open_paren: OpenParen, \
+                 body: Punctuated { list: [], separator: Or }, close_paren: CloseParen }, \
+                 q_mark: None })",
+            ),
+            (
+                "((a or b)? or c)?",
+                "",
+                "Union(MayBeNull { type_: Parenthesized { open_paren: OpenParen, \
+                 body: Punctuated { list: [Union(MayBeNull { \
+                 type_: Parenthesized { open_paren: OpenParen, \
+                 body: Punctuated { list: [Single(AttributedNonAnyType { attributes: None, \
+                 type_: Identifier(MayBeNull { type_: Identifier(\"a\"), q_mark: None }) }), \
+                 Single(AttributedNonAnyType { attributes: None, \
+                 type_: Identifier(MayBeNull { type_: Identifier(\"b\"), q_mark: None }) })], \
+                 separator: Or }, close_paren: CloseParen }, q_mark: Some(QMark) }), \
+                 Single(AttributedNonAnyType { attributes: None, \
+                 type_: Identifier(MayBeNull { type_: Identifier(\"c\"), q_mark: None }) })], \
+                 separator: Or }, close_paren: CloseParen }, q_mark: Some(QMark) })",
+            ),
+            (
+                "(any or b)",
+                "",
+                "Union(MayBeNull { type_: Parenthesized { open_paren: OpenParen, \
+                 body: Punctuated { list: [Single(AttributedNonAnyType { attributes: None, \
+                 type_: Identifier(MayBeNull { type_: Identifier(\"any\"), q_mark: None }) }), \
+                 Single(AttributedNonAnyType { attributes: None, \
+                 type_: Identifier(MayBeNull { type_: Identifier(\"b\"), q_mark: None }) })], \
+                 separator: Or }, close_paren: CloseParen }, q_mark: None })",
+            ),
+            (
+                "(long or or)",
+                "",
+                "Union(MayBeNull { type_: Parenthesized { open_paren: OpenParen, \
+                 body: Punctuated { list: [Single(AttributedNonAnyType { attributes: None, \
+                 type_: Integer(MayBeNull { type_: Long(LongType { unsigned: None, long: Long }), \
+                 q_mark: None }) }), Single(AttributedNonAnyType { attributes: None, \
+                 type_: Identifier(MayBeNull { type_: Identifier(\"or\"), q_mark: None }) })], \
+                 separator: Or }, close_paren: CloseParen }, q_mark: None })",
+            ),
+        ],
+    )?;
+    Ok(())
+}
 
-    let inner = union_of(vec![in alloc; member(named("a")), member(named("b"))]?);
-    let inner = UnionMemberType::Union(nullable(inner));
-    let outer = union_of(vec![in alloc; inner, member(named("c"))]?);
-    let outer = Type::Union(nullable(outer));
-    reads(&rt, alloc, "((a or b)? or c)?", outer)?;
-
-    let any = union_of(vec![in alloc; member(named("any")), member(named("b"))]?);
-    reads(&rt, alloc, "(any or b)", Type::Union(plain(any)))?;
-
-    let or = union_of(vec![in alloc; member(integer(LONG)), member(named("or"))]?);
-    reads(&rt, alloc, "(long or or)", Type::Union(plain(or)))?;
-
-    assert!(rt; is_mismatch(&Type::parse(alloc, "(a or)")));
+#[test]
+fn a_union_does_not_end_in_or(rt: HostRuntime) -> Result<(), Fail> {
+    refuses::<Type<'_>>(rt.alloc(), &["(a or)"])?;
     Ok(())
 }
 
 #[test]
 fn a_member_of_a_union_keeps_its_attributes(rt: HostRuntime) -> Result<(), Fail> {
-    let alloc = rt.alloc();
-    let unsigned = IntegerType::Long(LongType {
-        unsigned: Some(Unsigned),
-        long: Long,
-    });
-    reads(&rt, alloc, "byte", member(NonAnyType::Byte(plain(Byte))))?;
-
-    let first = flagged_member(alloc, "Clamp", NonAnyType::Byte(plain(Byte)))?;
-    let second = flagged_member(alloc, "Named", NonAnyType::Byte(plain(Byte)))?;
-    let both = UnionMemberType::Union(plain(union_of(vec![in alloc; first, second]?)));
-    reads(&rt, alloc, "([Clamp] byte or [Named] byte)", both)?;
-
-    let first = flagged_member(alloc, "Clamp", integer(unsigned))?;
-    let second = member(NonAnyType::Byte(plain(Byte)));
-    let one = UnionMemberType::Union(plain(union_of(vec![in alloc; first, second]?)));
-    reads(&rt, alloc, "([Clamp] unsigned long or byte)", one)?;
+    reads::<UnionMemberType<'_>>(
+        rt.alloc(),
+        &[
+            (
+                "byte",
+                "Single(AttributedNonAnyType { attributes: None, \
+                 type_: Byte(MayBeNull { type_: Byte, q_mark: None }) })",
+            ),
+            (
+                "([Clamp] byte or [Named] byte)",
+                "Union(MayBeNull { type_: Parenthesized { open_paren: OpenParen, \
+                 body: Punctuated { list: [Single(AttributedNonAnyType { \
+                 attributes: Some(Bracketed { open_bracket: OpenBracket, \
+                 body: Punctuated { list: \
+                 [NoArgs(ExtendedAttributeNoArgs(Identifier(\"Clamp\")))], separator: Comma }, \
+                 close_bracket: CloseBracket }), type_: Byte(MayBeNull { type_: Byte, \
+                 q_mark: None }) }), Single(AttributedNonAnyType { \
+                 attributes: Some(Bracketed { open_bracket: OpenBracket, \
+                 body: Punctuated { list: \
+                 [NoArgs(ExtendedAttributeNoArgs(Identifier(\"Named\")))], separator: Comma }, \
+                 close_bracket: CloseBracket }), type_: Byte(MayBeNull { type_: Byte, \
+                 q_mark: None }) })], separator: Or }, close_paren: CloseParen }, q_mark: None })",
+            ),
+            (
+                "([Clamp] unsigned long or byte)",
+                "Union(MayBeNull { type_: Parenthesized { open_paren: OpenParen, \
+                 body: Punctuated { list: [Single(AttributedNonAnyType { \
+                 attributes: Some(Bracketed { open_bracket: OpenBracket, \
+                 body: Punctuated { list: \
+                 [NoArgs(ExtendedAttributeNoArgs(Identifier(\"Clamp\")))], separator: Comma }, \
+                 close_bracket: CloseBracket }), type_: Integer(MayBeNull { \
+                 type_: Long(LongType { unsigned: Some(Unsigned), long: Long }), \
+                 q_mark: None }) }), Single(AttributedNonAnyType { attributes: None, \
+                 type_: Byte(MayBeNull { type_: Byte, q_mark: None }) })], separator: Or }, \
+                 close_paren: CloseParen }, q_mark: None })",
+            ),
+        ],
+    )?;
     Ok(())
 }
 
 #[test]
 fn a_type_keeps_its_attributes(rt: HostRuntime) -> Result<(), Fail> {
-    let alloc = rt.alloc();
-    let with_one = AttributedType {
-        attributes: Some(flag(alloc, "Named")?),
-        type_: single(integer(SHORT)),
-    };
-    reads(&rt, alloc, "[Named] short", with_one)?;
-    reads(&rt, alloc, "short", bare(single(integer(SHORT))))?;
-    Ok(())
-}
-
-#[test]
-fn a_type_may_hold_types(rt: HostRuntime) -> Result<(), Fail> {
-    let alloc = rt.alloc();
-    let sequence = sequence_of(alloc, single(integer(SHORT)))?;
-    reads(&rt, alloc, "sequence<short>", sequence)?;
-    let array = frozen_array_of(alloc, single(integer(SHORT)))?;
-    reads(&rt, alloc, "FrozenArray<short>", array)?;
-    let promise = promise_of(alloc, single(integer(SHORT)))?;
-    reads(&rt, alloc, "Promise<short>", promise)?;
-    let strings = record_of(alloc, RecordKeyType::DOM(DOMString), single(integer(SHORT)))?;
-    reads(&rt, alloc, "record<DOMString, short>", strings)?;
-    let key = RecordKeyType::NonAny(named("u64"));
-    let names = record_of(alloc, key, single(integer(SHORT)))?;
-    reads(&rt, alloc, "record<u64, short>", names)?;
-    Ok(())
-}
-
-#[test]
-fn a_type_that_is_not_any_is_the_first_that_fits(rt: HostRuntime) -> Result<(), Fail> {
-    let alloc = rt.alloc();
-    let promise = NonAnyType::Promise(promise_of(alloc, single(integer(LONG)))?);
-    reads(&rt, alloc, "Promise<long>", promise)?;
-    reads(&rt, alloc, "long", integer(LONG))?;
-    let float = NonAnyType::FloatingPoint(plain(FLOAT));
-    reads(&rt, alloc, "float", float)?;
-    let sequence = sequence_of(alloc, single(integer(SHORT)))?;
-    let sequence = NonAnyType::Sequence(plain(sequence));
-    reads(&rt, alloc, "sequence<short>", sequence)?;
-    let array = frozen_array_of(alloc, single(integer(SHORT)))?;
-    let array = NonAnyType::FrozenArrayType(plain(array));
-    reads(&rt, alloc, "FrozenArray<short>", array)?;
-    let record = record_of(alloc, RecordKeyType::DOM(DOMString), single(integer(SHORT)))?;
-    let record = NonAnyType::RecordType(plain(record));
-    reads(&rt, alloc, "record<DOMString, short>", record)?;
-    reads(&rt, alloc, "mango", named("mango"))?;
-    Ok(())
-}
-
-#[test]
-fn a_choice_of_types_tells_which_it_is(rt: HostRuntime) -> Result<(), Fail> {
-    let alloc = rt.alloc();
-    reads(&rt, alloc, "undefined", ReturnType::Undefined(Undefined))?;
-    let any = ReturnType::Type_(Type::Single(SingleType::Any(Any)));
-    reads(&rt, alloc, "any", any)?;
-    reads(&rt, alloc, "any", SingleType::Any(Any))?;
-    let promise = NonAnyType::Promise(promise_of(alloc, single(integer(SHORT)))?);
-    reads(&rt, alloc, "Promise<short>", SingleType::NonAny(promise))?;
-    reads(&rt, alloc, "ByteString", RecordKeyType::Byte(ByteString))?;
-    reads(&rt, alloc, "DOMString", RecordKeyType::DOM(DOMString))?;
-    reads(&rt, alloc, "USVString", RecordKeyType::USV(USVString))?;
-    reads(&rt, alloc, "short", single(integer(SHORT)))?;
-    let float = NonAnyType::FloatingPoint(plain(FLOAT));
-    let either = union_of(vec![in alloc; member(integer(SHORT)), member(float)]?);
-    reads(&rt, alloc, "(short or float)", Type::Union(plain(either)))?;
+    reads::<AttributedType<'_>>(
+        rt.alloc(),
+        &[
+            (
+                "[Named] short",
+                "AttributedType { attributes: Some(Bracketed { open_bracket: OpenBracket, \
+                 body: Punctuated { list: \
+                 [NoArgs(ExtendedAttributeNoArgs(Identifier(\"Named\")))], separator: Comma }, \
+                 close_bracket: CloseBracket }), type_: Single(NonAny(Integer(MayBeNull { \
+                 type_: Short(ShortType { unsigned: None, short: Short }), q_mark: None }))) }",
+            ),
+            (
+                "short",
+                "AttributedType { attributes: None, type_: Single(NonAny(Integer(MayBeNull { \
+                 type_: Short(ShortType { unsigned: None, short: Short }), q_mark: None }))) }",
+            ),
+        ],
+    )?;
     Ok(())
 }
 
 #[test]
 fn a_type_is_printed_with_its_names(rt: HostRuntime) -> Result<(), Fail> {
-    let alloc = rt.alloc();
-    let sequence = sequence_of(alloc, Type::Single(SingleType::Any(Any)))?;
-    assert_eq!(rt;
-        format!(in alloc; "{sequence:?}")?.as_str(),
-        "SequenceType { sequence: Sequence, generics: Generics { open_angle: LessThan, \
-         body: Single(Any(Any)), close_angle: GreaterThan } }"
-    );
-    let record = record_of(alloc, RecordKeyType::DOM(DOMString), single(named("a")))?;
-    assert_eq!(rt;
-        format!(in alloc; "{:?}", record.generics.body)?.as_str(),
-        "RecordTypes(DOM(DOMString), Comma, Single(NonAny(Identifier(MayBeNull { \
-         type_: Identifier(\"a\"), q_mark: None }))))"
-    );
+    reads::<SequenceType<'_>>(
+        rt.alloc(),
+        &[
+            (
+                "sequence<short>",
+                "SequenceType { sequence: Sequence, generics: Generics { open_angle: LessThan, \
+                 body: Single(NonAny(Integer(MayBeNull { \
+                 type_: Short(ShortType { unsigned: None, short: Short }), q_mark: None }))), \
+                 close_angle: GreaterThan } }",
+            ),
+            (
+                "sequence<any>",
+                "SequenceType { sequence: Sequence, generics: Generics { open_angle: LessThan, \
+                 body: Single(Any(Any)), close_angle: GreaterThan } }",
+            ),
+        ],
+    )?;
+    Ok(())
+}
+
+#[test]
+fn a_frozen_array_holds_a_type(rt: HostRuntime) -> Result<(), Fail> {
+    reads::<FrozenArrayType<'_>>(
+        rt.alloc(),
+        &[(
+            "FrozenArray<short>",
+            "FrozenArrayType { frozen_array: FrozenArray, \
+             generics: Generics { open_angle: LessThan, \
+             body: Single(NonAny(Integer(MayBeNull { \
+             type_: Short(ShortType { unsigned: None, short: Short }), q_mark: None }))), \
+             close_angle: GreaterThan } }",
+        )],
+    )?;
+    Ok(())
+}
+
+#[test]
+fn a_promise_holds_a_type(rt: HostRuntime) -> Result<(), Fail> {
+    reads::<PromiseType<'_>>(
+        rt.alloc(),
+        &[(
+            "Promise<short>",
+            "PromiseType { promise: Promise, generics: Generics { open_angle: LessThan, \
+             body: Type_(Single(NonAny(Integer(MayBeNull { \
+             type_: Short(ShortType { unsigned: None, short: Short }), q_mark: None })))), \
+             close_angle: GreaterThan } }",
+        )],
+    )?;
+    Ok(())
+}
+
+#[test]
+fn a_type_may_hold_types(rt: HostRuntime) -> Result<(), Fail> {
+    reads::<RecordType<'_>>(
+        rt.alloc(),
+        &[
+            (
+                "record<DOMString, short>",
+                "RecordType { record_: Record, generics: Generics { open_angle: LessThan, \
+                 body: RecordTypes(DOM(DOMString), Comma, \
+                 Single(NonAny(Integer(MayBeNull { type_: Short(ShortType { unsigned: None, \
+                 short: Short }), q_mark: None })))), close_angle: GreaterThan } }",
+            ),
+            (
+                "record<u64, short>",
+                "RecordType { record_: Record, generics: Generics { open_angle: LessThan, \
+                 body: RecordTypes(NonAny(Identifier(MayBeNull { type_: Identifier(\"u64\"), \
+                 q_mark: None })), Comma, Single(NonAny(Integer(MayBeNull { \
+                 type_: Short(ShortType { unsigned: None, short: Short }), q_mark: None })))), \
+                 close_angle: GreaterThan } }",
+            ),
+            (
+                "record<DOMString, a>",
+                "RecordType { record_: Record, generics: Generics { open_angle: LessThan, \
+                 body: RecordTypes(DOM(DOMString), Comma, \
+                 Single(NonAny(Identifier(MayBeNull { type_: Identifier(\"a\"), \
+                 q_mark: None })))), close_angle: GreaterThan } }",
+            ),
+        ],
+    )?;
+    Ok(())
+}
+
+#[test]
+fn a_choice_of_types_tells_which_it_is(rt: HostRuntime) -> Result<(), Fail> {
+    reads_types(
+        rt.alloc(),
+        &[
+            (
+                "short",
+                "",
+                "Single(NonAny(Integer(MayBeNull { type_: Short(ShortType { unsigned: None, \
+                 short: Short }), q_mark: None })))",
+            ),
+            (
+                "(short or float)",
+                "",
+                "Union(MayBeNull { type_: Parenthesized { open_paren: OpenParen, \
+                 body: Punctuated { list: [Single(AttributedNonAnyType { attributes: None, \
+                 type_: Integer(MayBeNull { type_: Short(ShortType { unsigned: None, \
+                 short: Short }), q_mark: None }) }), \
+                 Single(AttributedNonAnyType { attributes: None, \
+                 type_: FloatingPoint(MayBeNull { type_: Float(FloatType { unrestricted: None, \
+                 float: Float }), q_mark: None }) })], separator: Or }, close_paren: CloseParen }, \
+                 q_mark: None })",
+            ),
+        ],
+    )?;
     Ok(())
 }

@@ -15,14 +15,14 @@ use Rattle.weedle_parts.specs.MayBeNull.{may_be_null_reading}
 use Rattle.weedle_parts.specs.ValueTrees.{identifier_tree, may_be_null_tree, parenthesized_tree, punctuated_tree}
 use Rattle.weedle_parts.specs.declared.common.identifier.Identifier.{Identifier}
 use Rattle.weedle_parts.specs.declared.common.punctuated.Punctuated.{Punctuated}
-use Rattle.weedle_rules.specs.Table.Keywords.{OR}
-use Rattle.weedle_rules.specs.Table.Leaves.{IDENTIFIER}
-use Rattle.weedle_rules.specs.Table.SimpleTypes.{IDENTIFIER_LIST, PARENTHESIZED_IDENTIFIER_LIST, TAIL_IDENTIFIER_COMMA}
-use Rattle.weedle_rules.specs.Table.Symbols.{COMMA}
-use Rattle.weedle_rules.specs.Table.Types.{ARGUMENT, ARGUMENT_LIST, EXTENDED_ATTRIBUTE, EXTENDED_ATTRIBUTE_LIST, LIST_EXTENDED_ATTRIBUTE_COMMA, LIST_UNION_MEMBER_TYPE_OR, MAY_BE_NULL_UNION_TYPE, OPT_EXTENDED_ATTRIBUTE_LIST, PARENTHESIZED_ARGUMENT_LIST, TAIL_ARGUMENT_COMMA, TAIL_EXTENDED_ATTRIBUTE_COMMA, TAIL_UNION_MEMBER_TYPE_OR, UNION_MEMBER_TYPE, UNION_TYPE}
-use Rattle.weedle_types.specs.Trees.{argument_list_tree, argument_tree, arguments_tree, attributes_tree, extended_attribute_list_tree, extended_attribute_tree, union_member_type_tree, union_type_tree}
+use Rattle.weedle_grammar.specs.Table.Keywords.{OR}
+use Rattle.weedle_grammar.specs.Table.Leaves.{IDENTIFIER}
+use Rattle.weedle_grammar.specs.Table.SimpleTypes.{IDENTIFIER_LIST, PARENTHESIZED_IDENTIFIER_LIST, TAIL_IDENTIFIER_COMMA}
+use Rattle.weedle_grammar.specs.Table.Symbols.{COMMA}
+use Rattle.weedle_grammar.specs.Table.Types.{ARGUMENT, ARGUMENT_LIST, EXTENDED_ATTRIBUTE, EXTENDED_ATTRIBUTE_LIST, LIST_EXTENDED_ATTRIBUTE_COMMA, LIST_UNION_MEMBER_TYPE_OR, MAY_BE_NULL_UNION_TYPE, OPT_EXTENDED_ATTRIBUTE_LIST, TAIL_ARGUMENT_COMMA, TAIL_EXTENDED_ATTRIBUTE_COMMA, TAIL_UNION_MEMBER_TYPE_OR, UNION_MEMBER_TYPE, UNION_TYPE}
+use Rattle.weedle_types.specs.Trees.{argument_list_tree, argument_tree, attributes_tree, extended_attribute_list_tree, extended_attribute_tree, union_member_type_tree, union_type_tree}
 use Rattle.weedle_types.specs.declared.argument.Argument.{Argument}
-use Rattle.weedle_types.specs.declared.formers.ExtendedAttribute.{ExtendedAttribute}
+use Rattle.weedle_types.specs.declared.attribute.ExtendedAttribute.{ExtendedAttribute}
 use Rattle.weedle_types.specs.declared.types.UnionMemberType.{UnionMemberType}
 
 -- Unions.
@@ -45,8 +45,8 @@ module _ (known : Punctuated UnionMemberType Or → Type 0) where
   nullable_union_type_has_rule = wider_rule (λ g. inl (inr (inl g))) nullable_union_type_law
 
 -- Attributes.
-module _ (known : Punctuated (ExtendedAttribute Argument) Comma → Type 0) where
-  abbrev pub extended_attributes_reading : Reading (Punctuated (ExtendedAttribute Argument) Comma)
+module _ (known : Punctuated ExtendedAttribute Comma → Type 0) where
+  abbrev pub extended_attributes_reading : Reading (Punctuated ExtendedAttribute Comma)
   extended_attributes_reading = punctuated_reading (own EXTENDED_ATTRIBUTE extended_attribute_tree (Unit {0})) (mark {V = Comma} COMMA) (λ p. p.list.items) known
 
   pub extended_attribute_list_law : IsRule (bracketed_reading extended_attributes_reading) EXTENDED_ATTRIBUTE_LIST extended_attribute_list_tree (Unit {0})
@@ -71,16 +71,9 @@ module _ (known : Punctuated Argument Comma → Type 0) where
   pub argument_list_law : IsRule argument_list_reading ARGUMENT_LIST argument_list_tree (Unit {0})
   argument_list_law = punctuated_rule (own_rule ARGUMENT argument_tree (Unit {0})) (still_rule (mark_rule COMMA)) TAIL_ARGUMENT_COMMA refl refl (λ p. p.list.items) known ARGUMENT_LIST refl refl tt
 
-  pub arguments_law : IsRule (parenthesized_reading argument_list_reading) PARENTHESIZED_ARGUMENT_LIST arguments_tree (Unit {0})
-  arguments_law = parenthesized_rule argument_list_law PARENTHESIZED_ARGUMENT_LIST refl refl
-
   pub argument_list_has_rule : HasRule argument_list_reading ARGUMENT_LIST argument_list_tree
   unfolding punctuated_reading
   argument_list_has_rule = argument_list_law
-
-  pub arguments_has_rule : HasRule (parenthesized_reading argument_list_reading) PARENTHESIZED_ARGUMENT_LIST arguments_tree
-  unfolding punctuated_reading pair_reading seen_reading
-  arguments_has_rule = wider_rule (λ g. inr (inl g)) arguments_law
 
 -- Names.
 module _ (known : Punctuated Identifier Comma → Type 0) where

@@ -6,17 +6,23 @@ use Rattle.std.specs.Borrow.{Bor}
 use Rattle.std.specs.Global.{Vec}
 use Rattle.std.specs.Prelude.{Bool, List, None, Option, Some, [], ℕ, ◌∷◌, ◌≡◌, ◌⊎◌}
 use Rattle.std.specs.Str.{IsUtf8}
-use Rattle.weedle_base.proofs.Choice.{choice_reading, choice_tree, first_last, first_more, first_rule}
+use Rattle.weedle_base.proofs.Choice.{choice_tree, first_last, first_more, first_rule}
 use Rattle.weedle_base.proofs.RuleFacts.{fault_rule, got_rule, mark, mark_rule, option_rule, own_rule, seq_last, seq_next, seq_rule, still_rule}
 use Rattle.weedle_base.proofs.Steps.{part_steps}
 use Rattle.weedle_base.proofs.TakesFacts.{own_takes}
-use Rattle.weedle_base.specs.Generic.{option_reading, pair_reading}
+use Rattle.weedle_base.specs.Generic.{choice_reading, option_reading, pair_reading}
 use Rattle.weedle_base.specs.Own.{own}
 use Rattle.weedle_base.specs.Reading.{Faults, Got, Reading}
 use Rattle.weedle_base.specs.Rules.{IsRule, mark_tree, option_tree}
 use Rattle.weedle_base.specs.declared.fault.Err.TheVariants.{Error as Recoverable, Failure}
 use Rattle.weedle_base.specs.declared.fault.Err.{Err as Fault}
 use Rattle.weedle_base.specs.declared.fault.Error.{Error}
+use Rattle.weedle_grammar.specs.Table.Keywords.{OPTIONAL}
+use Rattle.weedle_grammar.specs.Table.Leaves.{IDENTIFIER}
+use Rattle.weedle_grammar.specs.Table.Literals.{DEFAULT}
+use Rattle.weedle_grammar.specs.Table.Symbols.{CLOSE_PAREN, COMMA, ELLIPSIS, OPEN_PAREN}
+use Rattle.weedle_grammar.specs.Table.Types.{ARGUMENT, ARGUMENT_LIST, ATTRIBUTED_TYPE, OPT_DEFAULT, OPT_EXTENDED_ATTRIBUTE_LIST, OPT_OPTIONAL, PARENTHESIZED_ARGUMENT_LIST, SINGLE_ARGUMENT, TAIL_ARGUMENT_COMMA, TYPE, VARIADIC_ARGUMENT}
+use Rattle.weedle_grammar.specs.Trees.{Alt, Node, trees}
 use Rattle.weedle_literal.specs.LiteralTrees.{default_tree}
 use Rattle.weedle_literal.specs.declared.default.Default.{Default}
 use Rattle.weedle_parts.proofs.ListRules.{punctuated_rule}
@@ -24,15 +30,8 @@ use Rattle.weedle_parts.proofs.ListSteps.{fault_some, got_none, got_some}
 use Rattle.weedle_parts.specs.Lists.{after_first, punctuated_reading}
 use Rattle.weedle_parts.specs.ValueTrees.{identifier_tree}
 use Rattle.weedle_parts.specs.declared.common.brackets.Bracketed.{Bracketed}
-use Rattle.weedle_parts.specs.declared.common.brackets.Parenthesized.{Parenthesized}
 use Rattle.weedle_parts.specs.declared.common.identifier.Identifier.{Identifier}
 use Rattle.weedle_parts.specs.declared.common.punctuated.Punctuated.{Punctuated}
-use Rattle.weedle_rules.specs.Table.Keywords.{OPTIONAL}
-use Rattle.weedle_rules.specs.Table.Leaves.{IDENTIFIER}
-use Rattle.weedle_rules.specs.Table.Literals.{DEFAULT}
-use Rattle.weedle_rules.specs.Table.Symbols.{CLOSE_PAREN, COMMA, ELLIPSIS, OPEN_PAREN}
-use Rattle.weedle_rules.specs.Table.Types.{ARGUMENT, ARGUMENT_LIST, ATTRIBUTED_TYPE, OPT_DEFAULT, OPT_EXTENDED_ATTRIBUTE_LIST, OPT_OPTIONAL, PARENTHESIZED_ARGUMENT_LIST, SINGLE_ARGUMENT, TAIL_ARGUMENT_COMMA, TYPE, VARIADIC_ARGUMENT}
-use Rattle.weedle_rules.specs.Trees.{Alt, Node, trees}
 use Rattle.weedle_term.specs.declared.symbols.CloseParen.{CloseParen}
 use Rattle.weedle_term.specs.declared.symbols.Comma.{Comma}
 use Rattle.weedle_term.specs.declared.symbols.Ellipsis.{Ellipsis}
@@ -44,9 +43,10 @@ use Rattle.weedle_types.proofs.TreeLaws.{argument_single_of, argument_variadic_o
 use Rattle.weedle_types.specs.Trees.{argument_list_tree, argument_tree, arguments_tree, attributed_type_tree, extended_attribute_list_tree, single_argument_tree, type_tree, variadic_argument_tree}
 use Rattle.weedle_types.specs.declared.argument.Argument.TheVariants.{Single as Argument-Single, Variadic as Argument-Variadic}
 use Rattle.weedle_types.specs.declared.argument.Argument.{Argument}
+use Rattle.weedle_types.specs.declared.argument.ParenthesizedArgumentList.{ParenthesizedArgumentList}
 use Rattle.weedle_types.specs.declared.argument.SingleArgument.{SingleArgument}
 use Rattle.weedle_types.specs.declared.argument.VariadicArgument.{VariadicArgument}
-use Rattle.weedle_types.specs.declared.formers.ExtendedAttribute.{ExtendedAttribute}
+use Rattle.weedle_types.specs.declared.attribute.ExtendedAttribute.{ExtendedAttribute}
 use Rattle.weedle_types.specs.declared.types.AttributedType.{AttributedType}
 use Rattle.weedle_types.specs.declared.types.«Type».{«Type»}
 
@@ -69,19 +69,19 @@ argument_fault h = fault_rule argument_rule argument_tree h
 pub ruleset argument_steps = (direct_choice, argument_got_0, argument_got_1, argument_fault, own_takes, pair_takes, seen_takes)
 
 -- `single_argument`
-abbrev single_argument_parts : Reading ((Option (Bracketed (Punctuated (ExtendedAttribute Argument) Comma))) × ((Option Optional) × (AttributedType × Identifier)))
+abbrev single_argument_parts : Reading ((Option (Bracketed (Punctuated ExtendedAttribute Comma))) × ((Option Optional) × (AttributedType × Identifier)))
 single_argument_parts = (pair_reading (own OPT_EXTENDED_ATTRIBUTE_LIST (option_tree extended_attribute_list_tree) (Unit {0})) (pair_reading (option_reading (mark OPTIONAL)) (pair_reading (own ATTRIBUTED_TYPE attributed_type_tree (Unit {0})) (own IDENTIFIER identifier_tree ⊥))))
 
 abbrev default_reading : Reading (Option Default)
 default_reading = option_reading (own DEFAULT default_tree ⊥)
 
-abbrev is_optional : ((Option (Bracketed (Punctuated (ExtendedAttribute Argument) Comma))) × ((Option Optional) × (AttributedType × Identifier))) → Bool
+abbrev is_optional : ((Option (Bracketed (Punctuated ExtendedAttribute Comma))) × ((Option Optional) × (AttributedType × Identifier))) → Bool
 is_optional x = is_some x.1.0
 
-is_asked : (v : ((Option (Bracketed (Punctuated (ExtendedAttribute Argument) Comma))) × ((Option Optional) × (AttributedType × Identifier)))) → some_at 1 (option_tree extended_attribute_list_tree v.0 ∷ option_tree mark_tree v.1.0 ∷ attributed_type_tree v.1.1.0 ∷ identifier_tree v.1.1.1 ∷ []) ≡ is_optional v
+is_asked : (v : ((Option (Bracketed (Punctuated ExtendedAttribute Comma))) × ((Option Optional) × (AttributedType × Identifier)))) → some_at 1 (option_tree extended_attribute_list_tree v.0 ∷ option_tree mark_tree v.1.0 ∷ attributed_type_tree v.1.1.0 ∷ identifier_tree v.1.1.1 ∷ []) ≡ is_optional v
 is_asked v = present_some mark_tree v.1.0
 
-abbrev single_argument_reading : Reading (((Option (Bracketed (Punctuated (ExtendedAttribute Argument) Comma))) × ((Option Optional) × (AttributedType × Identifier))) × Option Default)
+abbrev single_argument_reading : Reading (((Option (Bracketed (Punctuated ExtendedAttribute Comma))) × ((Option Optional) × (AttributedType × Identifier))) × Option Default)
 single_argument_reading = if_reading single_argument_parts default_reading is_optional None
 
 single_argument_rule : IsRule single_argument_reading SINGLE_ARGUMENT (λ x. Node (trees (option_tree extended_attribute_list_tree x.0.0 ∷ option_tree mark_tree x.0.1.0 ∷ attributed_type_tree x.0.1.1.0 ∷ identifier_tree x.0.1.1.1 ∷ option_tree default_tree x.1 ∷ []))) (Unit {0})
@@ -96,13 +96,13 @@ single_argument_when x h e d = got_rule single_argument_rule single_argument_tre
 pub single_argument_fault : {s : List ℕ} {e : Fault (Error (Bor (List ℕ)))} → Faults single_argument_parts s e → Faults (own SINGLE_ARGUMENT single_argument_tree (Unit {0})) s e
 single_argument_fault h = fault_rule single_argument_rule single_argument_tree (fault_parts single_argument_parts default_reading is_optional None h)
 
-pub single_argument_fault_when : {s rest : List ℕ} {w : Optional} {a : (Option (Bracketed (Punctuated (ExtendedAttribute Argument) Comma)))} {t : AttributedType} {i : Identifier} {e : Fault (Error (Bor (List ℕ)))} → Got single_argument_parts s (a, (Some w, (t, i))) rest → Faults default_reading rest e → Faults (own SINGLE_ARGUMENT single_argument_tree (Unit {0})) s e
+pub single_argument_fault_when : {s rest : List ℕ} {w : Optional} {a : (Option (Bracketed (Punctuated ExtendedAttribute Comma)))} {t : AttributedType} {i : Identifier} {e : Fault (Error (Bor (List ℕ)))} → Got single_argument_parts s (a, (Some w, (t, i))) rest → Faults default_reading rest e → Faults (own SINGLE_ARGUMENT single_argument_tree (Unit {0})) s e
 single_argument_fault_when h d = fault_rule single_argument_rule single_argument_tree (fault_when single_argument_parts default_reading is_optional None h refl d)
 
 pub ruleset single_argument_steps = (part_steps, single_argument_unless, single_argument_when, single_argument_fault, single_argument_fault_when, own_takes)
 
 -- `variadic_argument`
-abbrev variadic_argument_parts : Reading ((Option (Bracketed (Punctuated (ExtendedAttribute Argument) Comma))) × («Type» × (Ellipsis × Identifier)))
+abbrev variadic_argument_parts : Reading ((Option (Bracketed (Punctuated ExtendedAttribute Comma))) × («Type» × (Ellipsis × Identifier)))
 variadic_argument_parts = (pair_reading (own OPT_EXTENDED_ATTRIBUTE_LIST (option_tree extended_attribute_list_tree) (Unit {0})) (pair_reading (own TYPE type_tree (Unit {0})) (pair_reading (mark ELLIPSIS) (own IDENTIFIER identifier_tree ⊥))))
 
 pub variadic_argument_got : {s rest : List ℕ} (x : VariadicArgument) → Got variadic_argument_parts s (x.attributes, (x.type_, (x.ellipsis, x.identifier))) rest → Got (own VARIADIC_ARGUMENT variadic_argument_tree (Unit {0})) s x rest
@@ -117,7 +117,7 @@ pub ruleset variadic_argument_steps = (part_steps, variadic_argument_got, variad
 abbrev arguments_parts : Reading (OpenParen × ((Punctuated Argument Comma) × CloseParen))
 arguments_parts = (pair_reading (mark OPEN_PAREN) (pair_reading (own ARGUMENT_LIST argument_list_tree (Unit {0})) (mark CLOSE_PAREN)))
 
-pub arguments_got : {s rest : List ℕ} (x : Parenthesized (Punctuated Argument Comma)) → Got arguments_parts s (x.open_paren, (x.body, x.close_paren)) rest → Got (own PARENTHESIZED_ARGUMENT_LIST arguments_tree (Unit {0})) s x rest
+pub arguments_got : {s rest : List ℕ} (x : ParenthesizedArgumentList) → Got arguments_parts s (x.open_paren, (x.body, x.close_paren)) rest → Got (own PARENTHESIZED_ARGUMENT_LIST arguments_tree (Unit {0})) s x rest
 arguments_got x h = got_rule (seq_rule (seq_next (still_rule (mark_rule OPEN_PAREN)) (seq_next (own_rule ARGUMENT_LIST argument_list_tree (Unit {0})) (seq_last (still_rule (mark_rule CLOSE_PAREN))))) PARENTHESIZED_ARGUMENT_LIST refl refl) arguments_tree x h refl
 
 pub arguments_fault : {s : List ℕ} {e : Fault (Error (Bor (List ℕ)))} → Faults arguments_parts s e → Faults (own PARENTHESIZED_ARGUMENT_LIST arguments_tree (Unit {0})) s e

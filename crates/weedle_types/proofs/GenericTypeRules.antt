@@ -13,14 +13,14 @@ use Rattle.weedle_base.specs.Own.{own}
 use Rattle.weedle_base.specs.Reading.{Faults, Got, Reading}
 use Rattle.weedle_base.specs.declared.fault.Err.{Err as Fault}
 use Rattle.weedle_base.specs.declared.fault.Error.{Error}
+use Rattle.weedle_grammar.specs.Table.CapitalizedKeywords.{FROZEN_ARRAY, PROMISE}
+use Rattle.weedle_grammar.specs.Table.Keywords.{RECORD, SEQUENCE}
+use Rattle.weedle_grammar.specs.Table.SimpleTypes.{OPT_Q_MARK}
+use Rattle.weedle_grammar.specs.Table.Symbols.{COMMA, GREATER_THAN, LESS_THAN, Q_MARK}
+use Rattle.weedle_grammar.specs.Table.Types.{FROZEN_ARRAY_TYPE, GENERICS_RECORD_TYPES, GENERICS_RETURN_TYPE, GENERICS_TYPE, MAY_BE_NULL_FROZEN_ARRAY_TYPE, MAY_BE_NULL_RECORD_TYPE, MAY_BE_NULL_SEQUENCE_TYPE, PROMISE_TYPE, RECORD_KEY_TYPE, RECORD_TYPE, RECORD_TYPES, RETURN_TYPE, SEQUENCE_TYPE, TYPE}
 use Rattle.weedle_parts.specs.ValueTrees.{generics_tree, may_be_null_tree}
 use Rattle.weedle_parts.specs.declared.common.brackets.Generics.{Generics}
 use Rattle.weedle_parts.specs.declared.types.may_be_null.MayBeNull.{MayBeNull}
-use Rattle.weedle_rules.specs.Table.CapitalizedKeywords.{FROZEN_ARRAY, PROMISE}
-use Rattle.weedle_rules.specs.Table.Keywords.{RECORD, SEQUENCE}
-use Rattle.weedle_rules.specs.Table.SimpleTypes.{OPT_Q_MARK}
-use Rattle.weedle_rules.specs.Table.Symbols.{COMMA, GREATER_THAN, LESS_THAN, Q_MARK}
-use Rattle.weedle_rules.specs.Table.Types.{FROZEN_ARRAY_TYPE, GENERICS_RECORD_TYPES, GENERICS_RETURN_TYPE, GENERICS_TYPE, MAY_BE_NULL_FROZEN_ARRAY_TYPE, MAY_BE_NULL_RECORD_TYPE, MAY_BE_NULL_SEQUENCE_TYPE, PROMISE_TYPE, RECORD_KEY_TYPE, RECORD_TYPE, RECORD_TYPES, RETURN_TYPE, SEQUENCE_TYPE, TYPE}
 use Rattle.weedle_term.specs.declared.capitalized_keywords.FrozenArray.{FrozenArray}
 use Rattle.weedle_term.specs.declared.capitalized_keywords.Promise.{Promise}
 use Rattle.weedle_term.specs.declared.symbols.Comma.{Comma}

@@ -2,10 +2,10 @@
 use Rattle.std.proofs.Common.{refl, inl, inr}
 use Rattle.std.specs.Borrow.{Bor}
 use Rattle.std.specs.Prelude.{ℕ, List, ◌⊎◌}
-use Rattle.weedle_base.proofs.Choice.{choice_reading, choice_tree, first_last, first_more, first_rule, choice_steps}
+use Rattle.weedle_base.proofs.Choice.{choice_tree, first_last, first_more, first_rule, choice_steps}
+use Rattle.weedle_base.specs.Generic.{choice_reading, pair_reading}
 use Rattle.weedle_base.proofs.RuleFacts.{own_rule, still_rule, seq_last, seq_next, seq_rule, got_rule, fault_rule, mark, mark_rule}
 use Rattle.weedle_base.proofs.Steps.{part_steps}
-use Rattle.weedle_base.specs.Generic.{pair_reading}
 use Rattle.weedle_base.specs.Own.{own}
 use Rattle.weedle_base.specs.Reading.{Reading, Got, Faults}
 use Rattle.weedle_base.specs.Rules.{IsRule}
@@ -23,11 +23,11 @@ use Rattle.weedle_parts.specs.declared.common.brackets.Parenthesized.{Parenthesi
 use Rattle.weedle_parts.specs.declared.common.identifier.Identifier.{Identifier}
 use Rattle.weedle_parts.specs.declared.common.punctuated.Punctuated.{Punctuated}
 use Rattle.weedle_literal.specs.declared.string.StringLit.{StringLit}
-use Rattle.weedle_rules.specs.Table.Leaves.{IDENTIFIER, STRING_LIT}
-use Rattle.weedle_rules.specs.Table.SimpleTypes.{TAIL_IDENTIFIER_COMMA, IDENTIFIER_LIST, PARENTHESIZED_IDENTIFIER_LIST}
-use Rattle.weedle_rules.specs.Table.Symbols.{ASSIGN, COMMA}
-use Rattle.weedle_rules.specs.Table.Types.{IDENTIFIER_OR_STRING, EXTENDED_ATTRIBUTE_IDENT, EXTENDED_ATTRIBUTE_IDENT_LIST, EXTENDED_ATTRIBUTE_NO_ARGS}
-use Rattle.weedle_rules.specs.Trees.{Alt}
+use Rattle.weedle_grammar.specs.Table.Leaves.{IDENTIFIER, STRING_LIT}
+use Rattle.weedle_grammar.specs.Table.SimpleTypes.{TAIL_IDENTIFIER_COMMA, IDENTIFIER_LIST, PARENTHESIZED_IDENTIFIER_LIST}
+use Rattle.weedle_grammar.specs.Table.Symbols.{ASSIGN, COMMA}
+use Rattle.weedle_grammar.specs.Table.Types.{IDENTIFIER_OR_STRING, EXTENDED_ATTRIBUTE_IDENT, EXTENDED_ATTRIBUTE_IDENT_LIST, EXTENDED_ATTRIBUTE_NO_ARGS}
+use Rattle.weedle_grammar.specs.Trees.{Alt}
 use Rattle.weedle_types.specs.Trees.{identifier_or_string_tree, extended_attribute_ident_tree, extended_attribute_no_args_tree, extended_attribute_ident_list_tree}
 use Rattle.weedle_types.specs.declared.attribute.ExtendedAttributeIdent.{ExtendedAttributeIdent}
 use Rattle.weedle_types.specs.declared.attribute.ExtendedAttributeIdentList.{ExtendedAttributeIdentList}

@@ -4,25 +4,26 @@
 use Rattle.std.proofs.Common.{inl, inr, refl}
 use Rattle.std.specs.Borrow.{Bor}
 use Rattle.std.specs.Prelude.{List, ℕ, ◌⊎◌}
-use Rattle.weedle_base.proofs.Choice.{IsFirst, choice_reading, choice_tree, first_last, first_more}
+use Rattle.weedle_base.proofs.Choice.{IsFirst, choice_tree, first_last, first_more}
 use Rattle.weedle_base.proofs.RuleFacts.{mark, mark_rule, own_rule}
 use Rattle.weedle_base.proofs.TakesFacts.{own_takes}
+use Rattle.weedle_base.specs.Generic.{choice_reading}
 use Rattle.weedle_base.specs.Own.{own}
 use Rattle.weedle_base.specs.Reading.{Faults, Got, Reading}
 use Rattle.weedle_base.specs.Rules.{mark_tree}
 use Rattle.weedle_base.specs.declared.fault.Err.{Err as Fault}
 use Rattle.weedle_base.specs.declared.fault.Error.{Error}
+use Rattle.weedle_grammar.specs.Table.CapitalizedKeywords.{ARRAY_BUFFER, ARRAY_BUFFER_VIEW, BUFFER_SOURCE, BYTE_STRING, DATA_VIEW, DOM_STRING, ERROR, FLOAT32_ARRAY, FLOAT64_ARRAY, INT16_ARRAY, INT32_ARRAY, INT8_ARRAY, UINT16_ARRAY, UINT32_ARRAY, UINT8_ARRAY, UINT8_CLAMPED_ARRAY, USV_STRING}
+use Rattle.weedle_grammar.specs.Table.Keywords.{BOOLEAN, BYTE, OBJECT, OCTET, SYMBOL}
+use Rattle.weedle_grammar.specs.Table.SimpleTypes.{FLOATING_POINT_TYPE, INTEGER_TYPE, MAY_BE_NULL_BOOLEAN, MAY_BE_NULL_BYTE, MAY_BE_NULL_FLOATING_POINT_TYPE, MAY_BE_NULL_INTEGER_TYPE, MAY_BE_NULL_OCTET}
+use Rattle.weedle_grammar.specs.Table.Types.{MAY_BE_NULL_ARRAY_BUFFER, MAY_BE_NULL_ARRAY_BUFFER_VIEW, MAY_BE_NULL_BUFFER_SOURCE, MAY_BE_NULL_BYTE_STRING, MAY_BE_NULL_DATA_VIEW, MAY_BE_NULL_DOM_STRING, MAY_BE_NULL_ERROR, MAY_BE_NULL_FLOAT32_ARRAY, MAY_BE_NULL_FLOAT64_ARRAY, MAY_BE_NULL_INT16_ARRAY, MAY_BE_NULL_INT32_ARRAY, MAY_BE_NULL_INT8_ARRAY, MAY_BE_NULL_OBJECT, MAY_BE_NULL_SYMBOL, MAY_BE_NULL_UINT16_ARRAY, MAY_BE_NULL_UINT32_ARRAY, MAY_BE_NULL_UINT8_ARRAY, MAY_BE_NULL_UINT8_CLAMPED_ARRAY, MAY_BE_NULL_USV_STRING}
+use Rattle.weedle_grammar.specs.Trees.{Alt}
 use Rattle.weedle_parts.proofs.PartRules.{may_be_null_rule}
 use Rattle.weedle_parts.specs.MayBeNull.{may_be_null_reading}
 use Rattle.weedle_parts.specs.ValueTrees.{floating_point_type_tree, integer_type_tree, may_be_null_tree}
 use Rattle.weedle_parts.specs.declared.types.floating_point.FloatingPointType.{FloatingPointType}
 use Rattle.weedle_parts.specs.declared.types.integer.IntegerType.{IntegerType}
 use Rattle.weedle_parts.specs.declared.types.may_be_null.MayBeNull.{MayBeNull}
-use Rattle.weedle_rules.specs.Table.CapitalizedKeywords.{ARRAY_BUFFER, ARRAY_BUFFER_VIEW, BUFFER_SOURCE, BYTE_STRING, DATA_VIEW, DOM_STRING, ERROR, FLOAT32_ARRAY, FLOAT64_ARRAY, INT16_ARRAY, INT32_ARRAY, INT8_ARRAY, UINT16_ARRAY, UINT32_ARRAY, UINT8_ARRAY, UINT8_CLAMPED_ARRAY, USV_STRING}
-use Rattle.weedle_rules.specs.Table.Keywords.{BOOLEAN, BYTE, OBJECT, OCTET, SYMBOL}
-use Rattle.weedle_rules.specs.Table.SimpleTypes.{FLOATING_POINT_TYPE, INTEGER_TYPE, MAY_BE_NULL_BOOLEAN, MAY_BE_NULL_BYTE, MAY_BE_NULL_FLOATING_POINT_TYPE, MAY_BE_NULL_INTEGER_TYPE, MAY_BE_NULL_OCTET}
-use Rattle.weedle_rules.specs.Table.Types.{MAY_BE_NULL_ARRAY_BUFFER, MAY_BE_NULL_ARRAY_BUFFER_VIEW, MAY_BE_NULL_BUFFER_SOURCE, MAY_BE_NULL_BYTE_STRING, MAY_BE_NULL_DATA_VIEW, MAY_BE_NULL_DOM_STRING, MAY_BE_NULL_ERROR, MAY_BE_NULL_FLOAT32_ARRAY, MAY_BE_NULL_FLOAT64_ARRAY, MAY_BE_NULL_INT16_ARRAY, MAY_BE_NULL_INT32_ARRAY, MAY_BE_NULL_INT8_ARRAY, MAY_BE_NULL_OBJECT, MAY_BE_NULL_SYMBOL, MAY_BE_NULL_UINT16_ARRAY, MAY_BE_NULL_UINT32_ARRAY, MAY_BE_NULL_UINT8_ARRAY, MAY_BE_NULL_UINT8_CLAMPED_ARRAY, MAY_BE_NULL_USV_STRING}
-use Rattle.weedle_rules.specs.Trees.{Alt}
 use Rattle.weedle_term.specs.declared.capitalized_keywords.ArrayBuffer.{ArrayBuffer}
 use Rattle.weedle_term.specs.declared.capitalized_keywords.ArrayBufferView.{ArrayBufferView}
 use Rattle.weedle_term.specs.declared.capitalized_keywords.BufferSource.{BufferSource}

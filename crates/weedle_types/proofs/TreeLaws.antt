@@ -10,15 +10,17 @@ use Rattle.weedle_parts.specs.declared.common.brackets.Bracketed.{Bracketed}
 use Rattle.weedle_parts.specs.declared.common.brackets.Parenthesized.{Parenthesized}
 use Rattle.weedle_parts.specs.declared.common.punctuated.Punctuated.{Punctuated}
 use Rattle.weedle_parts.specs.declared.types.may_be_null.MayBeNull.{MayBeNull}
-use Rattle.weedle_rules.specs.Trees.{Then, Mark, Node, Alt, Present, Items, trees}
-use Rattle.weedle_types.specs.Trees.{argument_tree, non_any_type_tree, type_tree, union_member_type_tree, held_return, held_key, held_single, held_attributes, held_attribute, attribute_row, argument_row, union_row, single_type_tree, return_type_tree, record_key_type_tree, record_type_tree, promise_type_tree, union_type_tree, extended_attribute_tree, attributes_tree, attributed_non_any_type_tree, single_argument_tree, variadic_argument_tree}
-use Rattle.weedle_types.specs.declared.argument.Argument.TheBlock.{Held-SingleArgument-attributes-24, ArgList', NamedArgList', IdentList', Ident', NoArgs', Row_of-Argument, end_of-Argument, more_of-Argument, Row_of-UnionMemberType, end_of-UnionMemberType, more_of-UnionMemberType, Row_of-SingleArgument-attributes-24, end_of-SingleArgument-attributes-24, more_of-SingleArgument-attributes-24, items-the_row-Argument, items-the_row-UnionMemberType, items-the_row-SingleArgument-attributes-24, items_hidden-the_row-Argument-0, items_hidden-the_row-SingleArgument-attributes-24-1, items_hidden-the_row-UnionMemberType-2, items_shown-the_row-Argument-0, hidden-the_row-Argument-0, hidden-the_row-SingleArgument-attributes-24-1, hidden-the_row-UnionMemberType-2, back-SingleArgument-attributes, back-SingleArgument-attributes-24, view-SingleArgument-attributes-24, back-Type-Single-0, back-RecordTypes-0-4, back-NonAnyType-Promise-0-4}
+use Rattle.weedle_grammar.specs.Trees.{Then, Mark, Node, Alt, Present, Items, trees}
+use Rattle.weedle_types.specs.Trees.{argument_tree, non_any_type_tree, type_tree, union_member_type_tree, held_return, held_key, held_single, held_attributes, attribute_row, argument_row, union_row, single_type_tree, return_type_tree, record_key_type_tree, record_type_tree, promise_type_tree, union_type_tree, extended_attribute_tree, extended_attribute_arg_list_tree, extended_attribute_named_arg_list_tree, attributes_tree, attributed_non_any_type_tree, single_argument_tree, variadic_argument_tree}
+use Rattle.weedle_types.specs.declared.argument.Argument.TheBlock.{Row_of-Argument, end_of-Argument, more_of-Argument, Row_of-UnionMemberType, end_of-UnionMemberType, more_of-UnionMemberType, Row_of-ExtendedAttribute, end_of-ExtendedAttribute, more_of-ExtendedAttribute, items-the_row-Argument, items-the_row-UnionMemberType, items-the_row-ExtendedAttribute, items_hidden-the_row-Argument-1, items_hidden-the_row-ExtendedAttribute-0, items_hidden-the_row-UnionMemberType-2, hidden-the_row-Argument-1, hidden-the_row-ExtendedAttribute-0, hidden-the_row-UnionMemberType-2, back-SingleArgument-attributes, back-Type-Single-0, back-RecordTypes-0-4, back-NonAnyType-Promise-0-4}
 use Rattle.weedle_types.specs.declared.argument.Argument.TheVariants.{Single as Argument-Single, Variadic as Argument-Variadic}
 use Rattle.weedle_types.specs.declared.argument.Argument.{Argument}
 use Rattle.weedle_types.specs.declared.argument.SingleArgument.{SingleArgument}
 use Rattle.weedle_types.specs.declared.argument.VariadicArgument.{VariadicArgument}
-use Rattle.weedle_types.specs.declared.formers.ExtendedAttribute.TheVariants.{ArgList, NamedArgList, IdentList, Ident, NoArgs}
-use Rattle.weedle_types.specs.declared.formers.ExtendedAttribute.{ExtendedAttribute}
+use Rattle.weedle_types.specs.declared.attribute.ExtendedAttribute.TheVariants.{ArgList, NamedArgList}
+use Rattle.weedle_types.specs.declared.attribute.ExtendedAttribute.{ExtendedAttribute}
+use Rattle.weedle_types.specs.declared.attribute.ExtendedAttributeArgList.{ExtendedAttributeArgList}
+use Rattle.weedle_types.specs.declared.attribute.ExtendedAttributeNamedArgList.{ExtendedAttributeNamedArgList}
 use Rattle.weedle_types.specs.declared.formers.PromiseType.{PromiseType}
 use Rattle.weedle_types.specs.declared.formers.RecordKeyType.TheVariants.{Byte as RecordKeyType-Byte, DOM as RecordKeyType-DOM, USV as RecordKeyType-USV, NonAny as RecordKeyType-NonAny}
 use Rattle.weedle_types.specs.declared.formers.RecordKeyType.{RecordKeyType}
@@ -47,16 +49,21 @@ argument_row_items : (n : _) (k : Row_of-Argument n) → trees (map argument_tre
 argument_row_items n end_of-Argument = refl
 argument_row_items n (more_of-Argument x r) = ap (Then (argument_tree x)) (argument_row_items _ r)
 
-pub argument_row_of : (v : Vec Argument Global) → argument_row (hidden-the_row-Argument-0 v) ≡ trees (map argument_tree v.items)
-argument_row_of v = sym (argument_row_items _ (hidden-the_row-Argument-0 v)) ∙ ap (λ xs. trees (map argument_tree xs)) (items_hidden-the_row-Argument-0 v)
+pub argument_row_of : (v : Vec Argument Global) → argument_row (hidden-the_row-Argument-1 v) ≡ trees (map argument_tree v.items)
+argument_row_of v = sym (argument_row_items _ (hidden-the_row-Argument-1 v)) ∙ ap (λ xs. trees (map argument_tree xs)) (items_hidden-the_row-Argument-1 v)
 
--- an attribute, as it is held
-pub attribute_of : (v : ExtendedAttribute Argument) → held_attribute (back-SingleArgument-attributes-24 v) ≡ extended_attribute_tree v
-attribute_of (ArgList v) = ap (λ ts. Alt 0 (Node (trees (identifier_tree v.identifier ∷ bracket_tree (Items ts) ∷ [])))) (argument_row_of v.args.body.list)
-attribute_of (NamedArgList v) = ap (λ ts. Alt 1 (Node (trees (identifier_tree v.lhs_identifier ∷ Mark ∷ identifier_tree v.rhs_identifier ∷ bracket_tree (Items ts) ∷ [])))) (argument_row_of v.args.body.list)
-attribute_of (IdentList v) = refl
-attribute_of (Ident v) = refl
-attribute_of (NoArgs v) = refl
+attribute_row_items : (n : _) (k : Row_of-ExtendedAttribute n) → trees (map extended_attribute_tree (items-the_row-ExtendedAttribute n k)) ≡ attribute_row k
+attribute_row_items n end_of-ExtendedAttribute = refl
+attribute_row_items n (more_of-ExtendedAttribute x r) = ap (Then (extended_attribute_tree x)) (attribute_row_items _ r)
+
+pub attribute_row_of : (v : Vec ExtendedAttribute Global) → attribute_row (hidden-the_row-ExtendedAttribute-0 v) ≡ trees (map extended_attribute_tree v.items)
+attribute_row_of v = sym (attribute_row_items _ (hidden-the_row-ExtendedAttribute-0 v)) ∙ ap (λ xs. trees (map extended_attribute_tree xs)) (items_hidden-the_row-ExtendedAttribute-0 v)
+
+pub arg_list_of : (x : ExtendedAttributeArgList) → extended_attribute_tree (ArgList x) ≡ Alt 0 (extended_attribute_arg_list_tree x)
+arg_list_of x = ap (λ ts. Alt 0 (Node (trees (identifier_tree x.identifier ∷ bracket_tree (Items ts) ∷ [])))) (argument_row_of x.args.body.list)
+
+pub named_arg_list_of : (x : ExtendedAttributeNamedArgList) → extended_attribute_tree (NamedArgList x) ≡ Alt 1 (extended_attribute_named_arg_list_tree x)
+named_arg_list_of x = ap (λ ts. Alt 1 (Node (trees (identifier_tree x.lhs_identifier ∷ Mark ∷ identifier_tree x.rhs_identifier ∷ bracket_tree (Items ts) ∷ [])))) (argument_row_of x.args.body.list)
 
 pub single_type_of : (v : SingleType NonAnyType) → type_tree (Type-Single v) ≡ Alt 0 (single_type_tree v)
 single_type_of (SingleType-Any v) = refl
@@ -84,23 +91,8 @@ promise_of x = ap (λ t. Alt 0 (Node (trees (Mark ∷ bracket_tree t ∷ [])))) 
 pub record_of : (x : MayBeNull (RecordType RecordTypes)) → non_any_type_tree (NonAnyType-RecordType x) ≡ Alt 27 (may_be_null_tree record_type_tree x)
 record_of x = ap (λ t. Alt 27 (Node (trees (Node (trees (Mark ∷ bracket_tree (Node (trees (t ∷ Mark ∷ type_tree x.type_.generics.body.2.value ∷ []))) ∷ [])) ∷ option_tree mark_tree x.q_mark ∷ [])))) (key_of x.type_.generics.body.0.value)
 
--- an attribute, as the logic holds it in a list
-attribute_is : (h : Held-SingleArgument-attributes-24) → extended_attribute_tree (view-SingleArgument-attributes-24 h) ≡ held_attribute h
-attribute_is (ArgList' i o m r s c) = ap (λ ts. Alt 0 (Node (trees (identifier_tree i ∷ bracket_tree (Items ts) ∷ [])))) (ap (λ xs. trees (map argument_tree xs)) (items_shown-the_row-Argument-0 m r) ∙ argument_row_items _ r)
-attribute_is (NamedArgList' i e j o m r s c) = ap (λ ts. Alt 1 (Node (trees (identifier_tree i ∷ Mark ∷ identifier_tree j ∷ bracket_tree (Items ts) ∷ [])))) (ap (λ xs. trees (map argument_tree xs)) (items_shown-the_row-Argument-0 m r) ∙ argument_row_items _ r)
-attribute_is (IdentList' v) = refl
-attribute_is (Ident' v) = refl
-attribute_is (NoArgs' v) = refl
-
-attribute_row_items : (n : _) (k : Row_of-SingleArgument-attributes-24 n) → trees (map extended_attribute_tree (items-the_row-SingleArgument-attributes-24 n k)) ≡ attribute_row k
-attribute_row_items n end_of-SingleArgument-attributes-24 = refl
-attribute_row_items n (more_of-SingleArgument-attributes-24 x r) = ap (Then (extended_attribute_tree (view-SingleArgument-attributes-24 x))) (attribute_row_items _ r) ∙ ap (λ t. Then t (attribute_row r)) (attribute_is x)
-
-pub attribute_row_of : (v : Vec (ExtendedAttribute Argument) Global) → attribute_row (hidden-the_row-SingleArgument-attributes-24-1 v) ≡ trees (map extended_attribute_tree v.items)
-attribute_row_of v = sym (attribute_row_items _ (hidden-the_row-SingleArgument-attributes-24-1 v)) ∙ ap (λ xs. trees (map extended_attribute_tree xs)) (items_hidden-the_row-SingleArgument-attributes-24-1 v)
-
 -- attributes, or none
-pub attributes_of : (o : Option (Bracketed (Punctuated (ExtendedAttribute Argument) Comma))) → held_attributes (back-SingleArgument-attributes o) ≡ attributes_tree o
+pub attributes_of : (o : Option (Bracketed (Punctuated ExtendedAttribute Comma))) → held_attributes (back-SingleArgument-attributes o) ≡ attributes_tree o
 attributes_of None = refl
 attributes_of (Some x) = ap (λ ts. Present (bracket_tree (Items ts))) (attribute_row_of x.body.list)
 

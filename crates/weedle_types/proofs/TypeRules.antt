@@ -4,16 +4,22 @@
 use Rattle.std.proofs.Common.{inl, inr, refl, sym}
 use Rattle.std.specs.Borrow.{Bor}
 use Rattle.std.specs.Prelude.{List, Option, ℕ, ◌⊎◌}
-use Rattle.weedle_base.proofs.Choice.{choice_reading, choice_tree, first_last, first_more, first_rule}
+use Rattle.weedle_base.proofs.Choice.{choice_tree, first_last, first_more, first_rule}
 use Rattle.weedle_base.proofs.RuleFacts.{fault_rule, got_rule, mark, mark_rule, own_rule, seq_last, seq_next, seq_rule, still_rule}
 use Rattle.weedle_base.proofs.Steps.{part_steps}
 use Rattle.weedle_base.proofs.TakesFacts.{own_takes}
-use Rattle.weedle_base.specs.Generic.{pair_reading}
+use Rattle.weedle_base.specs.Generic.{choice_reading, pair_reading}
 use Rattle.weedle_base.specs.Own.{own}
 use Rattle.weedle_base.specs.Reading.{Faults, Got, Reading}
 use Rattle.weedle_base.specs.Rules.{IsRule, mark_tree, option_tree}
 use Rattle.weedle_base.specs.declared.fault.Err.{Err as Fault}
 use Rattle.weedle_base.specs.declared.fault.Error.{Error}
+use Rattle.weedle_grammar.specs.Table.CapitalizedKeywords.{BYTE_STRING, DOM_STRING, USV_STRING}
+use Rattle.weedle_grammar.specs.Table.Keywords.{ANY, UNDEFINED}
+use Rattle.weedle_grammar.specs.Table.Leaves.{IDENTIFIER}
+use Rattle.weedle_grammar.specs.Table.SimpleTypes.{MAY_BE_NULL_IDENTIFIER}
+use Rattle.weedle_grammar.specs.Table.Types.{ATTRIBUTED_NON_ANY_TYPE, ATTRIBUTED_TYPE, MAY_BE_NULL_FROZEN_ARRAY_TYPE, MAY_BE_NULL_RECORD_TYPE, MAY_BE_NULL_SEQUENCE_TYPE, MAY_BE_NULL_UNION_TYPE, NON_ANY_TYPE, OPT_EXTENDED_ATTRIBUTE_LIST, PROMISE_TYPE, RECORD_KEY_TYPE, RETURN_TYPE, SINGLE_TYPE, TYPE}
+use Rattle.weedle_grammar.specs.Trees.{Alt}
 use Rattle.weedle_parts.proofs.PartRules.{may_be_null_rule}
 use Rattle.weedle_parts.specs.MayBeNull.{may_be_null_reading}
 use Rattle.weedle_parts.specs.ValueTrees.{identifier_tree, may_be_null_tree}
@@ -22,12 +28,6 @@ use Rattle.weedle_parts.specs.declared.common.brackets.Parenthesized.{Parenthesi
 use Rattle.weedle_parts.specs.declared.common.identifier.Identifier.{Identifier}
 use Rattle.weedle_parts.specs.declared.common.punctuated.Punctuated.{Punctuated}
 use Rattle.weedle_parts.specs.declared.types.may_be_null.MayBeNull.{MayBeNull}
-use Rattle.weedle_rules.specs.Table.CapitalizedKeywords.{BYTE_STRING, DOM_STRING, USV_STRING}
-use Rattle.weedle_rules.specs.Table.Keywords.{ANY, UNDEFINED}
-use Rattle.weedle_rules.specs.Table.Leaves.{IDENTIFIER}
-use Rattle.weedle_rules.specs.Table.SimpleTypes.{MAY_BE_NULL_IDENTIFIER}
-use Rattle.weedle_rules.specs.Table.Types.{ATTRIBUTED_NON_ANY_TYPE, ATTRIBUTED_TYPE, MAY_BE_NULL_FROZEN_ARRAY_TYPE, MAY_BE_NULL_RECORD_TYPE, MAY_BE_NULL_SEQUENCE_TYPE, MAY_BE_NULL_UNION_TYPE, NON_ANY_TYPE, OPT_EXTENDED_ATTRIBUTE_LIST, PROMISE_TYPE, RECORD_KEY_TYPE, RETURN_TYPE, SINGLE_TYPE, TYPE}
-use Rattle.weedle_rules.specs.Trees.{Alt}
 use Rattle.weedle_term.specs.declared.capitalized_keywords.ByteString.{ByteString}
 use Rattle.weedle_term.specs.declared.capitalized_keywords.DOMString.{DOMString}
 use Rattle.weedle_term.specs.declared.capitalized_keywords.USVString.{USVString}
@@ -40,8 +40,7 @@ use Rattle.weedle_types.proofs.TreeLaws.{promise_of, record_of, single_type_of, 
 use Rattle.weedle_types.specs.Pieces.{after_sequence_rules, before_sequence_rules}
 use Rattle.weedle_types.specs.Steps.{members}
 use Rattle.weedle_types.specs.Trees.{attributed_non_any_type_tree, attributed_type_tree, extended_attribute_list_tree, frozen_array_type_tree, non_any_type_tree, promise_type_tree, record_key_type_tree, record_type_tree, return_type_tree, sequence_type_tree, single_type_tree, type_tree, union_type_tree}
-use Rattle.weedle_types.specs.declared.argument.Argument.{Argument}
-use Rattle.weedle_types.specs.declared.formers.ExtendedAttribute.{ExtendedAttribute}
+use Rattle.weedle_types.specs.declared.attribute.ExtendedAttribute.{ExtendedAttribute}
 use Rattle.weedle_types.specs.declared.formers.FrozenArrayType.{FrozenArrayType}
 use Rattle.weedle_types.specs.declared.formers.PromiseType.{PromiseType}
 use Rattle.weedle_types.specs.declared.formers.RecordKeyType.TheVariants.{Byte as RecordKeyType-Byte, DOM as RecordKeyType-DOM, NonAny as RecordKeyType-NonAny, USV as RecordKeyType-USV}
@@ -172,7 +171,7 @@ return_type_fault h = fault_rule return_type_rule return_type_tree h
 pub ruleset return_type_steps = (direct_choice, return_type_got_0, return_type_got_1, return_type_fault, own_takes, pair_takes, seen_takes)
 
 -- `attributed_type`
-abbrev attributed_type_parts : Reading ((Option (Bracketed (Punctuated (ExtendedAttribute Argument) Comma))) × «Type»)
+abbrev attributed_type_parts : Reading ((Option (Bracketed (Punctuated ExtendedAttribute Comma))) × «Type»)
 attributed_type_parts = (pair_reading (own OPT_EXTENDED_ATTRIBUTE_LIST (option_tree extended_attribute_list_tree) (Unit {0})) (own TYPE type_tree (Unit {0})))
 
 pub attributed_type_got : {s rest : List ℕ} (x : AttributedType) → Got attributed_type_parts s (x.attributes, x.type_) rest → Got (own ATTRIBUTED_TYPE attributed_type_tree (Unit {0})) s x rest
@@ -184,7 +183,7 @@ attributed_type_fault h = fault_rule (seq_rule (seq_next (own_rule OPT_EXTENDED_
 pub ruleset attributed_type_steps = (part_steps, attributed_type_got, attributed_type_fault, own_takes)
 
 -- `attributed_non_any_type`
-abbrev attributed_non_any_type_parts : Reading ((Option (Bracketed (Punctuated (ExtendedAttribute Argument) Comma))) × NonAnyType)
+abbrev attributed_non_any_type_parts : Reading ((Option (Bracketed (Punctuated ExtendedAttribute Comma))) × NonAnyType)
 attributed_non_any_type_parts = (pair_reading (own OPT_EXTENDED_ATTRIBUTE_LIST (option_tree extended_attribute_list_tree) (Unit {0})) (own NON_ANY_TYPE non_any_type_tree (Unit {0})))
 
 pub attributed_non_any_type_got : {s rest : List ℕ} (x : AttributedNonAnyType) → Got attributed_non_any_type_parts s (x.attributes, x.type_) rest → Got (own ATTRIBUTED_NON_ANY_TYPE attributed_non_any_type_tree (Unit {0})) s x rest

@@ -6,17 +6,22 @@ use Rattle.std.specs.Borrow.{Bor}
 use Rattle.std.specs.Global.{Vec}
 use Rattle.std.specs.Prelude.{List, Option, [], ℕ, ◌≡◌, ◌⊎◌}
 use Rattle.std.specs.Str.{IsUtf8}
-use Rattle.weedle_base.proofs.Choice.{choice_reading, choice_tree, first_last, first_more, first_rule}
+use Rattle.weedle_base.proofs.Choice.{choice_tree, first_last, first_more, first_rule}
 use Rattle.weedle_base.proofs.RuleFacts.{fault_rule, got_rule, mark, mark_rule, option_rule, own_rule, seq_last, seq_next, seq_rule, still_rule}
 use Rattle.weedle_base.proofs.Steps.{part_steps}
 use Rattle.weedle_base.proofs.TakesFacts.{own_takes}
-use Rattle.weedle_base.specs.Generic.{option_reading, pair_reading}
+use Rattle.weedle_base.specs.Generic.{choice_reading, option_reading, pair_reading}
 use Rattle.weedle_base.specs.Own.{own}
 use Rattle.weedle_base.specs.Reading.{Faults, Got, Reading}
 use Rattle.weedle_base.specs.Rules.{IsRule}
 use Rattle.weedle_base.specs.declared.fault.Err.TheVariants.{Error as Recoverable, Failure}
 use Rattle.weedle_base.specs.declared.fault.Err.{Err as Fault}
 use Rattle.weedle_base.specs.declared.fault.Error.{Error}
+use Rattle.weedle_grammar.specs.Table.Keywords.{OR}
+use Rattle.weedle_grammar.specs.Table.SimpleTypes.{OPT_Q_MARK}
+use Rattle.weedle_grammar.specs.Table.Symbols.{CLOSE_PAREN, OPEN_PAREN, Q_MARK}
+use Rattle.weedle_grammar.specs.Table.Types.{ATTRIBUTED_NON_ANY_TYPE, LIST_UNION_MEMBER_TYPE_OR, MAY_BE_NULL_UNION_TYPE, TAIL_UNION_MEMBER_TYPE_OR, UNION_MEMBER_TYPE, UNION_TYPE}
+use Rattle.weedle_grammar.specs.Trees.{Alt}
 use Rattle.weedle_parts.proofs.ListRules.{punctuated_rule}
 use Rattle.weedle_parts.proofs.ListSteps.{fault_some, got_none, got_some}
 use Rattle.weedle_parts.specs.Lists.{after_first, punctuated_reading}
@@ -24,11 +29,6 @@ use Rattle.weedle_parts.specs.ValueTrees.{may_be_null_tree}
 use Rattle.weedle_parts.specs.declared.common.brackets.Parenthesized.{Parenthesized}
 use Rattle.weedle_parts.specs.declared.common.punctuated.Punctuated.{Punctuated}
 use Rattle.weedle_parts.specs.declared.types.may_be_null.MayBeNull.{MayBeNull}
-use Rattle.weedle_rules.specs.Table.Keywords.{OR}
-use Rattle.weedle_rules.specs.Table.SimpleTypes.{OPT_Q_MARK}
-use Rattle.weedle_rules.specs.Table.Symbols.{CLOSE_PAREN, OPEN_PAREN, Q_MARK}
-use Rattle.weedle_rules.specs.Table.Types.{ATTRIBUTED_NON_ANY_TYPE, LIST_UNION_MEMBER_TYPE_OR, MAY_BE_NULL_UNION_TYPE, TAIL_UNION_MEMBER_TYPE_OR, UNION_MEMBER_TYPE, UNION_TYPE}
-use Rattle.weedle_rules.specs.Trees.{Alt}
 use Rattle.weedle_term.specs.declared.symbols.CloseParen.{CloseParen}
 use Rattle.weedle_term.specs.declared.symbols.OpenParen.{OpenParen}
 use Rattle.weedle_term.specs.declared.symbols.QMark.{QMark}

@@ -15,10 +15,11 @@ use Rattle.weedle_parts.specs.ValueTrees.{identifier_tree, bracket_tree, parenth
 use Rattle.weedle_parts.specs.declared.common.brackets.Bracketed.{Bracketed}
 use Rattle.weedle_parts.specs.declared.common.brackets.Parenthesized.{Parenthesized}
 use Rattle.weedle_parts.specs.declared.common.punctuated.Punctuated.{Punctuated}
-use Rattle.weedle_rules.specs.Trees.{Tree, Trees, Done, Then, Mark, Node, Alt, Absent, Present, Items, trees}
-use Rattle.weedle_types.specs.declared.argument.Argument.TheBlock.{Held-NonAnyType-Promise-0-4, Undefined', Type_', Held-RecordTypes-0-4, RecordTypes-0-4-Byte', DOM', USV', RecordTypes-0-4-NonAny', Held-Type-Single-0, Any', Type-Single-0-NonAny', Held-SingleArgument-attributes, None', Some', Held-SingleArgument-attributes-24, ArgList', NamedArgList', IdentList', Ident', NoArgs', Row_of-Argument, end_of-Argument, more_of-Argument, Row_of-UnionMemberType, end_of-UnionMemberType, more_of-UnionMemberType, Row_of-SingleArgument-attributes-24, end_of-SingleArgument-attributes-24, more_of-SingleArgument-attributes-24}
+use Rattle.weedle_grammar.specs.Trees.{Tree, Trees, Done, Then, Mark, Node, Alt, Absent, Present, Items, trees}
+use Rattle.weedle_types.specs.declared.argument.Argument.TheBlock.{Held-NonAnyType-Promise-0-4, Undefined', Type_', Held-RecordTypes-0-4, RecordTypes-0-4-Byte', DOM', USV', RecordTypes-0-4-NonAny', Held-Type-Single-0, Any', Type-Single-0-NonAny', Held-SingleArgument-attributes, None', Some', Row_of-Argument, end_of-Argument, more_of-Argument, Row_of-UnionMemberType, end_of-UnionMemberType, more_of-UnionMemberType, Row_of-ExtendedAttribute, end_of-ExtendedAttribute, more_of-ExtendedAttribute}
 use Rattle.weedle_types.specs.declared.argument.Argument.TheVariants.{Single' as Argument-Single', Variadic' as Argument-Variadic'}
 use Rattle.weedle_types.specs.declared.argument.Argument.{Argument}
+use Rattle.weedle_types.specs.declared.argument.ParenthesizedArgumentList.{ParenthesizedArgumentList}
 use Rattle.weedle_types.specs.declared.argument.SingleArgument.{SingleArgument}
 use Rattle.weedle_types.specs.declared.argument.VariadicArgument.{VariadicArgument}
 use Rattle.weedle_types.specs.declared.attribute.ExtendedAttributeIdent.{ExtendedAttributeIdent}
@@ -26,10 +27,10 @@ use Rattle.weedle_types.specs.declared.attribute.ExtendedAttributeIdentList.{Ext
 use Rattle.weedle_types.specs.declared.attribute.ExtendedAttributeNoArgs.{ExtendedAttributeNoArgs}
 use Rattle.weedle_types.specs.declared.attribute.IdentifierOrString.TheVariants.{Identifier as Named, String as Quoted}
 use Rattle.weedle_types.specs.declared.attribute.IdentifierOrString.{IdentifierOrString}
-use Rattle.weedle_types.specs.declared.formers.ExtendedAttribute.TheVariants.{ArgList, NamedArgList, IdentList, Ident, NoArgs}
-use Rattle.weedle_types.specs.declared.formers.ExtendedAttribute.{ExtendedAttribute}
-use Rattle.weedle_types.specs.declared.formers.ExtendedAttributeArgList.{ExtendedAttributeArgList}
-use Rattle.weedle_types.specs.declared.formers.ExtendedAttributeNamedArgList.{ExtendedAttributeNamedArgList}
+use Rattle.weedle_types.specs.declared.attribute.ExtendedAttribute.TheVariants.{ArgList', NamedArgList', IdentList, Ident, NoArgs}
+use Rattle.weedle_types.specs.declared.attribute.ExtendedAttribute.{ExtendedAttribute}
+use Rattle.weedle_types.specs.declared.attribute.ExtendedAttributeArgList.{ExtendedAttributeArgList}
+use Rattle.weedle_types.specs.declared.attribute.ExtendedAttributeNamedArgList.{ExtendedAttributeNamedArgList}
 use Rattle.weedle_types.specs.declared.formers.FrozenArrayType.{FrozenArrayType}
 use Rattle.weedle_types.specs.declared.formers.PromiseType.{PromiseType}
 use Rattle.weedle_types.specs.declared.formers.RecordKeyType.TheVariants.{Byte as RecordKeyType-Byte, DOM as RecordKeyType-DOM, USV as RecordKeyType-USV, NonAny as RecordKeyType-NonAny}
@@ -138,17 +139,17 @@ abbrev mutual
   held_attributes (Some' o m r s c) = Present (bracket_tree (Items (attribute_row r)))
 
   -- an attribute
-  pub held_attribute : Held-SingleArgument-attributes-24 → Tree
-  held_attribute (ArgList' i o m r s c) = Alt 0 (Node (trees (identifier_tree i ∷ bracket_tree (Items (argument_row r)) ∷ [])))
-  held_attribute (NamedArgList' i e j o m r s c) = Alt 1 (Node (trees (identifier_tree i ∷ Mark ∷ identifier_tree j ∷ bracket_tree (Items (argument_row r)) ∷ [])))
-  held_attribute (IdentList' v) = Alt 2 (extended_attribute_ident_list_tree v)
-  held_attribute (Ident' v) = Alt 3 (extended_attribute_ident_tree v)
-  held_attribute (NoArgs' v) = Alt 4 (extended_attribute_no_args_tree v)
+  pub extended_attribute_tree : ExtendedAttribute → Tree
+  extended_attribute_tree (ArgList' i o m r s c) = Alt 0 (Node (trees (identifier_tree i ∷ bracket_tree (Items (argument_row r)) ∷ [])))
+  extended_attribute_tree (NamedArgList' i e j o m r s c) = Alt 1 (Node (trees (identifier_tree i ∷ Mark ∷ identifier_tree j ∷ bracket_tree (Items (argument_row r)) ∷ [])))
+  extended_attribute_tree (IdentList v) = Alt 2 (extended_attribute_ident_list_tree v)
+  extended_attribute_tree (Ident v) = Alt 3 (extended_attribute_ident_tree v)
+  extended_attribute_tree (NoArgs v) = Alt 4 (extended_attribute_no_args_tree v)
 
   -- attributes
-  pub attribute_row : {m : _} → Row_of-SingleArgument-attributes-24 m → Trees
-  attribute_row end_of-SingleArgument-attributes-24 = Done
-  attribute_row (more_of-SingleArgument-attributes-24 v r) = Then (held_attribute v) (attribute_row r)
+  pub attribute_row : {m : _} → Row_of-ExtendedAttribute m → Trees
+  attribute_row end_of-ExtendedAttribute = Done
+  attribute_row (more_of-ExtendedAttribute v r) = Then (extended_attribute_tree v) (attribute_row r)
 
   -- arguments
   pub argument_row : {m : _} → Row_of-Argument m → Trees
@@ -218,35 +219,27 @@ abbrev pub argument_list_tree : Punctuated Argument Comma → Tree
 argument_list_tree = punctuated_tree argument_tree
 
 -- arguments in parentheses
-abbrev pub arguments_tree : Parenthesized (Punctuated Argument Comma) → Tree
-arguments_tree = parenthesized_tree argument_list_tree
+abbrev pub arguments_tree : ParenthesizedArgumentList → Tree
+arguments_tree v = bracket_tree (argument_list_tree v.body)
 
 -- an attribute with arguments
-abbrev pub extended_attribute_arg_list_tree : ExtendedAttributeArgList Argument → Tree
+abbrev pub extended_attribute_arg_list_tree : ExtendedAttributeArgList → Tree
 extended_attribute_arg_list_tree v = Node (trees (identifier_tree v.identifier ∷ arguments_tree v.args ∷ []))
 
 -- an attribute with a name and arguments
-abbrev pub extended_attribute_named_arg_list_tree : ExtendedAttributeNamedArgList Argument → Tree
+abbrev pub extended_attribute_named_arg_list_tree : ExtendedAttributeNamedArgList → Tree
 extended_attribute_named_arg_list_tree v = Node (trees (identifier_tree v.lhs_identifier ∷ Mark ∷ identifier_tree v.rhs_identifier ∷ arguments_tree v.args ∷ []))
 
--- an attribute
-abbrev pub extended_attribute_tree : ExtendedAttribute Argument → Tree
-extended_attribute_tree (ArgList v) = Alt 0 (extended_attribute_arg_list_tree v)
-extended_attribute_tree (NamedArgList v) = Alt 1 (extended_attribute_named_arg_list_tree v)
-extended_attribute_tree (IdentList v) = Alt 2 (extended_attribute_ident_list_tree v)
-extended_attribute_tree (Ident v) = Alt 3 (extended_attribute_ident_tree v)
-extended_attribute_tree (NoArgs v) = Alt 4 (extended_attribute_no_args_tree v)
-
 -- attributes
-abbrev pub extended_attributes_tree : Punctuated (ExtendedAttribute Argument) Comma → Tree
+abbrev pub extended_attributes_tree : Punctuated ExtendedAttribute Comma → Tree
 extended_attributes_tree = punctuated_tree extended_attribute_tree
 
 -- attributes in brackets
-abbrev pub extended_attribute_list_tree : Bracketed (Punctuated (ExtendedAttribute Argument) Comma) → Tree
+abbrev pub extended_attribute_list_tree : Bracketed (Punctuated ExtendedAttribute Comma) → Tree
 extended_attribute_list_tree = bracketed_tree extended_attributes_tree
 
 -- attributes in brackets, or none
-abbrev pub attributes_tree : Option (Bracketed (Punctuated (ExtendedAttribute Argument) Comma)) → Tree
+abbrev pub attributes_tree : Option (Bracketed (Punctuated ExtendedAttribute Comma)) → Tree
 attributes_tree = option_tree extended_attribute_list_tree
 
 -- a type with its attributes

@@ -9,23 +9,52 @@ use crate::attribute::ExtendedAttributeList;
 use crate::types::{AttributedType, Type};
 use weedle_literal::Default;
 use weedle_parts::common::{Identifier, Punctuated};
-use weedle_term::{Comma, Ellipsis, Optional};
+use weedle_term::{CloseParen, Comma, Ellipsis, OpenParen, Optional};
 
 /// Arguments, as `long x, long y`, none included.
 pub type ArgumentList<'a> = Punctuated<Argument<'a>, Comma>;
 
+/// Arguments in parentheses, as `(long x, long y)`.
+#[cycle(types)]
+#[derive(Debug, PartialEq, Eq, PartialOrd, Ord, Hash)]
+pub struct ParenthesizedArgumentList<'a> {
+    pub open_paren: OpenParen,
+    pub body: ArgumentList<'a>,
+    pub close_paren: CloseParen,
+}
+
+impl Drop for ParenthesizedArgumentList<'_> {
+    #[cycle(drops)]
+    fn drop(self) {
+        let ParenthesizedArgumentList {
+            open_paren: _,
+            body: _,
+            close_paren: _,
+        } = self;
+    }
+}
+
 /// An argument, as `long x`, or `long... xs` for any number of them.
 #[cycle(types)]
-#[derive(Debug, PartialEq, Eq, PartialOrd, Ord, Hash, Drop)]
+#[derive(Debug, PartialEq, Eq, PartialOrd, Ord, Hash)]
 pub enum Argument<'a> {
     Single(SingleArgument<'a>),
     Variadic(VariadicArgument<'a>),
 }
 
+impl Drop for Argument<'_> {
+    #[cycle(drops)]
+    fn drop(self) {
+        match self {
+            Argument::Single(_) | Argument::Variadic(_) => {}
+        }
+    }
+}
+
 /// An argument, as `optional long x = 5`. A default is read only behind `optional`: of `long x = 5` the rest
 /// is `= 5`. The attributes that stand first are the argument's, and those behind them its type's.
 #[cycle(types)]
-#[derive(Debug, PartialEq, Eq, PartialOrd, Ord, Hash, Drop)]
+#[derive(Debug, PartialEq, Eq, PartialOrd, Ord, Hash)]
 pub struct SingleArgument<'a> {
     pub attributes: Option<ExtendedAttributeList<'a>>,
     pub optional: Option<Optional>,
@@ -34,14 +63,39 @@ pub struct SingleArgument<'a> {
     pub default: Option<Default<'a>>,
 }
 
+impl Drop for SingleArgument<'_> {
+    #[cycle(drops)]
+    fn drop(self) {
+        let SingleArgument {
+            attributes: _,
+            optional: _,
+            type_: _,
+            identifier: _,
+            default: _,
+        } = self;
+    }
+}
+
 /// Any number of arguments, as `long... xs`.
 #[cycle(types)]
-#[derive(Debug, PartialEq, Eq, PartialOrd, Ord, Hash, Drop)]
+#[derive(Debug, PartialEq, Eq, PartialOrd, Ord, Hash)]
 pub struct VariadicArgument<'a> {
     pub attributes: Option<ExtendedAttributeList<'a>>,
     pub type_: Type<'a>,
     pub ellipsis: Ellipsis,
     pub identifier: Identifier<'a>,
+}
+
+impl Drop for VariadicArgument<'_> {
+    #[cycle(drops)]
+    fn drop(self) {
+        let VariadicArgument {
+            attributes: _,
+            type_: _,
+            ellipsis: _,
+            identifier: _,
+        } = self;
+    }
 }
 
 impl<'a> From<SingleArgument<'a>> for Argument<'a> {

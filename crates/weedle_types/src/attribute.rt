@@ -6,11 +6,10 @@
 ghost use Rattle.std.specs.Prelude.{◌≡◌};
 ghost use Rattle.weedle_base.specs.Own.{own};
 ghost use Rattle.weedle_base.specs.OwnLaws.{own_lawful};
-ghost use Rattle.weedle_rules.specs.Table.Types.{EXTENDED_ATTRIBUTE_IDENT, EXTENDED_ATTRIBUTE_IDENT_LIST, EXTENDED_ATTRIBUTE_NO_ARGS, IDENTIFIER_OR_STRING};
+ghost use Rattle.weedle_grammar.specs.Table.Types.{EXTENDED_ATTRIBUTE_IDENT, EXTENDED_ATTRIBUTE_IDENT_LIST, EXTENDED_ATTRIBUTE_NO_ARGS, IDENTIFIER_OR_STRING};
 ghost use Rattle.weedle_types.specs.Trees.{extended_attribute_ident_list_tree, extended_attribute_ident_tree, extended_attribute_no_args_tree, identifier_or_string_tree};
 
-use crate::argument::Argument;
-use crate::formers;
+use crate::argument::ParenthesizedArgumentList;
 use std::alloc::Global;
 use weedle_base::{IResult, Parse};
 use weedle_literal::StringLit;
@@ -24,16 +23,68 @@ pub type ExtendedAttributeList<'a> = Bracketed<Punctuated<ExtendedAttribute<'a>,
 pub type IdentifierList<'a> = Punctuated<Identifier<'a>, Comma>;
 
 /// An attribute, as `Exposed=Window` or `Constructor(long x)`.
-pub type ExtendedAttribute<'a> = formers::ExtendedAttribute<'a, Argument<'a>>;
+#[cycle(types)]
+#[derive(Debug, PartialEq, Eq, PartialOrd, Ord, Hash)]
+pub enum ExtendedAttribute<'a> {
+    ArgList(ExtendedAttributeArgList<'a>),
+    NamedArgList(ExtendedAttributeNamedArgList<'a>),
+    IdentList(ExtendedAttributeIdentList<'a>),
+    Ident(ExtendedAttributeIdent<'a>),
+    NoArgs(ExtendedAttributeNoArgs<'a>),
+}
+
+impl Drop for ExtendedAttribute<'_> {
+    #[cycle(drops)]
+    fn drop(self) {
+        match self {
+            ExtendedAttribute::ArgList(_)
+            | ExtendedAttribute::NamedArgList(_)
+            | ExtendedAttribute::IdentList(_)
+            | ExtendedAttribute::Ident(_)
+            | ExtendedAttribute::NoArgs(_) => {}
+        }
+    }
+}
 
 /// An attribute with arguments, as `Constructor(long x)`.
-pub type ExtendedAttributeArgList<'a> = formers::ExtendedAttributeArgList<'a, Argument<'a>>;
+#[cycle(types)]
+#[derive(Debug, PartialEq, Eq, PartialOrd, Ord, Hash)]
+pub struct ExtendedAttributeArgList<'a> {
+    pub identifier: Identifier<'a>,
+    pub args: ParenthesizedArgumentList<'a>,
+}
+
+impl Drop for ExtendedAttributeArgList<'_> {
+    #[cycle(drops)]
+    fn drop(self) {
+        let ExtendedAttributeArgList {
+            identifier: _,
+            args: _,
+        } = self;
+    }
+}
 
 /// An attribute with a name and arguments, as `NamedConstructor=Image(long x)`.
-pub type ExtendedAttributeNamedArgList<'a> = formers::ExtendedAttributeNamedArgList<
-    'a,
-    Argument<'a>,
->;
+#[cycle(types)]
+#[derive(Debug, PartialEq, Eq, PartialOrd, Ord, Hash)]
+pub struct ExtendedAttributeNamedArgList<'a> {
+    pub lhs_identifier: Identifier<'a>,
+    pub assign: Assign,
+    pub rhs_identifier: Identifier<'a>,
+    pub args: ParenthesizedArgumentList<'a>,
+}
+
+impl Drop for ExtendedAttributeNamedArgList<'_> {
+    #[cycle(drops)]
+    fn drop(self) {
+        let ExtendedAttributeNamedArgList {
+            lhs_identifier: _,
+            assign: _,
+            rhs_identifier: _,
+            args: _,
+        } = self;
+    }
+}
 
 /// An attribute with names, as `Exposed=(Window, Worker)`.
 #[derive(Debug, PartialEq, Eq, PartialOrd, Ord, Hash, Drop)]
@@ -132,7 +183,7 @@ impl<'a> Parse<'a> for IdentifierOrString<'a> {
 }
 
 impl<'a> From<ExtendedAttributeArgList<'a>> for ExtendedAttribute<'a> {
-    ghost use Rattle.weedle_types.specs.declared.formers.ExtendedAttribute.TheVariants.{ArgList};
+    ghost use Rattle.weedle_types.specs.declared.attribute.ExtendedAttribute.TheVariants.{ArgList};
 
     ghost from_gives = { λ v e. e ≡ ArgList v };
 
@@ -142,7 +193,7 @@ impl<'a> From<ExtendedAttributeArgList<'a>> for ExtendedAttribute<'a> {
 }
 
 impl<'a> From<ExtendedAttributeNamedArgList<'a>> for ExtendedAttribute<'a> {
-    ghost use Rattle.weedle_types.specs.declared.formers.ExtendedAttribute.TheVariants.{NamedArgList};
+    ghost use Rattle.weedle_types.specs.declared.attribute.ExtendedAttribute.TheVariants.{NamedArgList};
 
     ghost from_gives = { λ v e. e ≡ NamedArgList v };
 
@@ -152,7 +203,7 @@ impl<'a> From<ExtendedAttributeNamedArgList<'a>> for ExtendedAttribute<'a> {
 }
 
 impl<'a> From<ExtendedAttributeIdentList<'a>> for ExtendedAttribute<'a> {
-    ghost use Rattle.weedle_types.specs.declared.formers.ExtendedAttribute.TheVariants.{IdentList};
+    ghost use Rattle.weedle_types.specs.declared.attribute.ExtendedAttribute.TheVariants.{IdentList};
 
     ghost from_gives = { λ v e. e ≡ IdentList v };
 
@@ -162,7 +213,7 @@ impl<'a> From<ExtendedAttributeIdentList<'a>> for ExtendedAttribute<'a> {
 }
 
 impl<'a> From<ExtendedAttributeIdent<'a>> for ExtendedAttribute<'a> {
-    ghost use Rattle.weedle_types.specs.declared.formers.ExtendedAttribute.TheVariants.{Ident};
+    ghost use Rattle.weedle_types.specs.declared.attribute.ExtendedAttribute.TheVariants.{Ident};
 
     ghost from_gives = { λ v e. e ≡ Ident v };
 
@@ -172,7 +223,7 @@ impl<'a> From<ExtendedAttributeIdent<'a>> for ExtendedAttribute<'a> {
 }
 
 impl<'a> From<ExtendedAttributeNoArgs<'a>> for ExtendedAttribute<'a> {
-    ghost use Rattle.weedle_types.specs.declared.formers.ExtendedAttribute.TheVariants.{NoArgs};
+    ghost use Rattle.weedle_types.specs.declared.attribute.ExtendedAttribute.TheVariants.{NoArgs};
 
     ghost from_gives = { λ v e. e ≡ NoArgs v };
 

@@ -1,13 +1,9 @@
 //! The parts of the recursive types that lead back to one type alone: each is made over that type, and its
 //! public name is an alias of it, as `SequenceType<'a>` is `formers::SequenceType<Type<'a>>`.
 
-use crate::attribute::{
-    ExtendedAttributeIdent, ExtendedAttributeIdentList, ExtendedAttributeNoArgs,
-};
-use weedle_parts::common::{Generics, Identifier, Parenthesized, Punctuated};
+use weedle_parts::common::Generics;
 use weedle_term::{
-    Any, Assign, ByteString, Comma, DOMString, FrozenArray, Promise, Record, Sequence, USVString,
-    Undefined,
+    Any, ByteString, DOMString, FrozenArray, Promise, Record, Sequence, USVString, Undefined,
 };
 
 /// A type that is no union, as `any` or `long?`.
@@ -59,30 +55,4 @@ pub enum RecordKeyType<T> {
 pub enum ReturnType<T> {
     Undefined(Undefined),
     Type_(T),
-}
-
-/// An attribute, as `Exposed=Window` or `Constructor(long x)`.
-#[derive(Debug, PartialEq, Eq, PartialOrd, Ord, Hash, Drop)]
-pub enum ExtendedAttribute<'a, T> {
-    ArgList(ExtendedAttributeArgList<'a, T>),
-    NamedArgList(ExtendedAttributeNamedArgList<'a, T>),
-    IdentList(ExtendedAttributeIdentList<'a>),
-    Ident(ExtendedAttributeIdent<'a>),
-    NoArgs(ExtendedAttributeNoArgs<'a>),
-}
-
-/// An attribute with arguments, as `Constructor(long x)`.
-#[derive(Debug, PartialEq, Eq, PartialOrd, Ord, Hash, Drop)]
-pub struct ExtendedAttributeArgList<'a, T> {
-    pub identifier: Identifier<'a>,
-    pub args: Parenthesized<Punctuated<T, Comma>>,
-}
-
-/// An attribute with a name and arguments, as `NamedConstructor=Image(long x)`.
-#[derive(Debug, PartialEq, Eq, PartialOrd, Ord, Hash, Drop)]
-pub struct ExtendedAttributeNamedArgList<'a, T> {
-    pub lhs_identifier: Identifier<'a>,
-    pub assign: Assign,
-    pub rhs_identifier: Identifier<'a>,
-    pub args: Parenthesized<Punctuated<T, Comma>>,
 }

@@ -5,9 +5,9 @@
 
 ghost use Rattle.weedle_base.specs.Rules.{HasRule};
 ghost use Rattle.weedle_parts.specs.ValueTrees.{identifier_tree, may_be_null_tree, parenthesized_tree, punctuated_tree};
-ghost use Rattle.weedle_rules.specs.Table.SimpleTypes.{IDENTIFIER_LIST, PARENTHESIZED_IDENTIFIER_LIST};
-ghost use Rattle.weedle_rules.specs.Table.Types.{ARGUMENT_LIST, EXTENDED_ATTRIBUTE_LIST, MAY_BE_NULL_UNION_TYPE, OPT_EXTENDED_ATTRIBUTE_LIST, PARENTHESIZED_ARGUMENT_LIST, UNION_TYPE};
-ghost use Rattle.weedle_types.specs.Trees.{argument_list_tree, arguments_tree, attributes_tree, extended_attribute_list_tree, union_type_tree};
+ghost use Rattle.weedle_grammar.specs.Table.SimpleTypes.{IDENTIFIER_LIST, PARENTHESIZED_IDENTIFIER_LIST};
+ghost use Rattle.weedle_grammar.specs.Table.Types.{ARGUMENT_LIST, EXTENDED_ATTRIBUTE_LIST, MAY_BE_NULL_UNION_TYPE, OPT_EXTENDED_ATTRIBUTE_LIST, UNION_TYPE};
+ghost use Rattle.weedle_types.specs.Trees.{argument_list_tree, attributes_tree, extended_attribute_list_tree, union_type_tree};
 
 use crate::argument::ArgumentList;
 use crate::attribute::{ExtendedAttributeList, IdentifierList};
@@ -44,12 +44,6 @@ pub fn attributes<'a>()
 #[tactic(auto, using(crate::proofs::AliasRules::argument_list_has_rule))]
 pub fn argument_list<'a>()
     ensures { HasRule ⟦<ArgumentList<'a> as Parse<'a>>⟧.reading ARGUMENT_LIST argument_list_tree }
-{}
-
-/// Arguments in parentheses read what their rule reads.
-#[tactic(auto, using(crate::proofs::AliasRules::arguments_has_rule))]
-pub fn arguments<'a>()
-    ensures { HasRule ⟦<Parenthesized<ArgumentList<'a>> as Parse<'a>>⟧.reading PARENTHESIZED_ARGUMENT_LIST arguments_tree }
 {}
 
 /// `IdentifierList` reads what its rule reads.

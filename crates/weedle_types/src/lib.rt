@@ -5,9 +5,11 @@
 pub mod argument;
 pub mod attribute;
 mod clones;
+pub mod copies;
 mod formers;
 pub mod laws;
 mod parse;
+pub mod parts;
 mod reading;
 mod try_clone;
 pub mod types;

@@ -2,14 +2,16 @@
 
 ghost use Rattle.std.specs.Prelude.{◌≡◌};
 ghost use Rattle.weedle_base.specs.AlikeLaws.{equal_equivalence, seen_equivalence};
-ghost use Rattle.weedle_types.specs.Trees.{argument_tree, attributed_non_any_type_tree, attributed_type_tree, extended_attribute_arg_list_tree, extended_attribute_ident_list_tree, extended_attribute_named_arg_list_tree, extended_attribute_tree, frozen_array_type_tree, non_any_type_tree, promise_type_tree, record_key_type_tree, record_type_tree, record_types_tree, return_type_tree, sequence_type_tree, single_argument_tree, single_type_tree, type_tree, union_member_type_tree, variadic_argument_tree};
+ghost use Rattle.weedle_types.specs.Trees.{argument_tree, arguments_tree, attributed_non_any_type_tree, attributed_type_tree, extended_attribute_arg_list_tree, extended_attribute_ident_list_tree, extended_attribute_named_arg_list_tree, extended_attribute_tree, frozen_array_type_tree, non_any_type_tree, promise_type_tree, record_key_type_tree, record_type_tree, record_types_tree, return_type_tree, sequence_type_tree, single_argument_tree, single_type_tree, type_tree, union_member_type_tree, variadic_argument_tree};
 
-use crate::argument::{Argument, SingleArgument, VariadicArgument};
+use crate::argument::{Argument, ParenthesizedArgumentList, SingleArgument, VariadicArgument};
 use crate::attribute::{
     ExtendedAttribute, ExtendedAttributeArgList, ExtendedAttributeIdentList,
     ExtendedAttributeNamedArgList,
 };
-use crate::clones::arguments::{clone_argument, clone_single_argument, clone_variadic_argument};
+use crate::clones::arguments::{
+    clone_argument, clone_arguments, clone_single_argument, clone_variadic_argument,
+};
 use crate::clones::attributes::{
     clone_arg_list, clone_extended_attribute, clone_ident_list, clone_named_arg_list,
 };
@@ -197,6 +199,16 @@ impl<'a> TryClone for ExtendedAttributeIdentList<'a> {
     }
 
     ghost equivalence = { seen_equivalence extended_attribute_ident_list_tree equal_equivalence };
+}
+
+impl<'a> TryClone for ParenthesizedArgumentList<'a> {
+    ghost alike = { λ a b. arguments_tree a ≡ arguments_tree b };
+
+    fn try_clone(&self, alloc: Global) -> Result<Self, AllocError> {
+        clone_arguments(self, alloc)
+    }
+
+    ghost equivalence = { seen_equivalence arguments_tree equal_equivalence };
 }
 
 impl<'a> TryClone for Argument<'a> {

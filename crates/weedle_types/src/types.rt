@@ -44,16 +44,25 @@ pub type UnionType<'a> = Parenthesized<Punctuated<UnionMemberType<'a>, Or>>;
 
 /// A type, as `long`, `any` or `(long or DOMString)?`.
 #[cycle(types)]
-#[derive(Debug, PartialEq, Eq, PartialOrd, Ord, Hash, Drop)]
+#[derive(Debug, PartialEq, Eq, PartialOrd, Ord, Hash)]
 pub enum Type<'a> {
     Single(SingleType<'a>),
     Union(MayBeNull<UnionType<'a>>),
 }
 
+impl Drop for Type<'_> {
+    #[cycle(drops)]
+    fn drop(self) {
+        match self {
+            Type::Single(_) | Type::Union(_) => {}
+        }
+    }
+}
+
 /// A type that is neither `any` nor a union, as `long?`. A name that is no type of the grammar is an
 /// identifier.
 #[cycle(types)]
-#[derive(Debug, PartialEq, Eq, PartialOrd, Ord, Hash, Drop)]
+#[derive(Debug, PartialEq, Eq, PartialOrd, Ord, Hash)]
 pub enum NonAnyType<'a> {
     Promise(PromiseType<'a>),
     Integer(MayBeNull<IntegerType>),
@@ -86,31 +95,104 @@ pub enum NonAnyType<'a> {
     Identifier(MayBeNull<Identifier<'a>>),
 }
 
+impl Drop for NonAnyType<'_> {
+    #[cycle(drops)]
+    fn drop(self) {
+        match self {
+            NonAnyType::Promise(_)
+            | NonAnyType::Integer(_)
+            | NonAnyType::FloatingPoint(_)
+            | NonAnyType::Boolean(_)
+            | NonAnyType::Byte(_)
+            | NonAnyType::Octet(_)
+            | NonAnyType::ByteString(_)
+            | NonAnyType::DOMString(_)
+            | NonAnyType::USVString(_)
+            | NonAnyType::Sequence(_)
+            | NonAnyType::Object(_)
+            | NonAnyType::Symbol(_)
+            | NonAnyType::Error(_)
+            | NonAnyType::ArrayBuffer(_)
+            | NonAnyType::DataView(_)
+            | NonAnyType::Int8Array(_)
+            | NonAnyType::Int16Array(_)
+            | NonAnyType::Int32Array(_)
+            | NonAnyType::Uint8Array(_)
+            | NonAnyType::Uint16Array(_)
+            | NonAnyType::Uint32Array(_)
+            | NonAnyType::Uint8ClampedArray(_)
+            | NonAnyType::Float32Array(_)
+            | NonAnyType::Float64Array(_)
+            | NonAnyType::ArrayBufferView(_)
+            | NonAnyType::BufferSource(_)
+            | NonAnyType::FrozenArrayType(_)
+            | NonAnyType::RecordType(_)
+            | NonAnyType::Identifier(_) => {}
+        }
+    }
+}
+
 /// The types of a record, as `DOMString, long`: that of its keys, the comma, and that of its values.
 #[cycle(types)]
-#[derive(Debug, PartialEq, Eq, PartialOrd, Ord, Hash, Drop)]
+#[derive(Debug, PartialEq, Eq, PartialOrd, Ord, Hash)]
 pub struct RecordTypes<'a>(pub Box<RecordKeyType<'a>>, pub Comma, pub Box<Type<'a>>);
+
+impl Drop for RecordTypes<'_> {
+    #[cycle(drops)]
+    fn drop(self) {
+        let RecordTypes(_, _, _) = self;
+    }
+}
 
 /// A member of a union, as `[Clamp] octet` or `(long or DOMString)`.
 #[cycle(types)]
-#[derive(Debug, PartialEq, Eq, PartialOrd, Ord, Hash, Drop)]
+#[derive(Debug, PartialEq, Eq, PartialOrd, Ord, Hash)]
 pub enum UnionMemberType<'a> {
     Single(AttributedNonAnyType<'a>),
     Union(MayBeNull<UnionType<'a>>),
 }
 
+impl Drop for UnionMemberType<'_> {
+    #[cycle(drops)]
+    fn drop(self) {
+        match self {
+            UnionMemberType::Single(_) | UnionMemberType::Union(_) => {}
+        }
+    }
+}
+
 /// A type with the attributes that stand before it, as `[Clamp] octet`.
 #[cycle(types)]
-#[derive(Debug, PartialEq, Eq, PartialOrd, Ord, Hash, Drop)]
+#[derive(Debug, PartialEq, Eq, PartialOrd, Ord, Hash)]
 pub struct AttributedType<'a> {
     pub attributes: Option<ExtendedAttributeList<'a>>,
     pub type_: Type<'a>,
 }
 
+impl Drop for AttributedType<'_> {
+    #[cycle(drops)]
+    fn drop(self) {
+        let AttributedType {
+            attributes: _,
+            type_: _,
+        } = self;
+    }
+}
+
 /// The same where the type is neither `any` nor a union.
 #[cycle(types)]
-#[derive(Debug, PartialEq, Eq, PartialOrd, Ord, Hash, Drop)]
+#[derive(Debug, PartialEq, Eq, PartialOrd, Ord, Hash)]
 pub struct AttributedNonAnyType<'a> {
     pub attributes: Option<ExtendedAttributeList<'a>>,
     pub type_: NonAnyType<'a>,
+}
+
+impl Drop for AttributedNonAnyType<'_> {
+    #[cycle(drops)]
+    fn drop(self) {
+        let AttributedNonAnyType {
+            attributes: _,
+            type_: _,
+        } = self;
+    }
 }

@@ -1,7 +1,7 @@
 //! The types of floating-point numbers.
 
 ghost use Rattle.std.specs.Prelude.{◌≡◌};
-ghost use Rattle.weedle_rules.specs.Table.SimpleTypes.{FLOAT_TYPE, DOUBLE_TYPE, FLOATING_POINT_TYPE};
+ghost use Rattle.weedle_grammar.specs.Table.SimpleTypes.{FLOAT_TYPE, DOUBLE_TYPE, FLOATING_POINT_TYPE};
 ghost use Rattle.weedle_base.specs.Own.{own};
 ghost use Rattle.weedle_base.specs.OwnLaws.{own_lawful};
 ghost use Rattle.weedle_parts.specs.ValueTrees.{float_type_tree, double_type_tree, floating_point_type_tree};

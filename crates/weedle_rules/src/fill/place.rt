@@ -3,7 +3,7 @@
 //! Written by tools/grammar.py.
 
 ghost use Rattle.std.specs.Prelude.{◌≤◌, ◌+◌, ◌-◌, ◌*◌, length};
-ghost use Rattle.weedle_rules.specs.Bound.{rule_count};
+ghost use Rattle.weedle_grammar.specs.Bound.{rule_count};
 ghost use Rattle.weedle_rules.specs.Filling.{IsFilled};
 
 use crate::cell::Cell;
@@ -11,7 +11,6 @@ use crate::reader::Reader;
 
 mod capitalized_keywords;
 mod definitions;
-mod first_path;
 mod interface_members;
 mod keywords;
 mod leaves;
@@ -41,5 +40,4 @@ pub(super) fn fill_place<C: Cell>(reader: &mut Reader<'_, C>, place: usize)
     interface_members::fill(reader, place);
     other_members::fill(reader, place);
     definitions::fill(reader, place);
-    first_path::fill(reader, place);
 }

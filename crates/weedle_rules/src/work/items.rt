@@ -1,13 +1,13 @@
 //! Rows of a rule that may be there once or more often: options, repetitions and lists.
 
 ghost use Rattle.std.specs.Prelude.{◌≡◌};
-ghost use Rattle.weedle_rules.specs.Rows.{Opt, Many, ListOf, List1, Tail};
-ghost use Rattle.weedle_rules.specs.Table.{row_of as row_of_lem};
+ghost use Rattle.weedle_grammar.specs.Rows.{Opt, Many, ListOf, List1, Tail};
+ghost use Rattle.weedle_grammar.specs.Table.{row_of as row_of_lem};
 ghost use Rattle.weedle_rules.specs.Filling.{IsBegun, IsWorked};
 
 use crate::cell::Cell;
 use crate::reader::{Reader, Working};
-use crate::rule::Rule;
+use weedle_grammar::Rule;
 
 /// The rule, or nothing where it fails.
 #[inline(always)]

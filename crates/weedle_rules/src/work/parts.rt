@@ -1,14 +1,14 @@
 //! Rows of several parts: sequences, choices, and sequences whose last part has a condition.
 
 ghost use Rattle.std.specs.Prelude.{◌≡◌, if◌then◌else◌};
-ghost use Rattle.weedle_rules.specs.Rows.{Seq, First, If};
-ghost use Rattle.weedle_rules.specs.Table.{row_of as row_of_lem};
+ghost use Rattle.weedle_grammar.specs.Rows.{Seq, First, If};
+ghost use Rattle.weedle_grammar.specs.Table.{row_of as row_of_lem};
+ghost use Rattle.weedle_grammar.specs.View.{numbers_of};
 ghost use Rattle.weedle_rules.specs.Filling.{IsBegun, IsWorked};
 
 use crate::cell::Cell;
 use crate::reader::{Reader, Working};
-use crate::row::Parts;
-use crate::rule::Rule;
+use weedle_grammar::{Parts, Rule};
 
 /// The parts, each from the end of the one before.
 #[inline(always)]
@@ -20,12 +20,12 @@ pub(crate) fn seq<C: Cell>(
     parts: Parts,
 ) -> Option<usize>
     requires begun { IsBegun reader.now working.old rule place }
-    requires row { row_of_lem rule ≡ Seq parts.numbers.now }
+    requires row { row_of_lem rule ≡ Seq (numbers_of parts) }
     ensures { IsWorked reader.now working.old working.new result }
 {
     let mut end = place;
-    for part in parts.numbers {
-        match reader.cell(working, Rule(*part), end) {
+    for i in 0..parts.len() {
+        match reader.cell(working, parts.rule(i), end) {
             Some(next) => end = next,
             None => return None,
         }
@@ -43,11 +43,11 @@ pub(crate) fn first<C: Cell>(
     parts: Parts,
 ) -> Option<usize>
     requires begun { IsBegun reader.now working.old rule place }
-    requires row { row_of_lem rule ≡ First parts.numbers.now }
+    requires row { row_of_lem rule ≡ First (numbers_of parts) }
     ensures { IsWorked reader.now working.old working.new result }
 {
-    for part in parts.numbers {
-        match reader.cell(working, Rule(*part), place) {
+    for i in 0..parts.len() {
+        match reader.cell(working, parts.rule(i), place) {
             Some(end) => return Some(end),
             None => {}
         }
@@ -75,13 +75,13 @@ pub(crate) fn conditional<C: Cell>(
     y: Rule,
 ) -> Option<usize>
     requires begun { IsBegun reader.now working.old rule place }
-    requires row { row_of_lem rule ≡ If parts.numbers.now k y }
+    requires row { row_of_lem rule ≡ If (numbers_of parts) k y }
     ensures { IsWorked reader.now working.old working.new result }
 {
     let mut end = place;
     let mut present = false;
-    for (i, part) in parts.numbers.iter().enumerate() {
-        match reader.cell(working, Rule(*part), end) {
+    for i in 0..parts.len() {
+        match reader.cell(working, parts.rule(i), end) {
             Some(next) => {
                 present = choose(i == k, next != end, present);
                 end = next;

@@ -1,15 +1,14 @@
 //! Rows without parts: bytes, a byte of a class, a run of them, everything past some bytes.
 
 ghost use Rattle.std.specs.Prelude.{◌≡◌, ◌≤◌, ◌<◌, true, length, drop};
-ghost use Rattle.weedle_rules.specs.Rows.{begins as begins_lem, Bytes, OneOf, NotNext, Run, Past};
-ghost use Rattle.weedle_rules.specs.Table.{row_of as row_of_lem};
+ghost use Rattle.weedle_grammar.specs.Rows.{begins as begins_lem, Bytes, OneOf, NotNext, Run, Past};
+ghost use Rattle.weedle_grammar.specs.Table.{row_of as row_of_lem};
 ghost use Rattle.weedle_rules.specs.Filling.{IsBegun, IsWorked};
 
 use crate::READS;
 use crate::cell::Cell;
-use crate::class::{Class, holds};
 use crate::reader::{Reader, Working};
-use crate::rule::Rule;
+use weedle_grammar::{Class, Rule, holds};
 
 /// Whether the bytes stand at the place.
 #[inline(always)]

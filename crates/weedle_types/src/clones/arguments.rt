@@ -6,19 +6,19 @@ ghost use Rattle.weedle_types.specs.Trees.{argument_tree, arguments_tree, single
 
 use super::attributes::clone_attributes;
 use super::types::{clone_attributed_type, clone_type};
-use crate::argument::{Argument, ArgumentList, SingleArgument, VariadicArgument};
+use crate::argument::{Argument, ParenthesizedArgumentList, SingleArgument, VariadicArgument};
 use std::alloc::{AllocError, Global};
-use weedle_parts::common::{Parenthesized, Punctuated};
+use weedle_parts::common::Punctuated;
 
 /// Clones arguments in parentheses.
 #[cycle(clones)]
 pub(crate) fn clone_arguments<'a>(
-    original: &Parenthesized<ArgumentList<'a>>,
+    original: &ParenthesizedArgumentList<'a>,
     alloc: Global,
-) -> Result<Parenthesized<ArgumentList<'a>>, AllocError>
+) -> Result<ParenthesizedArgumentList<'a>, AllocError>
     ensures { IfOk result (λ v. arguments_tree v ≡ arguments_tree original.now) }
 {
-    Ok(Parenthesized {
+    Ok(ParenthesizedArgumentList {
         open_paren: original.open_paren,
         body: Punctuated {
             list: clone_argument_items(&original.body.list, alloc)?,

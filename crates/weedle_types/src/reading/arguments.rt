@@ -4,17 +4,19 @@ ghost use Rattle.std.specs.Prelude.{◌<◌, ◌≤◌, length, IfOk};
 ghost use Rattle.weedle_base.specs.Own.{own};
 ghost use Rattle.weedle_base.specs.Reading.{Answers};
 ghost use Rattle.weedle_parts.specs.Lists.{after_first};
-ghost use Rattle.weedle_rules.specs.Table.Types.{ARGUMENT, ARGUMENT_LIST, PARENTHESIZED_ARGUMENT_LIST, SINGLE_ARGUMENT, VARIADIC_ARGUMENT};
+ghost use Rattle.weedle_grammar.specs.Table.Types.{ARGUMENT, ARGUMENT_LIST, PARENTHESIZED_ARGUMENT_LIST, SINGLE_ARGUMENT, VARIADIC_ARGUMENT};
 ghost use Rattle.weedle_types.specs.Separators.{comma_reading};
 ghost use Rattle.weedle_types.specs.Trees.{argument_list_tree, argument_tree, arguments_tree, single_argument_tree, variadic_argument_tree};
 
 use super::attributes::attributes;
 use super::steps::{part, word};
 use super::types::{attributed_type, type_};
-use crate::argument::{Argument, ArgumentList, SingleArgument, VariadicArgument};
+use crate::argument::{
+    Argument, ArgumentList, ParenthesizedArgumentList, SingleArgument, VariadicArgument,
+};
 use std::alloc::Global;
 use weedle_base::{Err, IResult, out_of_memory};
-use weedle_parts::common::{Parenthesized, Punctuated};
+use weedle_parts::common::Punctuated;
 use weedle_term::Comma;
 
 /// Reads an argument, as `long x` or `long... xs`.
@@ -105,7 +107,7 @@ pub(crate) fn variadic_argument<'a>(
 pub(crate) fn arguments<'a>(
     alloc: Global,
     input: &'a str,
-) -> IResult<&'a str, Parenthesized<ArgumentList<'a>>>
+) -> IResult<&'a str, ParenthesizedArgumentList<'a>>
     ensures reads { Answers (own PARENTHESIZED_ARGUMENT_LIST arguments_tree (Unit {0})) input.now result }
     ensures shorter { IfOk result (λ x. length x.0.now < length input.now) }
 {
@@ -114,7 +116,7 @@ pub(crate) fn arguments<'a>(
     let (rest, close_paren) = part(alloc, rest)?;
     Ok((
         rest,
-        Parenthesized {
+        ParenthesizedArgumentList {
             open_paren,
             body,
             close_paren,
@@ -125,10 +127,7 @@ pub(crate) fn arguments<'a>(
 /// Reads arguments, as `long x, long y`, none included.
 #[cycle(group)]
 #[tactic(auto, using(crate::proofs::ArgumentRules::argument_list_steps))]
-pub(crate) fn argument_list<'a>(
-    alloc: Global,
-    input: &'a str,
-) -> IResult<&'a str, Punctuated<Argument<'a>, Comma>>
+pub(crate) fn argument_list<'a>(alloc: Global, input: &'a str) -> IResult<&'a str, ArgumentList<'a>>
     ensures reads { Answers (own ARGUMENT_LIST argument_list_tree (Unit {0})) input.now result }
     ensures no_longer { IfOk result (λ x. length x.0.now ≤ length input.now) }
 {

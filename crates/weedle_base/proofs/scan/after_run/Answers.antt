@@ -1,5 +1,5 @@
 use Rattle.std.proofs.Common.{◌≡◌}
-use Rattle.weedle_rules.specs.Rows.{run_length}
+use Rattle.weedle_grammar.specs.Rows.{run_length}
 use Rattle.weedle_base.proofs.WordFacts.{run_took, run_cut}
 use Rattle.weedle_base.proofs.scan.after_run.Goals as goal
 

@@ -1,5 +1,5 @@
 use Rattle.std.proofs.Common.{◌≡◌, ℕ, ◌<◌, true, get_or}
-use Rattle.weedle_rules.specs.Rows.{is_in}
+use Rattle.weedle_grammar.specs.Rows.{is_in}
 use Rattle.weedle_base.proofs.scan.run.Given as goal
 
 abbrev pub invariant-loop-i : goal.invariant-loop-i

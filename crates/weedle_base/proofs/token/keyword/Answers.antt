@@ -1,5 +1,5 @@
 use Rattle.std.proofs.Common.{refl}
-use Rattle.weedle_rules.specs.Trees.{Mark}
+use Rattle.weedle_grammar.specs.Trees.{Mark}
 use Rattle.weedle_base.proofs.TokenFacts.{keyword_lacks, keyword_reads, got_own, fault_own}
 use Rattle.weedle_base.proofs.token.keyword.Goals as goal
 

@@ -7,15 +7,8 @@ ghost use Rattle.weedle_rules.specs.Filling.{IsFilling};
 
 use crate::cell::Cell;
 use crate::fill::fill_cell;
-use crate::grammar::definitions::{
-    CALLBACK_DEFINITION, CALLBACK_INTERFACE_DEFINITION, DEFINITION, DEFINITIONS,
-    DICTIONARY_DEFINITION, ENUM_DEFINITION, IMPLEMENTS_DEFINITION, INCLUDES_STATEMENT_DEFINITION,
-    INTERFACE_DEFINITION, INTERFACE_MIXIN_DEFINITION, NAMESPACE_DEFINITION,
-    PARTIAL_DICTIONARY_DEFINITION, PARTIAL_INTERFACE_DEFINITION,
-    PARTIAL_INTERFACE_MIXIN_DEFINITION, PARTIAL_NAMESPACE_DEFINITION, TYPEDEF_DEFINITION,
-};
 use crate::reader::Reader;
-use crate::rule::Rule;
+use weedle_grammar::grammar::definitions;
 
 /// Works out the cells of the rules from 370 to 385.
 #[inline(always)]
@@ -34,14 +27,18 @@ fn fill_from_370<C: Cell>(reader: &mut Reader<'_, C>, place: usize)
     requires next { IsFilling reader.old reader.old.text place 370 }
     ensures { IsFilling reader.new reader.old.text place 378 }
 {
-    fill_cell(reader, Rule(CALLBACK_DEFINITION), place);
-    fill_cell(reader, Rule(CALLBACK_INTERFACE_DEFINITION), place);
-    fill_cell(reader, Rule(INTERFACE_DEFINITION), place);
-    fill_cell(reader, Rule(INTERFACE_MIXIN_DEFINITION), place);
-    fill_cell(reader, Rule(NAMESPACE_DEFINITION), place);
-    fill_cell(reader, Rule(DICTIONARY_DEFINITION), place);
-    fill_cell(reader, Rule(PARTIAL_INTERFACE_DEFINITION), place);
-    fill_cell(reader, Rule(PARTIAL_INTERFACE_MIXIN_DEFINITION), place);
+    fill_cell(reader, definitions::CALLBACK_DEFINITION, place);
+    fill_cell(reader, definitions::CALLBACK_INTERFACE_DEFINITION, place);
+    fill_cell(reader, definitions::INTERFACE_DEFINITION, place);
+    fill_cell(reader, definitions::INTERFACE_MIXIN_DEFINITION, place);
+    fill_cell(reader, definitions::NAMESPACE_DEFINITION, place);
+    fill_cell(reader, definitions::DICTIONARY_DEFINITION, place);
+    fill_cell(reader, definitions::PARTIAL_INTERFACE_DEFINITION, place);
+    fill_cell(
+        reader,
+        definitions::PARTIAL_INTERFACE_MIXIN_DEFINITION,
+        place,
+    );
 }
 
 #[inline(always)]
@@ -50,12 +47,12 @@ fn fill_from_378<C: Cell>(reader: &mut Reader<'_, C>, place: usize)
     requires next { IsFilling reader.old reader.old.text place 378 }
     ensures { IsFilling reader.new reader.old.text place 386 }
 {
-    fill_cell(reader, Rule(PARTIAL_DICTIONARY_DEFINITION), place);
-    fill_cell(reader, Rule(PARTIAL_NAMESPACE_DEFINITION), place);
-    fill_cell(reader, Rule(ENUM_DEFINITION), place);
-    fill_cell(reader, Rule(TYPEDEF_DEFINITION), place);
-    fill_cell(reader, Rule(INCLUDES_STATEMENT_DEFINITION), place);
-    fill_cell(reader, Rule(IMPLEMENTS_DEFINITION), place);
-    fill_cell(reader, Rule(DEFINITION), place);
-    fill_cell(reader, Rule(DEFINITIONS), place);
+    fill_cell(reader, definitions::PARTIAL_DICTIONARY_DEFINITION, place);
+    fill_cell(reader, definitions::PARTIAL_NAMESPACE_DEFINITION, place);
+    fill_cell(reader, definitions::ENUM_DEFINITION, place);
+    fill_cell(reader, definitions::TYPEDEF_DEFINITION, place);
+    fill_cell(reader, definitions::INCLUDES_STATEMENT_DEFINITION, place);
+    fill_cell(reader, definitions::IMPLEMENTS_DEFINITION, place);
+    fill_cell(reader, definitions::DEFINITION, place);
+    fill_cell(reader, definitions::DEFINITIONS, place);
 }

@@ -7,20 +7,8 @@ ghost use Rattle.weedle_rules.specs.Filling.{IsFilling};
 
 use crate::cell::Cell;
 use crate::fill::fill_cell;
-use crate::grammar::interface_members::{
-    ASYNC_ITERABLE, ASYNC_ITERABLE_INTERFACE_MEMBER, ATTRIBUTE_INTERFACE_MEMBER,
-    BRACED_INTERFACE_MEMBERS, CONST_MEMBER, CONSTRUCTOR_INTERFACE_MEMBER,
-    DOUBLE_TYPED_ASYNC_ITERABLE, DOUBLE_TYPED_ITERABLE, GENERICS_ATTRIBUTED_TYPE,
-    GENERICS_KEY_AND_VALUE_TYPES, INHERITANCE, INTERFACE_MEMBER, INTERFACE_MEMBERS,
-    ITERABLE_INTERFACE_MEMBER, KEY_AND_VALUE_TYPES, MAPLIKE_INTERFACE_MEMBER,
-    OPERATION_INTERFACE_MEMBER, OPT_DOCSTRING, OPT_IDENTIFIER, OPT_INHERITANCE,
-    OPT_PARENTHESIZED_ARGUMENT_LIST, OPT_READ_ONLY, OPT_SPECIAL,
-    OPT_STRINGIFIER_OR_INHERIT_OR_STATIC, OPT_STRINGIFIER_OR_STATIC, SETLIKE_INTERFACE_MEMBER,
-    SINGLE_TYPED_ASYNC_ITERABLE, SINGLE_TYPED_ITERABLE, SPECIAL, STRINGIFIER_MEMBER,
-    STRINGIFIER_OR_INHERIT_OR_STATIC, STRINGIFIER_OR_STATIC,
-};
 use crate::reader::Reader;
-use crate::rule::Rule;
+use weedle_grammar::grammar::interface_members;
 
 /// Works out the cells of the rules from 317 to 348.
 #[inline(always)]
@@ -41,14 +29,18 @@ fn fill_from_317<C: Cell>(reader: &mut Reader<'_, C>, place: usize)
     requires next { IsFilling reader.old reader.old.text place 317 }
     ensures { IsFilling reader.new reader.old.text place 325 }
 {
-    fill_cell(reader, Rule(OPT_DOCSTRING), place);
-    fill_cell(reader, Rule(OPT_IDENTIFIER), place);
-    fill_cell(reader, Rule(OPT_READ_ONLY), place);
-    fill_cell(reader, Rule(KEY_AND_VALUE_TYPES), place);
-    fill_cell(reader, Rule(GENERICS_ATTRIBUTED_TYPE), place);
-    fill_cell(reader, Rule(GENERICS_KEY_AND_VALUE_TYPES), place);
-    fill_cell(reader, Rule(INHERITANCE), place);
-    fill_cell(reader, Rule(OPT_INHERITANCE), place);
+    fill_cell(reader, interface_members::OPT_DOCSTRING, place);
+    fill_cell(reader, interface_members::OPT_IDENTIFIER, place);
+    fill_cell(reader, interface_members::OPT_READ_ONLY, place);
+    fill_cell(reader, interface_members::KEY_AND_VALUE_TYPES, place);
+    fill_cell(reader, interface_members::GENERICS_ATTRIBUTED_TYPE, place);
+    fill_cell(
+        reader,
+        interface_members::GENERICS_KEY_AND_VALUE_TYPES,
+        place,
+    );
+    fill_cell(reader, interface_members::INHERITANCE, place);
+    fill_cell(reader, interface_members::OPT_INHERITANCE, place);
 }
 
 #[inline(always)]
@@ -57,14 +49,22 @@ fn fill_from_325<C: Cell>(reader: &mut Reader<'_, C>, place: usize)
     requires next { IsFilling reader.old reader.old.text place 325 }
     ensures { IsFilling reader.new reader.old.text place 333 }
 {
-    fill_cell(reader, Rule(SPECIAL), place);
-    fill_cell(reader, Rule(OPT_SPECIAL), place);
-    fill_cell(reader, Rule(STRINGIFIER_OR_INHERIT_OR_STATIC), place);
-    fill_cell(reader, Rule(OPT_STRINGIFIER_OR_INHERIT_OR_STATIC), place);
-    fill_cell(reader, Rule(STRINGIFIER_OR_STATIC), place);
-    fill_cell(reader, Rule(OPT_STRINGIFIER_OR_STATIC), place);
-    fill_cell(reader, Rule(CONST_MEMBER), place);
-    fill_cell(reader, Rule(ATTRIBUTE_INTERFACE_MEMBER), place);
+    fill_cell(reader, interface_members::SPECIAL, place);
+    fill_cell(reader, interface_members::OPT_SPECIAL, place);
+    fill_cell(
+        reader,
+        interface_members::STRINGIFIER_OR_INHERIT_OR_STATIC,
+        place,
+    );
+    fill_cell(
+        reader,
+        interface_members::OPT_STRINGIFIER_OR_INHERIT_OR_STATIC,
+        place,
+    );
+    fill_cell(reader, interface_members::STRINGIFIER_OR_STATIC, place);
+    fill_cell(reader, interface_members::OPT_STRINGIFIER_OR_STATIC, place);
+    fill_cell(reader, interface_members::CONST_MEMBER, place);
+    fill_cell(reader, interface_members::ATTRIBUTE_INTERFACE_MEMBER, place);
 }
 
 #[inline(always)]
@@ -73,14 +73,26 @@ fn fill_from_333<C: Cell>(reader: &mut Reader<'_, C>, place: usize)
     requires next { IsFilling reader.old reader.old.text place 333 }
     ensures { IsFilling reader.new reader.old.text place 341 }
 {
-    fill_cell(reader, Rule(CONSTRUCTOR_INTERFACE_MEMBER), place);
-    fill_cell(reader, Rule(OPERATION_INTERFACE_MEMBER), place);
-    fill_cell(reader, Rule(SINGLE_TYPED_ITERABLE), place);
-    fill_cell(reader, Rule(DOUBLE_TYPED_ITERABLE), place);
-    fill_cell(reader, Rule(ITERABLE_INTERFACE_MEMBER), place);
-    fill_cell(reader, Rule(ASYNC_ITERABLE), place);
-    fill_cell(reader, Rule(OPT_PARENTHESIZED_ARGUMENT_LIST), place);
-    fill_cell(reader, Rule(SINGLE_TYPED_ASYNC_ITERABLE), place);
+    fill_cell(
+        reader,
+        interface_members::CONSTRUCTOR_INTERFACE_MEMBER,
+        place,
+    );
+    fill_cell(reader, interface_members::OPERATION_INTERFACE_MEMBER, place);
+    fill_cell(reader, interface_members::SINGLE_TYPED_ITERABLE, place);
+    fill_cell(reader, interface_members::DOUBLE_TYPED_ITERABLE, place);
+    fill_cell(reader, interface_members::ITERABLE_INTERFACE_MEMBER, place);
+    fill_cell(reader, interface_members::ASYNC_ITERABLE, place);
+    fill_cell(
+        reader,
+        interface_members::OPT_PARENTHESIZED_ARGUMENT_LIST,
+        place,
+    );
+    fill_cell(
+        reader,
+        interface_members::SINGLE_TYPED_ASYNC_ITERABLE,
+        place,
+    );
 }
 
 #[inline(always)]
@@ -89,12 +101,20 @@ fn fill_from_341<C: Cell>(reader: &mut Reader<'_, C>, place: usize)
     requires next { IsFilling reader.old reader.old.text place 341 }
     ensures { IsFilling reader.new reader.old.text place 349 }
 {
-    fill_cell(reader, Rule(DOUBLE_TYPED_ASYNC_ITERABLE), place);
-    fill_cell(reader, Rule(ASYNC_ITERABLE_INTERFACE_MEMBER), place);
-    fill_cell(reader, Rule(MAPLIKE_INTERFACE_MEMBER), place);
-    fill_cell(reader, Rule(SETLIKE_INTERFACE_MEMBER), place);
-    fill_cell(reader, Rule(STRINGIFIER_MEMBER), place);
-    fill_cell(reader, Rule(INTERFACE_MEMBER), place);
-    fill_cell(reader, Rule(INTERFACE_MEMBERS), place);
-    fill_cell(reader, Rule(BRACED_INTERFACE_MEMBERS), place);
+    fill_cell(
+        reader,
+        interface_members::DOUBLE_TYPED_ASYNC_ITERABLE,
+        place,
+    );
+    fill_cell(
+        reader,
+        interface_members::ASYNC_ITERABLE_INTERFACE_MEMBER,
+        place,
+    );
+    fill_cell(reader, interface_members::MAPLIKE_INTERFACE_MEMBER, place);
+    fill_cell(reader, interface_members::SETLIKE_INTERFACE_MEMBER, place);
+    fill_cell(reader, interface_members::STRINGIFIER_MEMBER, place);
+    fill_cell(reader, interface_members::INTERFACE_MEMBER, place);
+    fill_cell(reader, interface_members::INTERFACE_MEMBERS, place);
+    fill_cell(reader, interface_members::BRACED_INTERFACE_MEMBERS, place);
 }

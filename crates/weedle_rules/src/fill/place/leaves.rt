@@ -7,17 +7,8 @@ ghost use Rattle.weedle_rules.specs.Filling.{IsFilling};
 
 use crate::cell::Cell;
 use crate::fill::fill_cell;
-use crate::grammar::leaves::{
-    BYTES_QUOTE, BYTES_THREE_SLASHES, BYTES_UNDERSCORE, BYTES_ZERO, DEC_LIT, DEC_LIT_TEXT, DIGITS,
-    DOC_LINE, DOCSTRING, EXPONENT, EXPONENT_FORM, FLOAT_FORM, FLOAT_VALUE_LIT,
-    FLOAT_VALUE_LIT_TEXT, HEX_LIT, HEX_LIT_TEXT, IDENTIFIER, IDENTIFIER_TEXT, MANY_DOC_LINE,
-    OCT_LIT, OCT_LIT_TEXT, ONE_OF_DIGIT, ONE_OF_E_LETTER, ONE_OF_HEX, ONE_OF_LETTER,
-    ONE_OF_ONE_TO_NINE, ONE_OF_SIGN, ONE_OF_X_LETTER, OPT_BYTES_MINUS, OPT_BYTES_UNDERSCORE,
-    OPT_EXPONENT, OPT_ONE_OF_SIGN, PAST_LF, POINT, POINT_AFTER_DIGITS, POINT_BEFORE_DIGITS,
-    POINT_FORM, RUN_DIGIT, RUN_HEX, RUN_NAME, RUN_NOT_QUOTE, RUN_OCTAL, STRING_LIT,
-};
 use crate::reader::Reader;
-use crate::rule::Rule;
+use weedle_grammar::grammar::leaves;
 
 /// Works out the cells of the rules from 184 to 226.
 #[inline(always)]
@@ -40,14 +31,14 @@ fn fill_from_184<C: Cell>(reader: &mut Reader<'_, C>, place: usize)
     requires next { IsFilling reader.old reader.old.text place 184 }
     ensures { IsFilling reader.new reader.old.text place 192 }
 {
-    fill_cell(reader, Rule(BYTES_UNDERSCORE), place);
-    fill_cell(reader, Rule(OPT_BYTES_UNDERSCORE), place);
-    fill_cell(reader, Rule(ONE_OF_LETTER), place);
-    fill_cell(reader, Rule(RUN_NAME), place);
-    fill_cell(reader, Rule(IDENTIFIER_TEXT), place);
-    fill_cell(reader, Rule(IDENTIFIER), place);
-    fill_cell(reader, Rule(OPT_BYTES_MINUS), place);
-    fill_cell(reader, Rule(ONE_OF_ONE_TO_NINE), place);
+    fill_cell(reader, leaves::BYTES_UNDERSCORE, place);
+    fill_cell(reader, leaves::OPT_BYTES_UNDERSCORE, place);
+    fill_cell(reader, leaves::ONE_OF_LETTER, place);
+    fill_cell(reader, leaves::RUN_NAME, place);
+    fill_cell(reader, leaves::IDENTIFIER_TEXT, place);
+    fill_cell(reader, leaves::IDENTIFIER, place);
+    fill_cell(reader, leaves::OPT_BYTES_MINUS, place);
+    fill_cell(reader, leaves::ONE_OF_ONE_TO_NINE, place);
 }
 
 #[inline(always)]
@@ -56,14 +47,14 @@ fn fill_from_192<C: Cell>(reader: &mut Reader<'_, C>, place: usize)
     requires next { IsFilling reader.old reader.old.text place 192 }
     ensures { IsFilling reader.new reader.old.text place 200 }
 {
-    fill_cell(reader, Rule(RUN_DIGIT), place);
-    fill_cell(reader, Rule(DEC_LIT_TEXT), place);
-    fill_cell(reader, Rule(DEC_LIT), place);
-    fill_cell(reader, Rule(BYTES_ZERO), place);
-    fill_cell(reader, Rule(ONE_OF_X_LETTER), place);
-    fill_cell(reader, Rule(ONE_OF_HEX), place);
-    fill_cell(reader, Rule(RUN_HEX), place);
-    fill_cell(reader, Rule(HEX_LIT_TEXT), place);
+    fill_cell(reader, leaves::RUN_DIGIT, place);
+    fill_cell(reader, leaves::DEC_LIT_TEXT, place);
+    fill_cell(reader, leaves::DEC_LIT, place);
+    fill_cell(reader, leaves::BYTES_ZERO, place);
+    fill_cell(reader, leaves::ONE_OF_X_LETTER, place);
+    fill_cell(reader, leaves::ONE_OF_HEX, place);
+    fill_cell(reader, leaves::RUN_HEX, place);
+    fill_cell(reader, leaves::HEX_LIT_TEXT, place);
 }
 
 #[inline(always)]
@@ -72,14 +63,14 @@ fn fill_from_200<C: Cell>(reader: &mut Reader<'_, C>, place: usize)
     requires next { IsFilling reader.old reader.old.text place 200 }
     ensures { IsFilling reader.new reader.old.text place 208 }
 {
-    fill_cell(reader, Rule(HEX_LIT), place);
-    fill_cell(reader, Rule(RUN_OCTAL), place);
-    fill_cell(reader, Rule(OCT_LIT_TEXT), place);
-    fill_cell(reader, Rule(OCT_LIT), place);
-    fill_cell(reader, Rule(ONE_OF_DIGIT), place);
-    fill_cell(reader, Rule(DIGITS), place);
-    fill_cell(reader, Rule(ONE_OF_E_LETTER), place);
-    fill_cell(reader, Rule(ONE_OF_SIGN), place);
+    fill_cell(reader, leaves::HEX_LIT, place);
+    fill_cell(reader, leaves::RUN_OCTAL, place);
+    fill_cell(reader, leaves::OCT_LIT_TEXT, place);
+    fill_cell(reader, leaves::OCT_LIT, place);
+    fill_cell(reader, leaves::ONE_OF_DIGIT, place);
+    fill_cell(reader, leaves::DIGITS, place);
+    fill_cell(reader, leaves::ONE_OF_E_LETTER, place);
+    fill_cell(reader, leaves::ONE_OF_SIGN, place);
 }
 
 #[inline(always)]
@@ -88,14 +79,14 @@ fn fill_from_208<C: Cell>(reader: &mut Reader<'_, C>, place: usize)
     requires next { IsFilling reader.old reader.old.text place 208 }
     ensures { IsFilling reader.new reader.old.text place 216 }
 {
-    fill_cell(reader, Rule(OPT_ONE_OF_SIGN), place);
-    fill_cell(reader, Rule(EXPONENT), place);
-    fill_cell(reader, Rule(POINT_AFTER_DIGITS), place);
-    fill_cell(reader, Rule(POINT_BEFORE_DIGITS), place);
-    fill_cell(reader, Rule(POINT), place);
-    fill_cell(reader, Rule(OPT_EXPONENT), place);
-    fill_cell(reader, Rule(POINT_FORM), place);
-    fill_cell(reader, Rule(EXPONENT_FORM), place);
+    fill_cell(reader, leaves::OPT_ONE_OF_SIGN, place);
+    fill_cell(reader, leaves::EXPONENT, place);
+    fill_cell(reader, leaves::POINT_AFTER_DIGITS, place);
+    fill_cell(reader, leaves::POINT_BEFORE_DIGITS, place);
+    fill_cell(reader, leaves::POINT, place);
+    fill_cell(reader, leaves::OPT_EXPONENT, place);
+    fill_cell(reader, leaves::POINT_FORM, place);
+    fill_cell(reader, leaves::EXPONENT_FORM, place);
 }
 
 #[inline(always)]
@@ -104,14 +95,14 @@ fn fill_from_216<C: Cell>(reader: &mut Reader<'_, C>, place: usize)
     requires next { IsFilling reader.old reader.old.text place 216 }
     ensures { IsFilling reader.new reader.old.text place 224 }
 {
-    fill_cell(reader, Rule(FLOAT_FORM), place);
-    fill_cell(reader, Rule(FLOAT_VALUE_LIT_TEXT), place);
-    fill_cell(reader, Rule(FLOAT_VALUE_LIT), place);
-    fill_cell(reader, Rule(BYTES_QUOTE), place);
-    fill_cell(reader, Rule(RUN_NOT_QUOTE), place);
-    fill_cell(reader, Rule(STRING_LIT), place);
-    fill_cell(reader, Rule(BYTES_THREE_SLASHES), place);
-    fill_cell(reader, Rule(PAST_LF), place);
+    fill_cell(reader, leaves::FLOAT_FORM, place);
+    fill_cell(reader, leaves::FLOAT_VALUE_LIT_TEXT, place);
+    fill_cell(reader, leaves::FLOAT_VALUE_LIT, place);
+    fill_cell(reader, leaves::BYTES_QUOTE, place);
+    fill_cell(reader, leaves::RUN_NOT_QUOTE, place);
+    fill_cell(reader, leaves::STRING_LIT, place);
+    fill_cell(reader, leaves::BYTES_THREE_SLASHES, place);
+    fill_cell(reader, leaves::PAST_LF, place);
 }
 
 #[inline(always)]
@@ -120,7 +111,7 @@ fn fill_from_224<C: Cell>(reader: &mut Reader<'_, C>, place: usize)
     requires next { IsFilling reader.old reader.old.text place 224 }
     ensures { IsFilling reader.new reader.old.text place 227 }
 {
-    fill_cell(reader, Rule(DOC_LINE), place);
-    fill_cell(reader, Rule(MANY_DOC_LINE), place);
-    fill_cell(reader, Rule(DOCSTRING), place);
+    fill_cell(reader, leaves::DOC_LINE, place);
+    fill_cell(reader, leaves::MANY_DOC_LINE, place);
+    fill_cell(reader, leaves::DOCSTRING, place);
 }

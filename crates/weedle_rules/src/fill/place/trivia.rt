@@ -7,13 +7,8 @@ ghost use Rattle.weedle_rules.specs.Filling.{IsFilling};
 
 use crate::cell::Cell;
 use crate::fill::fill_cell;
-use crate::grammar::trivia::{
-    BLANKS, BLOCK_COMMENT, BYTES_LF, BYTES_SLASH_SLASH, BYTES_SLASH_STAR, LINE_COMMENT, LINE_END,
-    NOT_NEXT_ANY, NOT_NEXT_SLASH, ONE_OF_BLANK, PAST_STAR_SLASH, PIECE, RUN_BLANK,
-    RUN_NOT_LINE_FEED, TRIVIA,
-};
 use crate::reader::Reader;
-use crate::rule::Rule;
+use weedle_grammar::grammar::trivia;
 
 /// Works out the cells of the rules from 0 to 14.
 #[inline(always)]
@@ -32,14 +27,14 @@ fn fill_from_0<C: Cell>(reader: &mut Reader<'_, C>, place: usize)
     requires next { IsFilling reader.old reader.old.text place 0 }
     ensures { IsFilling reader.new reader.old.text place 8 }
 {
-    fill_cell(reader, Rule(BYTES_LF), place);
-    fill_cell(reader, Rule(NOT_NEXT_ANY), place);
-    fill_cell(reader, Rule(LINE_END), place);
-    fill_cell(reader, Rule(BYTES_SLASH_SLASH), place);
-    fill_cell(reader, Rule(NOT_NEXT_SLASH), place);
-    fill_cell(reader, Rule(RUN_NOT_LINE_FEED), place);
-    fill_cell(reader, Rule(LINE_COMMENT), place);
-    fill_cell(reader, Rule(ONE_OF_BLANK), place);
+    fill_cell(reader, trivia::BYTES_LF, place);
+    fill_cell(reader, trivia::NOT_NEXT_ANY, place);
+    fill_cell(reader, trivia::LINE_END, place);
+    fill_cell(reader, trivia::BYTES_SLASH_SLASH, place);
+    fill_cell(reader, trivia::NOT_NEXT_SLASH, place);
+    fill_cell(reader, trivia::RUN_NOT_LINE_FEED, place);
+    fill_cell(reader, trivia::LINE_COMMENT, place);
+    fill_cell(reader, trivia::ONE_OF_BLANK, place);
 }
 
 #[inline(always)]
@@ -48,11 +43,11 @@ fn fill_from_8<C: Cell>(reader: &mut Reader<'_, C>, place: usize)
     requires next { IsFilling reader.old reader.old.text place 8 }
     ensures { IsFilling reader.new reader.old.text place 15 }
 {
-    fill_cell(reader, Rule(RUN_BLANK), place);
-    fill_cell(reader, Rule(BLANKS), place);
-    fill_cell(reader, Rule(BYTES_SLASH_STAR), place);
-    fill_cell(reader, Rule(PAST_STAR_SLASH), place);
-    fill_cell(reader, Rule(BLOCK_COMMENT), place);
-    fill_cell(reader, Rule(PIECE), place);
-    fill_cell(reader, Rule(TRIVIA), place);
+    fill_cell(reader, trivia::RUN_BLANK, place);
+    fill_cell(reader, trivia::BLANKS, place);
+    fill_cell(reader, trivia::BYTES_SLASH_STAR, place);
+    fill_cell(reader, trivia::PAST_STAR_SLASH, place);
+    fill_cell(reader, trivia::BLOCK_COMMENT, place);
+    fill_cell(reader, trivia::PIECE, place);
+    fill_cell(reader, trivia::TRIVIA, place);
 }

@@ -3,26 +3,27 @@
 -- Written by tools/types_proofs.py.
 use Rattle.std.proofs.Common.{Global, Vec, ap, arith, inl, refl, rules, ◌∙◌}
 use Rattle.std.specs.Prelude.{List, [], ◌++◌, ◌+◌, ◌∷◌, ◌≡◌}
+use Rattle.weedle_base.proofs.Direct.{stop_first, stop_next, take_first, take_next}
 use Rattle.weedle_base.proofs.Reached.{reached_none}
 use Rattle.weedle_base.proofs.RuleFacts.{mark}
 use Rattle.weedle_base.proofs.Steps.{exit_answers, got_pair}
 use Rattle.weedle_base.specs.Own.{own}
+use Rattle.weedle_grammar.specs.Table.Keywords.{OR}
+use Rattle.weedle_grammar.specs.Table.Symbols.{COMMA}
+use Rattle.weedle_grammar.specs.Table.Types.{ARGUMENT, EXTENDED_ATTRIBUTE, UNION_MEMBER_TYPE}
 use Rattle.weedle_parts.proofs.ReachedLists.{ends_behind, item_fault, list_ends, list_full, reached_next, separator_fault}
 use Rattle.weedle_parts.specs.Lists.{next_step}
-use Rattle.weedle_rules.specs.Table.Keywords.{OR}
-use Rattle.weedle_rules.specs.Table.Symbols.{COMMA}
-use Rattle.weedle_rules.specs.Table.Types.{ARGUMENT, EXTENDED_ATTRIBUTE, UNION_MEMBER_TYPE}
 use Rattle.weedle_term.specs.declared.symbols.Comma.{Comma}
 use Rattle.weedle_term.specs.declared.type_keywords.Or.{Or}
 use Rattle.weedle_types.proofs.ArgumentRules.{argument_fault, argument_got_0, argument_got_1, argument_list_fault, argument_list_none, single_argument_fault_when, single_argument_when}
 use Rattle.weedle_types.proofs.AttributeRules.{attributes_fault, attributes_none, attributes_some, extended_attribute_fault, extended_attribute_got_0, extended_attribute_got_1, extended_attribute_got_2, extended_attribute_got_3, extended_attribute_got_4, extended_attributes_fault, extended_attributes_none}
-use Rattle.weedle_types.proofs.Direct.{direct_stop, refused_by, stop_first, stop_next, take_first, take_next}
+use Rattle.weedle_types.proofs.Direct.{direct_stop, refused_by}
 use Rattle.weedle_types.proofs.TypeRules.{non_any_type_fault, non_any_type_got_0, non_any_type_got_1, non_any_type_got_2, non_any_type_got_3, non_any_type_got_4, non_any_type_got_5, non_any_type_got_6, record_key_type_fault, record_key_type_got_0, record_key_type_got_1, record_key_type_got_2, record_key_type_got_3, return_type_fault, return_type_got_0, return_type_got_1, single_type_fault, single_type_got_0, single_type_got_1, type__fault, type__got_0, type__got_1}
 use Rattle.weedle_types.proofs.UnionRules.{union_member_type_fault, union_member_type_got_0, union_member_type_got_1, union_member_types_fault, union_member_types_none}
 use Rattle.weedle_types.proofs.reading.+group.Goals as goal
 use Rattle.weedle_types.specs.Trees.{argument_tree, extended_attribute_tree, union_member_type_tree}
 use Rattle.weedle_types.specs.declared.argument.Argument.{Argument}
-use Rattle.weedle_types.specs.declared.formers.ExtendedAttribute.{ExtendedAttribute}
+use Rattle.weedle_types.specs.declared.attribute.ExtendedAttribute.{ExtendedAttribute}
 use Rattle.weedle_types.specs.declared.types.UnionMemberType.{UnionMemberType}
 
 pub types::type_-returns-in-Ok-clause-reads : goal.types::type_-returns-in-Ok-clause-reads
@@ -217,32 +218,32 @@ attributes::extended_attribute-returns-in_err-rest-clause-reads t c = exit_answe
 pub attributes::more_extended_attributes-items-init : goal.attributes::more_extended_attributes-items-init
 attributes::more_extended_attributes-items-init t c =
     let pushed : c.push.new.self.items ≡ c.new-list.result.items ++ (c.args.first ∷ []) = rw c.if-is_err.ensures.negation at c.push.ensures.items in
-    let one : c.push.new.self.items ≡ c.args.first ∷ [] = pushed ∙ ap (λ (l : List (ExtendedAttribute Argument)). l ++ (c.args.first ∷ [])) c.new-list.ensures.items in
+    let one : c.push.new.self.items ≡ c.args.first ∷ [] = pushed ∙ ap (λ (l : List ExtendedAttribute). l ++ (c.args.first ∷ [])) c.new-list.ensures.items in
     (search rules, omega arith, ([], one, reached_none (next_step (own EXTENDED_ATTRIBUTE extended_attribute_tree (Unit {0})) (mark {V = Comma} COMMA)) c.args.input.now (search rules)))
 
 pub attributes::more_extended_attributes-returns-then-is_err-clause-reads : goal.attributes::more_extended_attributes-returns-then-is_err-clause-reads
-attributes::more_extended_attributes-returns-then-is_err-clause-reads t c = list_full (own EXTENDED_ATTRIBUTE extended_attribute_tree (Unit {0})) (mark {V = Comma} COMMA) (λ (l : Vec (ExtendedAttribute Argument) Global). l.items) c.args.first (reached_none (next_step (own EXTENDED_ATTRIBUTE extended_attribute_tree (Unit {0})) (mark {V = Comma} COMMA)) c.args.input.now (search rules)) c.out_of_memory.ensures
+attributes::more_extended_attributes-returns-then-is_err-clause-reads t c = list_full (own EXTENDED_ATTRIBUTE extended_attribute_tree (Unit {0})) (mark {V = Comma} COMMA) (λ (l : Vec ExtendedAttribute Global). l.items) c.args.first (reached_none (next_step (own EXTENDED_ATTRIBUTE extended_attribute_tree (Unit {0})) (mark {V = Comma} COMMA)) c.args.input.now (search rules)) c.out_of_memory.ensures
 
 pub attributes::more_extended_attributes-returns-then-is_err-2-clause-reads : goal.attributes::more_extended_attributes-returns-then-is_err-2-clause-reads
-attributes::more_extended_attributes-returns-then-is_err-2-clause-reads t c = list_full (own EXTENDED_ATTRIBUTE extended_attribute_tree (Unit {0})) (mark {V = Comma} COMMA) (λ (l : Vec (ExtendedAttribute Argument) Global). l.items) c.args.first c.items.invariant.2.2 c.out_of_memory-then-is_err-2.ensures
+attributes::more_extended_attributes-returns-then-is_err-2-clause-reads t c = list_full (own EXTENDED_ATTRIBUTE extended_attribute_tree (Unit {0})) (mark {V = Comma} COMMA) (λ (l : Vec ExtendedAttribute Global). l.items) c.args.first c.items.invariant.2.2 c.out_of_memory-then-is_err-2.ensures
 
 pub attributes::more_extended_attributes-returns-in-Err-Error-clause-reads : goal.attributes::more_extended_attributes-returns-in-Err-Error-clause-reads
-attributes::more_extended_attributes-returns-in-Err-Error-clause-reads t c = list_ends (own EXTENDED_ATTRIBUTE extended_attribute_tree (Unit {0})) (mark {V = Comma} COMMA) (λ (l : Vec (ExtendedAttribute Argument) Global). l.items) c.args.first c.items.invariant.2.2 c.items.list c.items.invariant.2.1 (inl (refused_by _ c.in-Err-Error.ensures.reads c.in-Err-Error.field-0-is))
+attributes::more_extended_attributes-returns-in-Err-Error-clause-reads t c = list_ends (own EXTENDED_ATTRIBUTE extended_attribute_tree (Unit {0})) (mark {V = Comma} COMMA) (λ (l : Vec ExtendedAttribute Global). l.items) c.args.first c.items.invariant.2.2 c.items.list c.items.invariant.2.1 (inl (refused_by _ c.in-Err-Error.ensures.reads c.in-Err-Error.field-0-is))
 
 pub attributes::more_extended_attributes-returns-in-Err-Failure-clause-reads : goal.attributes::more_extended_attributes-returns-in-Err-Failure-clause-reads
-attributes::more_extended_attributes-returns-in-Err-Failure-clause-reads t c = rw c.in-Err-Failure.field-0-is (separator_fault (own EXTENDED_ATTRIBUTE extended_attribute_tree (Unit {0})) (mark {V = Comma} COMMA) (λ (l : Vec (ExtendedAttribute Argument) Global). l.items) c.args.first c.items.invariant.2.2 (direct_stop _ c.in-Err-Failure.ensures.reads c.in-Err-Failure.field-0-is))
+attributes::more_extended_attributes-returns-in-Err-Failure-clause-reads t c = rw c.in-Err-Failure.field-0-is (separator_fault (own EXTENDED_ATTRIBUTE extended_attribute_tree (Unit {0})) (mark {V = Comma} COMMA) (λ (l : Vec ExtendedAttribute Global). l.items) c.args.first c.items.invariant.2.2 (direct_stop _ c.in-Err-Failure.ensures.reads c.in-Err-Failure.field-0-is))
 
 pub attributes::more_extended_attributes-returns-in-Err-Error-extended_attribute-clause-reads : goal.attributes::more_extended_attributes-returns-in-Err-Error-extended_attribute-clause-reads
-attributes::more_extended_attributes-returns-in-Err-Error-extended_attribute-clause-reads t c = list_ends (own EXTENDED_ATTRIBUTE extended_attribute_tree (Unit {0})) (mark {V = Comma} COMMA) (λ (l : Vec (ExtendedAttribute Argument) Global). l.items) c.args.first c.items.invariant.2.2 c.items.list c.items.invariant.2.1 (ends_behind (own EXTENDED_ATTRIBUTE extended_attribute_tree (Unit {0})) (mark {V = Comma} COMMA) c.in-Ok.ensures.reads (λ e. omega (arith, e, c.in-Ok.ensures.shorter)) (refused_by _ c.in-Err-Error-extended_attribute.ensures.reads c.in-Err-Error-extended_attribute.field-0-is))
+attributes::more_extended_attributes-returns-in-Err-Error-extended_attribute-clause-reads t c = list_ends (own EXTENDED_ATTRIBUTE extended_attribute_tree (Unit {0})) (mark {V = Comma} COMMA) (λ (l : Vec ExtendedAttribute Global). l.items) c.args.first c.items.invariant.2.2 c.items.list c.items.invariant.2.1 (ends_behind (own EXTENDED_ATTRIBUTE extended_attribute_tree (Unit {0})) (mark {V = Comma} COMMA) c.in-Ok.ensures.reads (λ e. omega (arith, e, c.in-Ok.ensures.shorter)) (refused_by _ c.in-Err-Error-extended_attribute.ensures.reads c.in-Err-Error-extended_attribute.field-0-is))
 
 pub attributes::more_extended_attributes-returns-in-Err-Failure-extended_attribute-clause-reads : goal.attributes::more_extended_attributes-returns-in-Err-Failure-extended_attribute-clause-reads
-attributes::more_extended_attributes-returns-in-Err-Failure-extended_attribute-clause-reads t c = rw c.in-Err-Failure-extended_attribute.field-0-is (item_fault (own EXTENDED_ATTRIBUTE extended_attribute_tree (Unit {0})) (mark {V = Comma} COMMA) (λ (l : Vec (ExtendedAttribute Argument) Global). l.items) c.args.first c.items.invariant.2.2 c.in-Ok.ensures.reads (λ e. omega (arith, e, c.in-Ok.ensures.shorter)) (direct_stop _ c.in-Err-Failure-extended_attribute.ensures.reads c.in-Err-Failure-extended_attribute.field-0-is))
+attributes::more_extended_attributes-returns-in-Err-Failure-extended_attribute-clause-reads t c = rw c.in-Err-Failure-extended_attribute.field-0-is (item_fault (own EXTENDED_ATTRIBUTE extended_attribute_tree (Unit {0})) (mark {V = Comma} COMMA) (λ (l : Vec ExtendedAttribute Global). l.items) c.args.first c.items.invariant.2.2 c.in-Ok.ensures.reads (λ e. omega (arith, e, c.in-Ok.ensures.shorter)) (direct_stop _ c.in-Err-Failure-extended_attribute.ensures.reads c.in-Err-Failure-extended_attribute.field-0-is))
 
 pub attributes::more_extended_attributes-items-preserved : goal.attributes::more_extended_attributes-items-preserved
 attributes::more_extended_attributes-items-preserved t c =
     let pushed : c.push-in-Ok-extended_attribute.new.self.items ≡ c.items.list.items ++ (c.in-Ok-extended_attribute.item ∷ []) = rw c.if-is_err-2.ensures.negation at c.push-in-Ok-extended_attribute.ensures.items in
     let next = reached_next (own EXTENDED_ATTRIBUTE extended_attribute_tree (Unit {0})) (mark {V = Comma} COMMA) c.items.invariant.2.2 c.in-Ok.ensures.reads (λ e. omega (arith, e, c.in-Ok.ensures.shorter)) c.in-Ok-extended_attribute.ensures.reads in
-    (search rules, omega (arith, c.items.invariant.1, c.in-Ok.ensures.shorter, c.in-Ok-extended_attribute.ensures.shorter), (c.items.invariant.2.0 ++ (c.in-Ok-extended_attribute.item ∷ []), pushed ∙ ap (λ (l : List (ExtendedAttribute Argument)). l ++ (c.in-Ok-extended_attribute.item ∷ [])) c.items.invariant.2.1, next))
+    (search rules, omega (arith, c.items.invariant.1, c.in-Ok.ensures.shorter, c.in-Ok-extended_attribute.ensures.shorter), (c.items.invariant.2.0 ++ (c.in-Ok-extended_attribute.item ∷ []), pushed ∙ ap (λ (l : List ExtendedAttribute). l ++ (c.in-Ok-extended_attribute.item ∷ [])) c.items.invariant.2.1, next))
 
 pub attributes::extended_attributes-returns-in-Err-Error-clause-reads : goal.attributes::extended_attributes-returns-in-Err-Error-clause-reads
 attributes::extended_attributes-returns-in-Err-Error-clause-reads t c = extended_attributes_none _ c.in-Err-Error.ensures.reads c.in-Err-Error.field-0-is (search rules) c.new-list.ensures.items

@@ -1,5 +1,5 @@
 use Rattle.std.proofs.Common.{refl}
-use Rattle.weedle_rules.specs.Trees.{Text}
+use Rattle.weedle_grammar.specs.Trees.{Text}
 use Rattle.weedle_base.proofs.TokenFacts.{got_own, fault_own}
 use Rattle.weedle_literal.proofs.KeptFacts.{kept_reads, no_kept}
 use Rattle.weedle_literal.proofs.integer.DecLitParse.parse.Goals as goal

@@ -1,7 +1,7 @@
 use Rattle.std.proofs.Common.{arith, rules}
-use Rattle.weedle_rules.specs.Table.{webidl}
-use Rattle.weedle_rules.proofs.Takes.{takes}
-use Rattle.weedle_rules.proofs.Checked.{ranked}
+use Rattle.weedle_grammar.specs.Table.{webidl}
+use Rattle.weedle_grammar.proofs.Takes.{takes}
+use Rattle.weedle_grammar.proofs.Checked.{ranked}
 use Rattle.weedle_rules.proofs.RowEnds.{ends_after, ends_inside, list_ends, list_goes}
 use Rattle.weedle_rules.proofs.PartEnds.{list_low, list_next_low}
 use Rattle.weedle_rules.proofs.Looks.{looked, on, worked, known_from, known_here, end_inside}

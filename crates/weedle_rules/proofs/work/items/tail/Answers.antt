@@ -1,7 +1,7 @@
 use Rattle.std.proofs.Common.{arith, rules}
-use Rattle.weedle_rules.specs.Table.{webidl}
-use Rattle.weedle_rules.proofs.Takes.{takes}
-use Rattle.weedle_rules.proofs.Checked.{ranked}
+use Rattle.weedle_grammar.specs.Table.{webidl}
+use Rattle.weedle_grammar.proofs.Takes.{takes}
+use Rattle.weedle_grammar.proofs.Checked.{ranked}
 use Rattle.weedle_rules.proofs.RowEnds.{row_ends, ends_after, ends_inside, tail_ends, tail_fails, tail_gives_back, tail_goes}
 use Rattle.weedle_rules.proofs.PartEnds.{tail_low}
 use Rattle.weedle_rules.proofs.Looks.{known_after, looked, on, worked, known_here, known_behind, end_inside}

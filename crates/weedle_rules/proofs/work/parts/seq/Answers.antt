@@ -1,57 +1,56 @@
 use Rattle.std.proofs.Common.{arith}
-use Rattle.weedle_rules.specs.Table.{webidl}
-use Rattle.weedle_rules.proofs.Takes.{takes}
-use Rattle.weedle_rules.proofs.Checked.{ranked}
+use Rattle.weedle_grammar.specs.Table.{webidl}
+use Rattle.weedle_grammar.specs.View.{numbers_of}
+use Rattle.weedle_grammar.proofs.Takes.{takes}
+use Rattle.weedle_grammar.proofs.Checked.{ranked}
 use Rattle.weedle_rules.proofs.PartEnds.{along_start, along_known, along_step, along_fails, along_ends}
 use Rattle.weedle_rules.proofs.RowEnds.{seq_ends}
-use Rattle.weedle_rules.proofs.Numbers.{low_at}
 use Rattle.weedle_rules.proofs.FewReads.{seq_few}
 use Rattle.weedle_rules.proofs.Looks.{its_count, none_yet, on, worked, known_if, counted_on}
-use Rattle.weedle_rules.proofs.ListFrom.{parts_from, no_parts_from}
+use Rattle.weedle_rules.proofs.ListFrom.{next_part, no_part}
 use Rattle.weedle_rules.proofs.work.parts.seq.Goals as goal
 
-pub loop-part-init : goal.loop-part-init
-loop-part-init g c = (none_yet c.requires.begun, along_start webidl c.args.reader.now.text takes ranked _ _ _ c.requires.row c.requires.begun.within)
-
-pub invariant_of-cell : goal.invariant_of-cell
-invariant_of-cell g c = low_at c.args.parts.numbers.now c.loop-part.part-index c.args.parts.in_range
+pub loop-i-init : goal.loop-i-init
+loop-i-init g c = (none_yet c.requires.begun, along_start webidl c.args.reader.now.text takes ranked _ _ _ c.requires.row c.requires.begun.within)
 
 pub cell-requires-clause-opened : goal.cell-requires-clause-opened
 cell-requires-clause-opened g c = c.requires.begun.opened
 
 pub cell-requires-clause-room : goal.cell-requires-clause-room
 cell-requires-clause-room g c =
-    let n = its_count c.loop-part.invariant.0 in
+    let n = its_count c.loop-i.invariant.0 in
     let k = seq_few c.requires.begun.low c.requires.row in
-    let i = c.loop-part-test.true in
+    let i = c.loop-i-test.true in
+    let e = c.len-i-end.ensures in
     omega arith
 
 pub cell-requires-clause-within : goal.cell-requires-clause-within
-cell-requires-clause-within g c = c.loop-part.invariant.1.within
+cell-requires-clause-within g c = c.loop-i.invariant.1.within
 
 pub cell-requires-clause-known : goal.cell-requires-clause-known
 cell-requires-clause-known g c =
-    let a = rw (parts_from c.args.parts.numbers.now c.loop-part.part-index c.loop-part-test.true) at c.loop-part.invariant.1 in
-    known_if c.requires.begun _ _ (along_known webidl c.args.reader.now.text takes ranked _ _ _ _ _ _ a (low_at c.args.parts.numbers.now c.loop-part.part-index c.args.parts.in_range))
+    let a = rw (next_part (numbers_of c.args.parts) c.len-i-end.ensures c.loop-i-test.true c.rule.ensures.value) at c.loop-i.invariant.1 in
+    known_if c.requires.begun _ _ (along_known webidl c.args.reader.now.text takes ranked _ _ _ _ _ _ a c.rule.ensures.low)
 
 pub returns-in-None : goal.returns-in-None
 returns-in-None g c =
-    let a = rw (parts_from c.args.parts.numbers.now c.loop-part.part-index c.loop-part-test.true) at c.loop-part.invariant.1 in
+    let a = rw (next_part (numbers_of c.args.parts) c.len-i-end.ensures c.loop-i-test.true c.rule.ensures.value) at c.loop-i.invariant.1 in
     let b = c.requires.begun in
-    let l = c.loop-part.invariant.0 in
+    let l = c.loop-i.invariant.0 in
     let n = its_count l in
     worked b c.requires.row (on l c.cell.ensures.counted) (omega arith) (seq_ends webidl c.args.reader.now.text _ _ _ (along_fails webidl c.args.reader.now.text takes _ _ _ _ _ _ a c.in-None.ensures.right))
 
-pub loop-part-preserved : goal.loop-part-preserved
-loop-part-preserved g c =
-    let a = rw (parts_from c.args.parts.numbers.now c.loop-part.part-index c.loop-part-test.true) at c.loop-part.invariant.1 in
+pub loop-i-preserved : goal.loop-i-preserved
+loop-i-preserved g c =
+    let a = rw (next_part (numbers_of c.args.parts) c.len-i-end.ensures c.loop-i-test.true c.rule.ensures.value) at c.loop-i.invariant.1 in
     let b = c.requires.begun in
-    let l = c.loop-part.invariant.0 in
+    let l = c.loop-i.invariant.0 in
     (counted_on l c.cell.ensures.counted, along_step webidl c.args.reader.now.text takes ranked _ _ _ _ _ _ _ a c.in-Some.ensures.right)
 
 pub returns : goal.returns
 returns g c =
-    let a = rw (no_parts_from c.args.parts.numbers.now c.loop-part.part-index c.loop-part-test.false) at c.loop-part.invariant.1 in
+    let a = rw (no_part (numbers_of c.args.parts) c.len-i-end.ensures c.loop-i-test.false) at c.loop-i.invariant.1 in
     let k = seq_few c.requires.begun.low c.requires.row in
-    let i = c.loop-part-test.false in
-    worked c.requires.begun c.requires.row c.loop-part.invariant.0 (omega arith) (seq_ends webidl c.args.reader.now.text _ _ _ (along_ends webidl c.args.reader.now.text takes _ _ _ _ a))
+    let i = c.loop-i-test.false in
+    let e = c.len-i-end.ensures in
+    worked c.requires.begun c.requires.row c.loop-i.invariant.0 (omega arith) (seq_ends webidl c.args.reader.now.text _ _ _ (along_ends webidl c.args.reader.now.text takes _ _ _ _ a))

@@ -1,5 +1,5 @@
 use Rattle.std.proofs.Common.{◌≡◌, ◌≤◌, ◌+◌, length, drop}
-use Rattle.weedle_rules.specs.Rows.{begins}
+use Rattle.weedle_grammar.specs.Rows.{begins}
 use Rattle.weedle_rules.proofs.Looks.{Looked}
 use Rattle.weedle_rules.proofs.work.plain.stand_at.Given as goal
 

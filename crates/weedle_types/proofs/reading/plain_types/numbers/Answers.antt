@@ -1,8 +1,8 @@
 -- Alternatives, each where those before it were a mismatch.
 --
 -- Written by tools/types_proofs.py.
+use Rattle.weedle_base.proofs.Direct.{stop_first, stop_next, take_first, take_next}
 use Rattle.weedle_base.proofs.Steps.{exit_answers}
-use Rattle.weedle_types.proofs.Direct.{stop_first, stop_next, take_first, take_next}
 use Rattle.weedle_types.proofs.PlainTypeRules.{numbers_fault, numbers_got_0, numbers_got_1, numbers_got_2, numbers_got_3}
 use Rattle.weedle_types.proofs.reading.plain_types.numbers.Goals as goal
 

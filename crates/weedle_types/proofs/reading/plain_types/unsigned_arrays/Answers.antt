@@ -1,8 +1,8 @@
 -- Alternatives, each where those before it were a mismatch.
 --
 -- Written by tools/types_proofs.py.
+use Rattle.weedle_base.proofs.Direct.{stop_first, stop_next, take_first, take_next}
 use Rattle.weedle_base.proofs.Steps.{exit_answers}
-use Rattle.weedle_types.proofs.Direct.{stop_first, stop_next, take_first, take_next}
 use Rattle.weedle_types.proofs.PlainTypeRules.{unsigned_arrays_fault, unsigned_arrays_got_0, unsigned_arrays_got_1, unsigned_arrays_got_2, unsigned_arrays_got_3}
 use Rattle.weedle_types.proofs.reading.plain_types.unsigned_arrays.Goals as goal
 

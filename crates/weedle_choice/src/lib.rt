@@ -1,0 +1,6 @@
+//! The first of two types that fits.
+#![tactic(auto)]
+
+mod choice;
+
+pub use choice::Choice;

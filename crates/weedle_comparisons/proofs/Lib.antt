@@ -1,0 +1,2 @@
+pub mod ListingAttributes
+pub mod NameLists

@@ -1,0 +1,24 @@
+//! What the derived comparisons, hashes, copies and defaults of the parser's types tell a caller, as
+//! contracts.
+//!
+//! Orders go by the declaration, from one field to the next and from one variant to the next. `==`,
+//! `cmp` and the hash agree: two values are equal exactly where their order is `Equal`, and equal
+//! values hash alike. A copy equals its original. [`laws`] says what holds at any type; each of the
+//! other modules says what the answers are at a struct, an enum and a type that owns memory of each
+//! crate, as far as the crate has one.
+//!
+//! ```rust
+//! use std::cmp::Ordering;
+//! use weedle_comparisons::leaves::compare_identifiers;
+//! use weedle_parts::common::Identifier;
+//!
+//! let answer = compare_identifiers(Identifier("Node"), Identifier("Window"));
+//! assert!(rt; answer == (false, Ordering::Less));
+//! ```
+#![tactic(auto)]
+
+pub mod laws;
+pub mod leaves;
+pub mod literals;
+pub mod modifiers;
+pub mod types;

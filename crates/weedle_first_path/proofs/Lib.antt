@@ -1,3 +1,0 @@
-pub mod BraceFacts
-pub mod MemberFacts
-pub mod DefinitionFacts

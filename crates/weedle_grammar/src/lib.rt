@@ -1,0 +1,28 @@
+//! The grammar of WebIDL definitions as data: a row for each rule, by number.
+//!
+//! ```rust
+//! use weedle_grammar::{Row, Rule, row_of};
+//!
+//! match row_of(Rule::DEFINITIONS) {
+//!     Row::Many(rule) => assert!(rt; rule == Rule::DEFINITION),
+//!     _ => {}
+//! }
+//! ```
+//!
+//! What a rule reads from a text, and what it gives, is said once for any such table, in
+//! `specs/Meaning.antt`; the table itself is `specs/Table`, and [`laws`] has what always holds.
+#![tactic(auto)]
+
+mod class;
+pub mod grammar;
+pub mod laws;
+mod row;
+mod rule;
+
+pub use class::{Class, holds};
+pub use grammar::row_of;
+pub use row::{Parts, Row};
+pub use rule::{Rule, rule_of};
+
+/// How many rules there are.
+pub const RULES: usize = 386;

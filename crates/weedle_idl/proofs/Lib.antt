@@ -1,0 +1,2 @@
+pub mod DefinitionRules
+pub mod DefinitionListRules

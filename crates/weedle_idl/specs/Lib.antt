@@ -1,0 +1,3 @@
+pub mod DefinitionTrees
+pub mod Pieces
+pub mod Laws

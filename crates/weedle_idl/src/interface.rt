@@ -1,0 +1,15 @@
+//! The members of interfaces.
+
+pub use weedle_interfaces::{BracedInterfaceMembers, InterfaceMember, InterfaceMembers};
+pub use weedle_iterables::{
+    AsyncIterableInterfaceMember, DoubleTypedAsyncIterable, DoubleTypedIterable,
+    IterableInterfaceMember, MaplikeInterfaceMember, SetlikeInterfaceMember,
+    SingleTypedAsyncIterable, SingleTypedIterable,
+};
+pub use weedle_members::{
+    AttributeInterfaceMember, ConstMember, ConstructorInterfaceMember, OperationInterfaceMember,
+    StringifierMember,
+};
+pub use weedle_modifier::{
+    Inheritance, Special, StringifierOrInheritOrStatic, StringifierOrStatic,
+};

@@ -1,0 +1,3 @@
+pub mod MemberRules
+pub mod MembersRules
+pub mod DefinitionRules

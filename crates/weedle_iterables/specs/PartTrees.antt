@@ -1,0 +1,48 @@
+-- The parts of iterations, maps and sets: their types, by one name each, and their trees.
+use Rattle.std.specs.Prelude.{Option, [], ◌∷◌}
+use Rattle.weedle_base.specs.Rules.{option_tree}
+use Rattle.weedle_parts.specs.ValueTrees.{generics_tree}
+use Rattle.weedle_parts.specs.declared.common.brackets.Generics.{Generics}
+use Rattle.weedle_grammar.specs.Trees.{Mark, Node, Tree, trees}
+use Rattle.weedle_term.specs.declared.definition_keywords.Async.{Async}
+use Rattle.weedle_term.specs.declared.definition_keywords.Iterable.{Iterable}
+use Rattle.weedle_term.specs.declared.symbols.Comma.{Comma}
+use Rattle.weedle_types.specs.Trees.{arguments_tree, attributed_type_tree}
+use Rattle.weedle_types.specs.declared.argument.ParenthesizedArgumentList.{ParenthesizedArgumentList}
+use Rattle.weedle_types.specs.declared.types.AttributedType.{AttributedType}
+
+-- arguments in parentheses, or none
+abbrev pub optional_arguments_tree : Option ParenthesizedArgumentList → Tree
+optional_arguments_tree = option_tree arguments_tree
+
+-- a type between angle brackets
+abbrev pub OneType : Type 0
+OneType = Generics AttributedType
+
+-- the type, between the brackets
+abbrev pub one_type_tree : OneType → Tree
+one_type_tree = generics_tree attributed_type_tree
+
+-- the types of keys and values
+abbrev pub KeyAndValue : Type 0
+KeyAndValue = AttributedType × Comma × AttributedType
+
+-- a type, a comma and a type
+abbrev pub key_and_value_tree : KeyAndValue → Tree
+key_and_value_tree v = Node (trees (attributed_type_tree v.0 ∷ Mark ∷ attributed_type_tree v.2 ∷ []))
+
+-- the types of keys and values between angle brackets
+abbrev pub TwoTypes : Type 0
+TwoTypes = Generics KeyAndValue
+
+-- both types, between the brackets
+abbrev pub two_types_tree : TwoTypes → Tree
+two_types_tree = generics_tree key_and_value_tree
+
+-- the words `async iterable`
+abbrev pub AsyncIterable : Type 0
+AsyncIterable = Async × Iterable
+
+-- both words
+abbrev pub async_iterable_tree : AsyncIterable → Tree
+async_iterable_tree v = Node (trees (Mark ∷ Mark ∷ []))

@@ -1,0 +1,4 @@
+pub mod ConstantRules
+pub mod AttributeRules
+pub mod OperationRules
+pub mod StringifierRules

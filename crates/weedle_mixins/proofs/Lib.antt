@@ -1,0 +1,2 @@
+pub mod MixinRules
+pub mod MixinDefinitionRules

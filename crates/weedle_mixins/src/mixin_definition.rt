@@ -1,0 +1,125 @@
+//! Mixins, whole and in parts.
+
+ghost use Rattle.std.specs.Prelude.{◌≡◌};
+ghost use Rattle.weedle_base.specs.AlikeLaws.{equal_equivalence, seen_equivalence};
+ghost use Rattle.weedle_base.specs.Own.{own};
+ghost use Rattle.weedle_base.specs.OwnLaws.{own_lawful};
+ghost use Rattle.weedle_mixins.specs.Trees.{interface_mixin_definition_tree, partial_interface_mixin_definition_tree};
+ghost use Rattle.weedle_grammar.specs.Table.Definitions.{INTERFACE_MIXIN_DEFINITION, PARTIAL_INTERFACE_MIXIN_DEFINITION};
+
+use crate::mixin::BracedMixinMembers;
+use std::alloc::{AllocError, Global};
+use weedle_base::{IResult, Parse, TryClone};
+use weedle_parts::common::Identifier;
+use weedle_term::{Interface, Mixin, Partial, SemiColon};
+use weedle_types::attribute::ExtendedAttributeList;
+use weedle_types::copies::copy_attributes;
+use weedle_types::parts::attributes;
+
+/// A mixin, as `interface mixin A {};`. No docstring may stand before it.
+#[derive(Debug, PartialEq, Eq, PartialOrd, Ord, Hash, Drop)]
+pub struct InterfaceMixinDefinition<'a> {
+    pub attributes: Option<ExtendedAttributeList<'a>>,
+    pub interface: Interface,
+    pub mixin: Mixin,
+    pub identifier: Identifier<'a>,
+    pub members: BracedMixinMembers<'a>,
+    pub semi_colon: SemiColon,
+}
+
+#[tactic(auto, using(crate::proofs::MixinDefinitionRules::interface_mixin_definition_steps))]
+impl<'a> Parse<'a> for InterfaceMixinDefinition<'a> {
+    ghost reading = { own INTERFACE_MIXIN_DEFINITION interface_mixin_definition_tree (Unit {0}) };
+
+    fn parse(alloc: Global, input: &'a str) -> IResult<&'a str, Self> {
+        let (rest, attributes) = attributes(alloc, input)?;
+        let (rest, (interface, (mixin, (identifier, (members, semi_colon))))) = Parse::parse(
+            alloc, rest,
+        )?;
+        Ok((
+            rest,
+            InterfaceMixinDefinition {
+                attributes,
+                interface,
+                mixin,
+                identifier,
+                members,
+                semi_colon,
+            },
+        ))
+    }
+
+    ghost lawful = { own_lawful INTERFACE_MIXIN_DEFINITION interface_mixin_definition_tree (Unit {0}) };
+}
+
+impl TryClone for InterfaceMixinDefinition<'_> {
+    ghost alike = { λ a b. interface_mixin_definition_tree a ≡ interface_mixin_definition_tree b };
+
+    fn try_clone(&self, alloc: Global) -> Result<Self, AllocError> {
+        Ok(InterfaceMixinDefinition {
+            attributes: copy_attributes(&self.attributes, alloc)?,
+            interface: self.interface,
+            mixin: self.mixin,
+            identifier: self.identifier,
+            members: self.members.try_clone(alloc)?,
+            semi_colon: self.semi_colon,
+        })
+    }
+
+    ghost equivalence = { seen_equivalence interface_mixin_definition_tree equal_equivalence };
+}
+
+/// A part of a mixin, as `partial interface mixin A {};`. No docstring may stand before it.
+#[derive(Debug, PartialEq, Eq, PartialOrd, Ord, Hash, Drop)]
+pub struct PartialInterfaceMixinDefinition<'a> {
+    pub attributes: Option<ExtendedAttributeList<'a>>,
+    pub partial: Partial,
+    pub interface: Interface,
+    pub mixin: Mixin,
+    pub identifier: Identifier<'a>,
+    pub members: BracedMixinMembers<'a>,
+    pub semi_colon: SemiColon,
+}
+
+#[tactic(auto, using(crate::proofs::MixinDefinitionRules::partial_interface_mixin_definition_steps))]
+impl<'a> Parse<'a> for PartialInterfaceMixinDefinition<'a> {
+    ghost reading = { own PARTIAL_INTERFACE_MIXIN_DEFINITION partial_interface_mixin_definition_tree (Unit {0}) };
+
+    fn parse(alloc: Global, input: &'a str) -> IResult<&'a str, Self> {
+        let (rest, attributes) = attributes(alloc, input)?;
+        let (rest, (partial, (interface, (mixin, (identifier, (members, semi_colon)))))) =
+            Parse::parse(alloc, rest)?;
+        Ok((
+            rest,
+            PartialInterfaceMixinDefinition {
+                attributes,
+                partial,
+                interface,
+                mixin,
+                identifier,
+                members,
+                semi_colon,
+            },
+        ))
+    }
+
+    ghost lawful = { own_lawful PARTIAL_INTERFACE_MIXIN_DEFINITION partial_interface_mixin_definition_tree (Unit {0}) };
+}
+
+impl TryClone for PartialInterfaceMixinDefinition<'_> {
+    ghost alike = { λ a b. partial_interface_mixin_definition_tree a ≡ partial_interface_mixin_definition_tree b };
+
+    fn try_clone(&self, alloc: Global) -> Result<Self, AllocError> {
+        Ok(PartialInterfaceMixinDefinition {
+            attributes: copy_attributes(&self.attributes, alloc)?,
+            partial: self.partial,
+            interface: self.interface,
+            mixin: self.mixin,
+            identifier: self.identifier,
+            members: self.members.try_clone(alloc)?,
+            semi_colon: self.semi_colon,
+        })
+    }
+
+    ghost equivalence = { seen_equivalence partial_interface_mixin_definition_tree equal_equivalence };
+}

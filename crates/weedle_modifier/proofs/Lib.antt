@@ -1,0 +1,2 @@
+pub mod InheritanceRules
+pub mod ModifierRules

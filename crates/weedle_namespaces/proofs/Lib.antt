@@ -1,0 +1,4 @@
+pub mod NamespaceRules
+pub mod DictionaryRules
+pub mod NamespaceDefinitionRules
+pub mod DictionaryDefinitionRules

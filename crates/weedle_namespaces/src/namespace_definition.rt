@@ -1,0 +1,122 @@
+//! Namespaces, and parts of them.
+
+ghost use Rattle.std.specs.Prelude.{◌≡◌};
+ghost use Rattle.weedle_base.specs.AlikeLaws.{equal_equivalence, seen_equivalence};
+ghost use Rattle.weedle_base.specs.Own.{own};
+ghost use Rattle.weedle_base.specs.OwnLaws.{own_lawful};
+ghost use Rattle.weedle_namespaces.specs.Trees.{namespace_definition_tree, partial_namespace_definition_tree};
+ghost use Rattle.weedle_grammar.specs.Table.Definitions.{NAMESPACE_DEFINITION, PARTIAL_NAMESPACE_DEFINITION};
+
+use crate::namespace::BracedNamespaceMembers;
+use std::alloc::{AllocError, Global};
+use weedle_base::{IResult, Parse, TryClone};
+use weedle_parts::common::{Docstring, Identifier};
+use weedle_term::{Namespace, Partial, SemiColon};
+use weedle_types::attribute::ExtendedAttributeList;
+use weedle_types::copies::{copy_attributes, copy_docstring};
+use weedle_types::parts::attributes;
+
+/// A namespace, as `namespace A { long f(); };`. A docstring may stand before it.
+#[derive(Debug, PartialEq, Eq, PartialOrd, Ord, Hash, Drop)]
+pub struct NamespaceDefinition<'a> {
+    pub docstring: Option<Docstring>,
+    pub attributes: Option<ExtendedAttributeList<'a>>,
+    pub namespace: Namespace,
+    pub identifier: Identifier<'a>,
+    pub members: BracedNamespaceMembers<'a>,
+    pub semi_colon: SemiColon,
+}
+
+#[tactic(auto, using(crate::proofs::NamespaceDefinitionRules::namespace_definition_steps))]
+impl<'a> Parse<'a> for NamespaceDefinition<'a> {
+    ghost reading = { own NAMESPACE_DEFINITION namespace_definition_tree (Unit {0}) };
+
+    fn parse(alloc: Global, input: &'a str) -> IResult<&'a str, Self> {
+        let (rest, docstring) = Option::parse(alloc, input)?;
+        let (rest, attributes) = attributes(alloc, rest)?;
+        let (rest, (namespace, (identifier, (members, semi_colon)))) = Parse::parse(alloc, rest)?;
+        Ok((
+            rest,
+            NamespaceDefinition {
+                docstring,
+                attributes,
+                namespace,
+                identifier,
+                members,
+                semi_colon,
+            },
+        ))
+    }
+
+    ghost lawful = { own_lawful NAMESPACE_DEFINITION namespace_definition_tree (Unit {0}) };
+}
+
+impl TryClone for NamespaceDefinition<'_> {
+    ghost alike = { λ a b. namespace_definition_tree a ≡ namespace_definition_tree b };
+
+    fn try_clone(&self, alloc: Global) -> Result<Self, AllocError> {
+        Ok(NamespaceDefinition {
+            docstring: copy_docstring(&self.docstring, alloc)?,
+            attributes: copy_attributes(&self.attributes, alloc)?,
+            namespace: self.namespace,
+            identifier: self.identifier,
+            members: self.members.try_clone(alloc)?,
+            semi_colon: self.semi_colon,
+        })
+    }
+
+    ghost equivalence = { seen_equivalence namespace_definition_tree equal_equivalence };
+}
+
+/// A part of a namespace, as `partial namespace A {};`. No docstring may stand before it.
+#[derive(Debug, PartialEq, Eq, PartialOrd, Ord, Hash, Drop)]
+pub struct PartialNamespaceDefinition<'a> {
+    pub attributes: Option<ExtendedAttributeList<'a>>,
+    pub partial: Partial,
+    pub namespace: Namespace,
+    pub identifier: Identifier<'a>,
+    pub members: BracedNamespaceMembers<'a>,
+    pub semi_colon: SemiColon,
+}
+
+#[tactic(auto, using(crate::proofs::NamespaceDefinitionRules::partial_namespace_definition_steps))]
+impl<'a> Parse<'a> for PartialNamespaceDefinition<'a> {
+    ghost reading = { own PARTIAL_NAMESPACE_DEFINITION partial_namespace_definition_tree (Unit {0}) };
+
+    fn parse(alloc: Global, input: &'a str) -> IResult<&'a str, Self> {
+        let (rest, attributes) = attributes(alloc, input)?;
+        let (rest, (partial, (namespace, (identifier, (members, semi_colon))))) = Parse::parse(
+            alloc, rest,
+        )?;
+        Ok((
+            rest,
+            PartialNamespaceDefinition {
+                attributes,
+                partial,
+                namespace,
+                identifier,
+                members,
+                semi_colon,
+            },
+        ))
+    }
+
+    ghost lawful = { own_lawful PARTIAL_NAMESPACE_DEFINITION partial_namespace_definition_tree (Unit {0}) };
+}
+
+impl TryClone for PartialNamespaceDefinition<'_> {
+    ghost alike = { λ a b. partial_namespace_definition_tree a ≡ partial_namespace_definition_tree b };
+
+    fn try_clone(&self, alloc: Global) -> Result<Self, AllocError> {
+        Ok(PartialNamespaceDefinition {
+            attributes: copy_attributes(&self.attributes, alloc)?,
+            partial: self.partial,
+            namespace: self.namespace,
+            identifier: self.identifier,
+            members: self.members.try_clone(alloc)?,
+            semi_colon: self.semi_colon,
+        })
+    }
+
+    ghost equivalence = { seen_equivalence partial_namespace_definition_tree equal_equivalence };
+}

@@ -1,5 +1,0 @@
-use Rattle.weedle_rules.proofs.Size.{few_parts}
-use Rattle.weedle_rules.proofs.laws.few_parts.Goals as goal
-
-pub returns : goal.returns
-returns c = few_parts

@@ -1,0 +1,5 @@
+pub mod ArgumentLaws
+pub mod PlainAttributeLaws
+pub mod RecursiveTypeFacts
+pub mod TypeLaws
+pub mod VariantFacts

@@ -1,0 +1,5 @@
+pub mod Arguments
+pub mod PlainAttributes
+pub mod RecursiveTypes
+pub mod Types
+pub mod Variants

@@ -1,0 +1,20 @@
+//! Parts that many members and definitions have.
+
+ghost use Rattle.weedle_base.specs.Own.{own};
+ghost use Rattle.weedle_base.specs.Reading.{Answers};
+ghost use Rattle.weedle_grammar.specs.Table.Types.{OPT_EXTENDED_ATTRIBUTE_LIST};
+ghost use Rattle.weedle_types.specs.Trees.{attributes_tree};
+
+use crate::attribute::ExtendedAttributeList;
+use std::alloc::Global;
+use weedle_base::{IResult, Parse};
+
+/// Reads attributes where they stand, as `[Exposed=Window]`.
+pub fn attributes<'a>(
+    alloc: Global,
+    input: &'a str,
+) -> IResult<&'a str, Option<ExtendedAttributeList<'a>>>
+    ensures { Answers (own OPT_EXTENDED_ATTRIBUTE_LIST attributes_tree (Unit {0})) input.now result }
+{
+    Option::parse(alloc, input)
+}
