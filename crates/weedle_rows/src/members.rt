@@ -8,9 +8,9 @@ use weedle::mixin::MixinMember;
 use weedle::namespace::NamespaceMember;
 use weedle_answers::{Unlike, reads, refuses};
 
-/// What is read of each text, as one member of an interface.
+/// What is read of each text, as members of an interface.
 fn reads_members<'a>(alloc: Global, rows: &[(&'a str, &str)]) -> Result<(), Unlike<'a>> {
-    reads::<InterfaceMember<'_>>(alloc, rows)
+    reads::<Vec<InterfaceMember<'_>>>(alloc, rows)
 }
 
 /// Whether no text is a member of an interface.
@@ -25,7 +25,7 @@ fn an_iterable_member_has_one_type_or_two(rt: HostRuntime) -> Result<(), Fail> {
         &[
             (
                 "[A] iterable<long, long>;",
-                "Iterable(Double(DoubleTypedIterable { \
+                "[Iterable(Double(DoubleTypedIterable { \
                  attributes: Some(Bracketed { open_bracket: OpenBracket, \
                  body: Punctuated { list: [NoArgs(ExtendedAttributeNoArgs(Identifier(\"A\")))], \
                  separator: Comma }, close_bracket: CloseBracket }), iterable: Iterable, \
@@ -35,11 +35,11 @@ fn an_iterable_member_has_one_type_or_two(rt: HostRuntime) -> Result<(), Fail> {
                  type_: Long(LongType { unsigned: None, long: Long }), q_mark: None }))) }, Comma, \
                  AttributedType { attributes: None, type_: Single(NonAny(Integer(MayBeNull { \
                  type_: Long(LongType { unsigned: None, long: Long }), q_mark: None }))) }), \
-                 close_angle: GreaterThan }, semi_colon: SemiColon }))",
+                 close_angle: GreaterThan }, semi_colon: SemiColon }))]",
             ),
             (
                 "async iterable<long>(long x);",
-                "AsyncIterable(Single(SingleTypedAsyncIterable { attributes: None, \
+                "[AsyncIterable(Single(SingleTypedAsyncIterable { attributes: None, \
                  async_iterable: (Async, Iterable), generics: Generics { open_angle: LessThan, \
                  body: AttributedType { attributes: None, \
                  type_: Single(NonAny(Integer(MayBeNull { \
@@ -51,7 +51,7 @@ fn an_iterable_member_has_one_type_or_two(rt: HostRuntime) -> Result<(), Fail> {
                  type_: Single(NonAny(Integer(MayBeNull { \
                  type_: Long(LongType { unsigned: None, long: Long }), q_mark: None }))) }, \
                  identifier: Identifier(\"x\"), default: None })], separator: Comma }, \
-                 close_paren: CloseParen }), semi_colon: SemiColon }))",
+                 close_paren: CloseParen }), semi_colon: SemiColon }))]",
             ),
         ],
     )?;
@@ -65,21 +65,21 @@ fn a_member_may_be_like_a_map_or_a_set(rt: HostRuntime) -> Result<(), Fail> {
         &[
             (
                 "readonly maplike<K, V>;",
-                "Maplike(MaplikeInterfaceMember { attributes: None, readonly: Some(ReadOnly), \
+                "[Maplike(MaplikeInterfaceMember { attributes: None, readonly: Some(ReadOnly), \
                  maplike: Maplike, generics: Generics { open_angle: LessThan, \
                  body: (AttributedType { attributes: None, \
                  type_: Single(NonAny(Identifier(MayBeNull { type_: Identifier(\"K\"), \
                  q_mark: None }))) }, Comma, AttributedType { attributes: None, \
                  type_: Single(NonAny(Identifier(MayBeNull { type_: Identifier(\"V\"), \
-                 q_mark: None }))) }), close_angle: GreaterThan }, semi_colon: SemiColon })",
+                 q_mark: None }))) }), close_angle: GreaterThan }, semi_colon: SemiColon })]",
             ),
             (
                 "setlike<K>;",
-                "Setlike(SetlikeInterfaceMember { attributes: None, readonly: None, \
+                "[Setlike(SetlikeInterfaceMember { attributes: None, readonly: None, \
                  setlike: Setlike, generics: Generics { open_angle: LessThan, \
                  body: AttributedType { attributes: None, \
                  type_: Single(NonAny(Identifier(MayBeNull { type_: Identifier(\"K\"), \
-                 q_mark: None }))) }, close_angle: GreaterThan }, semi_colon: SemiColon })",
+                 q_mark: None }))) }, close_angle: GreaterThan }, semi_colon: SemiColon })]",
             ),
         ],
     )?;
@@ -94,14 +94,14 @@ fn an_operation_may_have_no_name(rt: HostRuntime) -> Result<(), Fail> {
         &[
             (
                 "constructor();",
-                "Constructor(ConstructorInterfaceMember { docstring: None, attributes: None, \
+                "[Constructor(ConstructorInterfaceMember { docstring: None, attributes: None, \
                  constructor: Constructor, args: ParenthesizedArgumentList { \
                  open_paren: OpenParen, body: Punctuated { list: [], separator: Comma }, \
-                 close_paren: CloseParen }, semi_colon: SemiColon })",
+                 close_paren: CloseParen }, semi_colon: SemiColon })]",
             ),
             (
                 "getter any (long i);",
-                "Operation(OperationInterfaceMember { docstring: None, attributes: None, \
+                "[Operation(OperationInterfaceMember { docstring: None, attributes: None, \
                  modifier: None, special: Some(Getter(Getter)), \
                  return_type: Type_(Single(Any(Any))), identifier: None, \
                  args: ParenthesizedArgumentList { open_paren: OpenParen, \
@@ -110,12 +110,12 @@ fn an_operation_may_have_no_name(rt: HostRuntime) -> Result<(), Fail> {
                  type_: Single(NonAny(Integer(MayBeNull { \
                  type_: Long(LongType { unsigned: None, long: Long }), q_mark: None }))) }, \
                  identifier: Identifier(\"i\"), default: None })], separator: Comma }, \
-                 close_paren: CloseParen }, semi_colon: SemiColon })",
+                 close_paren: CloseParen }, semi_colon: SemiColon })]",
             ),
             (
                 "stringifier;",
-                "Stringifier(StringifierMember { attributes: None, stringifier: Stringifier, \
-                 semi_colon: SemiColon })",
+                "[Stringifier(StringifierMember { attributes: None, stringifier: Stringifier, \
+                 semi_colon: SemiColon })]",
             ),
         ],
     )
@@ -130,10 +130,10 @@ fn a_constant_has_no_docstring(rt: HostRuntime) -> Result<(), Fail> {
         alloc,
         &[(
             "const long X = 0;",
-            "Const(ConstMember { attributes: None, const_: Const, \
+            "[Const(ConstMember { attributes: None, const_: Const, \
              const_type: Integer(MayBeNull { type_: Long(LongType { unsigned: None, \
              long: Long }), q_mark: None }), identifier: Identifier(\"X\"), assign: Assign, \
-             const_value: Integer(Oct(OctLit(\"0\"))), semi_colon: SemiColon })",
+             const_value: Integer(Oct(OctLit(\"0\"))), semi_colon: SemiColon })]",
         )],
     )
     .and(refuses_members(alloc, &["///d\nconst long X = 0;", "const long X = 0x;"]))?;
@@ -146,12 +146,12 @@ fn an_attribute_may_be_modified(rt: HostRuntime) -> Result<(), Fail> {
         rt.alloc(),
         &[(
             "inherit attribute long x;",
-            "Attribute(AttributeInterfaceMember { attributes: None, \
+            "[Attribute(AttributeInterfaceMember { attributes: None, \
              modifier: Some(Inherit(Inherit)), readonly: None, attribute: Attribute, \
              type_: AttributedType { attributes: None, \
              type_: Single(NonAny(Integer(MayBeNull { \
              type_: Long(LongType { unsigned: None, long: Long }), q_mark: None }))) }, \
-             identifier: Identifier(\"x\"), semi_colon: SemiColon })",
+             identifier: Identifier(\"x\"), semi_colon: SemiColon })]",
         )],
     )?;
     Ok(())

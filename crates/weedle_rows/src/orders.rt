@@ -4,55 +4,32 @@
 use std::alloc::Global;
 use std::process::Abort;
 use std::test::Fail;
-use weedle::{Definition, TryClone, parse};
+use weedle::{Definitions, Parse, TryClone};
 
-// One of each kind.
-const KINDS: &str = "
-    callback C = undefined ();
-    callback interface I {};
-    interface I {};
-    interface mixin M {};
-    namespace N {};
-    dictionary D {};
-    partial interface I {};
-    partial interface mixin M {};
-    partial dictionary D {};
-    partial namespace N {};
-    enum E { \"a\" };
-    typedef long T;
-    A includes M;
-    A implements B;
-";
-
-// One of each kind.
-const MEMBERS: &str = "interface I {
-    const long c = 1;
-    attribute long a;
-    constructor();
-    long o();
-    iterable<long>;
-    async iterable<long>;
-    maplike<long, long>;
-    setlike<long>;
-    stringifier;
-};";
-
-// So many values, each less than the next. A copy equals them.
-fn rise<T: Ord + TryClone>(
+/// Checks that what is read of each text is less than what is read of those behind it, and that a
+/// copy of all equals them.
+///
+/// It reads any type: a function that holds a list of definitions and lends it is more than the prover
+/// can compute, and one that holds a list of any type isn't.
+fn rise<'a, T: Parse<'a> + Ord + TryClone>(
     rt: &impl Abort,
     alloc: Global,
-    values: Vec<T>,
-    count: usize,
+    texts: &[&'a str],
 ) -> Result<(), Fail> {
-    all_rise(rt, &values, count);
+    let mut values = Vec::new(alloc);
+    for text in texts {
+        let (rest, value) = T::parse(alloc, text)?;
+        assert_eq!(rt; rest, "", "of {text:?}");
+        values.push(value)?;
+    }
+    all_rise(rt, &values);
     let copy = values.try_clone(alloc)?;
     assert!(rt; copy == values);
     Ok(())
 }
 
-// So many values, each less than the next.
-fn all_rise<T: Ord>(rt: &impl Abort, values: &[T], count: usize) {
-    assert_eq!(rt; values.len(), count);
+// Each value is less than those behind it.
+fn all_rise<T: Ord>(rt: &impl Abort, values: &[T]) {
     for (i, a) in values.iter().enumerate() {
         for (j, b) in values.iter().enumerate() {
             assert!(rt; (a == b, a.cmp(b)) == (i == j, i.cmp(&j)));
@@ -62,26 +39,57 @@ fn all_rise<T: Ord>(rt: &impl Abort, values: &[T], count: usize) {
 
 #[test]
 fn definitions_go_by_their_kinds(rt: HostRuntime) -> Result<(), Fail> {
-    let alloc = rt.alloc();
-    rise(&rt, alloc, parse(alloc, KINDS)?, 14)
+    rise::<Definitions<'_>>(
+        &rt,
+        rt.alloc(),
+        &[
+            "callback C = undefined ();",
+            "callback interface I {};",
+            "interface I {};",
+            "interface mixin M {};",
+            "namespace N {};",
+            "dictionary D {};",
+            "partial interface I {};",
+            "partial interface mixin M {};",
+            "partial dictionary D {};",
+            "partial namespace N {};",
+            "enum E { \"a\" };",
+            "typedef long T;",
+            "A includes M;",
+            "A implements B;",
+        ],
+    )
 }
 
 #[test]
 fn members_go_by_their_kinds(rt: HostRuntime) -> Result<(), Fail> {
-    for definition in parse(rt.alloc(), MEMBERS)? {
-        match &definition {
-            Definition::Interface(interface) => {
-                all_rise(&rt, interface.members.body.as_slice(), 9)
-            }
-            _ => assert!(rt; false),
-        }
-    }
-    Ok(())
+    rise::<Definitions<'_>>(
+        &rt,
+        rt.alloc(),
+        &[
+            "interface I { const long c = 1; };",
+            "interface I { attribute long a; };",
+            "interface I { constructor(); };",
+            "interface I { long o(); };",
+            "interface I { iterable<long>; };",
+            "interface I { async iterable<long>; };",
+            "interface I { maplike<long, long>; };",
+            "interface I { setlike<long>; };",
+            "interface I { stringifier; };",
+        ],
+    )
 }
 
 #[test]
 fn definitions_of_one_kind_go_by_their_parts(rt: HostRuntime) -> Result<(), Fail> {
-    let alloc = rt.alloc();
-    let text = "interface A {}; interface A : B {}; interface B {}; [X] interface A {};";
-    rise(&rt, alloc, parse(alloc, text)?, 4)
+    rise::<Definitions<'_>>(
+        &rt,
+        rt.alloc(),
+        &[
+            "interface A {};",
+            "interface A : B {};",
+            "interface B {};",
+            "[X] interface A {};",
+        ],
+    )
 }
