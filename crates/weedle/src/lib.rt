@@ -1,7 +1,9 @@
 //! A parser of WebIDL.
 //!
-//! [`parse`] reads a text as a list of definitions, or says from where on it is none. [`run`] is
-//! the program: it reads a reader to its end, and writes what the text defines.
+//! [`parse`] reads a text as a list of definitions, or says from where on it is none;
+//! [`parse_counted`] counts what that takes. [`outline`] gives kinds, names and docstrings. [`run`] is
+//! the program: it reads a reader to its end, and writes what the text defines; [`run_outline`] writes
+//! an outline of it.
 //!
 //! ```rust
 //! use weedle::{name_of, parse};
@@ -12,23 +14,20 @@
 //! }
 //! ```
 //!
-//! The types stand in the crates below, and under one path each here. What the grammar reads of a
+//! The calls and the types stand in the crates below, and under one path each here. What the grammar reads of a
 //! text is said in the crate `weedle_grammar`, and in each crate's `specs/` which of its trees a
 //! value stands for.
 #![tactic(auto)]
 
 pub mod common;
 pub mod literal;
-mod program;
-mod reader;
-mod report;
-mod titles;
 pub mod types;
 
-pub use program::{RunFault, Status, run};
-pub use reader::parse;
-pub use titles::{kind_of, name_of};
 pub use weedle_base::{Err, Error, ErrorKind, IResult, Parse, TryClone};
+pub use weedle_front::{
+    Counted, Entry, RunFault, Status, kind_of, name_of, outline, parse, parse_counted, run,
+    run_outline,
+};
 pub use weedle_idl::{
     CallbackDefinition, CallbackInterfaceDefinition, Definition, Definitions, DictionaryDefinition,
     EnumDefinition, EnumValueList, EnumVariant, ImplementsDefinition, IncludesStatementDefinition,

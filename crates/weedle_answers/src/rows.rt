@@ -20,6 +20,10 @@ pub enum Unlike<'a> {
     Value { text: &'a str, read: String },
     /// A copy of the value doesn't equal it or is printed otherwise.
     Copy { text: &'a str, copy: String },
+    /// Another rest is left, another value is read, or a copy doesn't equal it.
+    Otherwise(&'a str),
+    /// The call ends by a fault that isn't want of memory.
+    Fault(&'a str),
     /// There was no memory for the value or for what is printed of it.
     Memory(AllocError),
 }

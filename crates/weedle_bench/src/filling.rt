@@ -1,5 +1,6 @@
 //! The table of ends of a text, filled, and timed.
 
+use crate::parsing;
 use std::alloc::{AllocError, Global};
 use std::fmt::{self, Display, Formatter, Write};
 use std::time::Instant;
@@ -17,7 +18,7 @@ pub fn count(rt: &HostRuntime, ends: &Ends<'_>) -> anyhow::Result<()> {
     Ok(())
 }
 
-/// Times the filling, and the laying down of as many cells, a few times.
+/// Times the filling, the laying down of as many cells, and the whole of `parse`, a few times.
 pub fn time(rt: &HostRuntime, text: &str) -> anyhow::Result<()> {
     count(rt, &Ends::new(rt.alloc(), text)?)?;
     let bytes = text.len() as u128;
@@ -39,6 +40,16 @@ pub fn time(rt: &HostRuntime, text: &str) -> anyhow::Result<()> {
             "laying the same cells down: {} ns a cell; the filling takes {} times that",
             Ratio(laying, cells),
             Ratio(filling, laying)
+        )?;
+        let building = parsing::time_second_pass(rt, &ends, text)?;
+        drop(ends);
+        let parse = parsing::time_whole(rt, text)?;
+        println!(rt;
+            "parse: {} ns a byte; the second pass takes {} ns a byte, {} times the filling; {} bytes of cells",
+            Ratio(parse, bytes),
+            Ratio(building, bytes),
+            Ratio(building, filling),
+            cells.saturating_mul(std::mem::size_of::<Narrow>() as u128)
         )?;
     }
     println!(rt; "{} bytes a cell", std::mem::size_of::<Narrow>())?;

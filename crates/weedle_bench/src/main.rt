@@ -1,7 +1,8 @@
-//! How long the table of ends of a text takes to fill.
+//! How long the table of ends of a text takes to fill, and the whole of `parse`.
 //!
-//! With a size in bytes it makes a text of about that size, times the filling of its table and,
-//! beside it, the laying down of as many cells that nothing is worked out for:
+//! With a size in bytes it makes a text of about that size, times the filling of its table,
+//! beside it the laying down of as many cells that nothing is worked out for, and the whole of
+//! `parse`, with its second pass by itself:
 //!
 //! ```text
 //! rt run -- 1000000
@@ -12,6 +13,7 @@
 #![tactic(auto)]
 
 mod filling;
+mod parsing;
 
 use anyhow::anyhow;
 use weedle_rules::Ends;

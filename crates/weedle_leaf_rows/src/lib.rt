@@ -7,6 +7,8 @@ mod generic_parts;
 #[cfg(test)]
 mod leaves;
 #[cfg(test)]
+mod requests;
+#[cfg(test)]
 mod scanners;
 #[cfg(test)]
 mod standard;

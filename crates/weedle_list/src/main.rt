@@ -1,4 +1,5 @@
-//! Lists the definitions of the Web IDL text on standard input, each by its kind and its name.
+//! Lists the definitions of the Web IDL text on standard input, each by its kind and its name, and, where
+//! the one argument is `outline`, each with its docstring.
 //!
 //! The status is 0 where the whole text was read, 1 where some of it was not, and 2 to 5 where
 //! the run ended in a fault, of which one line on standard error says what it was.
@@ -7,20 +8,43 @@
 #[cfg(test)]
 mod tests;
 
+use std::env::Args;
 use std::process::ExitCode;
 use std::{env, io};
-use weedle::{RunFault, Status, run};
+use weedle::{RunFault, Status, run, run_outline};
+
+/// What the arguments ask for.
+#[derive(Clone, Copy, Debug, PartialEq, Eq)]
+enum Task {
+    List,
+    Outline,
+}
 
 fn main(rt: HostRuntime) -> ExitCode {
-    let Ok(mut arguments) = env::args(&rt) else {
+    let Ok(arguments) = env::args(&rt) else {
         return end(&rt, &Err(RunFault::Memory));
     };
-    if arguments.nth(1).is_some() {
-        complain(&rt, "usage: weedle_list");
+    let Some(task) = task_of(arguments) else {
+        complain(&rt, "usage: weedle_list [outline]");
         return ExitCode::from(5);
-    }
-    let outcome = run(rt.alloc(), &mut rt.reader(), &mut io::writer(&rt));
+    };
+    let (mut reader, mut writer) = (rt.reader(), io::writer(&rt));
+    let outcome = match task {
+        Task::List => run(rt.alloc(), &mut reader, &mut writer),
+        Task::Outline => run_outline(rt.alloc(), &mut reader, &mut writer),
+    };
     end(&rt, &outcome)
+}
+
+/// What is asked for by the arguments, of which the first is the program's name.
+fn task_of(mut arguments: Args) -> Option<Task> {
+    let Some(word) = arguments.nth(1) else {
+        return Some(Task::List);
+    };
+    if word.as_str() == "outline" && arguments.next().is_none() {
+        return Some(Task::Outline);
+    }
+    None
 }
 
 /// Says on standard error what the fault was, if there was one.

@@ -1,5 +1,39 @@
-use super::{fault_line, status_of};
+use super::{Task, fault_line, status_of, task_of};
+use std::alloc::{AllocError, Global};
+use std::env::Args;
+use std::test::Fail;
 use weedle::{RunFault, Status};
+
+fn arguments(alloc: Global, words: &[&str]) -> Result<Args, AllocError> {
+    let mut all = Vec::new(alloc);
+    for word in words {
+        all.push(String::from_str(alloc, word)?)?;
+    }
+    Ok(all.into_iter())
+}
+
+#[test]
+fn knows_two_lists_of_arguments(rt: HostRuntime) -> Result<(), Fail> {
+    let table: [(&[&str], Option<Task>); 9] = [
+        (&[], Some(Task::List)),
+        (&["weedle_list"], Some(Task::List)),
+        (&["weedle_list", "outline"], Some(Task::Outline)),
+        (&["weedle_list", ""], None),
+        (&["weedle_list", "list"], None),
+        (&["weedle_list", "Outline"], None),
+        (&["weedle_list", "outlines"], None),
+        (&["weedle_list", "outline", "outline"], None),
+        (&["weedle_list", "x", "outline"], None),
+    ];
+    for (words, task) in table {
+        assert_eq!(rt;
+            task_of(arguments(rt.alloc(), words)?),
+            task,
+            "of {words:?}"
+        );
+    }
+    Ok(())
+}
 
 #[test]
 fn gives_each_outcome_its_status(rt: HostRuntime) {

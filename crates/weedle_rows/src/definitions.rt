@@ -5,16 +5,9 @@ use std::process::Abort;
 use std::test::Fail;
 use weedle::{Definitions, Err, ErrorKind, kind_of, name_of, parse};
 use weedle_answers::{Unlike, reads_whole};
+use weedle_texts::examples::{KINDS, WINDOW, WINDOW_IN_LINES};
 
-const WINDOW: &str = "interface Window { readonly attribute Storage sessionStorage; };";
-
-const WINDOW_IN_LINES: &str = "
-    interface Window {
-        readonly attribute Storage sessionStorage;
-    };
-";
-
-// What both texts hold.
+/// What both texts hold.
 const WINDOW_VALUE: &str = "\
     [Interface(InterfaceDefinition { docstring: None, attributes: None, interface: Interface, \
     identifier: Identifier(\"Window\"), inheritance: None, \
@@ -25,24 +18,6 @@ const WINDOW_VALUE: &str = "\
     type_: Identifier(\"Storage\"), q_mark: None }))) }, \
     identifier: Identifier(\"sessionStorage\"), semi_colon: SemiColon })], \
     close_brace: CloseBrace }, semi_colon: SemiColon })]";
-
-/// A definition of each kind.
-pub const KINDS: &str = "\
-callback C = undefined ();
-callback interface D {};
-interface E {};
-interface mixin F {};
-namespace G {};
-dictionary H {};
-partial interface I {};
-partial interface mixin J {};
-partial dictionary K {};
-partial namespace L {};
-enum M {\"m\"};
-typedef long N;
-O includes P;
-Q implements R;
-";
 
 /// Checks that each whole text is read as these definitions, by `parse` and by their type.
 pub fn reads_all<'a>(alloc: Global, rows: &[(&'a str, &str)]) -> Result<(), Unlike<'a>> {

@@ -1,17 +1,19 @@
-//! Tests of members, definitions and the program: worked examples whose answers come from outside.
+//! Tests of whole texts: worked examples whose answers come from outside.
 #![tactic(auto)]
 
 #[cfg(test)]
+mod counts;
+#[cfg(test)]
 mod definitions;
 #[cfg(test)]
-mod members;
+mod hostile;
 #[cfg(test)]
-mod orders;
-#[cfg(test)]
-mod program;
+mod outcomes;
 #[cfg(test)]
 mod readme;
 #[cfg(test)]
 mod real_text;
+#[cfg(test)]
+mod requests;
 #[cfg(test)]
 mod spelling;

@@ -6,10 +6,14 @@
 //! rt run -- 1000000
 //! ```
 //!
+//! With `-` it reads the text on standard input, once. The status is 0 where the whole of it was read: so
+//! `tools/depth.py` looks for how deep this reads.
+//!
 //! With no argument it reads a few small texts and says how many definitions they have.
 #![tactic(auto)]
 
 use anyhow::anyhow;
+use std::io;
 use std::time::Instant;
 use weedle_base::Parse;
 use weedle_idl::Definitions;
@@ -19,9 +23,13 @@ const SEED: u64 = 7;
 
 fn main(rt: HostRuntime) -> anyhow::Result<()> {
     match std::env::args(&rt)?.nth(1) {
+        Some(word) if word.as_str() == "-" => {
+            let text = io::read_to_string(rt.alloc(), rt.reader())?;
+            read_whole(&rt, &text)
+        }
         Some(size) => {
             let Ok(size) = size.parse::<usize>() else {
-                return Err(anyhow!("usage: weedle_speed [SIZE]"));
+                return Err(anyhow!("usage: weedle_speed [SIZE | -]"));
             };
             time(&rt, &definitions(rt.alloc(), SEED, size)?)
         }
@@ -46,8 +54,16 @@ fn time(rt: &HostRuntime, text: &str) -> anyhow::Result<()> {
     Ok(())
 }
 
-/// Reads the text, and prints how many definitions it has and how much of it is left.
-fn read(rt: &HostRuntime, text: &str) -> anyhow::Result<()> {
+/// Reads the text, of which nothing may be left.
+fn read_whole(rt: &HostRuntime, text: &str) -> anyhow::Result<()> {
+    match read(rt, text)? {
+        0 => Ok(()),
+        left => Err(anyhow!("{left} bytes are left")),
+    }
+}
+
+/// Reads the text, prints how many definitions it has, and says how many bytes of it are left.
+fn read(rt: &HostRuntime, text: &str) -> anyhow::Result<usize> {
     let Ok((rest, definitions)) = Definitions::parse(rt.alloc(), text) else {
         return Err(anyhow!("out of memory"));
     };
@@ -57,7 +73,7 @@ fn read(rt: &HostRuntime, text: &str) -> anyhow::Result<()> {
         length(definitions),
         rest.len()
     )?;
-    Ok(())
+    Ok(rest.len())
 }
 
 /// How many items a list has.

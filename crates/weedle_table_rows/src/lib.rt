@@ -4,4 +4,6 @@
 #[cfg(test)]
 mod ends;
 #[cfg(test)]
+mod requests;
+#[cfg(test)]
 mod rules;

@@ -14,4 +14,6 @@ mod plain_types;
 #[cfg(test)]
 mod recursive_types;
 #[cfg(test)]
+mod requests;
+#[cfg(test)]
 mod word_types;

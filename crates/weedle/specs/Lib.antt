@@ -1,4 +1,0 @@
-pub mod Whole
-pub mod WholeOf
-pub mod Titles
-pub mod Report

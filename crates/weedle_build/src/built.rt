@@ -1,0 +1,40 @@
+//! The definitions of a whole text.
+
+ghost use Rattle.std.specs.Prelude.{◌≡◌, IfOk};
+ghost use Rattle.weedle_build_base.specs.Whole.{IsBuilt};
+ghost use Rattle.weedle_idl.specs.DefinitionTrees.{definitions_tree};
+
+use crate::definition::AnyDefinition;
+use std::alloc::{AllocError, Global};
+use weedle_build_base::build_front;
+use weedle_idl::Definitions;
+use weedle_rules::Ends;
+
+/// What was built of a text.
+#[derive(Drop)]
+pub struct Built<'a> {
+    /// The definitions that stand at the front of the text, in order.
+    pub list: Definitions<'a>,
+    /// What follows them.
+    pub rest: &'a str,
+    /// How many nodes the tree of the list has, each of which was visited once.
+    pub visits: u128,
+}
+
+/// Builds the definitions that stand at the front of a text along its table of ends: of `enum E {"a"}; x` the list
+/// is the enum, the rest `x`. `raw` is the text that the table is over.
+///
+/// It works no rule out and changes nothing in the table: it looks at ends alone, in no more steps than the tree has
+/// nodes, up to a factor that the grammar fixes. It takes the memory that the list holds, and is refused for want of
+/// it alone.
+pub fn build_definitions<'a>(
+    alloc: Global,
+    ends: &Ends<'a>,
+    raw: &'a str,
+) -> Result<Built<'a>, AllocError>
+    requires table { ends.now.text ≡ raw.now }
+    ensures { IfOk result (λ built. IsBuilt raw.now (definitions_tree built.list.items) built.rest.now built.visits) }
+{
+    let (list, rest, visits) = build_front::<Vec<AnyDefinition>>(alloc, ends, raw)?;
+    Ok(Built { list, rest, visits })
+}

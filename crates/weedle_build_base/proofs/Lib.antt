@@ -1,0 +1,10 @@
+pub mod Finding
+pub mod Sequences
+pub mod Options
+pub mod Choices
+pub mod Keeping
+pub mod Repeats
+pub mod Separated
+pub mod NonEmpty
+pub mod LineSteps
+pub mod WholeSteps

@@ -1,0 +1,4 @@
+pub mod Built
+pub mod Fits
+pub mod Tuples
+pub mod Whole

@@ -1,0 +1,9 @@
+//! Where a building is.
+
+/// A place of the text, and how many nodes were visited on the way to it. The count stays at the
+/// greatest number once it has come to it.
+#[derive(Clone, Copy, Debug)]
+pub struct At {
+    pub place: usize,
+    pub visits: u128,
+}

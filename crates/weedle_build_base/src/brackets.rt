@@ -1,0 +1,141 @@
+//! A body between two brackets, and a type that may be null.
+
+ghost use Rattle.weedle_grammar.specs.Table.{row_of as row_of_rule, shape_of};
+ghost use Rattle.weedle_grammar.specs.Table.Symbols.{OPEN_PAREN, CLOSE_PAREN, OPEN_BRACKET, CLOSE_BRACKET, OPEN_BRACE, CLOSE_BRACE, LESS_THAN, GREATER_THAN};
+ghost use Rattle.weedle_parts.specs.ValueTrees.{parenthesized_tree, bracketed_tree, braced_tree, generics_tree, may_be_null_tree};
+ghost use Rattle.weedle_build_base.specs.Fits.{fits_seq, bracket_fits, may_be_null_fits};
+
+use crate::at::At;
+use crate::build::{Build, BuildResult};
+use crate::fields::{Last, sequence};
+use std::alloc::Global;
+use weedle_parts::common::{Braced, Bracketed, Generics, Parenthesized};
+use weedle_parts::types::MayBeNull;
+use weedle_rules::{Ends, Rule};
+use weedle_term::{
+    CloseBrace, CloseBracket, CloseParen, GreaterThan, LessThan, OpenBrace, OpenBracket, OpenParen,
+    QMark,
+};
+
+impl<'a, T: Build<'a>> Build<'a> for Parenthesized<T> {
+    type Value = Parenthesized<T::Value>;
+
+    ghost fits = { λ r. fits_seq (bracket_fits OPEN_PAREN T.fits CLOSE_PAREN) (row_of_rule r) (shape_of r) };
+
+    ghost tree = { parenthesized_tree T.tree };
+
+    fn build(
+        alloc: Global,
+        table: &Ends<'a>,
+        rule: Rule,
+        at: At,
+    ) -> BuildResult<Parenthesized<T::Value>> {
+        let ((open_paren, (body, Last(close_paren))), at) = sequence::<
+            (OpenParen, (T, Last<CloseParen>)),
+        >(alloc, table, rule, at)?;
+        Ok((
+            Parenthesized {
+                open_paren,
+                body,
+                close_paren,
+            },
+            at,
+        ))
+    }
+}
+
+impl<'a, T: Build<'a>> Build<'a> for Bracketed<T> {
+    type Value = Bracketed<T::Value>;
+
+    ghost fits = { λ r. fits_seq (bracket_fits OPEN_BRACKET T.fits CLOSE_BRACKET) (row_of_rule r) (shape_of r) };
+
+    ghost tree = { bracketed_tree T.tree };
+
+    fn build(
+        alloc: Global,
+        table: &Ends<'a>,
+        rule: Rule,
+        at: At,
+    ) -> BuildResult<Bracketed<T::Value>> {
+        let ((open_bracket, (body, Last(close_bracket))), at) = sequence::<
+            (OpenBracket, (T, Last<CloseBracket>)),
+        >(alloc, table, rule, at)?;
+        Ok((
+            Bracketed {
+                open_bracket,
+                body,
+                close_bracket,
+            },
+            at,
+        ))
+    }
+}
+
+impl<'a, T: Build<'a>> Build<'a> for Braced<T> {
+    type Value = Braced<T::Value>;
+
+    ghost fits = { λ r. fits_seq (bracket_fits OPEN_BRACE T.fits CLOSE_BRACE) (row_of_rule r) (shape_of r) };
+
+    ghost tree = { braced_tree T.tree };
+
+    fn build(alloc: Global, table: &Ends<'a>, rule: Rule, at: At) -> BuildResult<Braced<T::Value>> {
+        let ((open_brace, (body, Last(close_brace))), at) = sequence::<
+            (OpenBrace, (T, Last<CloseBrace>)),
+        >(alloc, table, rule, at)?;
+        Ok((
+            Braced {
+                open_brace,
+                body,
+                close_brace,
+            },
+            at,
+        ))
+    }
+}
+
+impl<'a, T: Build<'a>> Build<'a> for Generics<T> {
+    type Value = Generics<T::Value>;
+
+    ghost fits = { λ r. fits_seq (bracket_fits LESS_THAN T.fits GREATER_THAN) (row_of_rule r) (shape_of r) };
+
+    ghost tree = { generics_tree T.tree };
+
+    fn build(
+        alloc: Global,
+        table: &Ends<'a>,
+        rule: Rule,
+        at: At,
+    ) -> BuildResult<Generics<T::Value>> {
+        let ((open_angle, (body, Last(close_angle))), at) = sequence::<
+            (LessThan, (T, Last<GreaterThan>)),
+        >(alloc, table, rule, at)?;
+        Ok((
+            Generics {
+                open_angle,
+                body,
+                close_angle,
+            },
+            at,
+        ))
+    }
+}
+
+impl<'a, T: Build<'a>> Build<'a> for MayBeNull<T> {
+    type Value = MayBeNull<T::Value>;
+
+    ghost fits = { λ r. fits_seq (may_be_null_fits T.fits) (row_of_rule r) (shape_of r) };
+
+    ghost tree = { may_be_null_tree T.tree };
+
+    fn build(
+        alloc: Global,
+        table: &Ends<'a>,
+        rule: Rule,
+        at: At,
+    ) -> BuildResult<MayBeNull<T::Value>> {
+        let ((type_, Last(q_mark)), at) = sequence::<(T, Last<Option<QMark>>)>(
+            alloc, table, rule, at,
+        )?;
+        Ok((MayBeNull { type_, q_mark }, at))
+    }
+}

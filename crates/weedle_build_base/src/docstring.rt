@@ -1,0 +1,57 @@
+//! Docstrings.
+
+ghost use Rattle.std.specs.Prelude.{◌≡◌, [], ◌∷◌, ◌++◌, OnOk, string_bytes};
+ghost use Rattle.weedle_grammar.specs.Trees.{Lines, Gives};
+ghost use Rattle.weedle_grammar.specs.Table.{Reads};
+ghost use Rattle.weedle_grammar.specs.Table.Leaves.{DOC_LINE, DOCSTRING};
+ghost use Rattle.weedle_parts.specs.ValueTrees.{docstring_tree};
+ghost use Rattle.weedle_build_base.specs.Built.{Due};
+
+use crate::at::At;
+use crate::build::{Build, BuildResult, end_at};
+use std::alloc::{AllocError, Global};
+use weedle_parts::common::Docstring;
+use weedle_rules::{Ends, Rule};
+
+/// The text of the line at a place, without its LF, and where the next one begins.
+fn doc_line<'a>(table: &Ends<'a>, place: usize) -> (&'a str, usize)
+    requires { Due table.now.text DOC_LINE place }
+    ensures { Reads table.now.text DOC_LINE place (Gives (Lines result.0.now ∷ []) result.1) }
+{
+    let blanks = end_at(table, Rule::RUN_BLANK, place);
+    let start = end_at(table, Rule::BYTES_THREE_SLASHES, blanks);
+    let end = end_at(table, Rule::DOC_LINE, place);
+    let text = table.text();
+    (&text[start..end - 1], end)
+}
+
+/// Puts an LF and the line at the end of the text.
+fn push_line(text: &mut String, line: &str) -> Result<(), AllocError>
+    ensures { OnOk result (string_bytes text.new ≡ (string_bytes text.old ++ (10 ∷ [])) ++ line.now) }
+{
+    text.push('\n')?;
+    text.push_str(line)
+}
+
+impl<'a> Build<'a> for Docstring {
+    type Value = Self;
+
+    ghost fits = { λ r. r ≡ DOCSTRING };
+
+    ghost tree = { docstring_tree };
+
+    fn build(alloc: Global, table: &Ends<'a>, _rule: Rule, at: At) -> BuildResult<Self> {
+        let (first, mut place) = doc_line(table, at.place);
+        let mut text = String::from_str(alloc, first)?;
+        while let Some(_) = table.end(Rule::DOC_LINE, place) {
+            let (line, next) = doc_line(table, place);
+            push_line(&mut text, line)?;
+            place = next;
+        }
+        let end = At {
+            place,
+            visits: at.visits.saturating_add(1),
+        };
+        Ok((Docstring(text), end))
+    }
+}

@@ -1,0 +1,40 @@
+//! The second pass over a text: its values, built along its table of ends.
+//!
+//! ```rust
+//! use weedle_build_base::{At, Build};
+//! use weedle_literal::DecLit;
+//! use weedle_rules::{Ends, Rule};
+//!
+//! let ends = Ends::new(rt.alloc(), "12;")?;
+//! let front = At { place: 0, visits: 0 };
+//! let (number, end) = DecLit::build(rt.alloc(), &ends, Rule::DEC_LIT, front)?;
+//! assert!(rt; number == DecLit("12") && end.place == 2 && end.visits == 1);
+//! ```
+//!
+//! [`Build`] says how the values of a type are built. It stands here for the types that hold no other
+//! type and for all that is made of them; the crates above have it for their own types.
+#![tactic(auto)]
+
+mod alternatives;
+mod at;
+mod brackets;
+mod build;
+mod docstring;
+mod fields;
+mod generic;
+mod leaves;
+mod lists;
+mod literals;
+mod modifiers;
+mod simple_types;
+mod terminals;
+mod texts;
+mod whole;
+
+pub use alternatives::{alternative, alternative_rule, choice};
+pub use at::At;
+pub use build::{Build, BuildResult, end_at, mark, visit};
+pub use fields::{Fields, Last, part, sequence};
+pub use lists::items;
+pub use texts::kept;
+pub use whole::build_front;

@@ -1,0 +1,142 @@
+//! What is inherited from, and the words before a member.
+#![tactic(auto, using(crate::proofs::Finding::own_steps))]
+
+ghost use Rattle.std.specs.Prelude.{◌≡◌};
+ghost use Rattle.weedle_grammar.specs.Table.InterfaceMembers.{INHERITANCE, SPECIAL, STRINGIFIER_OR_INHERIT_OR_STATIC, STRINGIFIER_OR_STATIC};
+ghost use Rattle.weedle_modifier.specs.Trees.{inheritance_tree, special_tree, stringifier_or_inherit_or_static_tree, stringifier_or_static_tree};
+
+use crate::alternatives::{alternative, choice};
+use crate::at::At;
+use crate::build::{Build, BuildResult};
+use crate::fields::{Last, sequence};
+use std::alloc::Global;
+use weedle_modifier::{Inheritance, Special, StringifierOrInheritOrStatic, StringifierOrStatic};
+use weedle_parts::common::Identifier;
+use weedle_rules::{Ends, Rule};
+use weedle_term::{Colon, Deleter, Getter, Inherit, LegacyCaller, Setter, Static, Stringifier};
+
+impl<'a> Build<'a> for Inheritance<'a> {
+    type Value = Self;
+
+    ghost fits = { λ r. r ≡ INHERITANCE };
+
+    ghost tree = { inheritance_tree };
+
+    fn build(alloc: Global, table: &Ends<'a>, _rule: Rule, at: At) -> BuildResult<Self> {
+        let ((colon, Last(identifier)), at) = sequence::<(Colon, Last<Identifier>)>(
+            alloc,
+            table,
+            Rule::INHERITANCE,
+            at,
+        )?;
+        Ok((Inheritance { colon, identifier }, at))
+    }
+}
+
+impl<'a> Build<'a> for Special {
+    type Value = Self;
+
+    ghost fits = { λ r. r ≡ SPECIAL };
+
+    ghost tree = { special_tree };
+
+    fn build(alloc: Global, table: &Ends<'a>, _rule: Rule, at: At) -> BuildResult<Self> {
+        match choice(table, Rule::SPECIAL, at.place) {
+            0 => {
+                let (member, at) = alternative::<Getter>(alloc, table, Rule::SPECIAL, 0, at)?;
+                Ok((Special::Getter(member), at))
+            }
+            1 => {
+                let (member, at) = alternative::<Setter>(alloc, table, Rule::SPECIAL, 1, at)?;
+                Ok((Special::Setter(member), at))
+            }
+            2 => {
+                let (member, at) = alternative::<Deleter>(alloc, table, Rule::SPECIAL, 2, at)?;
+                Ok((Special::Deleter(member), at))
+            }
+            3 => {
+                let (member, at) = alternative::<LegacyCaller>(alloc, table, Rule::SPECIAL, 3, at)?;
+                Ok((Special::LegacyCaller(member), at))
+            }
+            _ => unreachable!(),
+        }
+    }
+}
+
+impl<'a> Build<'a> for StringifierOrInheritOrStatic {
+    type Value = Self;
+
+    ghost fits = { λ r. r ≡ STRINGIFIER_OR_INHERIT_OR_STATIC };
+
+    ghost tree = { stringifier_or_inherit_or_static_tree };
+
+    fn build(alloc: Global, table: &Ends<'a>, _rule: Rule, at: At) -> BuildResult<Self> {
+        match choice(table, Rule::STRINGIFIER_OR_INHERIT_OR_STATIC, at.place) {
+            0 => {
+                let (member, at) = alternative::<Stringifier>(
+                    alloc,
+                    table,
+                    Rule::STRINGIFIER_OR_INHERIT_OR_STATIC,
+                    0,
+                    at,
+                )?;
+                Ok((StringifierOrInheritOrStatic::Stringifier(member), at))
+            }
+            1 => {
+                let (member, at) = alternative::<Inherit>(
+                    alloc,
+                    table,
+                    Rule::STRINGIFIER_OR_INHERIT_OR_STATIC,
+                    1,
+                    at,
+                )?;
+                Ok((StringifierOrInheritOrStatic::Inherit(member), at))
+            }
+            2 => {
+                let (member, at) = alternative::<Static>(
+                    alloc,
+                    table,
+                    Rule::STRINGIFIER_OR_INHERIT_OR_STATIC,
+                    2,
+                    at,
+                )?;
+                Ok((StringifierOrInheritOrStatic::Static(member), at))
+            }
+            _ => unreachable!(),
+        }
+    }
+}
+
+impl<'a> Build<'a> for StringifierOrStatic {
+    type Value = Self;
+
+    ghost fits = { λ r. r ≡ STRINGIFIER_OR_STATIC };
+
+    ghost tree = { stringifier_or_static_tree };
+
+    fn build(alloc: Global, table: &Ends<'a>, _rule: Rule, at: At) -> BuildResult<Self> {
+        match choice(table, Rule::STRINGIFIER_OR_STATIC, at.place) {
+            0 => {
+                let (member, at) = alternative::<Stringifier>(
+                    alloc,
+                    table,
+                    Rule::STRINGIFIER_OR_STATIC,
+                    0,
+                    at,
+                )?;
+                Ok((StringifierOrStatic::Stringifier(member), at))
+            }
+            1 => {
+                let (member, at) = alternative::<Static>(
+                    alloc,
+                    table,
+                    Rule::STRINGIFIER_OR_STATIC,
+                    1,
+                    at,
+                )?;
+                Ok((StringifierOrStatic::Static(member), at))
+            }
+            _ => unreachable!(),
+        }
+    }
+}

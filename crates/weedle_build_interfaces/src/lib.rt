@@ -1,0 +1,9 @@
+//! The second pass over interfaces and the choice among their members.
+//!
+//! [`InterfacePart`] stands for each of them as a part of others.
+#![tactic(auto)]
+
+mod interfaces;
+mod part;
+
+pub use part::InterfacePart;

@@ -1,0 +1,10 @@
+//! The second pass over members of interfaces.
+//!
+//! [`MemberPart`] stands for each of them as a part of others.
+#![tactic(auto)]
+
+mod iterables;
+mod members;
+mod part;
+
+pub use part::MemberPart;

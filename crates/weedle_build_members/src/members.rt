@@ -1,0 +1,230 @@
+//! The members of interfaces: constants, attributes, operations, constructors and stringifiers.
+#![tactic(auto, using(weedle_build_base::proofs::Finding::own_steps))]
+
+ghost use Rattle.std.specs.Prelude.{◌≡◌};
+ghost use Rattle.weedle_grammar.specs.Table.InterfaceMembers.{ATTRIBUTE_INTERFACE_MEMBER, CONSTRUCTOR_INTERFACE_MEMBER, CONST_MEMBER, OPERATION_INTERFACE_MEMBER, STRINGIFIER_MEMBER};
+ghost use Rattle.weedle_members.specs.Trees.{attribute_interface_member_tree, const_member_tree, constructor_interface_member_tree, operation_interface_member_tree, stringifier_member_tree};
+
+use crate::part::MemberPart;
+use std::alloc::Global;
+use weedle_build_base::{At, Build, BuildResult, Last, sequence};
+use weedle_build_types::{Arguments, Attributes, Held};
+use weedle_literal::ConstValue;
+use weedle_members::{
+    AttributeInterfaceMember, ConstMember, ConstructorInterfaceMember, OperationInterfaceMember,
+    StringifierMember,
+};
+use weedle_modifier::{Special, StringifierOrInheritOrStatic, StringifierOrStatic};
+use weedle_parts::common::{Docstring, Identifier};
+use weedle_parts::types::ConstType;
+use weedle_rules::{Ends, Rule};
+use weedle_term::{Assign, Attribute, Const, Constructor, ReadOnly, SemiColon, Stringifier};
+use weedle_types::types::{AttributedType, ReturnType};
+
+impl<'a> Build<'a> for MemberPart<ConstMember<'a>> {
+    type Value = ConstMember<'a>;
+
+    ghost fits = { λ r. r ≡ CONST_MEMBER };
+
+    ghost tree = { const_member_tree };
+
+    fn build(alloc: Global, table: &Ends<'a>, _rule: Rule, at: At) -> BuildResult<ConstMember<'a>> {
+        let (
+            (
+                attributes,
+                (const_, (const_type, (identifier, (assign, (const_value, Last(semi_colon)))))),
+            ),
+            at,
+        ) = sequence::<
+            (
+                Attributes<'a>,
+                (
+                    Const,
+                    (
+                        ConstType<'a>,
+                        (Identifier<'a>, (Assign, (ConstValue<'a>, Last<SemiColon>))),
+                    ),
+                ),
+            ),
+        >(alloc, table, Rule::CONST_MEMBER, at)?;
+        Ok((
+            ConstMember {
+                attributes,
+                const_,
+                const_type,
+                identifier,
+                assign,
+                const_value,
+                semi_colon,
+            },
+            at,
+        ))
+    }
+}
+
+impl<'a> Build<'a> for MemberPart<AttributeInterfaceMember<'a>> {
+    type Value = AttributeInterfaceMember<'a>;
+
+    ghost fits = { λ r. r ≡ ATTRIBUTE_INTERFACE_MEMBER };
+
+    ghost tree = { attribute_interface_member_tree };
+
+    fn build(
+        alloc: Global,
+        table: &Ends<'a>,
+        _rule: Rule,
+        at: At,
+    ) -> BuildResult<AttributeInterfaceMember<'a>> {
+        let (
+            (
+                attributes,
+                (modifier, (readonly, (attribute, (type_, (identifier, Last(semi_colon)))))),
+            ),
+            at,
+        ) = sequence::<
+            (
+                Attributes<'a>,
+                (
+                    Option<StringifierOrInheritOrStatic>,
+                    (
+                        Option<ReadOnly>,
+                        (
+                            Attribute,
+                            (Held<AttributedType<'a>>, (Identifier<'a>, Last<SemiColon>)),
+                        ),
+                    ),
+                ),
+            ),
+        >(alloc, table, Rule::ATTRIBUTE_INTERFACE_MEMBER, at)?;
+        Ok((
+            AttributeInterfaceMember {
+                attributes,
+                modifier,
+                readonly,
+                attribute,
+                type_,
+                identifier,
+                semi_colon,
+            },
+            at,
+        ))
+    }
+}
+
+impl<'a> Build<'a> for MemberPart<ConstructorInterfaceMember<'a>> {
+    type Value = ConstructorInterfaceMember<'a>;
+
+    ghost fits = { λ r. r ≡ CONSTRUCTOR_INTERFACE_MEMBER };
+
+    ghost tree = { constructor_interface_member_tree };
+
+    fn build(
+        alloc: Global,
+        table: &Ends<'a>,
+        _rule: Rule,
+        at: At,
+    ) -> BuildResult<ConstructorInterfaceMember<'a>> {
+        let ((docstring, (attributes, (constructor, (args, Last(semi_colon))))), at) = sequence::<
+            (
+                Option<Docstring>,
+                (
+                    Attributes<'a>,
+                    (Constructor, (Arguments<'a>, Last<SemiColon>)),
+                ),
+            ),
+        >(alloc, table, Rule::CONSTRUCTOR_INTERFACE_MEMBER, at)?;
+        Ok((
+            ConstructorInterfaceMember {
+                docstring,
+                attributes,
+                constructor,
+                args,
+                semi_colon,
+            },
+            at,
+        ))
+    }
+}
+
+impl<'a> Build<'a> for MemberPart<OperationInterfaceMember<'a>> {
+    type Value = OperationInterfaceMember<'a>;
+
+    ghost fits = { λ r. r ≡ OPERATION_INTERFACE_MEMBER };
+
+    ghost tree = { operation_interface_member_tree };
+
+    fn build(
+        alloc: Global,
+        table: &Ends<'a>,
+        _rule: Rule,
+        at: At,
+    ) -> BuildResult<OperationInterfaceMember<'a>> {
+        let (
+            (
+                docstring,
+                (
+                    attributes,
+                    (modifier, (special, (return_type, (identifier, (args, Last(semi_colon)))))),
+                ),
+            ),
+            at,
+        ) = sequence::<
+            (
+                Option<Docstring>,
+                (
+                    Attributes<'a>,
+                    (
+                        Option<StringifierOrStatic>,
+                        (
+                            Option<Special>,
+                            (
+                                Held<ReturnType<'a>>,
+                                (Option<Identifier<'a>>, (Arguments<'a>, Last<SemiColon>)),
+                            ),
+                        ),
+                    ),
+                ),
+            ),
+        >(alloc, table, Rule::OPERATION_INTERFACE_MEMBER, at)?;
+        Ok((
+            OperationInterfaceMember {
+                docstring,
+                attributes,
+                modifier,
+                special,
+                return_type,
+                identifier,
+                args,
+                semi_colon,
+            },
+            at,
+        ))
+    }
+}
+
+impl<'a> Build<'a> for MemberPart<StringifierMember<'a>> {
+    type Value = StringifierMember<'a>;
+
+    ghost fits = { λ r. r ≡ STRINGIFIER_MEMBER };
+
+    ghost tree = { stringifier_member_tree };
+
+    fn build(
+        alloc: Global,
+        table: &Ends<'a>,
+        _rule: Rule,
+        at: At,
+    ) -> BuildResult<StringifierMember<'a>> {
+        let ((attributes, (stringifier, Last(semi_colon))), at) = sequence::<
+            (Attributes<'a>, (Stringifier, Last<SemiColon>)),
+        >(alloc, table, Rule::STRINGIFIER_MEMBER, at)?;
+        Ok((
+            StringifierMember {
+                attributes,
+                stringifier,
+                semi_colon,
+            },
+            at,
+        ))
+    }
+}

@@ -1,0 +1,9 @@
+//! The second pass over mixins and their members.
+//!
+//! [`MixinPart`] stands for each of them as a part of others.
+#![tactic(auto)]
+
+mod mixins;
+mod part;
+
+pub use part::MixinPart;

@@ -1,0 +1,201 @@
+//! Dictionaries and their members.
+#![tactic(auto, using(weedle_build_base::proofs::Finding::own_steps))]
+
+ghost use Rattle.std.specs.Prelude.{◌≡◌};
+ghost use Rattle.weedle_build_base.specs.Fits.{bracket_fits, fits_seq};
+ghost use Rattle.weedle_build_types.specs.Fits.{many_fits};
+ghost use Rattle.weedle_grammar.specs.Table.{row_of as row_of_rule, shape_of};
+ghost use Rattle.weedle_grammar.specs.Table.Definitions.{DICTIONARY_DEFINITION, PARTIAL_DICTIONARY_DEFINITION};
+ghost use Rattle.weedle_grammar.specs.Table.OtherMembers.{DICTIONARY_MEMBER};
+ghost use Rattle.weedle_grammar.specs.Table.Symbols.{CLOSE_BRACE, OPEN_BRACE};
+ghost use Rattle.weedle_namespaces.specs.Trees.{braced_dictionary_members_tree, dictionary_definition_tree, dictionary_member_tree, partial_dictionary_definition_tree};
+
+use crate::part::NamespacePart;
+use std::alloc::Global;
+use weedle_build_base::{At, Build, BuildResult, Last, sequence};
+use weedle_build_types::{Attributes, Held};
+use weedle_literal::Default;
+use weedle_modifier::Inheritance;
+use weedle_namespaces::dictionary::{BracedDictionaryMembers, DictionaryMember};
+use weedle_namespaces::{DictionaryDefinition, PartialDictionaryDefinition};
+use weedle_parts::common::{Docstring, Identifier};
+use weedle_rules::{Ends, Rule};
+use weedle_term::{CloseBrace, Dictionary, OpenBrace, Partial, Required, SemiColon};
+use weedle_types::types::Type;
+
+impl<'a> Build<'a> for NamespacePart<DictionaryMember<'a>> {
+    type Value = DictionaryMember<'a>;
+
+    ghost fits = { λ r. r ≡ DICTIONARY_MEMBER };
+
+    ghost tree = { dictionary_member_tree };
+
+    fn build(
+        alloc: Global,
+        table: &Ends<'a>,
+        _rule: Rule,
+        at: At,
+    ) -> BuildResult<DictionaryMember<'a>> {
+        let (
+            (
+                docstring,
+                (attributes, (required, (type_, (identifier, (default, Last(semi_colon)))))),
+            ),
+            at,
+        ) = sequence::<
+            (
+                Option<Docstring>,
+                (
+                    Attributes<'a>,
+                    (
+                        Option<Required>,
+                        (
+                            Held<Type<'a>>,
+                            (Identifier<'a>, (Option<Default<'a>>, Last<SemiColon>)),
+                        ),
+                    ),
+                ),
+            ),
+        >(alloc, table, Rule::DICTIONARY_MEMBER, at)?;
+        Ok((
+            DictionaryMember {
+                docstring,
+                attributes,
+                required,
+                type_,
+                identifier,
+                default,
+                semi_colon,
+            },
+            at,
+        ))
+    }
+}
+
+impl<'a> Build<'a> for NamespacePart<BracedDictionaryMembers<'a>> {
+    type Value = BracedDictionaryMembers<'a>;
+
+    ghost fits = { λ r. fits_seq (bracket_fits OPEN_BRACE (many_fits (λ x. x ≡ DICTIONARY_MEMBER)) CLOSE_BRACE) (row_of_rule r) (shape_of r) };
+
+    ghost tree = { braced_dictionary_members_tree };
+
+    fn build(
+        alloc: Global,
+        table: &Ends<'a>,
+        rule: Rule,
+        at: At,
+    ) -> BuildResult<BracedDictionaryMembers<'a>> {
+        let ((open_brace, (body, Last(close_brace))), at) = sequence::<
+            (
+                OpenBrace,
+                (Vec<NamespacePart<DictionaryMember<'a>>>, Last<CloseBrace>),
+            ),
+        >(alloc, table, rule, at)?;
+        Ok((
+            BracedDictionaryMembers {
+                open_brace,
+                body,
+                close_brace,
+            },
+            at,
+        ))
+    }
+}
+
+impl<'a> Build<'a> for NamespacePart<DictionaryDefinition<'a>> {
+    type Value = DictionaryDefinition<'a>;
+
+    ghost fits = { λ r. r ≡ DICTIONARY_DEFINITION };
+
+    ghost tree = { dictionary_definition_tree };
+
+    fn build(
+        alloc: Global,
+        table: &Ends<'a>,
+        _rule: Rule,
+        at: At,
+    ) -> BuildResult<DictionaryDefinition<'a>> {
+        let (
+            (
+                docstring,
+                (
+                    attributes,
+                    (dictionary, (identifier, (inheritance, (members, Last(semi_colon))))),
+                ),
+            ),
+            at,
+        ) = sequence::<
+            (
+                Option<Docstring>,
+                (
+                    Attributes<'a>,
+                    (
+                        Dictionary,
+                        (
+                            Identifier<'a>,
+                            (
+                                Option<Inheritance<'a>>,
+                                (NamespacePart<BracedDictionaryMembers<'a>>, Last<SemiColon>),
+                            ),
+                        ),
+                    ),
+                ),
+            ),
+        >(alloc, table, Rule::DICTIONARY_DEFINITION, at)?;
+        Ok((
+            DictionaryDefinition {
+                docstring,
+                attributes,
+                dictionary,
+                identifier,
+                inheritance,
+                members,
+                semi_colon,
+            },
+            at,
+        ))
+    }
+}
+
+impl<'a> Build<'a> for NamespacePart<PartialDictionaryDefinition<'a>> {
+    type Value = PartialDictionaryDefinition<'a>;
+
+    ghost fits = { λ r. r ≡ PARTIAL_DICTIONARY_DEFINITION };
+
+    ghost tree = { partial_dictionary_definition_tree };
+
+    fn build(
+        alloc: Global,
+        table: &Ends<'a>,
+        _rule: Rule,
+        at: At,
+    ) -> BuildResult<PartialDictionaryDefinition<'a>> {
+        let ((attributes, (partial, (dictionary, (identifier, (members, Last(semi_colon)))))), at) =
+            sequence::<
+                (
+                    Attributes<'a>,
+                    (
+                        Partial,
+                        (
+                            Dictionary,
+                            (
+                                Identifier<'a>,
+                                (NamespacePart<BracedDictionaryMembers<'a>>, Last<SemiColon>),
+                            ),
+                        ),
+                    ),
+                ),
+            >(alloc, table, Rule::PARTIAL_DICTIONARY_DEFINITION, at)?;
+        Ok((
+            PartialDictionaryDefinition {
+                attributes,
+                partial,
+                dictionary,
+                identifier,
+                members,
+                semi_colon,
+            },
+            at,
+        ))
+    }
+}

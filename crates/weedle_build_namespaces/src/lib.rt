@@ -1,0 +1,10 @@
+//! The second pass over namespaces and dictionaries, and their members.
+//!
+//! [`NamespacePart`] stands for each of them as a part of others.
+#![tactic(auto)]
+
+mod dictionaries;
+mod namespaces;
+mod part;
+
+pub use part::NamespacePart;

@@ -1,0 +1,47 @@
+-- What a call of the recursive group needs of the calls before it, and what they give.
+use Rattle.std.proofs.Common.{◌≡◌, ℕ, ◌<◌, ◌≤◌, List, true, Some, refl, sym, subst, arith}
+use Rattle.weedle_grammar.specs.Rows.{If, Opt}
+use Rattle.weedle_grammar.specs.Table.{webidl, row_of, shape_of}
+use Rattle.weedle_grammar.specs.Trees.{Tree}
+use Rattle.weedle_grammar.specs.Meaning.{Plain}
+use Rattle.weedle_grammar.proofs.Takes.{takes}
+use Rattle.weedle_grammar.proofs.Checked.{ranked}
+use Rattle.weedle_grammar.proofs.Exists.{advances, grows}
+use Rattle.weedle_build_base.specs.Built.{Builds, Due, Rest}
+use Rattle.weedle_build_types.specs.Steps.{IsOption, IsPlace}
+use Rattle.weedle_rules.specs.Cells.{HasEnd}
+use Rattle.weedle_build_base.proofs.Finding.{found}
+use Rattle.weedle_build_base.proofs.Separated.{Listing}
+use Rattle.weedle_build_base.proofs.Sequences.{row_rest}
+
+-- what takes a byte ends behind its place
+pub behind : {text : List ℕ} {r p v q w : ℕ} {t : Tree} → takes r ≡ true → Builds text r t p v q w → p < q
+behind {text} {r} {p} {v} {q} {w} {t} e g = advances webidl text (λ x. x) takes ranked g.reads e
+
+-- nothing ends before its place
+pub not_before : {text : List ℕ} {r p v q w : ℕ} {t : Tree} → Builds text r t p v q w → p ≤ q
+not_before {text} {r} {p} {v} {q} {w} {t} g = grows webidl text g.reads
+
+-- where something is due, a character begins
+pub place_of : {text : List ℕ} {r p : ℕ} → Due text r p → IsPlace text p
+place_of d = record { utf8 = d.utf8; boundary = d.boundary }
+
+-- a rule that takes another, or nothing
+pub option_of : {x r : ℕ} → row_of r ≡ Opt x → shape_of r ≡ Plain → IsOption x r
+option_of row shape = record { row = row; shape = shape }
+
+-- the parts of a row whose last stands on a condition
+pub rest_of_if : {text rs : List ℕ} {r p k y : ℕ} → Due text r p → row_of r ≡ If rs k y → Rest text rs p
+rest_of_if {text} {rs} {r} {p} {k} {y} d row = row_rest d (If rs k y) row refl
+
+-- the same tree in other words
+pub builds_as : {text : List ℕ} {r p v q w : ℕ} {t u : Tree} → t ≡ u → Builds text r u p v q w → Builds text r t p v q w
+builds_as {text} {r} {p} {v} {q} {w} {t} {u} e g = subst (λ x. Builds text r x p v q w) (sym e) g
+
+-- an item behind a separator stands behind the place of the list
+pub listing_behind : {text : List ℕ} {x s p v : ℕ} {ts : List Tree} {q w k : ℕ} → takes s ≡ true → Listing text x s p v ts q w → HasEnd text s q (Some k) → p < k
+listing_behind {text} {x} {s} {p} {v} {ts} {q} {w} {k} t h e =
+    let f = found e in
+    let a : q < k = advances webidl text (λ x. x) takes ranked f.reads t in
+    let b : p ≤ h.place = grows webidl text h.head.reads in
+    omega (arith, h.tail.after)

@@ -1,0 +1,30 @@
+//! An optional part of a rule.
+
+ghost use Rattle.std.specs.Prelude.{ℕ};
+ghost use Rattle.weedle_base.specs.Rules.{option_tree};
+ghost use Rattle.weedle_build_base.specs.Built.{Answers};
+ghost use Rattle.weedle_build_types.specs.Steps.{IsOption, IsPlace};
+
+use std::alloc::Global;
+use weedle_build_base::{At, Build, BuildResult, visit};
+use weedle_rules::{Ends, Rule};
+
+/// Builds what stands at a place of a rule that takes the item or nothing.
+pub(crate) fn optional<'a, T: Build<'a>>(
+    alloc: Global,
+    table: &Ends<'a>,
+    item: Rule,
+    at: At,
+) -> BuildResult<Option<T::Value>>
+    requires fit { T.fits item }
+    requires place { IsPlace table.now.text at.place }
+    ensures { (r : ℕ) → IsOption item r → Answers table.now.text r (option_tree T.tree) at.place at.visits result }
+{
+    match table.end(item, at.place) {
+        Some(_) => {
+            let (value, end) = T::build(alloc, table, item, at)?;
+            Ok((Some(value), visit(end)))
+        }
+        None => Ok((None, visit(at))),
+    }
+}

@@ -1,0 +1,105 @@
+//! Unions.
+
+ghost use Rattle.weedle_parts.specs.ValueTrees.{may_be_null_tree};
+ghost use Rattle.weedle_grammar.specs.Table.Types.{LIST_UNION_MEMBER_TYPE_OR, MAY_BE_NULL_UNION_TYPE, UNION_MEMBER_TYPE, UNION_TYPE};
+ghost use Rattle.weedle_types.specs.Trees.{union_member_type_tree, union_member_types_tree, union_type_tree};
+ghost use Rattle.weedle_build_base.specs.Built.{Answers, Due};
+
+use super::kinds::attributed_non_any_type;
+use super::steps::optional;
+use std::alloc::Global;
+use weedle_build_base::{At, Build, BuildResult, choice, visit};
+use weedle_parts::common::{Parenthesized, Punctuated};
+use weedle_parts::types::MayBeNull;
+use weedle_rules::{Ends, Rule};
+use weedle_term::{CloseParen, OpenParen, Or, QMark};
+use weedle_types::types::{UnionMemberType, UnionType};
+
+/// Builds a union, as `(long or DOMString)`.
+#[cycle(group)]
+pub(crate) fn union_type<'a>(alloc: Global, table: &Ends<'a>, at: At) -> BuildResult<UnionType<'a>>
+    requires { Due table.now.text UNION_TYPE at.place }
+    ensures { Answers table.now.text UNION_TYPE union_type_tree at.place at.visits result }
+{
+    let (open_paren, at) = OpenParen::build(alloc, table, Rule::OPEN_PAREN, at)?;
+    let (body, at) = union_member_types(alloc, table, at)?;
+    let (close_paren, at) = CloseParen::build(alloc, table, Rule::CLOSE_PAREN, at)?;
+    Ok((
+        Parenthesized {
+            open_paren,
+            body,
+            close_paren,
+        },
+        visit(at),
+    ))
+}
+
+/// Builds a union that may be null.
+#[cycle(group)]
+pub(crate) fn nullable_union_type<'a>(
+    alloc: Global,
+    table: &Ends<'a>,
+    at: At,
+) -> BuildResult<MayBeNull<UnionType<'a>>>
+    requires { Due table.now.text MAY_BE_NULL_UNION_TYPE at.place }
+    ensures { Answers table.now.text MAY_BE_NULL_UNION_TYPE (may_be_null_tree union_type_tree) at.place at.visits result }
+{
+    let (type_, at) = union_type(alloc, table, at)?;
+    let (q_mark, at) = optional::<QMark>(alloc, table, Rule::Q_MARK, at)?;
+    Ok((MayBeNull { type_, q_mark }, visit(at)))
+}
+
+/// Builds a member of a union, as `[Clamp] octet`.
+#[cycle(group)]
+pub(crate) fn union_member_type<'a>(
+    alloc: Global,
+    table: &Ends<'a>,
+    at: At,
+) -> BuildResult<UnionMemberType<'a>>
+    requires { Due table.now.text UNION_MEMBER_TYPE at.place }
+    ensures { Answers table.now.text UNION_MEMBER_TYPE union_member_type_tree at.place at.visits result }
+{
+    match choice(table, Rule::UNION_MEMBER_TYPE, at.place) {
+        0 => {
+            let (member, at) = attributed_non_any_type(alloc, table, at)?;
+            Ok((UnionMemberType::Single(member), visit(at)))
+        }
+        1 => {
+            let (member, at) = nullable_union_type(alloc, table, at)?;
+            Ok((UnionMemberType::Union(member), visit(at)))
+        }
+        _ => unreachable!(),
+    }
+}
+
+/// Builds the members of a union, as `long or DOMString`, none included.
+#[cycle(group)]
+pub(crate) fn union_member_types<'a>(
+    alloc: Global,
+    table: &Ends<'a>,
+    at: At,
+) -> BuildResult<Punctuated<UnionMemberType<'a>, Or>>
+    requires { Due table.now.text LIST_UNION_MEMBER_TYPE_OR at.place }
+    ensures { Answers table.now.text LIST_UNION_MEMBER_TYPE_OR union_member_types_tree at.place at.visits result }
+{
+    let mut list = Vec::new(alloc);
+    let separator = Or;
+    let Some(_) = table.end(Rule::UNION_MEMBER_TYPE, at.place) else {
+        return Ok((Punctuated { list, separator }, visit(at)));
+    };
+    let (first, mut here) = union_member_type(alloc, table, at)?;
+    list.push(first)?;
+    while let Some(behind) = table.end(Rule::OR, here.place) {
+        let Some(_) = table.end(Rule::UNION_MEMBER_TYPE, behind) else {
+            return Ok((Punctuated { list, separator }, visit(here)));
+        };
+        let start = At {
+            place: behind,
+            visits: here.visits,
+        };
+        let (value, next) = union_member_type(alloc, table, start)?;
+        list.push(value)?;
+        here = next;
+    }
+    Ok((Punctuated { list, separator }, visit(here)))
+}

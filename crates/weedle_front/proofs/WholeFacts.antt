@@ -1,0 +1,76 @@
+-- What the building of a list says of the whole text.
+use Rattle.std.proofs.Common.{refl, ap, subst, arith}
+use Rattle.std.proofs.lemmas.List.{length-drop, take_all}
+use Rattle.std.specs.Borrow.{Bor}
+use Rattle.std.specs.Global.{Vec}
+use Rattle.std.specs.Prelude.{◌≡◌, ℕ, ◌-◌, ◌<◌, ◌≤◌, List, [], ◌∷◌, length, drop, Result, Ok, Err as Failed, IfOk}
+use Rattle.weedle_base.specs.declared.fault.Err.{Err as Fault}
+use Rattle.weedle_base.specs.declared.fault.Err.TheVariants.{Error as Stopped, Failure}
+use Rattle.weedle_base.specs.declared.fault.Error.{Error}
+use Rattle.weedle_build_base.specs.Whole.{IsBuilt}
+use Rattle.weedle_grammar.proofs.Exists.{stays_inside}
+use Rattle.weedle_grammar.proofs.Unique.{one_outcome}
+use Rattle.weedle_grammar.specs.Meaning.{between}
+use Rattle.weedle_grammar.specs.Table.{webidl, Reads}
+use Rattle.weedle_grammar.specs.Table.Definitions.{DEFINITIONS}
+use Rattle.weedle_grammar.specs.Trees.{Tree, Gives}
+use Rattle.weedle_idl.specs.DefinitionTrees.{definitions_tree}
+use Rattle.weedle_idl.specs.declared.definition.Definition.{Definition}
+use Rattle.weedle_spell.specs.Laws.{SpellsValues, Spells}
+use Rattle.weedle_spell.specs.Pieces.{IsInPieces}
+use Rattle.weedle_spell_idl.specs.Definitions.{definitions_spelling}
+use Rattle.weedle_front.specs.Whole.{IsWhole, IsLeft, ParseAnswers, WholeOf, SpellsList, HasTexts}
+
+module _ {raw rest : List ℕ} {visits : ℕ} (list : Vec Definition) (h : IsBuilt raw (definitions_tree list.items) rest visits) where
+  size : length rest ≡ length (drop h.end raw)
+  size = ap length h.rest_is
+
+  within : h.end ≤ length raw
+  within = stays_inside webidl raw h.reads (omega arith)
+
+  -- nothing is left: the text is read whole
+  whole : length rest ≡ 0 → IsWhole raw list.items
+  unfolding IsWhole
+  whole e =
+      let place : h.end ≡ length raw = omega (arith, e, size, length-drop h.end raw, within) in
+      subst (λ (i : ℕ). Reads raw DEFINITIONS 0 (Gives (definitions_tree list.items ∷ []) i)) place h.reads
+
+  same_end : {t u : Tree} {k l : ℕ} → Gives (t ∷ []) k ≡ Gives (u ∷ []) l → k ≡ l
+  same_end e = cc
+
+  not_whole : 0 < length rest → (definitions : List Definition) → ¬ IsWhole raw definitions
+  unfolding IsWhole
+  not_whole more definitions d =
+      let place : h.end ≡ length raw = same_end (one_outcome h.reads d refl) in
+      omega (arith, more, place, size, length-drop h.end raw)
+
+  is_left : IsLeft raw rest
+  unfolding IsLeft
+  is_left = (_, h.end, h.reads, h.rest_is)
+
+  -- what is built is the answer where nothing is left, and else what is left is
+  pub built_answers : (r : Result (Vec Definition) (Fault (Error (Bor (List ℕ))))) → WholeOf list rest r → ParseAnswers raw r
+  built_answers (Ok v) e = rw e.0 (whole e.1)
+  built_answers (Failed (Stopped e)) left = record {
+    refused = not_whole left.2;
+    code = left.0;
+    left = rw left.1 is_left;
+    nonempty = rw left.1 left.2;
+    within = omega (arith, ap length left.1, size, length-drop h.end raw);
+  }
+  built_answers (Failed (Failure e)) h = absurd h
+
+whole_text : (raw : List ℕ) → between raw 0 (length raw) ≡ raw
+whole_text raw = take_all (length raw - 0) raw (omega arith)
+
+-- a text that is read whole spells what it is read as, by the law of definitions
+module _ (law : SpellsValues DEFINITIONS definitions_tree definitions_spelling) (raw : List ℕ) where
+  pub whole_spells : (r : Result (Vec Definition) (Fault (Error (Bor (List ℕ))))) → ParseAnswers raw r → IfOk r (λ v. SpellsList raw v.items)
+  unfolding IsWhole SpellsList
+  whole_spells (Ok v) d = subst (Spells definitions_spelling v.items) (whole_text raw) (law.spells v.items raw 0 (length raw) d)
+  whole_spells (Failed e) d = tt
+
+  pub whole_texts : (r : Result (Vec Definition) (Fault (Error (Bor (List ℕ))))) → ParseAnswers raw r → IfOk r (λ v. HasTexts raw v.items)
+  unfolding IsWhole HasTexts
+  whole_texts (Ok v) d = subst (IsInPieces (definitions_tree v.items)) (whole_text raw) (law.in_pieces v.items raw 0 (length raw) d)
+  whole_texts (Failed e) d = tt

@@ -1,0 +1,10 @@
+use Rattle.std.proofs.Common.{length, ◌-◌, ◌≤◌, take}
+use Rattle.std.specs.Io.KnownBytes.{Appends}
+use Rattle.weedle_front.proofs.program.write_through.Given as goal
+
+abbrev pub invariant-writes : goal.invariant-writes
+invariant-writes g l =
+    (l.sent ≤ length l.bytes) × Appends (g.W.Write.contents l.fn.writer) (g.W.Write.contents l.writer) (take l.sent l.bytes)
+
+abbrev pub decreases-writes : goal.decreases-writes
+decreases-writes g l = length l.bytes - l.sent

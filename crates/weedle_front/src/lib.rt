@@ -1,0 +1,27 @@
+//! Whole texts: the list of their definitions, and the programs over it.
+//!
+//! [`parse`] reads a text as a list of definitions, or says from where on it is none. [`run`] is
+//! the program: it reads a reader to its end, and writes what the text defines.
+//!
+//! ```rust
+//! use weedle_front::{name_of, parse};
+//!
+//! let text = "interface Window { readonly attribute Storage sessionStorage; };";
+//! for definition in parse(rt.alloc(), text)? {
+//!     assert_eq!(rt; name_of(&definition), "Window");
+//! }
+//! ```
+//!
+//! The port's name for this is `weedle`, which has all types under one path too.
+#![tactic(auto)]
+
+mod entries;
+mod program;
+mod reader;
+mod report;
+mod titles;
+
+pub use entries::{Entry, outline};
+pub use program::{RunFault, Status, run, run_outline};
+pub use reader::{Counted, parse, parse_counted};
+pub use titles::{kind_of, name_of};

@@ -1,0 +1,34 @@
+//! Longer texts, made of parts.
+
+use std::alloc::{AllocError, Global};
+
+/// Attributes within attributes, to so many levels, before an interface: `[A([A(a... b)] a... b)] interface I {};`
+/// has one.
+pub fn nested_attributes(alloc: Global, levels: usize) -> Result<String, AllocError> {
+    let mut text = String::new(alloc);
+    for _ in 0..levels {
+        text.push_str("[A(")?;
+    }
+    text.push_str("[A(a... b")?;
+    for _ in 0..levels {
+        text.push_str(")] a... b")?;
+    }
+    text.push_str(")] interface I {};")?;
+    Ok(text)
+}
+
+/// A text with a part of it so many times.
+pub fn repeated(
+    alloc: Global,
+    front: &str,
+    part: &str,
+    times: usize,
+    back: &str,
+) -> Result<String, AllocError> {
+    let mut text = String::from_str(alloc, front)?;
+    for _ in 0..times {
+        text.push_str(part)?;
+    }
+    text.push_str(back)?;
+    Ok(text)
+}

@@ -1,0 +1,170 @@
+//! Each request for memory refused in turn: types, attributes and arguments.
+
+use std::test::Fail;
+use weedle_answers::Wanted;
+use weedle_types::argument::{Argument, ArgumentList};
+use weedle_types::attribute::{ExtendedAttribute, ExtendedAttributeList};
+use weedle_types::types::{RecordType, SequenceType, Type, UnionMemberType};
+
+#[test]
+fn types_are_read_and_copied_or_want_memory(rt: HostRuntime) -> Result<(), Fail> {
+    let alloc = rt.alloc();
+    let mut wanted = Wanted::new();
+    wanted.reads::<SequenceType<'_>>(
+        alloc,
+        &[(
+            "sequence<short>",
+            "SequenceType { sequence: Sequence, generics: Generics { open_angle: LessThan, \
+             body: Single(NonAny(Integer(MayBeNull { \
+             type_: Short(ShortType { unsigned: None, short: Short }), q_mark: None }))), \
+             close_angle: GreaterThan } }",
+        )],
+    )?;
+    wanted.reads::<RecordType<'_>>(
+        alloc,
+        &[(
+            "record<u64, short>",
+            "RecordType { record_: Record, generics: Generics { open_angle: LessThan, \
+             body: RecordTypes(NonAny(Identifier(MayBeNull { type_: Identifier(\"u64\"), \
+             q_mark: None })), Comma, Single(NonAny(Integer(MayBeNull { \
+             type_: Short(ShortType { unsigned: None, short: Short }), q_mark: None })))), \
+             close_angle: GreaterThan } }",
+        )],
+    )?;
+    wanted.reads::<Type<'_>>(
+        alloc,
+        &[
+            (
+                "Promise<long>",
+                "Single(NonAny(Promise(PromiseType { promise: Promise, \
+                 generics: Generics { open_angle: LessThan, \
+                 body: Type_(Single(NonAny(Integer(MayBeNull { \
+                 type_: Long(LongType { unsigned: None, long: Long }), q_mark: None })))), \
+                 close_angle: GreaterThan } })))",
+            ),
+            (
+                "(short or float)",
+                "Union(MayBeNull { type_: Parenthesized { open_paren: OpenParen, \
+                 body: Punctuated { list: [Single(AttributedNonAnyType { attributes: None, \
+                 type_: Integer(MayBeNull { type_: Short(ShortType { unsigned: None, \
+                 short: Short }), q_mark: None }) }), \
+                 Single(AttributedNonAnyType { attributes: None, \
+                 type_: FloatingPoint(MayBeNull { type_: Float(FloatType { unrestricted: None, \
+                 float: Float }), q_mark: None }) })], separator: Or }, close_paren: CloseParen }, \
+                 q_mark: None })",
+            ),
+        ],
+    )?;
+    assert!(rt; wanted.tell(&rt, alloc));
+    Ok(())
+}
+
+#[test]
+fn members_of_unions_are_read_and_copied_or_want_memory(rt: HostRuntime) -> Result<(), Fail> {
+    let alloc = rt.alloc();
+    let mut wanted = Wanted::new();
+    wanted.reads::<UnionMemberType<'_>>(
+        alloc,
+        &[(
+            "([Clamp] unsigned long or byte)",
+            "Union(MayBeNull { type_: Parenthesized { open_paren: OpenParen, \
+             body: Punctuated { list: [Single(AttributedNonAnyType { \
+             attributes: Some(Bracketed { open_bracket: OpenBracket, \
+             body: Punctuated { list: \
+             [NoArgs(ExtendedAttributeNoArgs(Identifier(\"Clamp\")))], separator: Comma }, \
+             close_bracket: CloseBracket }), type_: Integer(MayBeNull { \
+             type_: Long(LongType { unsigned: Some(Unsigned), long: Long }), \
+             q_mark: None }) }), Single(AttributedNonAnyType { attributes: None, \
+             type_: Byte(MayBeNull { type_: Byte, q_mark: None }) })], separator: Or }, \
+             close_paren: CloseParen }, q_mark: None })",
+        )],
+    )?;
+    assert!(rt; wanted.tell(&rt, alloc));
+    Ok(())
+}
+
+#[test]
+fn attributes_are_read_and_copied_or_want_memory(rt: HostRuntime) -> Result<(), Fail> {
+    let alloc = rt.alloc();
+    let mut wanted = Wanted::new();
+    wanted.reads::<ExtendedAttribute<'_>>(
+        alloc,
+        &[
+            (
+                "NamedConstructor=Image(DOMString src)",
+                "NamedArgList(ExtendedAttributeNamedArgList { \
+                 lhs_identifier: Identifier(\"NamedConstructor\"), assign: Assign, \
+                 rhs_identifier: Identifier(\"Image\"), \
+                 args: ParenthesizedArgumentList { open_paren: OpenParen, \
+                 body: Punctuated { list: [Single(SingleArgument { attributes: None, \
+                 optional: None, type_: AttributedType { attributes: None, \
+                 type_: Single(NonAny(DOMString(MayBeNull { type_: DOMString, q_mark: None }))) }, \
+                 identifier: Identifier(\"src\"), default: None })], separator: Comma }, \
+                 close_paren: CloseParen } })",
+            ),
+            (
+                "Exposed=(Window,Worker)",
+                "IdentList(ExtendedAttributeIdentList { identifier: Identifier(\"Exposed\"), \
+                 assign: Assign, list: Parenthesized { open_paren: OpenParen, \
+                 body: Punctuated { list: [Identifier(\"Window\"), Identifier(\"Worker\")], \
+                 separator: Comma }, close_paren: CloseParen } })",
+            ),
+        ],
+    )?;
+    wanted.reads::<ExtendedAttributeList<'_>>(
+        alloc,
+        &[(
+            "[]",
+            "Bracketed { open_bracket: OpenBracket, \
+             body: Punctuated { list: [], separator: Comma }, close_bracket: CloseBracket }",
+        )],
+    )?;
+    assert!(rt; wanted.tell(&rt, alloc));
+    Ok(())
+}
+
+/// An argument that could be read as no other where its attributes were dropped: `[A] long... x`.
+#[test]
+fn arguments_are_read_and_copied_or_want_memory(rt: HostRuntime) -> Result<(), Fail> {
+    let alloc = rt.alloc();
+    let mut wanted = Wanted::new();
+    wanted.reads::<Argument<'_>>(
+        alloc,
+        &[
+            (
+                "[A] long... x",
+                "Variadic(VariadicArgument { attributes: Some(Bracketed { \
+                 open_bracket: OpenBracket, body: Punctuated { list: \
+                 [NoArgs(ExtendedAttributeNoArgs(Identifier(\"A\")))], separator: Comma }, \
+                 close_bracket: CloseBracket }), type_: Single(NonAny(Integer(MayBeNull { \
+                 type_: Long(LongType { unsigned: None, long: Long }), q_mark: None }))), \
+                 ellipsis: Ellipsis, identifier: Identifier(\"x\") })",
+            ),
+            (
+                "optional long x = 5",
+                "Single(SingleArgument { attributes: None, optional: Some(Optional), \
+                 type_: AttributedType { attributes: None, \
+                 type_: Single(NonAny(Integer(MayBeNull { \
+                 type_: Long(LongType { unsigned: None, long: Long }), q_mark: None }))) }, \
+                 identifier: Identifier(\"x\"), default: Some(Default { assign: Assign, \
+                 value: Integer(Dec(DecLit(\"5\"))) }) })",
+            ),
+        ],
+    )?;
+    wanted.reads::<ArgumentList<'_>>(
+        alloc,
+        &[
+            ("", "Punctuated { list: [], separator: Comma }"),
+            (
+                "long x",
+                "Punctuated { list: [Single(SingleArgument { attributes: None, optional: None, \
+                 type_: AttributedType { attributes: None, \
+                 type_: Single(NonAny(Integer(MayBeNull { \
+                 type_: Long(LongType { unsigned: None, long: Long }), q_mark: None }))) }, \
+                 identifier: Identifier(\"x\"), default: None })], separator: Comma }",
+            ),
+        ],
+    )?;
+    assert!(rt; wanted.tell(&rt, alloc));
+    Ok(())
+}

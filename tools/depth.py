@@ -1,0 +1,85 @@
+#!/usr/bin/env python3
+"""Says how deep a program reads definitions that hold one another.
+
+    python3 tools/depth.py PROGRAM [ARGUMENT..]
+
+The program reads standard input to its end and ends with status 0 where it has read it, as crates/weedle_list/out/weedle_list
+does by `parse`, once `rt run` has built it. With `--direct` in front it is one that reads by direct descent, as
+crates/weedle_speed/out/weedle_speed does with the argument `-`, and isn't given attributes, which take such a reader twice
+as long at each level.
+
+Of each family the deepest text that is read is looked for, between one that is and one at which the program dies for
+want of stack: it has 8 MB (or what STACK says, in KB).
+"""
+
+import os
+import resource
+import subprocess
+import sys
+
+STACK = int(os.environ.get("STACK", "8192")) * 1024
+MOST = 1 << 20
+
+
+def typedef(front, back):
+    return lambda depth: f"typedef {front * depth}long{back * depth} x;"
+
+
+def attributes(depth):
+    return "[A(" * (depth + 1) + "a... b" + ")] a... b" * depth + ")] interface I {};"
+
+
+FAMILIES = {
+    "sequences": typedef("sequence<", ">"),
+    "promises": typedef("Promise<", ">"),
+    "keys of records": typedef("record<", ", long>"),
+    "unions": typedef("(", " or a)"),
+    "arguments in attributes": attributes,
+}
+
+
+def limit():
+    resource.setrlimit(resource.RLIMIT_STACK, (STACK, STACK))
+    resource.setrlimit(resource.RLIMIT_CORE, (0, 0))
+
+
+def is_read(program, text):
+    """Whether the program reads the text: no more stack than it has is needed."""
+    ended = subprocess.run(
+        program, input=text.encode(), preexec_fn=limit, stdout=subprocess.DEVNULL, stderr=subprocess.DEVNULL
+    )
+    if ended.returncode == 1:
+        sys.exit("a text of this family is unread, or the program can't be run")
+    if ended.returncode == 3:
+        sys.exit("memory is wanted")
+    return ended.returncode == 0
+
+
+def deepest(program, text_of):
+    read, unread = 0, 1
+    while unread < MOST and is_read(program, text_of(unread)):
+        read, unread = unread, unread * 2
+    if unread >= MOST:
+        return f"{read} and more"
+    while unread - read > max(1, read // 200):
+        middle = (read + unread) // 2
+        if is_read(program, text_of(middle)):
+            read = middle
+        else:
+            unread = middle
+    return str(read)
+
+
+def main(arguments):
+    is_direct = arguments[:1] == ["--direct"]
+    program = arguments[1:] if is_direct else arguments
+    if not program:
+        sys.exit(__doc__)
+    for name, text_of in FAMILIES.items():
+        if is_direct and text_of is attributes:
+            continue
+        print(f"{name}: {deepest(program, text_of)}", flush=True)
+
+
+if __name__ == "__main__":
+    main(sys.argv[1:])

@@ -1,0 +1,76 @@
+#!/usr/bin/env python3
+"""Refuses the tests of the modules `requests`, and others named `.._or_want_memory`, each of their requests for memory.
+
+Of each test it refuses the first request in the first run, the second in the second, up to the run in which none of its
+calls has one left. In each run before that the test has to pass and to say that a call wanted memory: a call that goes
+on behind a refusal would say nothing. Tests that are named `no_..` make no request at all.
+
+Run `rt test` in the folders of the crates first, which builds their tests. Then, at the top of the repository:
+
+    python3 tools/refused_requests.py
+
+It takes names of crates too. A C compiler has to be there, as `cc`, for tools/refuse_request.c. For one N,
+`rt try --test --fail-alloc N` in a crate's folder does the same without it, and needs no proof.
+"""
+
+import os
+import subprocess
+import sys
+import tempfile
+from pathlib import Path
+
+CRATES = (
+    "weedle_table_rows",
+    "weedle_leaf_rows",
+    "weedle_type_rows",
+    "weedle_member_rows",
+    "weedle_rows",
+    "weedle_program_rows",
+)
+WANTED = "a call wanted memory"
+BEHIND = "a request behind the calls was refused"
+MOST = 10_000
+
+
+def tests_of(program):
+    listed = subprocess.run([program, "--list"], capture_output=True, text=True, check=True).stdout
+    names = [line.rsplit(": ", 1)[0] for line in listed.splitlines() if line.endswith(": test")]
+    return [name for name in names if name.startswith("requests::") or name.endswith("_or_want_memory")]
+
+
+def run(program, test, library, number):
+    env = {**os.environ, "LD_PRELOAD": library, "REFUSED_REQUEST": str(number)}
+    ended = subprocess.run([program, test], capture_output=True, text=True, env=env)
+    return ended.returncode, ended.stdout + ended.stderr
+
+
+def sweep(program, test, library):
+    """How many requests of the test's calls were refused, one a run."""
+    for number in range(1, MOST):
+        status, said = run(program, test, library, number)
+        if status == 0 and WANTED in said:
+            continue
+        if status == 0 and BEHIND in said:
+            return number - 1
+        sys.exit(f"{test}, request {number}: status {status}\n{said}")
+    sys.exit(f"{test}: no end after {MOST} requests")
+
+
+def main(crates):
+    with tempfile.TemporaryDirectory() as folder:
+        library = f"{folder}/refuse_request.so"
+        build = ["cc", "-O2", "-shared", "-fPIC", "-o", library, "tools/refuse_request.c", "-ldl"]
+        subprocess.run(build, check=True)
+        for crate in crates:
+            program = Path(f"crates/{crate}/out/{crate}_tests").resolve()
+            if not program.is_file():
+                sys.exit(f"{program} isn't built: run rt test in crates/{crate}")
+            for test in tests_of(program):
+                count = sweep(program, test, library)
+                if "::no_" in test and count:
+                    sys.exit(f"{crate} {test}: {count} requests, where none should be made")
+                print(f"{crate} {test}: {count} requests, each refused once")
+
+
+if __name__ == "__main__":
+    main(sys.argv[1:] or CRATES)
