@@ -166,7 +166,7 @@ FILES = [
          Struct("SingleTypedIterable", "one type", ATTRIBUTES, ("iterable", word("Iterable")), ONE, SEMI_COLON),
          Struct("DoubleTypedIterable", "two types", ATTRIBUTES, ("iterable", word("Iterable")), TWO, SEMI_COLON),
          Enum("IterableInterfaceMember", "either", *owned(("Single", "SingleTypedIterable"), ("Double", "DoubleTypedIterable")))),
-    File("iterables", "AsyncIterableRules", "async_iterable", "Asynchronous iterations.",
+    File("async_iterables", "AsyncIterableRules", "async_iterable", "Asynchronous iterations.",
          Struct("SingleTypedAsyncIterable", "one type", ATTRIBUTES, ASYNC_ITERABLE, ONE, ("args", shared("optional_arguments", "(Option ParenthesizedArgumentList)")),
                 SEMI_COLON),
          Struct("DoubleTypedAsyncIterable", "two types", ATTRIBUTES, ASYNC_ITERABLE, TWO, ("args", shared("optional_arguments", "(Option ParenthesizedArgumentList)")),
@@ -243,8 +243,9 @@ FILES = [
 ]
 
 # Where each name stands.
-BASE, CHOICE, TERM, PARTS, LITERAL, TYPES, ITERABLES, STATEMENTS, INTERFACES, IDL, GRAMMAR = (
-    f"Rattle.weedle_{x}" for x in ("base", "choice", "term", "parts", "literal", "types", "iterables", "statements", "interfaces", "idl", "grammar")
+BASE, CHOICE, TERM, PARTS, LITERAL, TYPES, ASYNC_ITERABLES, STATEMENTS, INTERFACES, IDL, GRAMMAR = (
+    f"Rattle.weedle_{x}"
+    for x in ("base", "choice", "term", "parts", "literal", "types", "async_iterables", "statements", "interfaces", "idl", "grammar")
 )
 HOMES = {
     "Rattle.std.proofs.Common": "refl inl inr",
@@ -282,9 +283,10 @@ HOMES = {
     f"{TYPES}.specs.declared.formers.ReturnType": "ReturnType",
     f"{TYPES}.specs.PartTrees": "Attributes members_tree",
     f"{TYPES}.proofs.SharedRules": "word perhaps attributes_reading attributes_rule members_reading members_rule",
-    f"{ITERABLES}.specs.PartTrees": "OneType TwoTypes AsyncIterable optional_arguments_tree one_type_tree two_types_tree async_iterable_tree",
-    f"{ITERABLES}.proofs.PartRules": "optional_arguments_reading optional_arguments_rule one_type_reading one_type_rule two_types_reading "
-                                     "two_types_rule async_iterable_reading async_iterable_rule",
+    f"{TYPES}.specs.GenericsTrees": "OneType TwoTypes one_type_tree two_types_tree",
+    f"{TYPES}.proofs.GenericsRules": "one_type_reading one_type_rule two_types_reading two_types_rule",
+    f"{ASYNC_ITERABLES}.specs.PartTrees": "AsyncIterable optional_arguments_tree async_iterable_tree",
+    f"{ASYNC_ITERABLES}.proofs.PartRules": "optional_arguments_reading optional_arguments_rule async_iterable_reading async_iterable_rule",
     f"{STATEMENTS}.specs.Trees": "EnumValues enum_values_tree",
     f"{STATEMENTS}.proofs.EnumValueRules": "enum_values_reading enum_values_rule",
     f"{GRAMMAR}.specs.Trees": "Mark Node Alt trees",

@@ -24,7 +24,7 @@ CRATES = (
     "weedle_leaf_rows",
     "weedle_type_rows",
     "weedle_member_rows",
-    "weedle_rows",
+    "weedle_bound_rows",
     "weedle_program_rows",
 )
 WANTED = "a call wanted memory"

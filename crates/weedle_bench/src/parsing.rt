@@ -5,8 +5,8 @@ ghost use Rattle.std.specs.Prelude.{◌≡◌};
 use anyhow::anyhow;
 use std::alloc::{AllocError, Global};
 use std::time::Instant;
-use weedle::parse;
 use weedle_build::build_definitions;
+use weedle_front::parse;
 use weedle_rules::Ends;
 
 /// How many nanoseconds `parse` takes for the text.

@@ -12,6 +12,7 @@ ghost use Rattle.weedle_interfaces.specs.Trees.{braced_interface_members_tree, c
 
 use crate::part::InterfacePart;
 use std::alloc::Global;
+use weedle_async_iterables::AsyncIterableInterfaceMember;
 use weedle_build_base::{At, Build, BuildResult, Last, alternative, choice, sequence};
 use weedle_build_members::MemberPart;
 use weedle_build_types::Attributes;
@@ -19,10 +20,7 @@ use weedle_interfaces::{
     BracedInterfaceMembers, CallbackInterfaceDefinition, InterfaceDefinition, InterfaceMember,
     PartialInterfaceDefinition,
 };
-use weedle_iterables::{
-    AsyncIterableInterfaceMember, IterableInterfaceMember, MaplikeInterfaceMember,
-    SetlikeInterfaceMember,
-};
+use weedle_iterables::{IterableInterfaceMember, MaplikeInterfaceMember, SetlikeInterfaceMember};
 use weedle_members::{
     AttributeInterfaceMember, ConstMember, ConstructorInterfaceMember, OperationInterfaceMember,
     StringifierMember,

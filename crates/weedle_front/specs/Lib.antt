@@ -1,5 +1,3 @@
 pub mod Counts
-pub mod Outline
-pub mod Report
-pub mod Titles
+pub mod Run
 pub mod Whole

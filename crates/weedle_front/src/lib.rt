@@ -4,7 +4,8 @@
 //! the program: it reads a reader to its end, and writes what the text defines.
 //!
 //! ```rust
-//! use weedle_front::{name_of, parse};
+//! use weedle_front::parse;
+//! use weedle_report::name_of;
 //!
 //! let text = "interface Window { readonly attribute Storage sessionStorage; };";
 //! for definition in parse(rt.alloc(), text)? {
@@ -15,13 +16,8 @@
 //! The port's name for this is `weedle`, which has all types under one path too.
 #![tactic(auto)]
 
-mod entries;
 mod program;
 mod reader;
-mod report;
-mod titles;
 
-pub use entries::{Entry, outline};
 pub use program::{RunFault, Status, run, run_outline};
 pub use reader::{Counted, parse, parse_counted};
-pub use titles::{kind_of, name_of};

@@ -3,14 +3,15 @@ ghost use Rattle.std.specs.Prelude.{◌≡◌, ◌≢◌, IfOk, IfErr, OnOk, OnE
 ghost use Rattle.std.specs.Io.KnownBytes.{Keeps, Appends};
 ghost use Rattle.std.specs.IoError.{error_kind};
 ghost use Rattle.weedle_front.specs.declared.program.RunFault.TheVariants.{Memory};
-ghost use Rattle.weedle_front.specs.Outline.{outline_report};
-ghost use Rattle.weedle_front.specs.Report.{IsReport, Reports, ReportsPart, ReadsNoText, AppendsPart, whole_report};
+ghost use Rattle.weedle_front.specs.Run.{IsReport, Reports, ReportsPart, ReadsNoText, AppendsPart};
+ghost use Rattle.weedle_report.specs.Outline.{outline_report};
+ghost use Rattle.weedle_report.specs.Report.{whole_report};
 
 use crate::reader::parse;
-use crate::report::{Outlines, Report, Titles};
 use std::alloc::{AllocError, Global};
 use std::io;
 use std::io::{ErrorKind, Read, Write};
+use weedle_report::{Outlines, Report, Titles};
 
 /// Whether the grammar read the whole text.
 #[derive(Clone, Copy, Debug, PartialEq, Eq)]

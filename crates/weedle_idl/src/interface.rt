@@ -1,10 +1,12 @@
 //! The members of interfaces.
 
+pub use weedle_async_iterables::{
+    AsyncIterableInterfaceMember, DoubleTypedAsyncIterable, SingleTypedAsyncIterable,
+};
 pub use weedle_interfaces::{BracedInterfaceMembers, InterfaceMember, InterfaceMembers};
 pub use weedle_iterables::{
-    AsyncIterableInterfaceMember, DoubleTypedAsyncIterable, DoubleTypedIterable,
-    IterableInterfaceMember, MaplikeInterfaceMember, SetlikeInterfaceMember,
-    SingleTypedAsyncIterable, SingleTypedIterable,
+    DoubleTypedIterable, IterableInterfaceMember, MaplikeInterfaceMember, SetlikeInterfaceMember,
+    SingleTypedIterable,
 };
 pub use weedle_members::{
     AttributeInterfaceMember, ConstMember, ConstructorInterfaceMember, OperationInterfaceMember,

@@ -8,7 +8,8 @@ use Rattle.weedle_interfaces.specs.declared.definition.PartialInterfaceDefinitio
 use Rattle.weedle_interfaces.specs.declared.member.InterfaceMember.TheVariants.{Const as InterfaceMember-Const, Attribute as InterfaceMember-Attribute, Constructor as InterfaceMember-Constructor, Operation as InterfaceMember-Operation, Iterable as InterfaceMember-Iterable, AsyncIterable as InterfaceMember-AsyncIterable, Maplike as InterfaceMember-Maplike, Setlike as InterfaceMember-Setlike, Stringifier as InterfaceMember-Stringifier}
 use Rattle.weedle_interfaces.specs.declared.member.InterfaceMember.{InterfaceMember}
 use Rattle.weedle_interfaces.specs.declared.members.BracedInterfaceMembers.{BracedInterfaceMembers}
-use Rattle.weedle_iterables.specs.Trees.{async_iterable_interface_member_tree, iterable_interface_member_tree, maplike_interface_member_tree, setlike_interface_member_tree}
+use Rattle.weedle_async_iterables.specs.Trees.{async_iterable_interface_member_tree}
+use Rattle.weedle_iterables.specs.Trees.{iterable_interface_member_tree, maplike_interface_member_tree, setlike_interface_member_tree}
 use Rattle.weedle_members.specs.Trees.{attribute_interface_member_tree, const_member_tree, constructor_interface_member_tree, operation_interface_member_tree, stringifier_member_tree}
 use Rattle.weedle_modifier.specs.Trees.{inheritance_tree}
 use Rattle.weedle_parts.specs.ValueTrees.{bracket_tree, docstring_tree, identifier_tree}

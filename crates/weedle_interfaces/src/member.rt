@@ -11,12 +11,10 @@ ghost use Rattle.weedle_grammar.specs.Table.InterfaceMembers.{INTERFACE_MEMBER};
 ghost use Rattle.weedle_types.specs.Steps.{members};
 
 use std::alloc::{AllocError, Global};
+use weedle_async_iterables::AsyncIterableInterfaceMember;
 use weedle_base::{Err, IResult, Parse, TryClone};
 use weedle_choice::Choice::{self, First, Second};
-use weedle_iterables::{
-    AsyncIterableInterfaceMember, IterableInterfaceMember, MaplikeInterfaceMember,
-    SetlikeInterfaceMember,
-};
+use weedle_iterables::{IterableInterfaceMember, MaplikeInterfaceMember, SetlikeInterfaceMember};
 use weedle_members::{
     AttributeInterfaceMember, ConstMember, ConstructorInterfaceMember, OperationInterfaceMember,
     StringifierMember,

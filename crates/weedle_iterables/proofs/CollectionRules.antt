@@ -14,8 +14,6 @@ use Rattle.weedle_grammar.specs.Table.InterfaceMembers.{MAPLIKE_INTERFACE_MEMBER
 use Rattle.weedle_grammar.specs.Table.Keywords.{MAPLIKE, READ_ONLY, SETLIKE}
 use Rattle.weedle_grammar.specs.Table.Symbols.{SEMI_COLON}
 use Rattle.weedle_grammar.specs.Trees.{Mark, Node, trees}
-use Rattle.weedle_iterables.proofs.PartRules.{one_type_reading, one_type_rule, two_types_reading, two_types_rule}
-use Rattle.weedle_iterables.specs.PartTrees.{OneType, TwoTypes, one_type_tree, two_types_tree}
 use Rattle.weedle_iterables.specs.Trees.{maplike_interface_member_tree, setlike_interface_member_tree}
 use Rattle.weedle_iterables.specs.declared.collection.MaplikeInterfaceMember.{MaplikeInterfaceMember}
 use Rattle.weedle_iterables.specs.declared.collection.SetlikeInterfaceMember.{SetlikeInterfaceMember}
@@ -23,7 +21,9 @@ use Rattle.weedle_term.specs.declared.definition_keywords.Maplike.{Maplike}
 use Rattle.weedle_term.specs.declared.definition_keywords.ReadOnly.{ReadOnly}
 use Rattle.weedle_term.specs.declared.definition_keywords.Setlike.{Setlike}
 use Rattle.weedle_term.specs.declared.symbols.SemiColon.{SemiColon}
+use Rattle.weedle_types.proofs.GenericsRules.{one_type_reading, one_type_rule, two_types_reading, two_types_rule}
 use Rattle.weedle_types.proofs.SharedRules.{attributes_reading, attributes_rule, perhaps, word}
+use Rattle.weedle_types.specs.GenericsTrees.{OneType, TwoTypes, one_type_tree, two_types_tree}
 use Rattle.weedle_types.specs.PartTrees.{Attributes}
 use Rattle.weedle_types.specs.Trees.{attributes_tree}
 

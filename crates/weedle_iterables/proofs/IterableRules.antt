@@ -19,8 +19,6 @@ use Rattle.weedle_grammar.specs.Table.InterfaceMembers.{DOUBLE_TYPED_ITERABLE, I
 use Rattle.weedle_grammar.specs.Table.Keywords.{ITERABLE}
 use Rattle.weedle_grammar.specs.Table.Symbols.{SEMI_COLON}
 use Rattle.weedle_grammar.specs.Trees.{Alt, Mark, Node, trees}
-use Rattle.weedle_iterables.proofs.PartRules.{one_type_reading, one_type_rule, two_types_reading, two_types_rule}
-use Rattle.weedle_iterables.specs.PartTrees.{OneType, TwoTypes, one_type_tree, two_types_tree}
 use Rattle.weedle_iterables.specs.Trees.{double_typed_iterable_tree, iterable_interface_member_tree, single_typed_iterable_tree}
 use Rattle.weedle_iterables.specs.declared.iterable.DoubleTypedIterable.{DoubleTypedIterable}
 use Rattle.weedle_iterables.specs.declared.iterable.IterableInterfaceMember.TheVariants.{Single as IsSingle, Double as IsDouble}
@@ -28,7 +26,9 @@ use Rattle.weedle_iterables.specs.declared.iterable.IterableInterfaceMember.{Ite
 use Rattle.weedle_iterables.specs.declared.iterable.SingleTypedIterable.{SingleTypedIterable}
 use Rattle.weedle_term.specs.declared.definition_keywords.Iterable.{Iterable}
 use Rattle.weedle_term.specs.declared.symbols.SemiColon.{SemiColon}
+use Rattle.weedle_types.proofs.GenericsRules.{one_type_reading, one_type_rule, two_types_reading, two_types_rule}
 use Rattle.weedle_types.proofs.SharedRules.{attributes_reading, attributes_rule, word}
+use Rattle.weedle_types.specs.GenericsTrees.{OneType, TwoTypes, one_type_tree, two_types_tree}
 use Rattle.weedle_types.specs.PartTrees.{Attributes}
 use Rattle.weedle_types.specs.Trees.{attributes_tree}
 

@@ -1,5 +1,2 @@
-pub mod PartRules
-pub mod CopyFacts
 pub mod IterableRules
-pub mod AsyncIterableRules
 pub mod CollectionRules

@@ -7,13 +7,12 @@ ghost use Rattle.weedle_base.specs.OwnLaws.{own_lawful};
 ghost use Rattle.weedle_iterables.specs.Trees.{maplike_interface_member_tree, setlike_interface_member_tree};
 ghost use Rattle.weedle_grammar.specs.Table.InterfaceMembers.{MAPLIKE_INTERFACE_MEMBER, SETLIKE_INTERFACE_MEMBER};
 
-use crate::copies::{copy_one_type, copy_two_types};
 use std::alloc::{AllocError, Global};
 use weedle_base::{IResult, Parse, TryClone};
 use weedle_parts::common::Generics;
 use weedle_term::{Comma, Maplike, ReadOnly, SemiColon, Setlike};
 use weedle_types::attribute::ExtendedAttributeList;
-use weedle_types::copies::copy_attributes;
+use weedle_types::copies::{copy_attributes, copy_one_type, copy_two_types};
 use weedle_types::parts::attributes;
 use weedle_types::types::AttributedType;
 

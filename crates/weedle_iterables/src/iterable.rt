@@ -7,14 +7,13 @@ ghost use Rattle.weedle_base.specs.OwnLaws.{own_lawful};
 ghost use Rattle.weedle_iterables.specs.Trees.{double_typed_iterable_tree, iterable_interface_member_tree, single_typed_iterable_tree};
 ghost use Rattle.weedle_grammar.specs.Table.InterfaceMembers.{DOUBLE_TYPED_ITERABLE, ITERABLE_INTERFACE_MEMBER, SINGLE_TYPED_ITERABLE};
 
-use crate::copies::{copy_one_type, copy_two_types};
 use std::alloc::{AllocError, Global};
 use weedle_base::{IResult, Parse, TryClone};
 use weedle_choice::Choice::{self, First, Second};
 use weedle_parts::common::Generics;
 use weedle_term::{Comma, Iterable, SemiColon};
 use weedle_types::attribute::ExtendedAttributeList;
-use weedle_types::copies::copy_attributes;
+use weedle_types::copies::{copy_attributes, copy_one_type, copy_two_types};
 use weedle_types::parts::attributes;
 use weedle_types::types::AttributedType;
 

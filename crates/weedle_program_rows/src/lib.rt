@@ -1,9 +1,11 @@
-//! Tests of the program and of outlines.
+//! Tests of the program, of outlines and of the README's examples.
 #![tactic(auto)]
 
 #[cfg(test)]
 mod outline;
 #[cfg(test)]
 mod program;
+#[cfg(test)]
+mod readme;
 #[cfg(test)]
 mod streams;

@@ -3,7 +3,7 @@
 use crate::definitions::titles;
 use std::alloc::Global;
 use std::test::Fail;
-use weedle::parse;
+use weedle_front::parse;
 use weedle_texts::examples::SOUNDS;
 
 /// The third definition.

@@ -4,7 +4,7 @@
 use crate::definitions::reads_all;
 use std::alloc::Global;
 use std::test::Fail;
-use weedle::parse;
+use weedle_front::parse;
 
 const ONE_ENUM: &str = "\
     [Enum(EnumDefinition { docstring: None, attributes: None, enum_: Enum, \

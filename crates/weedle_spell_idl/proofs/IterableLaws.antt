@@ -1,9 +1,11 @@
 -- The laws of iterations, maps and sets.
 use Rattle.std.proofs.Common.{refl}
 use Rattle.weedle_grammar.specs.Table.InterfaceMembers.{ASYNC_ITERABLE, ASYNC_ITERABLE_INTERFACE_MEMBER, DOUBLE_TYPED_ASYNC_ITERABLE, DOUBLE_TYPED_ITERABLE, ITERABLE_INTERFACE_MEMBER, KEY_AND_VALUE_TYPES, MAPLIKE_INTERFACE_MEMBER, SETLIKE_INTERFACE_MEMBER, SINGLE_TYPED_ASYNC_ITERABLE, SINGLE_TYPED_ITERABLE}
-use Rattle.weedle_iterables.specs.PartTrees.{async_iterable_tree, key_and_value_tree}
-use Rattle.weedle_iterables.specs.Trees.{async_iterable_interface_member_tree, double_typed_async_iterable_tree, double_typed_iterable_tree, iterable_interface_member_tree, maplike_interface_member_tree, setlike_interface_member_tree, single_typed_async_iterable_tree, single_typed_iterable_tree}
-use Rattle.weedle_iterables.specs.declared.async_iterable.AsyncIterableInterfaceMember.TheVariants.{Double as AsyncIterableInterfaceMember-Double, Single as AsyncIterableInterfaceMember-Single}
+use Rattle.weedle_async_iterables.specs.PartTrees.{async_iterable_tree}
+use Rattle.weedle_types.specs.GenericsTrees.{key_and_value_tree}
+use Rattle.weedle_async_iterables.specs.Trees.{async_iterable_interface_member_tree, double_typed_async_iterable_tree, single_typed_async_iterable_tree}
+use Rattle.weedle_iterables.specs.Trees.{double_typed_iterable_tree, iterable_interface_member_tree, maplike_interface_member_tree, setlike_interface_member_tree, single_typed_iterable_tree}
+use Rattle.weedle_async_iterables.specs.declared.async_iterable.AsyncIterableInterfaceMember.TheVariants.{Double as AsyncIterableInterfaceMember-Double, Single as AsyncIterableInterfaceMember-Single}
 use Rattle.weedle_iterables.specs.declared.iterable.IterableInterfaceMember.TheVariants.{Double as IterableInterfaceMember-Double, Single as IterableInterfaceMember-Single}
 use Rattle.weedle_spell.specs.Laws.{SpellsValues}
 use Rattle.weedle_spell.proofs.LawFacts.{loose}

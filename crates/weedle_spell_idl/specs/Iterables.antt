@@ -4,10 +4,10 @@ use Rattle.weedle_term.specs.declared.definition_keywords.Async.{Async}
 use Rattle.weedle_term.specs.declared.definition_keywords.Iterable.{Iterable}
 use Rattle.weedle_term.specs.declared.symbols.Comma.{Comma}
 use Rattle.weedle_types.specs.declared.types.AttributedType.{AttributedType}
-use Rattle.weedle_iterables.specs.declared.async_iterable.AsyncIterableInterfaceMember.{AsyncIterableInterfaceMember}
-use Rattle.weedle_iterables.specs.declared.async_iterable.AsyncIterableInterfaceMember.TheVariants.{Double as AsyncIterableInterfaceMember-Double, Single as AsyncIterableInterfaceMember-Single}
-use Rattle.weedle_iterables.specs.declared.async_iterable.DoubleTypedAsyncIterable.{DoubleTypedAsyncIterable}
-use Rattle.weedle_iterables.specs.declared.async_iterable.SingleTypedAsyncIterable.{SingleTypedAsyncIterable}
+use Rattle.weedle_async_iterables.specs.declared.async_iterable.AsyncIterableInterfaceMember.{AsyncIterableInterfaceMember}
+use Rattle.weedle_async_iterables.specs.declared.async_iterable.AsyncIterableInterfaceMember.TheVariants.{Double as AsyncIterableInterfaceMember-Double, Single as AsyncIterableInterfaceMember-Single}
+use Rattle.weedle_async_iterables.specs.declared.async_iterable.DoubleTypedAsyncIterable.{DoubleTypedAsyncIterable}
+use Rattle.weedle_async_iterables.specs.declared.async_iterable.SingleTypedAsyncIterable.{SingleTypedAsyncIterable}
 use Rattle.weedle_iterables.specs.declared.collection.MaplikeInterfaceMember.{MaplikeInterfaceMember}
 use Rattle.weedle_iterables.specs.declared.collection.SetlikeInterfaceMember.{SetlikeInterfaceMember}
 use Rattle.weedle_iterables.specs.declared.iterable.DoubleTypedIterable.{DoubleTypedIterable}

@@ -7,8 +7,9 @@ use Rattle.weedle_base.specs.Rules.{option_tree}
 use Rattle.weedle_parts.specs.ValueTrees.{bracket_tree, docstring_tree}
 use Rattle.weedle_parts.specs.declared.common.docstring.Docstring.{Docstring}
 use Rattle.weedle_grammar.specs.Trees.{Items, Lines, Present, Tree, trees}
+use Rattle.weedle_types.specs.GenericsTrees.{OneType, TwoTypes, one_type_tree, two_types_tree}
 use Rattle.weedle_types.specs.PartTrees.{Attributes, members_tree}
-use Rattle.weedle_types.specs.Trees.{attributes_tree, extended_attribute_list_tree, extended_attribute_tree}
+use Rattle.weedle_types.specs.Trees.{attributed_type_tree, attributes_tree, extended_attribute_list_tree, extended_attribute_tree}
 
 -- items
 pub items_alike : {V : Type 0} (tree : V → Tree) (vs ws : List V) → all_alike (λ v w. tree v ≡ tree w) vs ws → trees (map tree vs) ≡ trees (map tree ws)
@@ -35,3 +36,11 @@ attributes_alike a b h = option_same extended_attribute_list_tree _ (λ v w e. a
 -- members one after another
 pub members_alike : {V : Type 0} (tree : V → Tree) (a b : Vec V) → all_alike (λ v w. tree v ≡ tree w) a.items b.items → members_tree tree a ≡ members_tree tree b
 members_alike tree a b h = ap Items (items_alike tree a.items b.items h)
+
+-- a type between angle brackets
+pub one_type_alike : (a b : OneType) → attributed_type_tree a.body ≡ attributed_type_tree b.body → one_type_tree a ≡ one_type_tree b
+one_type_alike a b h = ap bracket_tree h
+
+-- the types of keys and values
+pub two_types_alike : (a b : TwoTypes) → (attributed_type_tree a.body.0 ≡ attributed_type_tree b.body.0) × ((a.body.1 ≡ b.body.1) × (attributed_type_tree a.body.2 ≡ attributed_type_tree b.body.2)) → two_types_tree a ≡ two_types_tree b
+two_types_alike a b h = rw (h.0, h.1.1) refl

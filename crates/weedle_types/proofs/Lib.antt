@@ -4,6 +4,7 @@ pub mod AttributeRules
 pub mod CopyFacts
 pub mod Direct
 pub mod GenericTypeRules
+pub mod GenericsRules
 pub mod IfRows
 pub mod PlainAttributeRules
 pub mod PlainTypeRules

@@ -1,0 +1,3 @@
+pub mod PartRules
+pub mod CopyFacts
+pub mod AsyncIterableRules

@@ -1,0 +1,2 @@
+pub mod PartTrees
+pub mod Trees

@@ -1,0 +1,191 @@
+//! Each request for memory refused in turn: whole texts and both passes.
+
+ghost use Rattle.std.specs.Prelude.{◌≡◌};
+
+use crate::outcomes::{
+    Counts, Outcome, all_workings, assert_bounds, counted_outcome, outcome_of, read,
+};
+use std::alloc::{AllocError, Global};
+use std::process::Abort;
+use std::test::Fail;
+use weedle_answers::Wanted;
+use weedle_build::{Built, build_definitions};
+use weedle_front::{parse, parse_counted};
+use weedle_rules::Ends;
+use weedle_texts::examples::{KINDS, WINDOW};
+use weedle_texts::nested_attributes;
+
+/// Texts, and what is read of each with ample memory.
+const TEXTS: [(&str, Outcome<'static>); 6] = [
+    (WINDOW, Outcome::Read(1, "interface", "Window")),
+    (
+        "interface A { ///d\n attribute long x; };",
+        Outcome::Left("interface A { ///d\n attribute long x; };"),
+    ),
+    (
+        "interface A { ///d\n void f(); };",
+        Outcome::Read(1, "interface", "A"),
+    ),
+    ("enum E {\"a\",\"b\",};", Outcome::Read(1, "enum", "E")),
+    ("enum E {};", Outcome::Left("enum E {};")),
+    (KINDS, Outcome::Read(14, "implements", "Q")),
+];
+
+/// The outcome of the nested attributes.
+const NESTED: Outcome<'static> = Outcome::Read(1, "interface", "I");
+
+/// The 495 bytes of nested attributes, with ample memory unless a request is refused again.
+fn nested_text(alloc: Global, wanted: &mut Wanted) -> Result<String, AllocError> {
+    match wanted.given(nested_attributes(alloc, 39)) {
+        Some(text) => Ok(text),
+        None => nested_attributes(alloc, 39),
+    }
+}
+
+/// Asserts that the text is read so or that memory is wanted, which is told with the text itself.
+fn assert_read(
+    rt: &impl Abort,
+    alloc: Global,
+    wanted: &mut Wanted,
+    text: &str,
+    expected: Outcome<'_>,
+) {
+    for _ in 0..2 {
+        match outcome_of(parse(alloc, text)) {
+            Outcome::Memory(input) => {
+                assert_eq!(rt; input, text);
+                wanted.count();
+            }
+            answer => assert_eq!(rt; answer, expected, "of {text:?}"),
+        }
+    }
+}
+
+#[test]
+fn a_text_is_read_or_wants_memory(rt: HostRuntime) -> Result<(), Fail> {
+    let alloc = rt.alloc();
+    let mut wanted = Wanted::new();
+    for (text, expected) in TEXTS {
+        assert_read(&rt, alloc, &mut wanted, text, expected);
+    }
+    let text = nested_text(alloc, &mut wanted)?;
+    assert_read(&rt, alloc, &mut wanted, &text, NESTED);
+    assert!(rt; wanted.tell(&rt, alloc));
+    Ok(())
+}
+
+/// Asserts the counts of an answer that wants memory: none where the table was refused, else those of the table.
+fn assert_reached(rt: &impl Abort, text: &str, counts: Counts) {
+    assert_eq!(rt; counts.visits, 0, "of {text:?}");
+    if counts.workings == 0 {
+        assert_eq!(rt; counts.reads, 0, "of {text:?}");
+    } else {
+        assert_bounds(rt, text, counts);
+    }
+}
+
+/// The same as `assert_read`, by `parse_counted`, and asserts what is counted.
+fn assert_counted(
+    rt: &impl Abort,
+    alloc: Global,
+    wanted: &mut Wanted,
+    text: &str,
+    expected: Outcome<'_>,
+) {
+    for _ in 0..2 {
+        match counted_outcome(parse_counted(alloc, text)) {
+            (Outcome::Memory(input), counts) => {
+                assert_eq!(rt; input, text);
+                assert_reached(rt, text, counts);
+                wanted.count();
+            }
+            (answer, counts) => {
+                assert_eq!(rt; answer, expected, "of {text:?}");
+                assert_bounds(rt, text, counts);
+            }
+        }
+    }
+}
+
+#[test]
+fn a_counted_text_is_read_or_wants_memory(rt: HostRuntime) -> Result<(), Fail> {
+    let alloc = rt.alloc();
+    let mut wanted = Wanted::new();
+    for (text, expected) in TEXTS {
+        assert_counted(&rt, alloc, &mut wanted, text, expected);
+    }
+    let text = nested_text(alloc, &mut wanted)?;
+    assert_counted(&rt, alloc, &mut wanted, &text, NESTED);
+    assert!(rt; wanted.tell(&rt, alloc));
+    Ok(())
+}
+
+/// What is built of a text along its table: the outcome is that of `parse`, since what is left is not empty.
+fn build<'a>(
+    alloc: Global,
+    ends: &Ends<'a>,
+    text: &'a str,
+) -> Result<(Outcome<'a>, u128), AllocError>
+    requires table { ends.now.text ≡ text.now }
+{
+    let Built { list, rest, visits } = build_definitions(alloc, ends, text)?;
+    let built = read(list);
+    let outcome = if rest.is_empty() {
+        built
+    } else {
+        Outcome::Left(rest)
+    };
+    Ok((outcome, visits))
+}
+
+/// Asserts that the definitions of the text are built along its table, or that memory is wanted.
+fn assert_built(
+    rt: &impl Abort,
+    alloc: Global,
+    wanted: &mut Wanted,
+    ends: &Ends<'_>,
+    text: &str,
+    expected: Outcome<'_>,
+)
+    requires table { ends.now.text ≡ text.now }
+{
+    if let Some((answer, visits)) = wanted.given(build(alloc, ends, text)) {
+        assert_eq!(rt; answer, expected, "of {text:?}");
+        assert!(rt; visits > 0);
+    }
+}
+
+/// Asserts the same of both passes, the second made twice.
+fn assert_passes(
+    rt: &impl Abort,
+    alloc: Global,
+    wanted: &mut Wanted,
+    text: &str,
+    expected: Outcome<'_>,
+) {
+    match Ends::new(alloc, text) {
+        Ok(ends) => {
+            assert_built(rt, alloc, wanted, &ends, text, expected);
+            assert_built(rt, alloc, wanted, &ends, text, expected);
+        }
+        Err(_) => wanted.count(),
+    }
+    if let Some(ends) = wanted.given(Ends::new_wide(alloc, text)) {
+        assert_eq!(rt; ends.workings(), all_workings(text));
+    }
+}
+
+#[test]
+fn both_passes_are_made_or_want_memory(rt: HostRuntime) -> Result<(), Fail> {
+    let alloc = rt.alloc();
+    let mut wanted = Wanted::new();
+    for (text, expected) in TEXTS {
+        assert_passes(&rt, alloc, &mut wanted, text, expected);
+        assert_passes(&rt, alloc, &mut wanted, text, expected);
+    }
+    let text = nested_text(alloc, &mut wanted)?;
+    assert_passes(&rt, alloc, &mut wanted, &text, NESTED);
+    assert_passes(&rt, alloc, &mut wanted, &text, NESTED);
+    assert!(rt; wanted.tell(&rt, alloc));
+    Ok(())
+}

@@ -1,0 +1,22 @@
+//! What is said of definitions: their kinds and names, outlines with their docstrings, and reports of
+//! lines.
+//!
+//! ```rust
+//! use weedle_base::Parse;
+//! use weedle_idl::Definitions;
+//! use weedle_report::{kind_of, name_of};
+//!
+//! let (_, definitions) = Definitions::parse(rt.alloc(), "interface Window {};").expect(rt, "text");
+//! for definition in definitions {
+//!     assert!(rt; kind_of(&definition) == "interface" && name_of(&definition) == "Window");
+//! }
+//! ```
+#![tactic(auto)]
+
+mod entries;
+mod report;
+mod titles;
+
+pub use entries::{Entry, outline};
+pub use report::{Outlines, Report, Titles};
+pub use titles::{kind_of, name_of};
