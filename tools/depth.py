@@ -5,7 +5,7 @@
 
 The program reads standard input to its end and ends with status 0 where it has read it, as crates/weedle_list/out/weedle_list
 does by `parse`, once `rt run` has built it. With `--direct` in front it is one that reads by direct descent, as
-crates/weedle_speed/out/weedle_speed does with the argument `-`, and isn't given attributes, which take such a reader twice
+crates/weedle_bench/out/weedle_bench does with the argument `-`, and isn't given attributes, which take such a reader twice
 as long at each level.
 
 Of each family the deepest text that is read is looked for, between one that is and one at which the program dies for

@@ -12,8 +12,8 @@ number=1
 while :; do
     rt try --fail-alloc "$number" >"$written" 2>"$said"
     status=$?
-    lines=$(grep -c 'cells, definitions to' "$written")
-    if [ "$(head -n "$lines" stdout)" != "$(grep 'cells, definitions to' "$written")" ]; then
+    lines=$(grep -c 'definitions' "$written")
+    if [ "$(head -n "$lines" stdout)" != "$(grep 'definitions' "$written")" ]; then
         echo "request $number: it wrote what stdout doesn't begin with"
         exit 1
     fi
