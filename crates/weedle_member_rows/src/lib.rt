@@ -1,9 +1,7 @@
-//! Tests of members and definitions as their types read them, and of how values compare.
+//! Tests of members as their types read them.
 #![tactic(auto)]
 
 #[cfg(test)]
 mod members;
-#[cfg(test)]
-mod orders;
 #[cfg(test)]
 mod requests;

@@ -1,41 +1,11 @@
-//! Each request for memory refused in turn: members and definitions.
+//! Each request for memory refused in turn: members.
 
 use std::test::Fail;
 use weedle_answers::Wanted;
-use weedle_idl::Definitions;
-use weedle_idl::dictionary::DictionaryMember;
-use weedle_idl::interface::InterfaceMember;
-use weedle_idl::mixin::MixinMember;
-use weedle_idl::namespace::NamespaceMember;
-
-#[test]
-fn definitions_are_read_and_copied_or_want_memory(rt: HostRuntime) -> Result<(), Fail> {
-    let alloc = rt.alloc();
-    let mut wanted = Wanted::new();
-    wanted.reads::<Definitions<'_>>(
-        alloc,
-        &[
-            ("", "[]"),
-            (
-                "interface A {};",
-                "[Interface(InterfaceDefinition { docstring: None, attributes: None, \
-                 interface: Interface, identifier: Identifier(\"A\"), inheritance: None, \
-                 members: BracedInterfaceMembers { open_brace: OpenBrace, body: [], \
-                 close_brace: CloseBrace }, semi_colon: SemiColon })]",
-            ),
-            (
-                "///d\nenum E {\"a\",};",
-                "[Enum(EnumDefinition { docstring: Some(Docstring(\"d\")), attributes: None, \
-                 enum_: Enum, identifier: Identifier(\"E\"), values: Braced { \
-                 open_brace: OpenBrace, body: PunctuatedNonEmpty { list: [EnumVariant { \
-                 docstring: None, value: StringLit(\"a\") }], separator: Comma }, \
-                 close_brace: CloseBrace }, semi_colon: SemiColon })]",
-            ),
-        ],
-    )?;
-    assert!(rt; wanted.tell(&rt, alloc));
-    Ok(())
-}
+use weedle_interfaces::InterfaceMember;
+use weedle_mixins::mixin::MixinMember;
+use weedle_namespaces::dictionary::DictionaryMember;
+use weedle_namespaces::namespace::NamespaceMember;
 
 #[test]
 fn members_are_read_and_copied_or_want_memory(rt: HostRuntime) -> Result<(), Fail> {
