@@ -12,7 +12,7 @@ pub fn time(rt: &HostRuntime, text: &str) -> anyhow::Result<()> {
         read(rt, text)?;
         let hundredths = start.elapsed(rt)?.as_nanos().saturating_mul(100)
             / text.len().max(1) as u128;
-        println!(rt; "{}.{:02} ns a byte", hundredths / 100, hundredths % 100)?;
+        println!(rt; "{hundredths} hundredths of a nanosecond a byte")?;
     }
     Ok(())
 }

@@ -2,7 +2,6 @@
 
 use crate::parsing;
 use std::alloc::{AllocError, Global};
-use std::fmt::{self, Display, Formatter, Write};
 use std::time::Instant;
 use weedle_rules::{Cell, Ends, Narrow, RULES, Rule};
 
@@ -20,40 +19,43 @@ pub fn count(rt: &HostRuntime, ends: &Ends<'_>) -> anyhow::Result<()> {
 
 /// Times the filling, the laying down of as many cells, and the whole of `parse`, a few times.
 pub fn time(rt: &HostRuntime, text: &str) -> anyhow::Result<()> {
-    count(rt, &Ends::new(rt.alloc(), text)?)?;
-    let bytes = text.len() as u128;
     for _ in 0..5 {
-        let start = Instant::now(rt)?;
-        let rows = lay(rt.alloc(), text)?;
-        let laying = start.elapsed(rt)?.as_nanos();
-        drop(rows);
-        let start = Instant::now(rt)?;
-        let ends = Ends::new(rt.alloc(), text)?;
-        let filling = start.elapsed(rt)?.as_nanos();
-        let cells = ends.workings();
-        println!(rt;
-            "filling: {} ns a byte, {} ns a cell",
-            Ratio(filling, bytes),
-            Ratio(filling, cells)
-        )?;
-        println!(rt;
-            "laying the same cells down: {} ns a cell; the filling takes {} times that",
-            Ratio(laying, cells),
-            Ratio(filling, laying)
-        )?;
-        let building = parsing::time_second_pass(rt, &ends, text)?;
-        drop(ends);
+        let laying = time_laying(rt, text)?;
+        let (filling, building, cells) = time_passes(rt, text)?;
         let parse = parsing::time_whole(rt, text)?;
+        let bytes = text.len() as u128;
         println!(rt;
-            "parse: {} ns a byte; the second pass takes {} ns a byte, {} times the filling; {} bytes of cells",
-            Ratio(parse, bytes),
-            Ratio(building, bytes),
-            Ratio(building, filling),
-            cells.saturating_mul(std::mem::size_of::<Narrow>() as u128)
+            "in hundredths of a nanosecond: filling {} a byte, {} a cell; laying the same cells down {} a cell",
+            hundredths(filling, bytes),
+            hundredths(filling, cells),
+            hundredths(laying, cells)
+        )?;
+        println!(rt;
+            "parse {} a byte; the second pass {} a byte; {cells} cells of {} bytes",
+            hundredths(parse, bytes),
+            hundredths(building, bytes),
+            std::mem::size_of::<Narrow>()
         )?;
     }
-    println!(rt; "{} bytes a cell", std::mem::size_of::<Narrow>())?;
     Ok(())
+}
+
+/// How many nanoseconds it takes to lay down as many cells as the table has.
+fn time_laying(rt: &HostRuntime, text: &str) -> anyhow::Result<u128> {
+    let start = Instant::now(rt)?;
+    let rows = lay(rt.alloc(), text)?;
+    let laying = start.elapsed(rt)?.as_nanos();
+    drop(rows);
+    Ok(laying)
+}
+
+/// How many nanoseconds the filling and the second pass take, and how many cells are filled.
+fn time_passes(rt: &HostRuntime, text: &str) -> anyhow::Result<(u128, u128, u128)> {
+    let start = Instant::now(rt)?;
+    let ends = Ends::new(rt.alloc(), text)?;
+    let filling = start.elapsed(rt)?.as_nanos();
+    let building = parsing::time_second_pass(rt, &ends, text)?;
+    Ok((filling, building, ends.workings()))
 }
 
 /// A row of cells for each of the n + 1 places of the text, none of them worked out.
@@ -66,13 +68,7 @@ fn lay(alloc: Global, text: &str) -> Result<Vec<[Narrow; RULES]>, AllocError> {
     Ok(rows)
 }
 
-/// How often the second goes into the first, shown with two decimals.
-#[derive(Debug, Clone, Drop)]
-struct Ratio(u128, u128);
-
-impl Display for Ratio {
-    fn fmt<W: Write>(&self, f: &mut Formatter<W>) -> fmt::Result {
-        let hundredths = self.0.saturating_mul(100) / self.1.max(1);
-        write!(f, "{}.{:02}", hundredths / 100, hundredths % 100)
-    }
+/// How often the second goes into the first, times a hundred.
+fn hundredths(all: u128, part: u128) -> u128 {
+    all.saturating_mul(100) / part.max(1)
 }
