@@ -20,7 +20,6 @@ import tempfile
 from pathlib import Path
 
 CRATES = (
-    "weedle_table_rows",
     "weedle_leaf_rows",
     "weedle_type_rows",
     "weedle_member_rows",
@@ -36,7 +35,7 @@ MOST = 10_000
 def tests_of(program):
     listed = subprocess.run([program, "--list"], capture_output=True, text=True, check=True).stdout
     names = [line.rsplit(": ", 1)[0] for line in listed.splitlines() if line.endswith(": test")]
-    return [name for name in names if name.startswith("requests::") or name.endswith("_or_want_memory")]
+    return [name for name in names if "requests::" in name or name.endswith("_or_want_memory")]
 
 
 def run(program, test, library, number):

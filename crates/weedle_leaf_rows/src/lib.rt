@@ -1,5 +1,5 @@
-//! Tests of scanners, terminals, standard types, generic parts and leaves: worked examples whose answers come from
-//! outside.
+//! Tests of the grammar's rows, the table of ends, scanners, terminals, standard types, generic parts and leaves:
+//! worked examples whose answers come from outside.
 #![tactic(auto)]
 
 #[cfg(test)]
@@ -12,6 +12,8 @@ mod requests;
 mod scanners;
 #[cfg(test)]
 mod standard;
+#[cfg(test)]
+mod table;
 #[cfg(test)]
 mod terminals;
 #[cfg(test)]
