@@ -18,7 +18,7 @@ use weedle_types::copies::{copy_attributes, copy_docstring};
 use weedle_types::parts::attributes;
 
 /// A callback interface, as `callback interface A {};`. A docstring may stand before it.
-#[derive(Debug, PartialEq, Eq, PartialOrd, Ord, Hash, Drop)]
+#[derive(Debug, PartialEq, Eq, PartialOrd, Ord, Hash)]
 pub struct CallbackInterfaceDefinition<'a> {
     pub docstring: Option<Docstring>,
     pub attributes: Option<ExtendedAttributeList<'a>>,
@@ -28,6 +28,21 @@ pub struct CallbackInterfaceDefinition<'a> {
     pub inheritance: Option<Inheritance<'a>>,
     pub members: BracedInterfaceMembers<'a>,
     pub semi_colon: SemiColon,
+}
+
+impl Drop for CallbackInterfaceDefinition<'_> {
+    fn drop(self) {
+        let CallbackInterfaceDefinition {
+            docstring: _,
+            attributes: _,
+            callback: _,
+            interface: _,
+            identifier: _,
+            inheritance: _,
+            members: _,
+            semi_colon: _,
+        } = self;
+    }
 }
 
 #[tactic(auto, using(crate::proofs::DefinitionRules::callback_interface_definition_steps))]
@@ -77,7 +92,7 @@ impl TryClone for CallbackInterfaceDefinition<'_> {
 }
 
 /// An interface, as `interface A : B { attribute long x; };`. A docstring may stand before it.
-#[derive(Debug, PartialEq, Eq, PartialOrd, Ord, Hash, Drop)]
+#[derive(Debug, PartialEq, Eq, PartialOrd, Ord, Hash)]
 pub struct InterfaceDefinition<'a> {
     pub docstring: Option<Docstring>,
     pub attributes: Option<ExtendedAttributeList<'a>>,
@@ -86,6 +101,20 @@ pub struct InterfaceDefinition<'a> {
     pub inheritance: Option<Inheritance<'a>>,
     pub members: BracedInterfaceMembers<'a>,
     pub semi_colon: SemiColon,
+}
+
+impl Drop for InterfaceDefinition<'_> {
+    fn drop(self) {
+        let InterfaceDefinition {
+            docstring: _,
+            attributes: _,
+            interface: _,
+            identifier: _,
+            inheritance: _,
+            members: _,
+            semi_colon: _,
+        } = self;
+    }
 }
 
 #[tactic(auto, using(crate::proofs::DefinitionRules::interface_definition_steps))]
@@ -134,7 +163,7 @@ impl TryClone for InterfaceDefinition<'_> {
 }
 
 /// A part of an interface, as `partial interface A {};`. No docstring may stand before it.
-#[derive(Debug, PartialEq, Eq, PartialOrd, Ord, Hash, Drop)]
+#[derive(Debug, PartialEq, Eq, PartialOrd, Ord, Hash)]
 pub struct PartialInterfaceDefinition<'a> {
     pub attributes: Option<ExtendedAttributeList<'a>>,
     pub partial: Partial,
@@ -142,6 +171,19 @@ pub struct PartialInterfaceDefinition<'a> {
     pub identifier: Identifier<'a>,
     pub members: BracedInterfaceMembers<'a>,
     pub semi_colon: SemiColon,
+}
+
+impl Drop for PartialInterfaceDefinition<'_> {
+    fn drop(self) {
+        let PartialInterfaceDefinition {
+            attributes: _,
+            partial: _,
+            interface: _,
+            identifier: _,
+            members: _,
+            semi_colon: _,
+        } = self;
+    }
 }
 
 #[tactic(auto, using(crate::proofs::DefinitionRules::partial_interface_definition_steps))]

@@ -17,7 +17,7 @@ use weedle_types::copies::copy_attributes;
 use weedle_types::parts::attributes;
 
 /// A mixin, as `interface mixin A {};`. No docstring may stand before it.
-#[derive(Debug, PartialEq, Eq, PartialOrd, Ord, Hash, Drop)]
+#[derive(Debug, PartialEq, Eq, PartialOrd, Ord, Hash)]
 pub struct InterfaceMixinDefinition<'a> {
     pub attributes: Option<ExtendedAttributeList<'a>>,
     pub interface: Interface,
@@ -25,6 +25,19 @@ pub struct InterfaceMixinDefinition<'a> {
     pub identifier: Identifier<'a>,
     pub members: BracedMixinMembers<'a>,
     pub semi_colon: SemiColon,
+}
+
+impl Drop for InterfaceMixinDefinition<'_> {
+    fn drop(self) {
+        let InterfaceMixinDefinition {
+            attributes: _,
+            interface: _,
+            mixin: _,
+            identifier: _,
+            members: _,
+            semi_colon: _,
+        } = self;
+    }
 }
 
 #[tactic(auto, using(crate::proofs::MixinDefinitionRules::interface_mixin_definition_steps))]
@@ -70,7 +83,7 @@ impl TryClone for InterfaceMixinDefinition<'_> {
 }
 
 /// A part of a mixin, as `partial interface mixin A {};`. No docstring may stand before it.
-#[derive(Debug, PartialEq, Eq, PartialOrd, Ord, Hash, Drop)]
+#[derive(Debug, PartialEq, Eq, PartialOrd, Ord, Hash)]
 pub struct PartialInterfaceMixinDefinition<'a> {
     pub attributes: Option<ExtendedAttributeList<'a>>,
     pub partial: Partial,
@@ -79,6 +92,20 @@ pub struct PartialInterfaceMixinDefinition<'a> {
     pub identifier: Identifier<'a>,
     pub members: BracedMixinMembers<'a>,
     pub semi_colon: SemiColon,
+}
+
+impl Drop for PartialInterfaceMixinDefinition<'_> {
+    fn drop(self) {
+        let PartialInterfaceMixinDefinition {
+            attributes: _,
+            partial: _,
+            interface: _,
+            mixin: _,
+            identifier: _,
+            members: _,
+            semi_colon: _,
+        } = self;
+    }
 }
 
 #[tactic(auto, using(crate::proofs::MixinDefinitionRules::partial_interface_mixin_definition_steps))]

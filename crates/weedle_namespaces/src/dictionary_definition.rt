@@ -18,7 +18,7 @@ use weedle_types::copies::{copy_attributes, copy_docstring};
 use weedle_types::parts::attributes;
 
 /// A dictionary, as `dictionary A : B { long x = 5; };`. A docstring may stand before it.
-#[derive(Debug, PartialEq, Eq, PartialOrd, Ord, Hash, Drop)]
+#[derive(Debug, PartialEq, Eq, PartialOrd, Ord, Hash)]
 pub struct DictionaryDefinition<'a> {
     pub docstring: Option<Docstring>,
     pub attributes: Option<ExtendedAttributeList<'a>>,
@@ -27,6 +27,20 @@ pub struct DictionaryDefinition<'a> {
     pub inheritance: Option<Inheritance<'a>>,
     pub members: BracedDictionaryMembers<'a>,
     pub semi_colon: SemiColon,
+}
+
+impl Drop for DictionaryDefinition<'_> {
+    fn drop(self) {
+        let DictionaryDefinition {
+            docstring: _,
+            attributes: _,
+            dictionary: _,
+            identifier: _,
+            inheritance: _,
+            members: _,
+            semi_colon: _,
+        } = self;
+    }
 }
 
 #[tactic(auto, using(crate::proofs::DictionaryDefinitionRules::dictionary_definition_steps))]
@@ -75,7 +89,7 @@ impl TryClone for DictionaryDefinition<'_> {
 }
 
 /// A part of a dictionary, as `partial dictionary A {};`. No docstring may stand before it.
-#[derive(Debug, PartialEq, Eq, PartialOrd, Ord, Hash, Drop)]
+#[derive(Debug, PartialEq, Eq, PartialOrd, Ord, Hash)]
 pub struct PartialDictionaryDefinition<'a> {
     pub attributes: Option<ExtendedAttributeList<'a>>,
     pub partial: Partial,
@@ -83,6 +97,19 @@ pub struct PartialDictionaryDefinition<'a> {
     pub identifier: Identifier<'a>,
     pub members: BracedDictionaryMembers<'a>,
     pub semi_colon: SemiColon,
+}
+
+impl Drop for PartialDictionaryDefinition<'_> {
+    fn drop(self) {
+        let PartialDictionaryDefinition {
+            attributes: _,
+            partial: _,
+            dictionary: _,
+            identifier: _,
+            members: _,
+            semi_colon: _,
+        } = self;
+    }
 }
 
 #[tactic(auto, using(crate::proofs::DictionaryDefinitionRules::partial_dictionary_definition_steps))]

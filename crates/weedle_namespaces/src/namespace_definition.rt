@@ -17,7 +17,7 @@ use weedle_types::copies::{copy_attributes, copy_docstring};
 use weedle_types::parts::attributes;
 
 /// A namespace, as `namespace A { long f(); };`. A docstring may stand before it.
-#[derive(Debug, PartialEq, Eq, PartialOrd, Ord, Hash, Drop)]
+#[derive(Debug, PartialEq, Eq, PartialOrd, Ord, Hash)]
 pub struct NamespaceDefinition<'a> {
     pub docstring: Option<Docstring>,
     pub attributes: Option<ExtendedAttributeList<'a>>,
@@ -25,6 +25,19 @@ pub struct NamespaceDefinition<'a> {
     pub identifier: Identifier<'a>,
     pub members: BracedNamespaceMembers<'a>,
     pub semi_colon: SemiColon,
+}
+
+impl Drop for NamespaceDefinition<'_> {
+    fn drop(self) {
+        let NamespaceDefinition {
+            docstring: _,
+            attributes: _,
+            namespace: _,
+            identifier: _,
+            members: _,
+            semi_colon: _,
+        } = self;
+    }
 }
 
 #[tactic(auto, using(crate::proofs::NamespaceDefinitionRules::namespace_definition_steps))]
@@ -69,7 +82,7 @@ impl TryClone for NamespaceDefinition<'_> {
 }
 
 /// A part of a namespace, as `partial namespace A {};`. No docstring may stand before it.
-#[derive(Debug, PartialEq, Eq, PartialOrd, Ord, Hash, Drop)]
+#[derive(Debug, PartialEq, Eq, PartialOrd, Ord, Hash)]
 pub struct PartialNamespaceDefinition<'a> {
     pub attributes: Option<ExtendedAttributeList<'a>>,
     pub partial: Partial,
@@ -77,6 +90,19 @@ pub struct PartialNamespaceDefinition<'a> {
     pub identifier: Identifier<'a>,
     pub members: BracedNamespaceMembers<'a>,
     pub semi_colon: SemiColon,
+}
+
+impl Drop for PartialNamespaceDefinition<'_> {
+    fn drop(self) {
+        let PartialNamespaceDefinition {
+            attributes: _,
+            partial: _,
+            namespace: _,
+            identifier: _,
+            members: _,
+            semi_colon: _,
+        } = self;
+    }
 }
 
 #[tactic(auto, using(crate::proofs::NamespaceDefinitionRules::partial_namespace_definition_steps))]

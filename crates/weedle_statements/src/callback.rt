@@ -18,7 +18,7 @@ use weedle_types::parts::attributes;
 use weedle_types::types::ReturnType;
 
 /// A callback, as `callback F = undefined (long x);`. No docstring may stand before it.
-#[derive(Debug, PartialEq, Eq, PartialOrd, Ord, Hash, Drop)]
+#[derive(Debug, PartialEq, Eq, PartialOrd, Ord, Hash)]
 pub struct CallbackDefinition<'a> {
     pub attributes: Option<ExtendedAttributeList<'a>>,
     pub callback: Callback,
@@ -27,6 +27,20 @@ pub struct CallbackDefinition<'a> {
     pub return_type: ReturnType<'a>,
     pub arguments: ParenthesizedArgumentList<'a>,
     pub semi_colon: SemiColon,
+}
+
+impl Drop for CallbackDefinition<'_> {
+    fn drop(self) {
+        let CallbackDefinition {
+            attributes: _,
+            callback: _,
+            identifier: _,
+            assign: _,
+            return_type: _,
+            arguments: _,
+            semi_colon: _,
+        } = self;
+    }
 }
 
 #[tactic(auto, using(crate::proofs::CallbackRules::callback_definition_steps))]

@@ -55,7 +55,7 @@ impl TryClone for EnumVariant<'_> {
 }
 
 /// An enum, as `enum A { "a", "b" };`: one value at least. A docstring may stand before it.
-#[derive(Debug, PartialEq, Eq, PartialOrd, Ord, Hash, Drop)]
+#[derive(Debug, PartialEq, Eq, PartialOrd, Ord, Hash)]
 pub struct EnumDefinition<'a> {
     pub docstring: Option<Docstring>,
     pub attributes: Option<ExtendedAttributeList<'a>>,
@@ -63,6 +63,19 @@ pub struct EnumDefinition<'a> {
     pub identifier: Identifier<'a>,
     pub values: Braced<EnumValueList<'a>>,
     pub semi_colon: SemiColon,
+}
+
+impl Drop for EnumDefinition<'_> {
+    fn drop(self) {
+        let EnumDefinition {
+            docstring: _,
+            attributes: _,
+            enum_: _,
+            identifier: _,
+            values: _,
+            semi_colon: _,
+        } = self;
+    }
 }
 
 #[tactic(auto, using(crate::proofs::EnumRules::enum_definition_steps))]

@@ -16,13 +16,25 @@ use weedle_types::copies::copy_attributes;
 use weedle_types::parts::attributes;
 
 /// The use of a mixin by an interface, as `A includes B;`. No docstring may stand before it.
-#[derive(Debug, PartialEq, Eq, PartialOrd, Ord, Hash, Drop)]
+#[derive(Debug, PartialEq, Eq, PartialOrd, Ord, Hash)]
 pub struct IncludesStatementDefinition<'a> {
     pub attributes: Option<ExtendedAttributeList<'a>>,
     pub lhs_identifier: Identifier<'a>,
     pub includes: Includes,
     pub rhs_identifier: Identifier<'a>,
     pub semi_colon: SemiColon,
+}
+
+impl Drop for IncludesStatementDefinition<'_> {
+    fn drop(self) {
+        let IncludesStatementDefinition {
+            attributes: _,
+            lhs_identifier: _,
+            includes: _,
+            rhs_identifier: _,
+            semi_colon: _,
+        } = self;
+    }
 }
 
 #[tactic(auto, using(crate::proofs::StatementRules::includes_statement_definition_steps))]
@@ -66,13 +78,25 @@ impl TryClone for IncludesStatementDefinition<'_> {
 }
 
 /// The older form of a mixin's use, as `A implements B;`. No docstring may stand before it.
-#[derive(Debug, PartialEq, Eq, PartialOrd, Ord, Hash, Drop)]
+#[derive(Debug, PartialEq, Eq, PartialOrd, Ord, Hash)]
 pub struct ImplementsDefinition<'a> {
     pub attributes: Option<ExtendedAttributeList<'a>>,
     pub lhs_identifier: Identifier<'a>,
     pub includes: Implements,
     pub rhs_identifier: Identifier<'a>,
     pub semi_colon: SemiColon,
+}
+
+impl Drop for ImplementsDefinition<'_> {
+    fn drop(self) {
+        let ImplementsDefinition {
+            attributes: _,
+            lhs_identifier: _,
+            includes: _,
+            rhs_identifier: _,
+            semi_colon: _,
+        } = self;
+    }
 }
 
 #[tactic(auto, using(crate::proofs::StatementRules::implements_definition_steps))]

@@ -17,13 +17,25 @@ use weedle_types::parts::attributes;
 use weedle_types::types::AttributedType;
 
 /// A name for a type, as `typedef long A;`. No docstring may stand before it.
-#[derive(Debug, PartialEq, Eq, PartialOrd, Ord, Hash, Drop)]
+#[derive(Debug, PartialEq, Eq, PartialOrd, Ord, Hash)]
 pub struct TypedefDefinition<'a> {
     pub attributes: Option<ExtendedAttributeList<'a>>,
     pub typedef: Typedef,
     pub type_: AttributedType<'a>,
     pub identifier: Identifier<'a>,
     pub semi_colon: SemiColon,
+}
+
+impl Drop for TypedefDefinition<'_> {
+    fn drop(self) {
+        let TypedefDefinition {
+            attributes: _,
+            typedef: _,
+            type_: _,
+            identifier: _,
+            semi_colon: _,
+        } = self;
+    }
 }
 
 #[tactic(auto, using(crate::proofs::TypedefRules::typedef_definition_steps))]
