@@ -1,6 +1,6 @@
 //! The table of ends of a text, filled, and timed.
 
-use crate::parsing;
+use crate::passes;
 use std::alloc::{AllocError, Global};
 use std::time::Instant;
 use weedle_rules::{Cell, Ends, Narrow, RULES, Rule};
@@ -17,12 +17,12 @@ pub fn count(rt: &HostRuntime, ends: &Ends<'_>) -> anyhow::Result<()> {
     Ok(())
 }
 
-/// Times the filling, the laying down of as many cells, and the whole of `parse`, a few times.
+/// Times the filling, the laying down of as many cells, the second pass and both passes, a few times.
 pub fn time(rt: &HostRuntime, text: &str) -> anyhow::Result<()> {
     for _ in 0..5 {
         let laying = time_laying(rt, text)?;
         let (filling, building, cells) = time_passes(rt, text)?;
-        let parse = parsing::time_whole(rt, text)?;
+        let both = passes::time_both(rt, text)?;
         let bytes = text.len() as u128;
         println!(rt;
             "in hundredths of a nanosecond: filling {} a byte, {} a cell; laying the same cells down {} a cell",
@@ -31,8 +31,8 @@ pub fn time(rt: &HostRuntime, text: &str) -> anyhow::Result<()> {
             hundredths(laying, cells)
         )?;
         println!(rt;
-            "parse {} a byte; the second pass {} a byte; {cells} cells of {} bytes",
-            hundredths(parse, bytes),
+            "both passes {} a byte; the second {} a byte; {cells} cells of {} bytes",
+            hundredths(both, bytes),
             hundredths(building, bytes),
             std::mem::size_of::<Narrow>()
         )?;
@@ -54,7 +54,7 @@ fn time_passes(rt: &HostRuntime, text: &str) -> anyhow::Result<(u128, u128, u128
     let start = Instant::now(rt)?;
     let ends = Ends::new(rt.alloc(), text)?;
     let filling = start.elapsed(rt)?.as_nanos();
-    let building = parsing::time_second_pass(rt, &ends, text)?;
+    let building = passes::time_second(rt, &ends, text)?;
     Ok((filling, building, ends.workings()))
 }
 

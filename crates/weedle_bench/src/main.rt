@@ -2,7 +2,7 @@
 //!
 //! With a size in bytes it makes a text of about that size. It times the reading of it by
 //! `Definitions::parse`, then the filling of its table, beside it the laying down of as many cells that
-//! nothing is worked out for, and the whole of `parse`, with its second pass by itself:
+//! nothing is worked out for, and both passes as `parse` makes them, with the second by itself:
 //!
 //! ```text
 //! rt run -- 1000000
@@ -17,7 +17,7 @@
 
 mod direct;
 mod filling;
-mod parsing;
+mod passes;
 
 use anyhow::anyhow;
 use std::io;
