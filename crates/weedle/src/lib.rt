@@ -24,7 +24,10 @@ pub mod literal;
 pub mod types;
 
 pub use weedle_base::{Err, Error, ErrorKind, IResult, Parse, TryClone};
-pub use weedle_front::{Counted, RunFault, Status, parse, parse_counted, run, run_outline};
+pub use weedle_front::{
+    Counted, Entry, RunFault, Status, kind_of, name_of, outline, parse, parse_counted, run,
+    run_outline,
+};
 pub use weedle_idl::{
     CallbackDefinition, CallbackInterfaceDefinition, Definition, Definitions, DictionaryDefinition,
     EnumDefinition, EnumValueList, EnumVariant, ImplementsDefinition, IncludesStatementDefinition,
@@ -32,6 +35,5 @@ pub use weedle_idl::{
     PartialDictionaryDefinition, PartialInterfaceDefinition, PartialInterfaceMixinDefinition,
     PartialNamespaceDefinition, TypedefDefinition, dictionary, interface, mixin, namespace,
 };
-pub use weedle_report::{Entry, kind_of, name_of, outline};
 pub use weedle_term as term;
 pub use weedle_types::{argument, attribute};

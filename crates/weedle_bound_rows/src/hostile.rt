@@ -5,8 +5,7 @@ use std::alloc::Global;
 use std::process::Abort;
 use std::test::Fail;
 use weedle_answers::reads_whole;
-use weedle_front::{parse, parse_counted};
-use weedle_idl::{Definition, Definitions};
+use weedle_front::{Definition, Definitions, parse, parse_counted};
 use weedle_texts::{nested_attributes, repeated};
 
 /// Asserts that this is the outcome of the text, by `parse` and by `parse_counted`, within the bounds.

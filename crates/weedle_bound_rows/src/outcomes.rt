@@ -2,9 +2,7 @@
 
 use std::process::Abort;
 use weedle_base::{Err, Error, ErrorKind};
-use weedle_front::Counted;
-use weedle_idl::Definitions;
-use weedle_report::{kind_of, name_of};
+use weedle_front::{Counted, Definitions, kind_of, name_of};
 use weedle_rules::{READS, RULES};
 
 /// What `parse` answers of a text.

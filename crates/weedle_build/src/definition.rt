@@ -11,20 +11,14 @@ use weedle_build_interfaces::InterfacePart;
 use weedle_build_mixins::MixinPart;
 use weedle_build_namespaces::NamespacePart;
 use weedle_build_statements::StatementPart;
-use weedle_idl::Definition;
-use weedle_interfaces::{
-    CallbackInterfaceDefinition, InterfaceDefinition, PartialInterfaceDefinition,
-};
-use weedle_mixins::{InterfaceMixinDefinition, PartialInterfaceMixinDefinition};
-use weedle_namespaces::{
-    DictionaryDefinition, NamespaceDefinition, PartialDictionaryDefinition,
-    PartialNamespaceDefinition,
-};
-use weedle_rules::{Ends, Rule};
-use weedle_statements::{
-    CallbackDefinition, EnumDefinition, ImplementsDefinition, IncludesStatementDefinition,
+use weedle_idl::{
+    CallbackDefinition, CallbackInterfaceDefinition, Definition, DictionaryDefinition,
+    EnumDefinition, ImplementsDefinition, IncludesStatementDefinition, InterfaceDefinition,
+    InterfaceMixinDefinition, NamespaceDefinition, PartialDictionaryDefinition,
+    PartialInterfaceDefinition, PartialInterfaceMixinDefinition, PartialNamespaceDefinition,
     TypedefDefinition,
 };
+use weedle_rules::{Ends, Rule};
 
 /// How a definition is built.
 pub(crate) struct AnyDefinition;

@@ -4,8 +4,7 @@
 //! the program: it reads a reader to its end, and writes what the text defines.
 //!
 //! ```rust
-//! use weedle_front::parse;
-//! use weedle_report::name_of;
+//! use weedle_front::{name_of, parse};
 //!
 //! let text = "interface Window { readonly attribute Storage sessionStorage; };";
 //! for definition in parse(rt.alloc(), text)? {
@@ -21,3 +20,5 @@ mod reader;
 
 pub use program::{RunFault, Status, run, run_outline};
 pub use reader::{Counted, parse, parse_counted};
+pub use weedle_idl::{Definition, Definitions};
+pub use weedle_report::{Entry, kind_of, name_of, outline};

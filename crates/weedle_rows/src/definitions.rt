@@ -5,9 +5,7 @@ use std::process::Abort;
 use std::test::Fail;
 use weedle_answers::{Unlike, reads_whole};
 use weedle_base::{Err, ErrorKind};
-use weedle_front::parse;
-use weedle_idl::Definitions;
-use weedle_report::{kind_of, name_of};
+use weedle_front::{Definitions, kind_of, name_of, parse};
 use weedle_texts::examples::{KINDS, WINDOW, WINDOW_IN_LINES};
 
 /// What both texts hold.
