@@ -24,6 +24,7 @@ CRATES = (
     "weedle_type_rows",
     "weedle_member_rows",
     "weedle_definition_rows",
+    "weedle_pass_rows",
     "weedle_bound_rows",
     "weedle_program_rows",
 )

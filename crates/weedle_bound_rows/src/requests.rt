@@ -1,17 +1,11 @@
-//! Each request for memory refused in turn: whole texts and both passes.
+//! Each request for memory refused in turn: whole texts.
 
-ghost use Rattle.std.specs.Prelude.{◌≡◌};
-
-use crate::outcomes::{
-    Counts, Outcome, all_workings, assert_bounds, counted_outcome, outcome_of, read,
-};
+use crate::outcomes::{Counts, Outcome, assert_bounds, counted_outcome, outcome_of};
 use std::alloc::{AllocError, Global};
 use std::process::Abort;
 use std::test::Fail;
 use weedle_answers::Wanted;
-use weedle_build::{Built, build_definitions};
 use weedle_front::{parse, parse_counted};
-use weedle_rules::Ends;
 use weedle_texts::examples::{KINDS, WINDOW};
 use weedle_texts::nested_attributes;
 
@@ -116,76 +110,6 @@ fn a_counted_text_is_read_or_wants_memory(rt: HostRuntime) -> Result<(), Fail> {
     }
     let text = nested_text(alloc, &mut wanted)?;
     assert_counted(&rt, alloc, &mut wanted, &text, NESTED);
-    assert!(rt; wanted.tell(&rt, alloc));
-    Ok(())
-}
-
-/// What is built of a text along its table: the outcome is that of `parse`, since what is left is not empty.
-fn build<'a>(
-    alloc: Global,
-    ends: &Ends<'a>,
-    text: &'a str,
-) -> Result<(Outcome<'a>, u128), AllocError>
-    requires table { ends.now.text ≡ text.now }
-{
-    let Built { list, rest, visits } = build_definitions(alloc, ends, text)?;
-    let built = read(list);
-    let outcome = if rest.is_empty() {
-        built
-    } else {
-        Outcome::Left(rest)
-    };
-    Ok((outcome, visits))
-}
-
-/// Asserts that the definitions of the text are built along its table, or that memory is wanted.
-fn assert_built(
-    rt: &impl Abort,
-    alloc: Global,
-    wanted: &mut Wanted,
-    ends: &Ends<'_>,
-    text: &str,
-    expected: Outcome<'_>,
-)
-    requires table { ends.now.text ≡ text.now }
-{
-    if let Some((answer, visits)) = wanted.given(build(alloc, ends, text)) {
-        assert_eq!(rt; answer, expected, "of {text:?}");
-        assert!(rt; visits > 0);
-    }
-}
-
-/// Asserts the same of both passes, the second made twice.
-fn assert_passes(
-    rt: &impl Abort,
-    alloc: Global,
-    wanted: &mut Wanted,
-    text: &str,
-    expected: Outcome<'_>,
-) {
-    match Ends::new(alloc, text) {
-        Ok(ends) => {
-            assert_built(rt, alloc, wanted, &ends, text, expected);
-            assert_built(rt, alloc, wanted, &ends, text, expected);
-        }
-        Err(_) => wanted.count(),
-    }
-    if let Some(ends) = wanted.given(Ends::new_wide(alloc, text)) {
-        assert_eq!(rt; ends.workings(), all_workings(text));
-    }
-}
-
-#[test]
-fn both_passes_are_made_or_want_memory(rt: HostRuntime) -> Result<(), Fail> {
-    let alloc = rt.alloc();
-    let mut wanted = Wanted::new();
-    for (text, expected) in TEXTS {
-        assert_passes(&rt, alloc, &mut wanted, text, expected);
-        assert_passes(&rt, alloc, &mut wanted, text, expected);
-    }
-    let text = nested_text(alloc, &mut wanted)?;
-    assert_passes(&rt, alloc, &mut wanted, &text, NESTED);
-    assert_passes(&rt, alloc, &mut wanted, &text, NESTED);
     assert!(rt; wanted.tell(&rt, alloc));
     Ok(())
 }
