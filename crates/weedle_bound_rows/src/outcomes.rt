@@ -65,7 +65,7 @@ pub fn counted_outcome(counted: Counted<'_>) -> (Outcome<'_>, Counts) {
 }
 
 /// The outcome where these definitions are read.
-pub fn read(definitions: Definitions<'_>) -> Outcome<'_> {
+fn read(definitions: Definitions<'_>) -> Outcome<'_> {
     let mut outcome = NOTHING;
     for definition in definitions {
         if let Outcome::Read(count, _, _) = outcome {
