@@ -11,7 +11,7 @@ mod tests;
 use std::env::Args;
 use std::process::ExitCode;
 use std::{env, io};
-use weedle::{RunFault, Status, run, run_outline};
+use weedle_front::{RunFault, Status, run, run_outline};
 
 /// What the arguments ask for.
 #[derive(Clone, Copy, Debug, PartialEq, Eq)]

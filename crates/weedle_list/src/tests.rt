@@ -2,7 +2,7 @@ use super::{Task, fault_line, status_of, task_of};
 use std::alloc::{AllocError, Global};
 use std::env::Args;
 use std::test::Fail;
-use weedle::{RunFault, Status};
+use weedle_front::{RunFault, Status};
 
 fn arguments(alloc: Global, words: &[&str]) -> Result<Args, AllocError> {
     let mut all = Vec::new(alloc);
