@@ -154,6 +154,8 @@ pub(crate) fn attributed_type<'a>(
 }
 
 /// Reads a type with its attributes, as `[Clamp] octet`, where the type is neither `any` nor a union.
+// It stays a call: within a member of a union its room would be held at each level of nested unions.
+#[inline(never)]
 #[cycle(group)]
 #[tactic(auto, using(crate::proofs::TypeRules::attributed_non_any_type_steps))]
 pub(crate) fn attributed_non_any_type<'a>(

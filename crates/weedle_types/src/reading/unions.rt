@@ -108,6 +108,8 @@ pub(crate) fn union_member_types<'a>(
 }
 
 /// Reads the members after the first, each behind `or`.
+// It stays a call, so that its room isn't held while the first member is read.
+#[inline(never)]
 #[cycle(group)]
 #[tactic(auto, using(weedle_base::proofs::TakesFacts::own_takes))]
 pub(crate) fn more_union_member_types<'a>(
