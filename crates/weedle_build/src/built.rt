@@ -25,8 +25,8 @@ pub struct Built<'a> {
 /// is the enum, the rest `x`. `raw` is the text that the table is over.
 ///
 /// It works no rule out and changes nothing in the table: it looks at ends alone, in no more steps than the tree has
-/// nodes, up to a factor that the grammar fixes. It takes the memory that the list holds, and is refused for want of
-/// it alone.
+/// nodes and its docstrings have lines, up to a factor that the grammar fixes. It takes the memory that the list
+/// holds, and is refused for want of it alone.
 pub fn build_definitions<'a>(
     alloc: Global,
     ends: &Ends<'a>,

@@ -29,7 +29,8 @@ pub trait Build<'a> {
     ghost tree: { Self.Value → Tree };
 
     /// Builds the value that the rule reads at a place, and goes on to its end. It looks at ends
-    /// alone, one or two for each node of the tree and one for each alternative that doesn't fit.
+    /// alone, a few for each node of the tree and for each line of a docstring, and one for each
+    /// alternative that doesn't fit.
     /// It takes the memory that the value holds, and is refused for want of it alone.
     fn build(alloc: Global, table: &Ends<'a>, rule: Rule, at: At) -> BuildResult<Self::Value>
         requires fit { fits rule }
