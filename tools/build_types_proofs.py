@@ -163,15 +163,17 @@ def enum(module, name, rule, arms):
 
 def listed(module, name, rule, item, separator, function):
     place = f"{module}::{name}"
-    next_ = "listing_next c.loop-behind.invariant c.in-Some-end.ensures.right c.in_ok-value.ensures"
+    first = f"(kept {function}_tree c.in_ok-here.ensures c.{function}.ensures)"
+    later = f"(kept {function}_tree c.in_ok-here-2.ensures c.{function}-in-Some-end.ensures)"
+    next_ = f"listing_next c.loop-behind.invariant c.in-Some-end.ensures.right {later}"
     return [
         answer(f"{place}-returns-in_default",
                "rw c.new-list.ensures.items (list_empty refl refl (absent c.in_default.ensures.right) c.visit.ensures)"),
         answer(f"{place}-{function}-requires",
                "(omega arith, present c.requires.utf8 c.requires.boundary c.in-Some.ensures.right)"),
         answer(f"{place}-loop-behind-init",
-               "rw (c.in_ok-push.ensures.items, c.new-list.ensures.items) (listing_start (due_list c.requires refl "
-               "(present c.requires.utf8 c.requires.boundary c.in-Some.ensures.right)) refl c.in_ok-first.ensures)"),
+               "rw (c.in_ok-here.ensures.items, c.new-list.ensures.items) (listing_start (due_list c.requires refl "
+               f"(present c.requires.utf8 c.requires.boundary c.in-Some.ensures.right)) refl {first})"),
         answer(f"{place}-end-requires-in-loop-behind", "c.loop-behind.invariant.tail.boundary.0"),
         answer(f"{place}-end-requires-in-Some-end",
                "(behind_boundary c.loop-behind.invariant.tail c.in-Some-end.ensures.right).0"),
@@ -183,7 +185,8 @@ def listed(module, name, rule, item, separator, function):
                "let b = listing_behind refl c.loop-behind.invariant c.in-Some-end.ensures.right in (omega (arith, d.boundary.0), d)"),
         answer(f"{place}-loop-behind-smaller", f"let n = {next_} in omega (arith, n.1, n.0.tail.boundary.0)"),
         answer(f"{place}-loop-behind-preserved",
-               f"rw (c.in_ok-push-2.ensures.items, map_push {function}_tree c.loop-behind.list.items c.in_ok-value.value) "
+               f"rw (c.in_ok-here-2.ensures.items, map_push {function}_tree c.loop-behind.list.items "
+               "c.in_ok-here-2.ensures.value) "
                f"({next_}).0"),
         answer(f"{place}-returns",
                "list_built refl refl (listing_end c.loop-behind.invariant refl refl c.in_default-end.ensures.right) c.visit-2.ensures"),
@@ -255,7 +258,7 @@ def answers():
            "use Rattle.weedle_grammar.specs.Table.Types.{OPT_DEFAULT, OPT_OPTIONAL}",
            "use Rattle.weedle_types.specs.Trees.{argument_tree, extended_attribute_tree, record_key_type_tree, "
            "return_type_tree, type_tree, union_member_type_tree}",
-           "use Rattle.weedle_build_types.proofs.Calls.{behind, builds_as, listing_behind, not_before, option_of, place_of, rest_of_if}",
+           "use Rattle.weedle_build_types.proofs.Calls.{behind, builds_as, kept, listing_behind, not_before, option_of, place_of, rest_of_if}",
            "use Rattle.weedle_build_types.proofs.Conditions.{if_due, if_not_there, if_there}",
            "use Rattle.weedle_types.proofs.TreeLaws.{arg_list_of, argument_single_of, argument_variadic_of, member_single_of, "
            "member_union_of, named_arg_list_of, promise_of, record_of, single_type_of, union_of}",

@@ -1,5 +1,6 @@
 -- What a call of the recursive group needs of the calls before it, and what they give.
 use Rattle.std.proofs.Common.{◌≡◌, ℕ, ◌<◌, ◌≤◌, List, true, Some, refl, sym, subst, arith}
+use Rattle.std.specs.Prelude.{Result}
 use Rattle.weedle_grammar.specs.Rows.{If, Opt}
 use Rattle.weedle_grammar.specs.Table.{webidl, row_of, shape_of}
 use Rattle.weedle_grammar.specs.Trees.{Tree}
@@ -7,8 +8,9 @@ use Rattle.weedle_grammar.specs.Meaning.{Plain}
 use Rattle.weedle_grammar.proofs.Takes.{takes}
 use Rattle.weedle_grammar.proofs.Checked.{ranked}
 use Rattle.weedle_grammar.proofs.Exists.{advances, grows}
-use Rattle.weedle_build_base.specs.Built.{Builds, Due, Rest}
-use Rattle.weedle_build_types.specs.Steps.{IsOption, IsPlace}
+use Rattle.weedle_build_base.specs.Built.{Answers, Builds, Due, Rest}
+use Rattle.weedle_build_base.specs.declared.at.At.{At}
+use Rattle.weedle_build_types.specs.Steps.{IsOption, IsPlace, Keeps}
 use Rattle.weedle_rules.specs.Cells.{HasEnd}
 use Rattle.weedle_build_base.proofs.Finding.{found}
 use Rattle.weedle_build_base.proofs.Separated.{Listing}
@@ -45,3 +47,8 @@ listing_behind {text} {x} {s} {p} {v} {ts} {q} {w} {k} t h e =
     let a : q < k = advances webidl text (λ x. x) takes ranked f.reads t in
     let b : p ≤ h.place = grows webidl text h.head.reads in
     omega (arith, h.tail.after)
+
+-- what was put into a list is what was built
+pub kept : {V E : Type 0} {text : List ℕ} {r p v : ℕ} {old new : List V} {built : Result (V × At) E} {at : At} (tree : V → Tree)
+    → (k : Keeps old new built at) → Answers text r tree p v built → Builds text r (tree k.value) p v at.place at.visits
+kept {V} {E} {text} {r} {p} {v} {old} {new} {built} {at} tree k a = subst (λ b. Answers text r tree p v b) k.was a

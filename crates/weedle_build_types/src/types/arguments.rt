@@ -6,7 +6,7 @@ ghost use Rattle.weedle_build_base.specs.Built.{Answers, Due};
 
 use super::attributes::attributes;
 use super::kinds::{attributed_type, type_};
-use super::steps::optional;
+use super::steps::{keep, optional};
 use std::alloc::Global;
 use weedle_build_base::{At, Build, BuildResult, choice, visit};
 use weedle_literal::Default;
@@ -138,8 +138,7 @@ pub(crate) fn argument_list<'a>(
     let Some(_) = table.end(Rule::ARGUMENT, at.place) else {
         return Ok((Punctuated { list, separator }, visit(at)));
     };
-    let (first, mut here) = argument(alloc, table, at)?;
-    list.push(first)?;
+    let mut here = keep(&mut list, argument(alloc, table, at))?;
     while let Some(behind) = table.end(Rule::COMMA, here.place) {
         let Some(_) = table.end(Rule::ARGUMENT, behind) else {
             return Ok((Punctuated { list, separator }, visit(here)));
@@ -148,9 +147,7 @@ pub(crate) fn argument_list<'a>(
             place: behind,
             visits: here.visits,
         };
-        let (value, next) = argument(alloc, table, start)?;
-        list.push(value)?;
-        here = next;
+        here = keep(&mut list, argument(alloc, table, start))?;
     }
     Ok((Punctuated { list, separator }, visit(here)))
 }

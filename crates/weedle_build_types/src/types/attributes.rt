@@ -5,6 +5,7 @@ ghost use Rattle.weedle_types.specs.Trees.{attributes_tree, extended_attribute_a
 ghost use Rattle.weedle_build_base.specs.Built.{Answers, Due};
 
 use super::arguments::arguments;
+use super::steps::keep;
 use crate::held::Held;
 use std::alloc::Global;
 use weedle_build_base::{At, Build, BuildResult, alternative, choice, visit};
@@ -74,8 +75,7 @@ pub(crate) fn extended_attributes<'a>(
     let Some(_) = table.end(Rule::EXTENDED_ATTRIBUTE, at.place) else {
         return Ok((Punctuated { list, separator }, visit(at)));
     };
-    let (first, mut here) = extended_attribute(alloc, table, at)?;
-    list.push(first)?;
+    let mut here = keep(&mut list, extended_attribute(alloc, table, at))?;
     while let Some(behind) = table.end(Rule::COMMA, here.place) {
         let Some(_) = table.end(Rule::EXTENDED_ATTRIBUTE, behind) else {
             return Ok((Punctuated { list, separator }, visit(here)));
@@ -84,9 +84,7 @@ pub(crate) fn extended_attributes<'a>(
             place: behind,
             visits: here.visits,
         };
-        let (value, next) = extended_attribute(alloc, table, start)?;
-        list.push(value)?;
-        here = next;
+        here = keep(&mut list, extended_attribute(alloc, table, start))?;
     }
     Ok((Punctuated { list, separator }, visit(here)))
 }

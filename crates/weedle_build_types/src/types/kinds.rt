@@ -179,6 +179,8 @@ pub(crate) fn attributed_type<'a>(
 }
 
 /// Builds the same where the type is neither `any` nor a union.
+// It stays a call: within a member of a union its room would be held at each level of nested unions.
+#[inline(never)]
 #[cycle(group)]
 pub(crate) fn attributed_non_any_type<'a>(
     alloc: Global,

@@ -1,11 +1,11 @@
-//! An optional part of a rule.
+//! An optional part of a rule, and an item of a list.
 
-ghost use Rattle.std.specs.Prelude.{ℕ};
+ghost use Rattle.std.specs.Prelude.{ℕ, IfOk};
 ghost use Rattle.weedle_base.specs.Rules.{option_tree};
 ghost use Rattle.weedle_build_base.specs.Built.{Answers};
-ghost use Rattle.weedle_build_types.specs.Steps.{IsOption, IsPlace};
+ghost use Rattle.weedle_build_types.specs.Steps.{IsOption, IsPlace, Keeps};
 
-use std::alloc::Global;
+use std::alloc::{AllocError, Global};
 use weedle_build_base::{At, Build, BuildResult, visit};
 use weedle_rules::{Ends, Rule};
 
@@ -27,4 +27,15 @@ pub(crate) fn optional<'a, T: Build<'a>>(
         }
         None => Ok((None, visit(at))),
     }
+}
+
+/// Puts what was built at the end of a list, and gives where it is then.
+// It stays a call, so that no list holds the room of an item more than once while the item is built.
+#[inline(never)]
+pub(crate) fn keep<T: Drop>(list: &mut Vec<T>, built: BuildResult<T>) -> Result<At, AllocError>
+    ensures { IfOk result (λ at. Keeps list.old.items list.new.items built at) }
+{
+    let (value, at) = built?;
+    list.push(value)?;
+    Ok(at)
 }

@@ -6,7 +6,7 @@ ghost use Rattle.weedle_types.specs.Trees.{union_member_type_tree, union_member_
 ghost use Rattle.weedle_build_base.specs.Built.{Answers, Due};
 
 use super::kinds::attributed_non_any_type;
-use super::steps::optional;
+use super::steps::{keep, optional};
 use std::alloc::Global;
 use weedle_build_base::{At, Build, BuildResult, choice, visit};
 use weedle_parts::common::{Parenthesized, Punctuated};
@@ -87,8 +87,7 @@ pub(crate) fn union_member_types<'a>(
     let Some(_) = table.end(Rule::UNION_MEMBER_TYPE, at.place) else {
         return Ok((Punctuated { list, separator }, visit(at)));
     };
-    let (first, mut here) = union_member_type(alloc, table, at)?;
-    list.push(first)?;
+    let mut here = keep(&mut list, union_member_type(alloc, table, at))?;
     while let Some(behind) = table.end(Rule::OR, here.place) {
         let Some(_) = table.end(Rule::UNION_MEMBER_TYPE, behind) else {
             return Ok((Punctuated { list, separator }, visit(here)));
@@ -97,9 +96,7 @@ pub(crate) fn union_member_types<'a>(
             place: behind,
             visits: here.visits,
         };
-        let (value, next) = union_member_type(alloc, table, start)?;
-        list.push(value)?;
-        here = next;
+        here = keep(&mut list, union_member_type(alloc, table, start))?;
     }
     Ok((Punctuated { list, separator }, visit(here)))
 }

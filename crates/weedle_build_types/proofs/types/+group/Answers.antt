@@ -5,7 +5,7 @@ use Rattle.std.proofs.Common.{refl, arith, ap}
 use Rattle.weedle_grammar.specs.Table.SimpleTypes.{OPT_Q_MARK}
 use Rattle.weedle_grammar.specs.Table.Types.{OPT_DEFAULT, OPT_OPTIONAL}
 use Rattle.weedle_types.specs.Trees.{argument_tree, extended_attribute_tree, record_key_type_tree, return_type_tree, type_tree, union_member_type_tree}
-use Rattle.weedle_build_types.proofs.Calls.{behind, builds_as, listing_behind, not_before, option_of, place_of, rest_of_if}
+use Rattle.weedle_build_types.proofs.Calls.{behind, builds_as, kept, listing_behind, not_before, option_of, place_of, rest_of_if}
 use Rattle.weedle_build_types.proofs.Conditions.{if_due, if_not_there, if_there}
 use Rattle.weedle_types.proofs.TreeLaws.{arg_list_of, argument_single_of, argument_variadic_of, member_single_of, member_union_of, named_arg_list_of, promise_of, record_of, single_type_of, union_of}
 use Rattle.weedle_build_base.proofs.Choices.{chosen}
@@ -317,7 +317,7 @@ pub unions::union_member_types-union_member_type-requires : goal.unions::union_m
 unions::union_member_types-union_member_type-requires t c = (omega arith, present c.requires.utf8 c.requires.boundary c.in-Some.ensures.right)
 
 pub unions::union_member_types-loop-behind-init : goal.unions::union_member_types-loop-behind-init
-unions::union_member_types-loop-behind-init t c = rw (c.in_ok-push.ensures.items, c.new-list.ensures.items) (listing_start (due_list c.requires refl (present c.requires.utf8 c.requires.boundary c.in-Some.ensures.right)) refl c.in_ok-first.ensures)
+unions::union_member_types-loop-behind-init t c = rw (c.in_ok-here.ensures.items, c.new-list.ensures.items) (listing_start (due_list c.requires refl (present c.requires.utf8 c.requires.boundary c.in-Some.ensures.right)) refl (kept union_member_type_tree c.in_ok-here.ensures c.union_member_type.ensures))
 
 pub unions::union_member_types-end-requires-in-loop-behind : goal.unions::union_member_types-end-requires-in-loop-behind
 unions::union_member_types-end-requires-in-loop-behind t c = c.loop-behind.invariant.tail.boundary.0
@@ -332,10 +332,10 @@ pub unions::union_member_types-union_member_type-requires-in-Some-end : goal.uni
 unions::union_member_types-union_member_type-requires-in-Some-end t c = let d = behind_due c.loop-behind.invariant.tail c.in-Some-end.ensures.right c.in-Some-end-2.ensures.right in let b = listing_behind refl c.loop-behind.invariant c.in-Some-end.ensures.right in (omega (arith, d.boundary.0), d)
 
 pub unions::union_member_types-loop-behind-smaller : goal.unions::union_member_types-loop-behind-smaller
-unions::union_member_types-loop-behind-smaller t c = let n = listing_next c.loop-behind.invariant c.in-Some-end.ensures.right c.in_ok-value.ensures in omega (arith, n.1, n.0.tail.boundary.0)
+unions::union_member_types-loop-behind-smaller t c = let n = listing_next c.loop-behind.invariant c.in-Some-end.ensures.right (kept union_member_type_tree c.in_ok-here-2.ensures c.union_member_type-in-Some-end.ensures) in omega (arith, n.1, n.0.tail.boundary.0)
 
 pub unions::union_member_types-loop-behind-preserved : goal.unions::union_member_types-loop-behind-preserved
-unions::union_member_types-loop-behind-preserved t c = rw (c.in_ok-push-2.ensures.items, map_push union_member_type_tree c.loop-behind.list.items c.in_ok-value.value) (listing_next c.loop-behind.invariant c.in-Some-end.ensures.right c.in_ok-value.ensures).0
+unions::union_member_types-loop-behind-preserved t c = rw (c.in_ok-here-2.ensures.items, map_push union_member_type_tree c.loop-behind.list.items c.in_ok-here-2.ensures.value) (listing_next c.loop-behind.invariant c.in-Some-end.ensures.right (kept union_member_type_tree c.in_ok-here-2.ensures c.union_member_type-in-Some-end.ensures)).0
 
 pub unions::union_member_types-returns : goal.unions::union_member_types-returns
 unions::union_member_types-returns t c = list_built refl refl (listing_end c.loop-behind.invariant refl refl c.in_default-end.ensures.right) c.visit-2.ensures
@@ -347,7 +347,7 @@ pub attributes::extended_attributes-extended_attribute-requires : goal.attribute
 attributes::extended_attributes-extended_attribute-requires t c = (omega arith, present c.requires.utf8 c.requires.boundary c.in-Some.ensures.right)
 
 pub attributes::extended_attributes-loop-behind-init : goal.attributes::extended_attributes-loop-behind-init
-attributes::extended_attributes-loop-behind-init t c = rw (c.in_ok-push.ensures.items, c.new-list.ensures.items) (listing_start (due_list c.requires refl (present c.requires.utf8 c.requires.boundary c.in-Some.ensures.right)) refl c.in_ok-first.ensures)
+attributes::extended_attributes-loop-behind-init t c = rw (c.in_ok-here.ensures.items, c.new-list.ensures.items) (listing_start (due_list c.requires refl (present c.requires.utf8 c.requires.boundary c.in-Some.ensures.right)) refl (kept extended_attribute_tree c.in_ok-here.ensures c.extended_attribute.ensures))
 
 pub attributes::extended_attributes-end-requires-in-loop-behind : goal.attributes::extended_attributes-end-requires-in-loop-behind
 attributes::extended_attributes-end-requires-in-loop-behind t c = c.loop-behind.invariant.tail.boundary.0
@@ -362,10 +362,10 @@ pub attributes::extended_attributes-extended_attribute-requires-in-Some-end : go
 attributes::extended_attributes-extended_attribute-requires-in-Some-end t c = let d = behind_due c.loop-behind.invariant.tail c.in-Some-end.ensures.right c.in-Some-end-2.ensures.right in let b = listing_behind refl c.loop-behind.invariant c.in-Some-end.ensures.right in (omega (arith, d.boundary.0), d)
 
 pub attributes::extended_attributes-loop-behind-smaller : goal.attributes::extended_attributes-loop-behind-smaller
-attributes::extended_attributes-loop-behind-smaller t c = let n = listing_next c.loop-behind.invariant c.in-Some-end.ensures.right c.in_ok-value.ensures in omega (arith, n.1, n.0.tail.boundary.0)
+attributes::extended_attributes-loop-behind-smaller t c = let n = listing_next c.loop-behind.invariant c.in-Some-end.ensures.right (kept extended_attribute_tree c.in_ok-here-2.ensures c.extended_attribute-in-Some-end.ensures) in omega (arith, n.1, n.0.tail.boundary.0)
 
 pub attributes::extended_attributes-loop-behind-preserved : goal.attributes::extended_attributes-loop-behind-preserved
-attributes::extended_attributes-loop-behind-preserved t c = rw (c.in_ok-push-2.ensures.items, map_push extended_attribute_tree c.loop-behind.list.items c.in_ok-value.value) (listing_next c.loop-behind.invariant c.in-Some-end.ensures.right c.in_ok-value.ensures).0
+attributes::extended_attributes-loop-behind-preserved t c = rw (c.in_ok-here-2.ensures.items, map_push extended_attribute_tree c.loop-behind.list.items c.in_ok-here-2.ensures.value) (listing_next c.loop-behind.invariant c.in-Some-end.ensures.right (kept extended_attribute_tree c.in_ok-here-2.ensures c.extended_attribute-in-Some-end.ensures)).0
 
 pub attributes::extended_attributes-returns : goal.attributes::extended_attributes-returns
 attributes::extended_attributes-returns t c = list_built refl refl (listing_end c.loop-behind.invariant refl refl c.in_default-end.ensures.right) c.visit-2.ensures
@@ -377,7 +377,7 @@ pub arguments::argument_list-argument-requires : goal.arguments::argument_list-a
 arguments::argument_list-argument-requires t c = (omega arith, present c.requires.utf8 c.requires.boundary c.in-Some.ensures.right)
 
 pub arguments::argument_list-loop-behind-init : goal.arguments::argument_list-loop-behind-init
-arguments::argument_list-loop-behind-init t c = rw (c.in_ok-push.ensures.items, c.new-list.ensures.items) (listing_start (due_list c.requires refl (present c.requires.utf8 c.requires.boundary c.in-Some.ensures.right)) refl c.in_ok-first.ensures)
+arguments::argument_list-loop-behind-init t c = rw (c.in_ok-here.ensures.items, c.new-list.ensures.items) (listing_start (due_list c.requires refl (present c.requires.utf8 c.requires.boundary c.in-Some.ensures.right)) refl (kept argument_tree c.in_ok-here.ensures c.argument.ensures))
 
 pub arguments::argument_list-end-requires-in-loop-behind : goal.arguments::argument_list-end-requires-in-loop-behind
 arguments::argument_list-end-requires-in-loop-behind t c = c.loop-behind.invariant.tail.boundary.0
@@ -392,10 +392,10 @@ pub arguments::argument_list-argument-requires-in-Some-end : goal.arguments::arg
 arguments::argument_list-argument-requires-in-Some-end t c = let d = behind_due c.loop-behind.invariant.tail c.in-Some-end.ensures.right c.in-Some-end-2.ensures.right in let b = listing_behind refl c.loop-behind.invariant c.in-Some-end.ensures.right in (omega (arith, d.boundary.0), d)
 
 pub arguments::argument_list-loop-behind-smaller : goal.arguments::argument_list-loop-behind-smaller
-arguments::argument_list-loop-behind-smaller t c = let n = listing_next c.loop-behind.invariant c.in-Some-end.ensures.right c.in_ok-value.ensures in omega (arith, n.1, n.0.tail.boundary.0)
+arguments::argument_list-loop-behind-smaller t c = let n = listing_next c.loop-behind.invariant c.in-Some-end.ensures.right (kept argument_tree c.in_ok-here-2.ensures c.argument-in-Some-end.ensures) in omega (arith, n.1, n.0.tail.boundary.0)
 
 pub arguments::argument_list-loop-behind-preserved : goal.arguments::argument_list-loop-behind-preserved
-arguments::argument_list-loop-behind-preserved t c = rw (c.in_ok-push-2.ensures.items, map_push argument_tree c.loop-behind.list.items c.in_ok-value.value) (listing_next c.loop-behind.invariant c.in-Some-end.ensures.right c.in_ok-value.ensures).0
+arguments::argument_list-loop-behind-preserved t c = rw (c.in_ok-here-2.ensures.items, map_push argument_tree c.loop-behind.list.items c.in_ok-here-2.ensures.value) (listing_next c.loop-behind.invariant c.in-Some-end.ensures.right (kept argument_tree c.in_ok-here-2.ensures c.argument-in-Some-end.ensures)).0
 
 pub arguments::argument_list-returns : goal.arguments::argument_list-returns
 arguments::argument_list-returns t c = list_built refl refl (listing_end c.loop-behind.invariant refl refl c.in_default-end.ensures.right) c.visit-2.ensures
