@@ -6,5 +6,6 @@ pub use weedle_parts::types::{
 };
 pub use weedle_types::types::{
     AttributedNonAnyType, AttributedType, FrozenArrayType, NonAnyType, PromiseType, RecordKeyType,
-    RecordType, ReturnType, SequenceType, SingleType, Type, UnionMemberType, UnionType,
+    RecordType, RecordTypes, ReturnType, SequenceType, SingleType, Type, UnionMemberType,
+    UnionType,
 };

@@ -55,7 +55,7 @@ pub fn parse(alloc: Global, raw: &str) -> Result<Definitions<'_>, Err<Error<&str
 
 /// Reads a whole text as [`parse`] does, and counts what that takes.
 ///
-/// Of `enum E {"a"};`, 14 bytes, each of the 386 rules is worked out once at each of the 15 places, and
+/// Of `enum E {"a"};`, 13 bytes, each of the 386 rules is worked out once at each of the 14 places, and
 /// the 15 nodes of its tree are visited. Where something follows the last definition that can be read,
 /// the nodes are those of the definitions before it.
 ///
