@@ -33,7 +33,8 @@ FAMILIES = {
     "sequences": typedef("sequence<", ">"),
     "promises": typedef("Promise<", ">"),
     "keys of records": typedef("record<", ", long>"),
-    "unions": typedef("(", " or a)"),
+    "unions, each the first member": typedef("(", " or a)"),
+    "unions, each the last member": typedef("(a or ", ")"),
     "arguments in attributes": attributes,
 }
 

@@ -3,7 +3,7 @@
 
 Of each test it refuses the first request in the first run, the second in the second, up to the run in which none of its
 calls has one left. In each run before that the test has to pass and to say that a call wanted memory: a call that goes
-on behind a refusal would say nothing. Tests that are named `no_..` make no request at all.
+on behind a refusal would say nothing. Tests that are named `no_..`, of any module, make no request at all.
 
 Run `rt test` in the folders of the crates first, which builds their tests. Then, at the top of the repository:
 
@@ -36,7 +36,7 @@ MOST = 10_000
 def tests_of(program):
     listed = subprocess.run([program, "--list"], capture_output=True, text=True, check=True).stdout
     names = [line.rsplit(": ", 1)[0] for line in listed.splitlines() if line.endswith(": test")]
-    return [name for name in names if "requests::" in name or name.endswith("_or_want_memory")]
+    return [name for name in names if "requests::" in name or "::no_" in name or name.endswith("_or_want_memory")]
 
 
 def run(program, test, library, number):

@@ -15,10 +15,10 @@ pub fn is_mismatch<'a, T>(answer: &IResult<&'a str, T>) -> bool {
     )
 }
 
-/// Whether the answer is a failure at this input.
+/// Whether the answer is a failure with code `Unread` at this input, as a user's type gives one.
 pub fn is_failure<'a, T>(answer: &IResult<&'a str, T>, input: &str) -> bool {
     match answer {
-        Err(Err::Failure(error)) => error.input == input,
+        Err(Err::Failure(error)) => error.input == input && error.code == ErrorKind::Unread,
         _ => false,
     }
 }
@@ -33,7 +33,7 @@ pub fn refuses<'a, T: Parse<'a>>(alloc: Global, texts: &[&'a str]) -> Result<(),
     Ok(())
 }
 
-/// Whether the call with the text is ended by a failure at this input.
+/// Whether the call with the text is ended by a failure with code `Unread` at this input.
 pub fn fails_at<'a, T: Parse<'a>>(
     alloc: Global,
     text: &'a str,

@@ -16,7 +16,7 @@ use weedle_parts::types::{
     ConstType, DoubleType, FloatType, FloatingPointType, IntegerType, LongLongType, LongType,
     MayBeNull, ShortType,
 };
-use weedle_term::{Comma, Dot, Or};
+use weedle_term::{Comma, Dot, Null, Or};
 
 #[test]
 fn standard_types_are_read_or_want_memory(rt: HostRuntime) -> Result<(), Fail> {
@@ -303,5 +303,19 @@ fn no_part_of_these_takes_memory(rt: HostRuntime) -> Result<(), Fail> {
         )],
     )?;
     assert!(rt; Wanted::new().tell(&rt, alloc));
+    Ok(())
+}
+
+#[test]
+fn no_default_and_no_conversion_takes_memory(rt: HostRuntime) -> Result<(), Fail> {
+    assert_eq!(rt; <Comma as std::default::Default>::default(), Comma);
+    assert_eq!(rt;
+        <Parenthesized<Or> as std::default::Default>::default().body,
+        Or
+    );
+    assert_eq!(rt; <Generics<Or> as std::default::Default>::default().body, Or);
+    assert!(rt; IntegerLit::from(OctLit("0")) == IntegerLit::Oct(OctLit("0")));
+    assert!(rt; DefaultValue::from(Null) == DefaultValue::Null(Null));
+    assert!(rt; Wanted::new().tell(&rt, rt.alloc()));
     Ok(())
 }

@@ -4,6 +4,7 @@
 
 use std::alloc::Global;
 use std::process::Abort;
+use weedle_answers::Wanted;
 use weedle_base::Parse;
 use weedle_term::*;
 
@@ -26,7 +27,7 @@ fn reads<'a, T: Parse<'a>>(rt: &impl Abort, alloc: Global, text: &'a str) {
 }
 
 #[test]
-fn reads_symbols(rt: HostRuntime) {
+fn no_reading_of_symbols_takes_memory(rt: HostRuntime) {
     let alloc = rt.alloc();
     reads::<OpenParen>(&rt, alloc, "  (  anything");
     reads::<CloseParen>(&rt, alloc, "  )  anything");
@@ -44,10 +45,11 @@ fn reads_symbols(rt: HostRuntime) {
     reads::<Assign>(&rt, alloc, "  =  anything");
     reads::<GreaterThan>(&rt, alloc, "  >  anything");
     reads::<QMark>(&rt, alloc, "  ?  anything");
+    assert!(rt; Wanted::new().tell(&rt, alloc));
 }
 
 #[test]
-fn reads_definition_keywords(rt: HostRuntime) {
+fn no_reading_of_definition_keywords_takes_memory(rt: HostRuntime) {
     let alloc = rt.alloc();
     reads::<Async>(&rt, alloc, "  async  anything");
     reads::<Attribute>(&rt, alloc, "  attribute  anything");
@@ -75,10 +77,11 @@ fn reads_definition_keywords(rt: HostRuntime) {
     reads::<Implements>(&rt, alloc, "  implements  anything");
     reads::<LegacyCaller>(&rt, alloc, "  legacycaller  anything");
     reads::<Constructor>(&rt, alloc, "  constructor  anything");
+    assert!(rt; Wanted::new().tell(&rt, alloc));
 }
 
 #[test]
-fn reads_type_keywords(rt: HostRuntime) {
+fn no_reading_of_type_keywords_takes_memory(rt: HostRuntime) {
     let alloc = rt.alloc();
     reads::<Or>(&rt, alloc, "  or  anything");
     reads::<Optional>(&rt, alloc, "  optional  anything");
@@ -100,10 +103,11 @@ fn reads_type_keywords(rt: HostRuntime) {
     reads::<Unsigned>(&rt, alloc, "  unsigned  anything");
     reads::<Undefined>(&rt, alloc, "  undefined  anything");
     reads::<Record>(&rt, alloc, "  record  anything");
+    assert!(rt; Wanted::new().tell(&rt, alloc));
 }
 
 #[test]
-fn reads_capitalized_keywords(rt: HostRuntime) {
+fn no_reading_of_capitalized_keywords_takes_memory(rt: HostRuntime) {
     let alloc = rt.alloc();
     reads::<ByteString>(&rt, alloc, "  ByteString  anything");
     reads::<DOMString>(&rt, alloc, "  DOMString  anything");
@@ -127,4 +131,5 @@ fn reads_capitalized_keywords(rt: HostRuntime) {
     reads::<Promise>(&rt, alloc, "  Promise  anything");
     reads::<Error>(&rt, alloc, "  Error  anything");
     reads::<NegInfinity>(&rt, alloc, "  -Infinity  anything");
+    assert!(rt; Wanted::new().tell(&rt, alloc));
 }

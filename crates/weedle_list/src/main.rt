@@ -13,6 +13,12 @@ use std::process::ExitCode;
 use std::{env, io};
 use weedle_front::{RunFault, Status, run, run_outline};
 
+/// What is said on standard error where the arguments ask for neither list.
+const USAGE: &str = "usage: weedle_list [outline]";
+
+/// The status there.
+const USAGE_STATUS: u8 = 5;
+
 /// What the arguments ask for.
 #[derive(Clone, Copy, Debug, PartialEq, Eq)]
 enum Task {
@@ -25,8 +31,8 @@ fn main(rt: HostRuntime) -> ExitCode {
         return end(&rt, &Err(RunFault::Memory));
     };
     let Some(task) = task_of(arguments) else {
-        complain(&rt, "usage: weedle_list [outline]");
-        return ExitCode::from(5);
+        complain(&rt, USAGE);
+        return ExitCode::from(USAGE_STATUS);
     };
     let (mut reader, mut writer) = (rt.reader(), io::writer(&rt));
     let outcome = match task {

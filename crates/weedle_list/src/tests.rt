@@ -1,4 +1,4 @@
-use super::{Task, fault_line, status_of, task_of};
+use super::{Task, USAGE, USAGE_STATUS, fault_line, status_of, task_of};
 use std::alloc::{AllocError, Global};
 use std::env::Args;
 use std::test::Fail;
@@ -32,6 +32,7 @@ fn knows_two_lists_of_arguments(rt: HostRuntime) -> Result<(), Fail> {
             "of {words:?}"
         );
     }
+    assert_eq!(rt; (USAGE, USAGE_STATUS), ("usage: weedle_list [outline]", 5));
     Ok(())
 }
 

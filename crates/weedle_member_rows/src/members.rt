@@ -53,6 +53,17 @@ fn an_iterable_member_has_one_type_or_two(rt: HostRuntime) -> Result<(), Fail> {
                  identifier: Identifier(\"x\"), default: None })], separator: Comma }, \
                  close_paren: CloseParen }), semi_colon: SemiColon }))]",
             ),
+            (
+                "async iterable<long, K>;",
+                "[AsyncIterable(Double(DoubleTypedAsyncIterable { attributes: None, \
+                 async_iterable: (Async, Iterable), generics: Generics { open_angle: LessThan, \
+                 body: (AttributedType { attributes: None, \
+                 type_: Single(NonAny(Integer(MayBeNull { \
+                 type_: Long(LongType { unsigned: None, long: Long }), q_mark: None }))) }, Comma, \
+                 AttributedType { attributes: None, type_: Single(NonAny(Identifier(MayBeNull { \
+                 type_: Identifier(\"K\"), q_mark: None }))) }), close_angle: GreaterThan }, \
+                 args: None, semi_colon: SemiColon }))]",
+            ),
         ],
     )?;
     Ok(())

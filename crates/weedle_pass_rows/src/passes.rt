@@ -13,7 +13,7 @@ use weedle_texts::examples::{KINDS, SOUNDS, WINDOW, WINDOW_IN_LINES};
 use weedle_texts::{nested_attributes, repeated};
 
 /// The texts of the worked examples that `parse` and the program are given, read whole or not.
-const TEXTS: [&str; 56] = [
+const TEXTS: [&str; 60] = [
     "",
     "  ",
     WINDOW,
@@ -70,7 +70,14 @@ const TEXTS: [&str; 56] = [
     "///a\n// c\n///b\ninterface A {};",
     "///a\n// c\ninterface A {};",
     "dictionary D { ///d\n long x; };",
+    "///a\n/// b\ninterface A {};\nB includes C;",
+    "///\nenum E {\"x\"};",
+    "///a\r\ndictionary D { ///d\n long x; };",
+    "///a\ninterface A {}; ///d",
 ];
+
+/// A text with characters of several bytes, which may be cut anywhere.
+const CUT: &str = "interface A {};\n// é\nenum E {\"é\"};\n";
 
 /// A list, what is left behind it, and how many nodes its tree has.
 type Pass<'a, T> = (T, &'a str, u128);
@@ -175,7 +182,24 @@ fn every_way_gives_the_same_list_of_long_texts(rt: HostRuntime) -> Result<(), Fa
         &repeated(alloc, "typedef ", "(", 1_000, "")?,
         true,
     )?;
+    assert_agrees(
+        &rt,
+        alloc,
+        &repeated(alloc, "enum E {", "\"a\",", 10_000, "};")?,
+        true,
+    )?;
     // Direct descent takes twice as long at each level.
     assert_agrees(&rt, alloc, &nested_attributes(alloc, 39)?, false)?;
+    assert_agrees(&rt, alloc, &nested_attributes(alloc, 199)?, false)?;
+    Ok(())
+}
+
+#[test]
+fn every_way_gives_the_same_list_of_a_text_that_is_cut(rt: HostRuntime) -> Result<(), Fail> {
+    for count in 0..CUT.len() {
+        if let Some(front) = CUT.get(..count) {
+            assert_agrees(&rt, rt.alloc(), front, true)?;
+        }
+    }
     Ok(())
 }

@@ -15,12 +15,17 @@ const TEXT: &str = "///a\n/// b\ninterface A {};\nB includes C;";
 const REPORT: &str = "interface A\n  a\n   b\nincludes B\ndefinitions 2\n";
 
 /// Texts, how a run ends with each, and what it writes.
-const REPORTS: [(&str, Status, &str); 6] = [
+const REPORTS: [(&str, Status, &str); 7] = [
     (TEXT, Status::Read, REPORT),
     (
         "///\nenum E {\"x\"};",
         Status::Read,
         "enum E\n  \ndefinitions 1\n",
+    ),
+    (
+        "/// A page,\n/// shown.\ninterface Window {};\nWindow includes Timers;\n",
+        Status::Read,
+        "interface Window\n   A page,\n   shown.\nincludes Window\ndefinitions 2\n",
     ),
     ("", Status::Read, "definitions 0\n"),
     ("  ", Status::Unread, "unread at byte 0\n"),

@@ -42,6 +42,11 @@ fn reports_what_is_read_and_what_is_left(rt: HostRuntime) -> Result<(), Fail> {
             "interface A\nenum E\ndefinitions 2\n",
         ),
         ("A includes B;", Status::Read, "includes A\ndefinitions 1\n"),
+        (
+            "interface mixin Body { Promise<any> json(); }; Request includes Body;\n",
+            Status::Read,
+            "interface mixin Body\nincludes Request\ndefinitions 2\n",
+        ),
         (KINDS, Status::Read, REPORT_OF_KINDS),
         ("  ", Status::Unread, "unread at byte 0\n"),
         ("interface A {};}", Status::Unread, "unread at byte 15\n"),

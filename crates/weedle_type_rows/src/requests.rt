@@ -1,9 +1,13 @@
 //! Each request for memory refused in turn: types, attributes and arguments.
 
 use std::test::Fail;
-use weedle_answers::Wanted;
+use weedle_answers::{Wanted, reads_with_no_memory};
+use weedle_modifier::{Inheritance, Special, StringifierOrInheritOrStatic, StringifierOrStatic};
 use weedle_types::argument::{Argument, ArgumentList};
-use weedle_types::attribute::{ExtendedAttribute, ExtendedAttributeList};
+use weedle_types::attribute::{
+    ExtendedAttribute, ExtendedAttributeIdent, ExtendedAttributeList, ExtendedAttributeNoArgs,
+    IdentifierOrString,
+};
 use weedle_types::types::{RecordType, SequenceType, Type, UnionMemberType};
 
 #[test]
@@ -166,5 +170,69 @@ fn arguments_are_read_and_copied_or_want_memory(rt: HostRuntime) -> Result<(), F
         ],
     )?;
     assert!(rt; wanted.tell(&rt, alloc));
+    Ok(())
+}
+
+#[test]
+fn no_attribute_without_arguments_takes_memory(rt: HostRuntime) -> Result<(), Fail> {
+    let alloc = rt.alloc();
+    reads_with_no_memory::<IdentifierOrString<'_>>(
+        alloc,
+        &[
+            ("a", "Identifier(Identifier(\"a\"))"),
+            ("\"a\"", "String(StringLit(\"a\"))"),
+        ],
+    )?;
+    reads_with_no_memory::<ExtendedAttributeIdent<'_>>(
+        alloc,
+        &[(
+            "PutForwards=name",
+            "ExtendedAttributeIdent { lhs_identifier: Identifier(\"PutForwards\"), assign: Assign, \
+             rhs: Identifier(Identifier(\"name\")) }",
+        )],
+    )?;
+    reads_with_no_memory::<ExtendedAttributeNoArgs<'_>>(
+        alloc,
+        &[(
+            "Replaceable",
+            "ExtendedAttributeNoArgs(Identifier(\"Replaceable\"))",
+        )],
+    )?;
+    assert!(rt; Wanted::new().tell(&rt, alloc));
+    Ok(())
+}
+
+#[test]
+fn no_word_before_a_member_takes_memory(rt: HostRuntime) -> Result<(), Fail> {
+    let alloc = rt.alloc();
+    reads_with_no_memory::<Inheritance<'_>>(
+        alloc,
+        &[(
+            ": B",
+            "Inheritance { colon: Colon, identifier: Identifier(\"B\") }",
+        )],
+    )?;
+    reads_with_no_memory::<Special>(
+        alloc,
+        &[
+            ("getter", "Getter(Getter)"),
+            ("deleter", "Deleter(Deleter)"),
+        ],
+    )?;
+    reads_with_no_memory::<StringifierOrInheritOrStatic>(
+        alloc,
+        &[
+            ("inherit", "Inherit(Inherit)"),
+            ("static", "Static(Static)"),
+        ],
+    )?;
+    reads_with_no_memory::<StringifierOrStatic>(
+        alloc,
+        &[
+            ("stringifier", "Stringifier(Stringifier)"),
+            ("static", "Static(Static)"),
+        ],
+    )?;
+    assert!(rt; Wanted::new().tell(&rt, alloc));
     Ok(())
 }
