@@ -182,15 +182,16 @@ fn every_way_gives_the_same_list_of_long_texts(rt: HostRuntime) -> Result<(), Fa
         &repeated(alloc, "typedef ", "(", 1_000, "")?,
         true,
     )?;
-    assert_agrees(
-        &rt,
-        alloc,
-        &repeated(alloc, "enum E {", "\"a\",", 10_000, "};")?,
-        true,
-    )?;
     // Direct descent takes twice as long at each level.
     assert_agrees(&rt, alloc, &nested_attributes(alloc, 39)?, false)?;
     assert_agrees(&rt, alloc, &nested_attributes(alloc, 199)?, false)?;
+    Ok(())
+}
+
+#[test]
+fn every_way_gives_the_same_list_of_many_values(rt: HostRuntime) -> Result<(), Fail> {
+    let text = repeated(rt.alloc(), "enum E {", "\"a\",", 10_000, "};")?;
+    assert_agrees(&rt, rt.alloc(), &text, true)?;
     Ok(())
 }
 
