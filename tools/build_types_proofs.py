@@ -70,8 +70,8 @@ ENUMS = {
         (26, "nullable_frozen_array_type", "refl"), (27, "nullable_record_type", "record_of")]),
     ("kinds", "record_key_type"): ("RECORD_KEY_TYPE", [(3, "non_any_type", None)]),
     ("kinds", "return_type"): ("RETURN_TYPE", [(1, "type_", None)]),
-    ("unions", "union_member_type"): ("UNION_MEMBER_TYPE", [
-        (0, "attributed_non_any_type", "member_single_of"), (1, "nullable_union_type", "member_union_of")]),
+    ("unions", "add_union_member_type"): ("UNION_MEMBER_TYPE", [
+        (0, "attributed_non_any_type", None), (1, "nullable_union_type", None)]),
     ("attributes", "extended_attribute"): ("EXTENDED_ATTRIBUTE", [
         (0, "extended_attribute_arg_list", "arg_list_of"),
         (1, "extended_attribute_named_arg_list", "named_arg_list_of")]),
@@ -79,11 +79,14 @@ ENUMS = {
         (0, "single_argument", "argument_single_of"), (1, "variadic_argument", "argument_variadic_of")]),
 }
 
+# A list is its rule, those of its items and of what stands between, the type of the items and the function that builds
+# one: an item of a union it puts into the list itself.
 LISTS = {
-    ("unions", "union_member_types"): ("LIST_UNION_MEMBER_TYPE_OR", "UNION_MEMBER_TYPE", "OR", "union_member_type"),
+    ("unions", "union_member_types"): (
+        "LIST_UNION_MEMBER_TYPE_OR", "UNION_MEMBER_TYPE", "OR", "union_member_type", "add_union_member_type"),
     ("attributes", "extended_attributes"): (
-        "LIST_EXTENDED_ATTRIBUTE_COMMA", "EXTENDED_ATTRIBUTE", "COMMA", "extended_attribute"),
-    ("arguments", "argument_list"): ("ARGUMENT_LIST", "ARGUMENT", "COMMA", "argument"),
+        "LIST_EXTENDED_ATTRIBUTE_COMMA", "EXTENDED_ATTRIBUTE", "COMMA", "extended_attribute", "extended_attribute"),
+    ("arguments", "argument_list"): ("ARGUMENT_LIST", "ARGUMENT", "COMMA", "argument", "argument"),
 }
 
 OTHERS = {("attributes", "attributes"): "OPT_EXTENDED_ATTRIBUTE_LIST", ("arguments", "single_argument"): "SINGLE_ARGUMENT"}
@@ -161,10 +164,13 @@ def enum(module, name, rule, arms):
     return out
 
 
-def listed(module, name, rule, item, separator, function):
+def listed(module, name, rule, item, separator, type_, function):
     place = f"{module}::{name}"
-    first = f"(kept {function}_tree c.in_ok-here.ensures c.{function}.ensures)"
-    later = f"(kept {function}_tree c.in_ok-here-2.ensures c.{function}-in-Some-end.ensures)"
+    if function == type_:
+        first = f"(kept {type_}_tree c.in_ok-here.ensures c.{function}.ensures)"
+        later = f"(kept {type_}_tree c.in_ok-here-2.ensures c.{function}-in-Some-end.ensures)"
+    else:
+        first, later = "c.in_ok-here.ensures.built", "c.in_ok-here-2.ensures.built"
     next_ = f"listing_next c.loop-behind.invariant c.in-Some-end.ensures.right {later}"
     return [
         answer(f"{place}-returns-in_default",
@@ -185,7 +191,7 @@ def listed(module, name, rule, item, separator, function):
                "let b = listing_behind refl c.loop-behind.invariant c.in-Some-end.ensures.right in (omega (arith, d.boundary.0), d)"),
         answer(f"{place}-loop-behind-smaller", f"let n = {next_} in omega (arith, n.1, n.0.tail.boundary.0)"),
         answer(f"{place}-loop-behind-preserved",
-               f"rw (c.in_ok-here-2.ensures.items, map_push {function}_tree c.loop-behind.list.items "
+               f"rw (c.in_ok-here-2.ensures.items, map_push {type_}_tree c.loop-behind.list.items "
                "c.in_ok-here-2.ensures.value) "
                f"({next_}).0"),
         answer(f"{place}-returns",
@@ -241,11 +247,11 @@ def invariants():
         goal = f"decreases-{module}::{name}"
         out += [f"abbrev pub {goal} : goal.{goal}",
                 f"{goal} l = (length l.table.now.text - l.at.place) * rule_count + {rule}", ""]
-    for (module, name), (rule, item, separator, function) in LISTS.items():
+    for (module, name), (rule, item, separator, type_, function) in LISTS.items():
         goal = f"invariant-{module}::{name}-loop-behind"
         out += [f"abbrev pub {goal} : goal.{goal}",
                 f"{goal} l = Listing l.table.text {item} {separator} l.fn.at.place l.fn.at.visits "
-                f"(map {function}_tree l.list.items) l.here.place l.here.visits", ""]
+                f"(map {type_}_tree l.list.items) l.here.place l.here.visits", ""]
         goal = f"decreases-{module}::{name}-loop-behind"
         out += [f"abbrev pub {goal} : goal.{goal}", f"{goal} l = length l.table.text - l.here.place", ""]
     return "\n".join(out)
@@ -260,8 +266,8 @@ def answers():
            "return_type_tree, type_tree, union_member_type_tree}",
            "use Rattle.weedle_build_types.proofs.Calls.{behind, builds_as, kept, listing_behind, not_before, option_of, place_of, rest_of_if}",
            "use Rattle.weedle_build_types.proofs.Conditions.{if_due, if_not_there, if_there}",
-           "use Rattle.weedle_types.proofs.TreeLaws.{arg_list_of, argument_single_of, argument_variadic_of, member_single_of, "
-           "member_union_of, named_arg_list_of, promise_of, record_of, single_type_of, union_of}",
+           "use Rattle.weedle_types.proofs.TreeLaws.{arg_list_of, argument_single_of, argument_variadic_of, "
+           "named_arg_list_of, promise_of, record_of, single_type_of, union_of}",
            "use Rattle.weedle_build_base.proofs.Choices.{chosen}",
            "use Rattle.weedle_build_base.proofs.Finding.{absent, present}",
            "use Rattle.weedle_build_base.proofs.Repeats.{map_push}",
@@ -274,8 +280,8 @@ def answers():
         out += struct(module, name, rule, parts)
     for (module, name), (rule, arms) in ENUMS.items():
         out += enum(module, name, rule, arms)
-    for (module, name), (rule, item, separator, function) in LISTS.items():
-        out += listed(module, name, rule, item, separator, function)
+    for (module, name), (rule, item, separator, type_, function) in LISTS.items():
+        out += listed(module, name, rule, item, separator, type_, function)
     return "\n".join(out + others())
 
 

@@ -1,19 +1,21 @@
 //! Unions.
 
+ghost use Rattle.std.specs.Prelude.{IfOk};
 ghost use Rattle.weedle_parts.specs.ValueTrees.{may_be_null_tree};
 ghost use Rattle.weedle_grammar.specs.Table.Types.{LIST_UNION_MEMBER_TYPE_OR, MAY_BE_NULL_UNION_TYPE, UNION_MEMBER_TYPE, UNION_TYPE};
-ghost use Rattle.weedle_types.specs.Trees.{union_member_type_tree, union_member_types_tree, union_type_tree};
+ghost use Rattle.weedle_types.specs.Trees.{attributed_non_any_type_tree, union_member_type_tree, union_member_types_tree, union_type_tree};
 ghost use Rattle.weedle_build_base.specs.Built.{Answers, Due};
+ghost use Rattle.weedle_build_types.specs.Steps.{Adds, KeepsAs};
 
 use super::kinds::attributed_non_any_type;
-use super::steps::{keep, optional};
-use std::alloc::Global;
+use super::steps::optional;
+use std::alloc::{AllocError, Global};
 use weedle_build_base::{At, Build, BuildResult, choice, visit};
 use weedle_parts::common::{Parenthesized, Punctuated};
 use weedle_parts::types::MayBeNull;
 use weedle_rules::{Ends, Rule};
 use weedle_term::{CloseParen, OpenParen, Or, QMark};
-use weedle_types::types::{UnionMemberType, UnionType};
+use weedle_types::types::{AttributedNonAnyType, UnionMemberType, UnionType};
 
 /// Builds a union, as `(long or DOMString)`.
 #[cycle(group)]
@@ -49,25 +51,47 @@ pub(crate) fn nullable_union_type<'a>(
     Ok((MayBeNull { type_, q_mark }, visit(at)))
 }
 
-/// Builds a member of a union, as `[Clamp] octet`.
+/// Puts a member of a union, which is no union itself, behind those of a list.
+#[inline(never)]
+fn keep_single<'a>(
+    list: &mut Vec<UnionMemberType<'a>>,
+    built: BuildResult<AttributedNonAnyType<'a>>,
+) -> Result<At, AllocError>
+    ensures { IfOk result (λ at. KeepsAs attributed_non_any_type_tree union_member_type_tree 0 list.old.items list.new.items built.entry at) }
+{
+    let (member, at) = built?;
+    list.push(UnionMemberType::Single(member))?;
+    Ok(visit(at))
+}
+
+/// Puts a member of a union, which is one itself, behind those of a list.
+#[inline(never)]
+fn keep_union<'a>(
+    list: &mut Vec<UnionMemberType<'a>>,
+    built: BuildResult<MayBeNull<UnionType<'a>>>,
+) -> Result<At, AllocError>
+    ensures { IfOk result (λ at. KeepsAs (may_be_null_tree union_type_tree) union_member_type_tree 1 list.old.items list.new.items built.entry at) }
+{
+    let (member, at) = built?;
+    list.push(UnionMemberType::Union(member))?;
+    Ok(visit(at))
+}
+
+/// Builds a member of a union, as `[Clamp] octet`, behind those of a list, and gives where it is then.
+// It hands on what it builds, so that no level of nested unions has room for a member.
 #[cycle(group)]
-pub(crate) fn union_member_type<'a>(
+pub(crate) fn add_union_member_type<'a>(
     alloc: Global,
     table: &Ends<'a>,
+    list: &mut Vec<UnionMemberType<'a>>,
     at: At,
-) -> BuildResult<UnionMemberType<'a>>
+) -> Result<At, AllocError>
     requires { Due table.now.text UNION_MEMBER_TYPE at.place }
-    ensures { Answers table.now.text UNION_MEMBER_TYPE union_member_type_tree at.place at.visits result }
+    ensures { IfOk result (λ here. Adds table.now.text UNION_MEMBER_TYPE union_member_type_tree list.old.items list.new.items at.place at.visits here.place here.visits) }
 {
     match choice(table, Rule::UNION_MEMBER_TYPE, at.place) {
-        0 => {
-            let (member, at) = attributed_non_any_type(alloc, table, at)?;
-            Ok((UnionMemberType::Single(member), visit(at)))
-        }
-        1 => {
-            let (member, at) = nullable_union_type(alloc, table, at)?;
-            Ok((UnionMemberType::Union(member), visit(at)))
-        }
+        0 => keep_single(list, attributed_non_any_type(alloc, table, at)),
+        1 => keep_union(list, nullable_union_type(alloc, table, at)),
         _ => unreachable!(),
     }
 }
@@ -87,7 +111,7 @@ pub(crate) fn union_member_types<'a>(
     let Some(_) = table.end(Rule::UNION_MEMBER_TYPE, at.place) else {
         return Ok((Punctuated { list, separator }, visit(at)));
     };
-    let mut here = keep(&mut list, union_member_type(alloc, table, at))?;
+    let mut here = add_union_member_type(alloc, table, &mut list, at)?;
     while let Some(behind) = table.end(Rule::OR, here.place) {
         let Some(_) = table.end(Rule::UNION_MEMBER_TYPE, behind) else {
             return Ok((Punctuated { list, separator }, visit(here)));
@@ -96,7 +120,7 @@ pub(crate) fn union_member_types<'a>(
             place: behind,
             visits: here.visits,
         };
-        here = keep(&mut list, union_member_type(alloc, table, start))?;
+        here = add_union_member_type(alloc, table, &mut list, start)?;
     }
     Ok((Punctuated { list, separator }, visit(here)))
 }

@@ -7,7 +7,7 @@ use Rattle.weedle_grammar.specs.Table.Types.{OPT_DEFAULT, OPT_OPTIONAL}
 use Rattle.weedle_types.specs.Trees.{argument_tree, extended_attribute_tree, record_key_type_tree, return_type_tree, type_tree, union_member_type_tree}
 use Rattle.weedle_build_types.proofs.Calls.{behind, builds_as, kept, listing_behind, not_before, option_of, place_of, rest_of_if}
 use Rattle.weedle_build_types.proofs.Conditions.{if_due, if_not_there, if_there}
-use Rattle.weedle_types.proofs.TreeLaws.{arg_list_of, argument_single_of, argument_variadic_of, member_single_of, member_union_of, named_arg_list_of, promise_of, record_of, single_type_of, union_of}
+use Rattle.weedle_types.proofs.TreeLaws.{arg_list_of, argument_single_of, argument_variadic_of, named_arg_list_of, promise_of, record_of, single_type_of, union_of}
 use Rattle.weedle_build_base.proofs.Choices.{chosen}
 use Rattle.weedle_build_base.proofs.Finding.{absent, present}
 use Rattle.weedle_build_base.proofs.Repeats.{map_push}
@@ -274,17 +274,11 @@ kinds::record_key_type-non_any_type-requires t c = let h = rw c.in-3.is at c.cho
 pub kinds::return_type-type_-requires : goal.kinds::return_type-type_-requires
 kinds::return_type-type_-requires t c = let h = rw c.in-1.is at c.choice.ensures in (omega arith, h.due)
 
-pub unions::union_member_type-attributed_non_any_type-requires : goal.unions::union_member_type-attributed_non_any_type-requires
-unions::union_member_type-attributed_non_any_type-requires t c = let h = rw c.in-0.is at c.choice.ensures in (omega arith, h.due)
+pub unions::add_union_member_type-attributed_non_any_type-requires : goal.unions::add_union_member_type-attributed_non_any_type-requires
+unions::add_union_member_type-attributed_non_any_type-requires t c = let h = rw c.in-0.is at c.choice.ensures in (omega arith, h.due)
 
-pub unions::union_member_type-returns-in_ok-member-in-0 : goal.unions::union_member_type-returns-in_ok-member-in-0
-unions::union_member_type-returns-in_ok-member-in-0 t c = builds_as (member_single_of c.in_ok-member-in-0.member) (chosen (rw c.in-0.is at c.choice.ensures) c.in_ok-member-in-0.ensures c.visit.ensures)
-
-pub unions::union_member_type-nullable_union_type-requires : goal.unions::union_member_type-nullable_union_type-requires
-unions::union_member_type-nullable_union_type-requires t c = let h = rw c.in-1.is at c.choice.ensures in (omega arith, h.due)
-
-pub unions::union_member_type-returns-in_ok-member-in-1 : goal.unions::union_member_type-returns-in_ok-member-in-1
-unions::union_member_type-returns-in_ok-member-in-1 t c = builds_as (member_union_of c.in_ok-member-in-1.member) (chosen (rw c.in-1.is at c.choice.ensures) c.in_ok-member-in-1.ensures c.visit-in-1.ensures)
+pub unions::add_union_member_type-nullable_union_type-requires : goal.unions::add_union_member_type-nullable_union_type-requires
+unions::add_union_member_type-nullable_union_type-requires t c = let h = rw c.in-1.is at c.choice.ensures in (omega arith, h.due)
 
 pub attributes::extended_attribute-extended_attribute_arg_list-requires : goal.attributes::extended_attribute-extended_attribute_arg_list-requires
 attributes::extended_attribute-extended_attribute_arg_list-requires t c = let h = rw c.in-0.is at c.choice.ensures in (omega arith, h.due)
@@ -313,11 +307,11 @@ arguments::argument-returns-in_ok-member-in-1 t c = builds_as (argument_variadic
 pub unions::union_member_types-returns-in_default : goal.unions::union_member_types-returns-in_default
 unions::union_member_types-returns-in_default t c = rw c.new-list.ensures.items (list_empty refl refl (absent c.in_default.ensures.right) c.visit.ensures)
 
-pub unions::union_member_types-union_member_type-requires : goal.unions::union_member_types-union_member_type-requires
-unions::union_member_types-union_member_type-requires t c = (omega arith, present c.requires.utf8 c.requires.boundary c.in-Some.ensures.right)
+pub unions::union_member_types-add_union_member_type-requires : goal.unions::union_member_types-add_union_member_type-requires
+unions::union_member_types-add_union_member_type-requires t c = (omega arith, present c.requires.utf8 c.requires.boundary c.in-Some.ensures.right)
 
 pub unions::union_member_types-loop-behind-init : goal.unions::union_member_types-loop-behind-init
-unions::union_member_types-loop-behind-init t c = rw (c.in_ok-here.ensures.items, c.new-list.ensures.items) (listing_start (due_list c.requires refl (present c.requires.utf8 c.requires.boundary c.in-Some.ensures.right)) refl (kept union_member_type_tree c.in_ok-here.ensures c.union_member_type.ensures))
+unions::union_member_types-loop-behind-init t c = rw (c.in_ok-here.ensures.items, c.new-list.ensures.items) (listing_start (due_list c.requires refl (present c.requires.utf8 c.requires.boundary c.in-Some.ensures.right)) refl c.in_ok-here.ensures.built)
 
 pub unions::union_member_types-end-requires-in-loop-behind : goal.unions::union_member_types-end-requires-in-loop-behind
 unions::union_member_types-end-requires-in-loop-behind t c = c.loop-behind.invariant.tail.boundary.0
@@ -328,14 +322,14 @@ unions::union_member_types-end-requires-in-Some-end t c = (behind_boundary c.loo
 pub unions::union_member_types-returns-in_default-end-2 : goal.unions::union_member_types-returns-in_default-end-2
 unions::union_member_types-returns-in_default-end-2 t c = list_built refl refl (listing_back c.loop-behind.invariant refl refl c.in-Some-end.ensures.right c.in_default-end-2.ensures.right) c.visit-in_default-end-2.ensures
 
-pub unions::union_member_types-union_member_type-requires-in-Some-end : goal.unions::union_member_types-union_member_type-requires-in-Some-end
-unions::union_member_types-union_member_type-requires-in-Some-end t c = let d = behind_due c.loop-behind.invariant.tail c.in-Some-end.ensures.right c.in-Some-end-2.ensures.right in let b = listing_behind refl c.loop-behind.invariant c.in-Some-end.ensures.right in (omega (arith, d.boundary.0), d)
+pub unions::union_member_types-add_union_member_type-requires-in-Some-end : goal.unions::union_member_types-add_union_member_type-requires-in-Some-end
+unions::union_member_types-add_union_member_type-requires-in-Some-end t c = let d = behind_due c.loop-behind.invariant.tail c.in-Some-end.ensures.right c.in-Some-end-2.ensures.right in let b = listing_behind refl c.loop-behind.invariant c.in-Some-end.ensures.right in (omega (arith, d.boundary.0), d)
 
 pub unions::union_member_types-loop-behind-smaller : goal.unions::union_member_types-loop-behind-smaller
-unions::union_member_types-loop-behind-smaller t c = let n = listing_next c.loop-behind.invariant c.in-Some-end.ensures.right (kept union_member_type_tree c.in_ok-here-2.ensures c.union_member_type-in-Some-end.ensures) in omega (arith, n.1, n.0.tail.boundary.0)
+unions::union_member_types-loop-behind-smaller t c = let n = listing_next c.loop-behind.invariant c.in-Some-end.ensures.right c.in_ok-here-2.ensures.built in omega (arith, n.1, n.0.tail.boundary.0)
 
 pub unions::union_member_types-loop-behind-preserved : goal.unions::union_member_types-loop-behind-preserved
-unions::union_member_types-loop-behind-preserved t c = rw (c.in_ok-here-2.ensures.items, map_push union_member_type_tree c.loop-behind.list.items c.in_ok-here-2.ensures.value) (listing_next c.loop-behind.invariant c.in-Some-end.ensures.right (kept union_member_type_tree c.in_ok-here-2.ensures c.union_member_type-in-Some-end.ensures)).0
+unions::union_member_types-loop-behind-preserved t c = rw (c.in_ok-here-2.ensures.items, map_push union_member_type_tree c.loop-behind.list.items c.in_ok-here-2.ensures.value) (listing_next c.loop-behind.invariant c.in-Some-end.ensures.right c.in_ok-here-2.ensures.built).0
 
 pub unions::union_member_types-returns : goal.unions::union_member_types-returns
 unions::union_member_types-returns t c = list_built refl refl (listing_end c.loop-behind.invariant refl refl c.in_default-end.ensures.right) c.visit-2.ensures

@@ -97,11 +97,11 @@ decreases-kinds::single_type l = (length l.table.now.text - l.at.place) * rule_c
 abbrev pub decreases-kinds::type_ : goal.decreases-kinds::type_
 decreases-kinds::type_ l = (length l.table.now.text - l.at.place) * rule_count + TYPE
 
+abbrev pub decreases-unions::add_union_member_type : goal.decreases-unions::add_union_member_type
+decreases-unions::add_union_member_type l = (length l.table.now.text - l.at.place) * rule_count + UNION_MEMBER_TYPE
+
 abbrev pub decreases-unions::nullable_union_type : goal.decreases-unions::nullable_union_type
 decreases-unions::nullable_union_type l = (length l.table.now.text - l.at.place) * rule_count + MAY_BE_NULL_UNION_TYPE
-
-abbrev pub decreases-unions::union_member_type : goal.decreases-unions::union_member_type
-decreases-unions::union_member_type l = (length l.table.now.text - l.at.place) * rule_count + UNION_MEMBER_TYPE
 
 abbrev pub decreases-unions::union_member_types : goal.decreases-unions::union_member_types
 decreases-unions::union_member_types l = (length l.table.now.text - l.at.place) * rule_count + LIST_UNION_MEMBER_TYPE_OR
