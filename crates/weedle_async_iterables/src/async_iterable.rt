@@ -21,13 +21,25 @@ use weedle_types::parts::attributes;
 use weedle_types::types::AttributedType;
 
 /// An asynchronous iteration over values, as `async iterable<long>;`. Arguments may follow the types.
-#[derive(Debug, PartialEq, Eq, PartialOrd, Ord, Hash, Drop)]
+#[derive(Debug, PartialEq, Eq, PartialOrd, Ord, Hash)]
 pub struct SingleTypedAsyncIterable<'a> {
     pub attributes: Option<ExtendedAttributeList<'a>>,
     pub async_iterable: (Async, Iterable),
     pub generics: Generics<AttributedType<'a>>,
     pub args: Option<ParenthesizedArgumentList<'a>>,
     pub semi_colon: SemiColon,
+}
+
+impl Drop for SingleTypedAsyncIterable<'_> {
+    fn drop(self) {
+        let SingleTypedAsyncIterable {
+            attributes: _,
+            async_iterable: _,
+            generics: _,
+            args: _,
+            semi_colon: _,
+        } = self;
+    }
 }
 
 #[tactic(auto, using(crate::proofs::AsyncIterableRules::single_typed_async_iterable_steps))]
@@ -73,13 +85,25 @@ impl TryClone for SingleTypedAsyncIterable<'_> {
 
 /// An asynchronous iteration over pairs, as `async iterable<DOMString, long>(long x);`. Arguments may
 /// follow the types.
-#[derive(Debug, PartialEq, Eq, PartialOrd, Ord, Hash, Drop)]
+#[derive(Debug, PartialEq, Eq, PartialOrd, Ord, Hash)]
 pub struct DoubleTypedAsyncIterable<'a> {
     pub attributes: Option<ExtendedAttributeList<'a>>,
     pub async_iterable: (Async, Iterable),
     pub generics: Generics<(AttributedType<'a>, Comma, AttributedType<'a>)>,
     pub args: Option<ParenthesizedArgumentList<'a>>,
     pub semi_colon: SemiColon,
+}
+
+impl Drop for DoubleTypedAsyncIterable<'_> {
+    fn drop(self) {
+        let DoubleTypedAsyncIterable {
+            attributes: _,
+            async_iterable: _,
+            generics: _,
+            args: _,
+            semi_colon: _,
+        } = self;
+    }
 }
 
 #[tactic(auto, using(crate::proofs::AsyncIterableRules::double_typed_async_iterable_steps))]
@@ -124,10 +148,18 @@ impl TryClone for DoubleTypedAsyncIterable<'_> {
 }
 
 /// An asynchronous iteration, over values or pairs: the first of the two that fits.
-#[derive(Debug, PartialEq, Eq, PartialOrd, Ord, Hash, Drop)]
+#[derive(Debug, PartialEq, Eq, PartialOrd, Ord, Hash)]
 pub enum AsyncIterableInterfaceMember<'a> {
     Single(SingleTypedAsyncIterable<'a>),
     Double(DoubleTypedAsyncIterable<'a>),
+}
+
+impl Drop for AsyncIterableInterfaceMember<'_> {
+    fn drop(self) {
+        match self {
+            AsyncIterableInterfaceMember::Single(_) | AsyncIterableInterfaceMember::Double(_) => {}
+        }
+    }
 }
 
 #[tactic(auto, using(crate::proofs::AsyncIterableRules::async_iterable_interface_member_steps))]

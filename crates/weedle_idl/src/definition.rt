@@ -30,7 +30,7 @@ use weedle_statements::{
 pub type Definitions<'a> = Vec<Definition<'a>>;
 
 /// A definition, as `interface A {};`: the first of the fourteen kinds that fits.
-#[derive(Debug, PartialEq, Eq, PartialOrd, Ord, Hash, Drop)]
+#[derive(Debug, PartialEq, Eq, PartialOrd, Ord, Hash)]
 pub enum Definition<'a> {
     Callback(CallbackDefinition<'a>),
     CallbackInterface(CallbackInterfaceDefinition<'a>),
@@ -46,6 +46,27 @@ pub enum Definition<'a> {
     Typedef(TypedefDefinition<'a>),
     IncludesStatement(IncludesStatementDefinition<'a>),
     Implements(ImplementsDefinition<'a>),
+}
+
+impl Drop for Definition<'_> {
+    fn drop(self) {
+        match self {
+            Definition::Callback(_)
+            | Definition::CallbackInterface(_)
+            | Definition::Interface(_)
+            | Definition::InterfaceMixin(_)
+            | Definition::Namespace(_)
+            | Definition::Dictionary(_)
+            | Definition::PartialInterface(_)
+            | Definition::PartialInterfaceMixin(_)
+            | Definition::PartialDictionary(_)
+            | Definition::PartialNamespace(_)
+            | Definition::Enum(_)
+            | Definition::Typedef(_)
+            | Definition::IncludesStatement(_)
+            | Definition::Implements(_) => {}
+        }
+    }
 }
 
 #[tactic(auto, using(crate::proofs::DefinitionRules::definition_steps))]

@@ -23,7 +23,7 @@ use weedle_members::{
 /// A member of an interface, as `attribute long length;`: the first of the nine kinds that fits, so
 /// `stringifier();`, which begins an operation without a name but has no second list of arguments, is
 /// none of them.
-#[derive(Debug, PartialEq, Eq, PartialOrd, Ord, Hash, Drop)]
+#[derive(Debug, PartialEq, Eq, PartialOrd, Ord, Hash)]
 pub enum InterfaceMember<'a> {
     Const(ConstMember<'a>),
     Attribute(AttributeInterfaceMember<'a>),
@@ -34,6 +34,22 @@ pub enum InterfaceMember<'a> {
     Maplike(MaplikeInterfaceMember<'a>),
     Setlike(SetlikeInterfaceMember<'a>),
     Stringifier(StringifierMember<'a>),
+}
+
+impl Drop for InterfaceMember<'_> {
+    fn drop(self) {
+        match self {
+            InterfaceMember::Const(_)
+            | InterfaceMember::Attribute(_)
+            | InterfaceMember::Constructor(_)
+            | InterfaceMember::Operation(_)
+            | InterfaceMember::Iterable(_)
+            | InterfaceMember::AsyncIterable(_)
+            | InterfaceMember::Maplike(_)
+            | InterfaceMember::Setlike(_)
+            | InterfaceMember::Stringifier(_) => {}
+        }
+    }
 }
 
 #[tactic(auto, using(crate::proofs::MemberRules::interface_member_steps))]

@@ -17,13 +17,25 @@ use weedle_types::parts::attributes;
 use weedle_types::types::AttributedType;
 
 /// A map, as `readonly maplike<DOMString, long>;`.
-#[derive(Debug, PartialEq, Eq, PartialOrd, Ord, Hash, Drop)]
+#[derive(Debug, PartialEq, Eq, PartialOrd, Ord, Hash)]
 pub struct MaplikeInterfaceMember<'a> {
     pub attributes: Option<ExtendedAttributeList<'a>>,
     pub readonly: Option<ReadOnly>,
     pub maplike: Maplike,
     pub generics: Generics<(AttributedType<'a>, Comma, AttributedType<'a>)>,
     pub semi_colon: SemiColon,
+}
+
+impl Drop for MaplikeInterfaceMember<'_> {
+    fn drop(self) {
+        let MaplikeInterfaceMember {
+            attributes: _,
+            readonly: _,
+            maplike: _,
+            generics: _,
+            semi_colon: _,
+        } = self;
+    }
 }
 
 #[tactic(auto, using(crate::proofs::CollectionRules::maplike_interface_member_steps))]
@@ -65,13 +77,25 @@ impl TryClone for MaplikeInterfaceMember<'_> {
 }
 
 /// A set, as `readonly setlike<long>;`.
-#[derive(Debug, PartialEq, Eq, PartialOrd, Ord, Hash, Drop)]
+#[derive(Debug, PartialEq, Eq, PartialOrd, Ord, Hash)]
 pub struct SetlikeInterfaceMember<'a> {
     pub attributes: Option<ExtendedAttributeList<'a>>,
     pub readonly: Option<ReadOnly>,
     pub setlike: Setlike,
     pub generics: Generics<AttributedType<'a>>,
     pub semi_colon: SemiColon,
+}
+
+impl Drop for SetlikeInterfaceMember<'_> {
+    fn drop(self) {
+        let SetlikeInterfaceMember {
+            attributes: _,
+            readonly: _,
+            setlike: _,
+            generics: _,
+            semi_colon: _,
+        } = self;
+    }
 }
 
 #[tactic(auto, using(crate::proofs::CollectionRules::setlike_interface_member_steps))]

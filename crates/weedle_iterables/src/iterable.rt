@@ -18,12 +18,23 @@ use weedle_types::parts::attributes;
 use weedle_types::types::AttributedType;
 
 /// An iteration over values, as `iterable<long>;`.
-#[derive(Debug, PartialEq, Eq, PartialOrd, Ord, Hash, Drop)]
+#[derive(Debug, PartialEq, Eq, PartialOrd, Ord, Hash)]
 pub struct SingleTypedIterable<'a> {
     pub attributes: Option<ExtendedAttributeList<'a>>,
     pub iterable: Iterable,
     pub generics: Generics<AttributedType<'a>>,
     pub semi_colon: SemiColon,
+}
+
+impl Drop for SingleTypedIterable<'_> {
+    fn drop(self) {
+        let SingleTypedIterable {
+            attributes: _,
+            iterable: _,
+            generics: _,
+            semi_colon: _,
+        } = self;
+    }
 }
 
 #[tactic(auto, using(crate::proofs::IterableRules::single_typed_iterable_steps))]
@@ -63,12 +74,23 @@ impl TryClone for SingleTypedIterable<'_> {
 }
 
 /// An iteration over pairs, as `iterable<DOMString, long>;`.
-#[derive(Debug, PartialEq, Eq, PartialOrd, Ord, Hash, Drop)]
+#[derive(Debug, PartialEq, Eq, PartialOrd, Ord, Hash)]
 pub struct DoubleTypedIterable<'a> {
     pub attributes: Option<ExtendedAttributeList<'a>>,
     pub iterable: Iterable,
     pub generics: Generics<(AttributedType<'a>, Comma, AttributedType<'a>)>,
     pub semi_colon: SemiColon,
+}
+
+impl Drop for DoubleTypedIterable<'_> {
+    fn drop(self) {
+        let DoubleTypedIterable {
+            attributes: _,
+            iterable: _,
+            generics: _,
+            semi_colon: _,
+        } = self;
+    }
 }
 
 #[tactic(auto, using(crate::proofs::IterableRules::double_typed_iterable_steps))]
@@ -108,10 +130,18 @@ impl TryClone for DoubleTypedIterable<'_> {
 }
 
 /// An iteration, over values or pairs: the first of the two that fits.
-#[derive(Debug, PartialEq, Eq, PartialOrd, Ord, Hash, Drop)]
+#[derive(Debug, PartialEq, Eq, PartialOrd, Ord, Hash)]
 pub enum IterableInterfaceMember<'a> {
     Single(SingleTypedIterable<'a>),
     Double(DoubleTypedIterable<'a>),
+}
+
+impl Drop for IterableInterfaceMember<'_> {
+    fn drop(self) {
+        match self {
+            IterableInterfaceMember::Single(_) | IterableInterfaceMember::Double(_) => {}
+        }
+    }
 }
 
 #[tactic(auto, using(crate::proofs::IterableRules::iterable_interface_member_steps))]

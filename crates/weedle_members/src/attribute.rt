@@ -19,7 +19,7 @@ use weedle_types::types::AttributedType;
 
 /// An attribute of an interface, as `static readonly attribute long x;`. No docstring may stand before
 /// it.
-#[derive(Debug, PartialEq, Eq, PartialOrd, Ord, Hash, Drop)]
+#[derive(Debug, PartialEq, Eq, PartialOrd, Ord, Hash)]
 pub struct AttributeInterfaceMember<'a> {
     pub attributes: Option<ExtendedAttributeList<'a>>,
     pub modifier: Option<StringifierOrInheritOrStatic>,
@@ -28,6 +28,20 @@ pub struct AttributeInterfaceMember<'a> {
     pub type_: AttributedType<'a>,
     pub identifier: Identifier<'a>,
     pub semi_colon: SemiColon,
+}
+
+impl Drop for AttributeInterfaceMember<'_> {
+    fn drop(self) {
+        let AttributeInterfaceMember {
+            attributes: _,
+            modifier: _,
+            readonly: _,
+            attribute: _,
+            type_: _,
+            identifier: _,
+            semi_colon: _,
+        } = self;
+    }
 }
 
 #[tactic(auto, using(crate::proofs::AttributeRules::attribute_interface_member_steps))]

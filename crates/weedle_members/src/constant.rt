@@ -18,7 +18,7 @@ use weedle_types::copies::copy_attributes;
 use weedle_types::parts::attributes;
 
 /// A constant, as `const long X = 5;`. No docstring may stand before it.
-#[derive(Debug, PartialEq, Eq, PartialOrd, Ord, Hash, Drop)]
+#[derive(Debug, PartialEq, Eq, PartialOrd, Ord, Hash)]
 pub struct ConstMember<'a> {
     pub attributes: Option<ExtendedAttributeList<'a>>,
     pub const_: Const,
@@ -27,6 +27,20 @@ pub struct ConstMember<'a> {
     pub assign: Assign,
     pub const_value: ConstValue<'a>,
     pub semi_colon: SemiColon,
+}
+
+impl Drop for ConstMember<'_> {
+    fn drop(self) {
+        let ConstMember {
+            attributes: _,
+            const_: _,
+            const_type: _,
+            identifier: _,
+            assign: _,
+            const_value: _,
+            semi_colon: _,
+        } = self;
+    }
 }
 
 #[tactic(auto, using(crate::proofs::ConstantRules::const_member_steps))]

@@ -19,13 +19,25 @@ use weedle_types::parts::attributes;
 use weedle_types::types::ReturnType;
 
 /// A constructor, as `constructor(long x);`. A docstring may stand before it.
-#[derive(Debug, PartialEq, Eq, PartialOrd, Ord, Hash, Drop)]
+#[derive(Debug, PartialEq, Eq, PartialOrd, Ord, Hash)]
 pub struct ConstructorInterfaceMember<'a> {
     pub docstring: Option<Docstring>,
     pub attributes: Option<ExtendedAttributeList<'a>>,
     pub constructor: Constructor,
     pub args: ParenthesizedArgumentList<'a>,
     pub semi_colon: SemiColon,
+}
+
+impl Drop for ConstructorInterfaceMember<'_> {
+    fn drop(self) {
+        let ConstructorInterfaceMember {
+            docstring: _,
+            attributes: _,
+            constructor: _,
+            args: _,
+            semi_colon: _,
+        } = self;
+    }
 }
 
 #[tactic(auto, using(crate::proofs::OperationRules::constructor_interface_member_steps))]
@@ -69,7 +81,7 @@ impl TryClone for ConstructorInterfaceMember<'_> {
 
 /// An operation of an interface, as `getter long item(long index);`. It may lack a name, and a
 /// docstring may stand before it.
-#[derive(Debug, PartialEq, Eq, PartialOrd, Ord, Hash, Drop)]
+#[derive(Debug, PartialEq, Eq, PartialOrd, Ord, Hash)]
 pub struct OperationInterfaceMember<'a> {
     pub docstring: Option<Docstring>,
     pub attributes: Option<ExtendedAttributeList<'a>>,
@@ -79,6 +91,21 @@ pub struct OperationInterfaceMember<'a> {
     pub identifier: Option<Identifier<'a>>,
     pub args: ParenthesizedArgumentList<'a>,
     pub semi_colon: SemiColon,
+}
+
+impl Drop for OperationInterfaceMember<'_> {
+    fn drop(self) {
+        let OperationInterfaceMember {
+            docstring: _,
+            attributes: _,
+            modifier: _,
+            special: _,
+            return_type: _,
+            identifier: _,
+            args: _,
+            semi_colon: _,
+        } = self;
+    }
 }
 
 #[tactic(auto, using(crate::proofs::OperationRules::operation_interface_member_steps))]

@@ -15,11 +15,21 @@ use weedle_types::copies::copy_attributes;
 use weedle_types::parts::attributes;
 
 /// A stringifier with no body, as `stringifier;`.
-#[derive(Debug, Default, PartialEq, Eq, PartialOrd, Ord, Hash, Drop)]
+#[derive(Debug, Default, PartialEq, Eq, PartialOrd, Ord, Hash)]
 pub struct StringifierMember<'a> {
     pub attributes: Option<ExtendedAttributeList<'a>>,
     pub stringifier: Stringifier,
     pub semi_colon: SemiColon,
+}
+
+impl Drop for StringifierMember<'_> {
+    fn drop(self) {
+        let StringifierMember {
+            attributes: _,
+            stringifier: _,
+            semi_colon: _,
+        } = self;
+    }
 }
 
 #[tactic(auto, using(crate::proofs::StringifierRules::stringifier_member_steps))]

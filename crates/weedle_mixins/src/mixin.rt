@@ -76,7 +76,7 @@ impl TryClone for BracedMixinMembers<'_> {
 
 /// An operation of a mixin, as `stringifier long f(long x);`. It may lack a name, and no docstring may
 /// stand before it.
-#[derive(Debug, PartialEq, Eq, PartialOrd, Ord, Hash, Drop)]
+#[derive(Debug, PartialEq, Eq, PartialOrd, Ord, Hash)]
 pub struct OperationMixinMember<'a> {
     pub attributes: Option<ExtendedAttributeList<'a>>,
     pub stringifier: Option<Stringifier>,
@@ -84,6 +84,19 @@ pub struct OperationMixinMember<'a> {
     pub identifier: Option<Identifier<'a>>,
     pub args: ParenthesizedArgumentList<'a>,
     pub semi_colon: SemiColon,
+}
+
+impl Drop for OperationMixinMember<'_> {
+    fn drop(self) {
+        let OperationMixinMember {
+            attributes: _,
+            stringifier: _,
+            return_type: _,
+            identifier: _,
+            args: _,
+            semi_colon: _,
+        } = self;
+    }
 }
 
 #[tactic(auto, using(crate::proofs::MixinRules::operation_mixin_member_steps))]
@@ -129,7 +142,7 @@ impl TryClone for OperationMixinMember<'_> {
 }
 
 /// An attribute of a mixin, as `readonly attribute long x;`.
-#[derive(Debug, PartialEq, Eq, PartialOrd, Ord, Hash, Drop)]
+#[derive(Debug, PartialEq, Eq, PartialOrd, Ord, Hash)]
 pub struct AttributeMixinMember<'a> {
     pub attributes: Option<ExtendedAttributeList<'a>>,
     pub stringifier: Option<Stringifier>,
@@ -138,6 +151,20 @@ pub struct AttributeMixinMember<'a> {
     pub type_: AttributedType<'a>,
     pub identifier: Identifier<'a>,
     pub semi_colon: SemiColon,
+}
+
+impl Drop for AttributeMixinMember<'_> {
+    fn drop(self) {
+        let AttributeMixinMember {
+            attributes: _,
+            stringifier: _,
+            readonly: _,
+            attribute: _,
+            type_: _,
+            identifier: _,
+            semi_colon: _,
+        } = self;
+    }
 }
 
 #[tactic(auto, using(crate::proofs::MixinRules::attribute_mixin_member_steps))]
@@ -184,12 +211,23 @@ impl TryClone for AttributeMixinMember<'_> {
 }
 
 /// A member of a mixin, as `readonly attribute long x;`: the first of the four kinds that fits.
-#[derive(Debug, PartialEq, Eq, PartialOrd, Ord, Hash, Drop)]
+#[derive(Debug, PartialEq, Eq, PartialOrd, Ord, Hash)]
 pub enum MixinMember<'a> {
     Const(ConstMember<'a>),
     Operation(OperationMixinMember<'a>),
     Attribute(AttributeMixinMember<'a>),
     Stringifier(StringifierMember<'a>),
+}
+
+impl Drop for MixinMember<'_> {
+    fn drop(self) {
+        match self {
+            MixinMember::Const(_)
+            | MixinMember::Operation(_)
+            | MixinMember::Attribute(_)
+            | MixinMember::Stringifier(_) => {}
+        }
+    }
 }
 
 #[tactic(auto, using(crate::proofs::MixinRules::mixin_member_steps))]

@@ -73,7 +73,7 @@ impl TryClone for BracedDictionaryMembers<'_> {
 }
 
 /// A member of a dictionary, as `required long x;` or `long x = 5;`. A docstring may stand before it.
-#[derive(Debug, PartialEq, Eq, PartialOrd, Ord, Hash, Drop)]
+#[derive(Debug, PartialEq, Eq, PartialOrd, Ord, Hash)]
 pub struct DictionaryMember<'a> {
     pub docstring: Option<Docstring>,
     pub attributes: Option<ExtendedAttributeList<'a>>,
@@ -82,6 +82,20 @@ pub struct DictionaryMember<'a> {
     pub identifier: Identifier<'a>,
     pub default: Option<Default<'a>>,
     pub semi_colon: SemiColon,
+}
+
+impl Drop for DictionaryMember<'_> {
+    fn drop(self) {
+        let DictionaryMember {
+            docstring: _,
+            attributes: _,
+            required: _,
+            type_: _,
+            identifier: _,
+            default: _,
+            semi_colon: _,
+        } = self;
+    }
 }
 
 #[tactic(auto, using(crate::proofs::DictionaryRules::dictionary_member_steps))]

@@ -75,7 +75,7 @@ impl TryClone for BracedNamespaceMembers<'_> {
 
 /// An operation of a namespace, as `long f(long x);`. It may lack a name, and a docstring may stand
 /// before it.
-#[derive(Debug, PartialEq, Eq, PartialOrd, Ord, Hash, Drop)]
+#[derive(Debug, PartialEq, Eq, PartialOrd, Ord, Hash)]
 pub struct OperationNamespaceMember<'a> {
     pub docstring: Option<Docstring>,
     pub attributes: Option<ExtendedAttributeList<'a>>,
@@ -83,6 +83,19 @@ pub struct OperationNamespaceMember<'a> {
     pub identifier: Option<Identifier<'a>>,
     pub args: ParenthesizedArgumentList<'a>,
     pub semi_colon: SemiColon,
+}
+
+impl Drop for OperationNamespaceMember<'_> {
+    fn drop(self) {
+        let OperationNamespaceMember {
+            docstring: _,
+            attributes: _,
+            return_type: _,
+            identifier: _,
+            args: _,
+            semi_colon: _,
+        } = self;
+    }
 }
 
 #[tactic(auto, using(crate::proofs::NamespaceRules::operation_namespace_member_steps))]
@@ -128,7 +141,7 @@ impl TryClone for OperationNamespaceMember<'_> {
 
 /// An attribute of a namespace, as `readonly attribute long x;`, always `readonly`. A docstring may
 /// stand before it.
-#[derive(Debug, PartialEq, Eq, PartialOrd, Ord, Hash, Drop)]
+#[derive(Debug, PartialEq, Eq, PartialOrd, Ord, Hash)]
 pub struct AttributeNamespaceMember<'a> {
     pub docstring: Option<Docstring>,
     pub attributes: Option<ExtendedAttributeList<'a>>,
@@ -137,6 +150,20 @@ pub struct AttributeNamespaceMember<'a> {
     pub type_: AttributedType<'a>,
     pub identifier: Identifier<'a>,
     pub semi_colon: SemiColon,
+}
+
+impl Drop for AttributeNamespaceMember<'_> {
+    fn drop(self) {
+        let AttributeNamespaceMember {
+            docstring: _,
+            attributes: _,
+            readonly: _,
+            attribute: _,
+            type_: _,
+            identifier: _,
+            semi_colon: _,
+        } = self;
+    }
 }
 
 #[tactic(auto, using(crate::proofs::NamespaceRules::attribute_namespace_member_steps))]
@@ -185,10 +212,18 @@ impl TryClone for AttributeNamespaceMember<'_> {
 }
 
 /// A member of a namespace, as `long f(long x);`: the first of the two kinds that fits.
-#[derive(Debug, PartialEq, Eq, PartialOrd, Ord, Hash, Drop)]
+#[derive(Debug, PartialEq, Eq, PartialOrd, Ord, Hash)]
 pub enum NamespaceMember<'a> {
     Operation(OperationNamespaceMember<'a>),
     Attribute(AttributeNamespaceMember<'a>),
+}
+
+impl Drop for NamespaceMember<'_> {
+    fn drop(self) {
+        match self {
+            NamespaceMember::Operation(_) | NamespaceMember::Attribute(_) => {}
+        }
+    }
 }
 
 #[tactic(auto, using(crate::proofs::NamespaceRules::namespace_member_steps))]

@@ -23,10 +23,19 @@ use weedle_types::parts::attributes;
 pub type EnumValueList<'a> = PunctuatedNonEmpty<EnumVariant<'a>, Comma>;
 
 /// A value of an enum, as `"blob"`. A docstring may stand before it.
-#[derive(Debug, PartialEq, Eq, PartialOrd, Ord, Hash, Drop)]
+#[derive(Debug, PartialEq, Eq, PartialOrd, Ord, Hash)]
 pub struct EnumVariant<'a> {
     pub docstring: Option<Docstring>,
     pub value: StringLit<'a>,
+}
+
+impl Drop for EnumVariant<'_> {
+    fn drop(self) {
+        let EnumVariant {
+            docstring: _,
+            value: _,
+        } = self;
+    }
 }
 
 #[tactic(auto, using(crate::proofs::EnumVariantRules::enum_variant_steps))]
