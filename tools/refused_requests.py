@@ -22,10 +22,9 @@ from pathlib import Path
 CRATES = (
     "weedle_leaf_rows",
     "weedle_type_rows",
-    "weedle_member_rows",
     "weedle_definition_rows",
     "weedle_pass_rows",
-    "weedle_bound_rows",
+    "weedle_rows",
     "weedle_program_rows",
 )
 WANTED = "a call wanted memory"

@@ -1,6 +1,6 @@
 //! Each request for memory refused in turn: whole texts.
 
-use crate::outcomes::{Counts, Outcome, assert_bounds, counted_outcome, outcome_of};
+use super::outcomes::{Counts, Outcome, assert_bounds, counted_outcome, outcome_of};
 use std::alloc::{AllocError, Global};
 use std::process::Abort;
 use std::test::Fail;

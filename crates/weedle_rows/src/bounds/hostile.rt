@@ -1,6 +1,6 @@
 //! Hostile texts: each is read or left within the bounds of the table and of the tree.
 
-use crate::outcomes::{NOTHING, Outcome, assert_bounds, counted_outcome, outcome_of, split};
+use super::outcomes::{NOTHING, Outcome, assert_bounds, counted_outcome, outcome_of, split};
 use std::alloc::Global;
 use std::process::Abort;
 use std::test::Fail;

@@ -1,6 +1,6 @@
 //! How much `parse_counted` does for a text.
 
-use crate::outcomes::{Counts, Outcome, all_workings, assert_bounds, counted_outcome};
+use super::outcomes::{Counts, Outcome, all_workings, assert_bounds, counted_outcome};
 use std::alloc::Global;
 use std::process::Abort;
 use std::test::Fail;

@@ -1,7 +1,0 @@
-//! Tests of members as their types read them.
-#![tactic(auto)]
-
-#[cfg(test)]
-mod members;
-#[cfg(test)]
-mod requests;
