@@ -1,7 +1,7 @@
 #!/bin/sh
 # Refuses the program of crates/weedle_bench its requests for memory, the first in the first run, the
 # second in the second, up to the run in which none is left to refuse. Each refused one must end the
-# program with status 1, say that memory was wanting, and write no other line than those before it; the last run
+# program with another status than 0, say that memory was wanting, and write no other line than those before it; the last run
 # must write what crates/weedle_bench/stdout holds. Run it at the top of the repository.
 set -u
 cd crates/weedle_bench || exit 1

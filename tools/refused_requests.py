@@ -3,7 +3,7 @@
 
 Of each test it refuses the first request in the first run, the second in the second, up to the run in which none of its
 calls has one left. In each run before that the test has to pass and to say that a call wanted memory: a call that goes
-on behind a refusal would say nothing. Tests that are named `no_..`, of any module, make no request at all.
+on behind a refusal would say nothing. The calls of tests that are named `no_..`, of any module, make no request at all.
 
 Run `rt test` in the folders of the crates first, which builds their tests. Then, at the top of the repository:
 
