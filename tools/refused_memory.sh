@@ -22,7 +22,7 @@ while :; do
         echo "$((number - 1)) requests, each refused once"
         exit 0
     fi
-    if ! grep -qsE 'out of memory|memory allocation failed' "$written" "$said"; then
+    if ! grep -qsE 'OutOfMemory|memory allocation failed' "$written" "$said"; then
         echo "request $number: refused, it ends with status $status and doesn't say why"
         exit 1
     fi

@@ -1,12 +1,12 @@
 //! Direct descent: the reading of `Definitions` by their type, timed, or once for what stands on an input.
 
-use anyhow::anyhow;
+use std::io;
 use std::time::Instant;
 use weedle_base::Parse;
 use weedle_idl::Definitions;
 
 /// Times the reading of the text, a few times.
-pub fn time(rt: &HostRuntime, text: &str) -> anyhow::Result<()> {
+pub fn time(rt: &HostRuntime, text: &str) -> io::Result<()> {
     for _ in 0..5 {
         let start = Instant::now(rt)?;
         read(rt, text)?;
@@ -18,17 +18,17 @@ pub fn time(rt: &HostRuntime, text: &str) -> anyhow::Result<()> {
 }
 
 /// Reads the text, of which nothing may be left.
-pub fn read_whole(rt: &HostRuntime, text: &str) -> anyhow::Result<()> {
+pub fn read_whole(rt: &HostRuntime, text: &str) -> io::Result<()> {
     match read(rt, text)? {
         0 => Ok(()),
-        left => Err(anyhow!("{left} bytes are left")),
+        _ => Err(io::Error::other("bytes are left")),
     }
 }
 
 /// Reads the text, prints how many definitions it has, and says how many bytes of it are left.
-pub fn read(rt: &HostRuntime, text: &str) -> anyhow::Result<usize> {
+pub fn read(rt: &HostRuntime, text: &str) -> io::Result<usize> {
     let Ok((rest, definitions)) = Definitions::parse(rt.alloc(), text) else {
-        return Err(anyhow!("out of memory"));
+        return Err(io::ErrorKind::OutOfMemory.into());
     };
     println!(rt;
         "{} bytes, {} definitions, {} bytes left",

@@ -2,11 +2,12 @@
 
 use crate::passes;
 use std::alloc::{AllocError, Global};
+use std::io;
 use std::time::Instant;
 use weedle_rules::{Cell, Ends, Narrow, RULES, Rule};
 
 /// Prints what a table holds.
-pub fn count(rt: &HostRuntime, ends: &Ends<'_>) -> anyhow::Result<()> {
+pub fn count(rt: &HostRuntime, ends: &Ends<'_>) -> io::Result<()> {
     let end = ends.end(Rule::DEFINITIONS, 0);
     let width = if ends.is_narrow() { "narrow" } else { "wide" };
     println!(rt;
@@ -18,7 +19,7 @@ pub fn count(rt: &HostRuntime, ends: &Ends<'_>) -> anyhow::Result<()> {
 }
 
 /// Times the filling, the laying down of as many cells, the second pass and both passes, a few times.
-pub fn time(rt: &HostRuntime, text: &str) -> anyhow::Result<()> {
+pub fn time(rt: &HostRuntime, text: &str) -> io::Result<()> {
     for _ in 0..5 {
         let laying = time_laying(rt, text)?;
         let (filling, building, cells) = time_passes(rt, text)?;
@@ -41,7 +42,7 @@ pub fn time(rt: &HostRuntime, text: &str) -> anyhow::Result<()> {
 }
 
 /// How many nanoseconds it takes to lay down as many cells as the table has.
-fn time_laying(rt: &HostRuntime, text: &str) -> anyhow::Result<u128> {
+fn time_laying(rt: &HostRuntime, text: &str) -> io::Result<u128> {
     let start = Instant::now(rt)?;
     let rows = lay(rt.alloc(), text)?;
     let laying = start.elapsed(rt)?.as_nanos();
@@ -50,7 +51,7 @@ fn time_laying(rt: &HostRuntime, text: &str) -> anyhow::Result<u128> {
 }
 
 /// How many nanoseconds the filling and the second pass take, and how many cells are filled.
-fn time_passes(rt: &HostRuntime, text: &str) -> anyhow::Result<(u128, u128, u128)> {
+fn time_passes(rt: &HostRuntime, text: &str) -> io::Result<(u128, u128, u128)> {
     let start = Instant::now(rt)?;
     let ends = Ends::new(rt.alloc(), text)?;
     let filling = start.elapsed(rt)?.as_nanos();

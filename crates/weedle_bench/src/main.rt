@@ -19,7 +19,6 @@ mod direct;
 mod filling;
 mod passes;
 
-use anyhow::anyhow;
 use std::io;
 use weedle_rules::Ends;
 use weedle_texts::definitions;
@@ -28,7 +27,7 @@ const SEED: u64 = 7;
 
 const SIZES: [usize; 3] = [0, 1_000, 10_000];
 
-fn main(rt: HostRuntime) -> anyhow::Result<()> {
+fn main(rt: HostRuntime) -> io::Result<()> {
     match std::env::args(&rt)?.nth(1) {
         Some(word) if word.as_str() == "-" => {
             let text = io::read_to_string(rt.alloc(), rt.reader())?;
@@ -36,7 +35,7 @@ fn main(rt: HostRuntime) -> anyhow::Result<()> {
         }
         Some(size) => {
             let Ok(size) = size.parse::<usize>() else {
-                return Err(anyhow!("usage: weedle_bench [SIZE | -]"));
+                return Err(io::Error::other("usage: weedle_bench [SIZE | -]"));
             };
             let text = definitions(rt.alloc(), SEED, size)?;
             direct::time(&rt, &text)?;

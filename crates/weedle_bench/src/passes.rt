@@ -3,26 +3,26 @@
 
 ghost use Rattle.std.specs.Prelude.{◌≡◌};
 
-use anyhow::anyhow;
 use std::alloc::{AllocError, Global};
+use std::io;
 use std::time::Instant;
 use weedle_build::build_definitions;
 use weedle_rules::Ends;
 
 /// How many nanoseconds both passes take for the text, which has to be read whole.
-pub fn time_both(rt: &HostRuntime, text: &str) -> anyhow::Result<u128> {
+pub fn time_both(rt: &HostRuntime, text: &str) -> io::Result<u128> {
     let start = Instant::now(rt)?;
     let is_read = is_read(rt.alloc(), text)?;
     let time = start.elapsed(rt)?.as_nanos();
     if is_read {
         Ok(time)
     } else {
-        Err(anyhow!("the text isn't read"))
+        Err(io::Error::other("the text isn't read"))
     }
 }
 
 /// How many nanoseconds the second pass takes along the text's table.
-pub fn time_second<'a>(rt: &HostRuntime, ends: &Ends<'a>, text: &'a str) -> anyhow::Result<u128>
+pub fn time_second<'a>(rt: &HostRuntime, ends: &Ends<'a>, text: &'a str) -> io::Result<u128>
     requires table { ends.now.text ≡ text.now }
 {
     let start = Instant::now(rt)?;

@@ -20,5 +20,6 @@
 pub mod laws;
 pub mod leaves;
 pub mod literals;
+pub mod members;
 pub mod modifiers;
 pub mod types;

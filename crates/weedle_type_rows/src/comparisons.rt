@@ -3,6 +3,7 @@
 mod laws;
 mod leaves;
 mod literals;
+mod members;
 mod modifiers;
 mod types;
 

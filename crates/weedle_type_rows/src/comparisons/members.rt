@@ -1,0 +1,16 @@
+//! The one member that has a default.
+
+use std::test::Fail;
+use weedle_answers::{Wanted, is_printed};
+use weedle_comparisons::members::default_stringifier;
+
+#[test]
+fn no_default_of_a_stringifier_takes_memory(rt: HostRuntime) -> Result<(), Fail> {
+    let stringifier = default_stringifier();
+    assert!(rt; is_printed(
+        &stringifier,
+        "StringifierMember { attributes: None, stringifier: Stringifier, semi_colon: SemiColon }"
+    ));
+    assert!(rt; Wanted::new().tell(&rt, rt.alloc()));
+    Ok(())
+}
