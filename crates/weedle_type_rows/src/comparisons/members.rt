@@ -7,10 +7,12 @@ use weedle_comparisons::members::default_stringifier;
 #[test]
 fn no_default_of_a_stringifier_takes_memory(rt: HostRuntime) -> Result<(), Fail> {
     let stringifier = default_stringifier();
-    assert!(rt; is_printed(
-        &stringifier,
-        "StringifierMember { attributes: None, stringifier: Stringifier, semi_colon: SemiColon }"
-    ));
+    assert!(rt;
+        is_printed(
+            &stringifier,
+            "StringifierMember { attributes: None, stringifier: Stringifier, semi_colon: SemiColon }"
+        )
+    );
     assert!(rt; Wanted::new().tell(&rt, rt.alloc()));
     Ok(())
 }
