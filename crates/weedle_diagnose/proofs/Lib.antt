@@ -1,0 +1,11 @@
+pub mod OutcomeFacts
+pub mod LaterFacts
+pub mod AddingFacts
+pub mod ConditionFacts
+pub mod FailureFacts
+pub mod ListingFacts
+pub mod BitFacts
+pub mod LastBit
+pub mod MarkingFacts
+pub mod FurthestFacts
+pub mod BoundaryFacts

@@ -1,0 +1,23 @@
+//! Where and why a text is refused: the furthest place at which something that was tried fails, and
+//! what fails there.
+//!
+//! ```rust
+//! use weedle_diagnose::diagnose_from;
+//! use weedle_rules::Ends;
+//!
+//! let ends = Ends::new(rt.alloc(), "interface A { readonly attribute long x };")?;
+//! let diagnosis = diagnose_from(rt.alloc(), &ends, 0)?;
+//! assert_eq!(rt; diagnosis.place, 40);
+//! ```
+//!
+//! At 40 stands the `}`, where the text lacks a `;`. So the rule of that sign is one of `expected`, beside
+//! those that begin a comment or a blank, which may stand there too.
+#![tactic(auto)]
+
+mod diagnosis;
+mod marking;
+mod marks;
+mod tries;
+mod unmet;
+
+pub use diagnosis::{Diagnosis, diagnose_from};

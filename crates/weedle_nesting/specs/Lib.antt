@@ -1,0 +1,3 @@
+pub mod Bare
+pub mod Marks
+pub mod Nesting

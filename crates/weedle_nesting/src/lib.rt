@@ -1,0 +1,17 @@
+//! How deep the brackets of a text stand in one another.
+//!
+//! [`nesting`] looks once at a text, past strings and comments. So who reads texts of strangers can
+//! refuse one that nests deeper than the stack holds, before it is read.
+//!
+//! ```rust
+//! use weedle_nesting::nesting;
+//!
+//! let depths = nesting("[A(optional long a)] typedef sequence<(long or short)> T; // [[[");
+//! assert!(rt; depths.attributes == 1 && depths.brackets == 2);
+//! ```
+#![tactic(auto)]
+
+mod look;
+mod marks;
+
+pub use look::{Depths, nesting, suits_descent};
