@@ -1,9 +1,11 @@
 //! A parser of WebIDL.
 //!
 //! [`parse`] reads a text as a list of definitions, or says from where on it is none;
-//! [`parse_counted`] counts what that takes. [`outline`] gives kinds, names and docstrings. [`run`] is
-//! the program: it reads a reader to its end, and writes what the text defines; [`run_outline`] writes
-//! an outline of it.
+//! [`parse_counted`] counts what that takes. [`parse_by_descent`] answers the same with little memory, and
+//! [`parse_quick`] takes it where the text lets it; [`nesting`] says how deep a text nests. [`outline`]
+//! gives kinds, names and docstrings, and [`lend`] lends it a list that a function owns. [`run`] is the
+//! program: it reads a reader to its end, and writes what the text defines; [`run_outline`] writes an
+//! outline of it.
 //!
 //! ```rust
 //! use weedle::{name_of, parse};
@@ -25,8 +27,8 @@ pub mod types;
 
 pub use weedle_base::{Err, Error, ErrorKind, IResult, Parse, TryClone};
 pub use weedle_front::{
-    Counted, Entry, RunFault, Status, kind_of, name_of, outline, parse, parse_counted, run,
-    run_outline,
+    Counted, Depths, Entry, RunFault, Status, kind_of, lend, name_of, nesting, outline, parse,
+    parse_by_descent, parse_counted, parse_quick, run, run_outline,
 };
 pub use weedle_idl::{
     CallbackDefinition, CallbackInterfaceDefinition, Definition, Definitions, DictionaryDefinition,

@@ -4,6 +4,8 @@ use Rattle.std.proofs.lemmas.List.{length-drop, take_all}
 use Rattle.std.specs.Borrow.{Bor}
 use Rattle.std.specs.Global.{Vec}
 use Rattle.std.specs.Prelude.{◌≡◌, ℕ, ◌-◌, ◌<◌, ◌≤◌, List, [], ◌∷◌, length, drop, Result, Ok, Err as Failed, IfOk}
+use Rattle.weedle_base.specs.Reading.{Reading, Got}
+use Rattle.weedle_base.specs.Rules.{HasRule}
 use Rattle.weedle_base.specs.declared.fault.Err.{Err as Fault}
 use Rattle.weedle_base.specs.declared.fault.Err.TheVariants.{Error as Stopped, Failure}
 use Rattle.weedle_base.specs.declared.fault.Error.{Error}
@@ -21,7 +23,22 @@ use Rattle.weedle_spell.specs.Pieces.{IsInPieces}
 use Rattle.weedle_spell_idl.specs.Definitions.{definitions_spelling}
 use Rattle.weedle_front.specs.Whole.{IsWhole, IsLeft, ParseAnswers, WholeOf, SpellsList, HasTexts}
 
-module _ {raw rest : List ℕ} {visits : ℕ} (list : Vec Definition) (h : IsBuilt raw (definitions_tree list.items) rest visits) where
+-- at the front of the text the rule of definitions reads this tree, up to some end, and the rest is the text from there
+pub record IsReadUpTo (raw : List ℕ) (tree : Tree) (rest : List ℕ) : Type 0 where
+  pub end : ℕ
+  pub reads : Reads raw DEFINITIONS 0 (Gives (tree ∷ []) end)
+  pub rest_is : rest ≡ drop end raw
+
+-- what is built is read
+pub built : {raw rest : List ℕ} {tree : Tree} {visits : ℕ} → IsBuilt raw tree rest visits → IsReadUpTo raw tree rest
+built h = record { end = h.end; reads = h.reads; rest_is = h.rest_is }
+
+-- what descent reads is read, by the law of definitions
+pub descended : {raw rest : List ℕ} {R : Reading (Vec Definition)} {list : Vec Definition}
+    → HasRule R DEFINITIONS (λ v. definitions_tree v.items) → Got R raw list rest → IsReadUpTo raw (definitions_tree list.items) rest
+descended law h = record { end = h.place; reads = law.gives _ _ _ h.gives; rest_is = h.rest_is }
+
+module _ {raw rest : List ℕ} (list : Vec Definition) (h : IsReadUpTo raw (definitions_tree list.items) rest) where
   size : length rest ≡ length (drop h.end raw)
   size = ap length h.rest_is
 
@@ -48,17 +65,17 @@ module _ {raw rest : List ℕ} {visits : ℕ} (list : Vec Definition) (h : IsBui
   unfolding IsLeft
   is_left = (_, h.end, h.reads, h.rest_is)
 
-  -- what is built is the answer where nothing is left, and else what is left is
-  pub built_answers : (r : Result (Vec Definition) (Fault (Error (Bor (List ℕ))))) → WholeOf list rest r → ParseAnswers raw r
-  built_answers (Ok v) e = rw e.0 (whole e.1)
-  built_answers (Failed (Stopped e)) left = record {
+  -- what is read is the answer where nothing is left, and else what is left is
+  pub read_answers : (r : Result (Vec Definition) (Fault (Error (Bor (List ℕ))))) → WholeOf list rest r → ParseAnswers raw r
+  read_answers (Ok v) e = rw e.0 (whole e.1)
+  read_answers (Failed (Stopped e)) left = record {
     refused = not_whole left.2;
     code = left.0;
     left = rw left.1 is_left;
     nonempty = rw left.1 left.2;
     within = omega (arith, ap length left.1, size, length-drop h.end raw);
   }
-  built_answers (Failed (Failure e)) h = absurd h
+  read_answers (Failed (Failure e)) h = absurd h
 
 whole_text : (raw : List ℕ) → between raw 0 (length raw) ≡ raw
 whole_text raw = take_all (length raw - 0) raw (omega arith)

@@ -1,7 +1,8 @@
 //! Whole texts: the list of their definitions, and the programs over it.
 //!
-//! [`parse`] reads a text as a list of definitions, or says from where on it is none. [`run`] is
-//! the program: it reads a reader to its end, and writes what the text defines.
+//! [`parse`] reads a text as a list of definitions, or says from where on it is none.
+//! [`parse_by_descent`] and [`parse_quick`] answer the same, and need less time and memory for what
+//! people write. [`run`] is the program: it reads a reader to its end, and writes what the text defines.
 //!
 //! ```rust
 //! use weedle_front::{name_of, parse};
@@ -15,10 +16,13 @@
 //! The port's name for this is `weedle`, which has all types under one path too.
 #![tactic(auto)]
 
+mod descent;
 mod program;
 mod reader;
 
+pub use descent::{parse_by_descent, parse_quick};
 pub use program::{RunFault, Status, run, run_outline};
 pub use reader::{Counted, parse, parse_counted};
 pub use weedle_idl::{Definition, Definitions};
-pub use weedle_report::{Entry, kind_of, name_of, outline};
+pub use weedle_nesting::{Depths, nesting};
+pub use weedle_report::{Entry, kind_of, lend, name_of, outline};

@@ -5,13 +5,14 @@ ghost use Rattle.std.specs.IoError.{error_kind};
 ghost use Rattle.weedle_front.specs.declared.program.RunFault.TheVariants.{Memory};
 ghost use Rattle.weedle_front.specs.Run.{IsReport, Reports, ReportsPart, ReadsNoText, AppendsPart};
 ghost use Rattle.weedle_report.specs.Outline.{outline_report};
-ghost use Rattle.weedle_report.specs.Report.{whole_report};
+ghost use Rattle.weedle_report.specs.Report.{list_report, whole_report};
 
-use crate::reader::parse;
+use crate::descent::parse_quick;
 use std::alloc::{AllocError, Global};
 use std::io;
 use std::io::{ErrorKind, Read, Write};
-use weedle_report::{Outlines, Report, Titles};
+use weedle_idl::Definitions;
+use weedle_report::{Outlines, Report, Titles, lend, lines_of};
 
 /// Whether the grammar read the whole text.
 #[derive(Clone, Copy, Debug, PartialEq, Eq)]
@@ -101,9 +102,9 @@ fn run_with<P: Report, R: Read, W: Write>(
     reader: &mut R,
     writer: &mut W,
 ) -> Result<Status, RunFault>
-    ensures ok { IfOk result (Reports P.written (R.remaining reader.old) (R.remaining reader.new) (W.contents writer.old) (W.contents writer.new)) }
+    ensures ok { IfOk result (Reports (list_report P.lines) (R.remaining reader.old) (R.remaining reader.new) (W.contents writer.old) (W.contents writer.new)) }
     ensures not_utf8 { IsErrOf result RunFault.NotUtf8 → ReadsNoText (R.remaining reader.old) (R.remaining reader.new) }
-    ensures output { IsErrOf result RunFault.Output → ReportsPart P.written (R.remaining reader.old) (R.remaining reader.new) (W.contents writer.old) (W.contents writer.new) }
+    ensures output { IsErrOf result RunFault.Output → ReportsPart (list_report P.lines) (R.remaining reader.old) (R.remaining reader.new) (W.contents writer.old) (W.contents writer.new) }
     ensures unwritten { IfErr result (λ fault. fault ≢ RunFault.Output → Keeps (W.contents writer.old) (W.contents writer.new)) }
 {
     let mut bytes = Vec::new(alloc);
@@ -128,17 +129,27 @@ fn input_fault(error: io::Error) -> RunFault
 
 /// The report of a text, and whether the text was read whole.
 fn report_of<P: Report>(alloc: Global, text: &str) -> Result<(String, Status), RunFault>
-    ensures ok { IfOk result (λ r. IsReport P.written text.now (string_bytes r.0) r.1) }
+    ensures ok { IfOk result (λ r. IsReport (list_report P.lines) text.now (string_bytes r.0) r.1) }
     ensures err { IfErr result (λ fault. fault ≡ RunFault.Memory) }
 {
-    match parse(alloc, text) {
-        Ok(definitions) => Ok((P::of(alloc, definitions)?, Status::Read)),
+    match parse_quick(alloc, text) {
+        Ok(definitions) => Ok((report_lent::<P>(alloc, definitions)?, Status::Read)),
         Err(weedle_base::Err::Error(error)) => {
             let at = text.len() - error.input.len();
             Ok((format!(in alloc; "unread at byte {at}\n")?, Status::Unread))
         }
         Err(weedle_base::Err::Failure(_)) => Err(RunFault::Memory),
     }
+}
+
+/// The report of a list that it lends.
+fn report_lent<P: Report>(alloc: Global, definitions: Definitions<'_>) -> Result<String, AllocError>
+    ensures { IfOk result (λ report. string_bytes report ≡ list_report P.lines definitions.entry.items) }
+{
+    lend(
+        definitions,
+        |definitions: &Definitions<'_>| lines_of::<P>(alloc, definitions),
+    )
 }
 
 /// Writes all the bytes, in as many writes as the writer needs.

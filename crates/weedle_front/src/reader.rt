@@ -107,7 +107,7 @@ pub fn parse_counted(alloc: Global, raw: &str) -> Counted<'_>
 }
 
 /// What was read of a text, where nothing is left of it, and else what is left.
-fn whole<'a, T: Drop>(value: T, rest: &'a str) -> Result<T, Err<Error<&'a str>>>
+pub(crate) fn whole<'a, T: Drop>(value: T, rest: &'a str) -> Result<T, Err<Error<&'a str>>>
     ensures { WholeOf value rest.entry.now result }
 {
     if rest.is_empty() {

@@ -1,5 +1,5 @@
 //! What is said of definitions: their kinds and names, outlines with their docstrings, and reports of
-//! lines.
+//! lines; and [`lend`], by which a function lends the list that it owns.
 //!
 //! ```rust
 //! use weedle_base::Parse;
@@ -14,9 +14,11 @@
 #![tactic(auto)]
 
 mod entries;
+mod lending;
 mod report;
 mod titles;
 
 pub use entries::{Entry, outline};
-pub use report::{Outlines, Report, Titles};
+pub use lending::lend;
+pub use report::{Outlines, Report, Titles, lines_of};
 pub use titles::{kind_of, name_of};

@@ -1,0 +1,57 @@
+//! Whole texts by descent, with no table of ends.
+
+ghost use Rattle.std.specs.Prelude.{IfOk};
+ghost use Rattle.weedle_front.specs.Whole.{ParseAnswers, SpellsList, HasTexts};
+
+use crate::reader::{parse, whole};
+use std::alloc::Global;
+use weedle_base::{Err, Error, Parse, out_of_memory};
+use weedle_idl::Definitions;
+use weedle_nesting::suits_descent;
+
+/// Reads a whole text as [`parse`](crate::parse) does, from the text on and with no table.
+///
+/// It takes no memory but for the list of definitions and for what each holds. Its steps have no bound
+/// that is proved: what stands in an attribute's arguments is read up to three times, and so `n` of
+/// them in one another up to 3ⁿ times. [`parse_quick`] takes it where they nest little.
+pub fn parse_by_descent(alloc: Global, raw: &str) -> Result<Definitions<'_>, Err<Error<&str>>>
+    // The list of the whole text, or what the grammar leaves of it.
+    ensures answers { ParseAnswers raw.now result }
+
+    // The text spells its list.
+    ensures spells { IfOk result (λ definitions. SpellsList raw.now definitions.items) }
+
+    // The texts of the list stand in it in their order.
+    ensures pieces { IfOk result (λ definitions. HasTexts raw.now definitions.items) }
+{
+    weedle_idl::laws::definitions();
+    weedle_spell_idl::laws::definitions();
+    match Definitions::parse(alloc, raw) {
+        Ok((rest, definitions)) => whole(definitions, rest),
+        // Definitions are never a mismatch, so memory was refused.
+        Err(_) => Err(out_of_memory(raw)),
+    }
+}
+
+/// Reads a whole text as [`parse`](crate::parse) does, by descent or over the table.
+///
+/// It looks once at the text, past strings and comments. Where attributes nest so little that descent
+/// looks at a byte four times on the average, and no more than 1,000 of `(` and `<` are open at once, it
+/// takes [`parse_by_descent`], and else [`parse`](crate::parse). So for what people write it needs little time,
+/// and no memory but the list's; for a hostile text it needs what [`parse`](crate::parse) needs.
+pub fn parse_quick(alloc: Global, raw: &str) -> Result<Definitions<'_>, Err<Error<&str>>>
+    // The list of the whole text, or what the grammar leaves of it.
+    ensures answers { ParseAnswers raw.now result }
+
+    // The text spells its list.
+    ensures spells { IfOk result (λ definitions. SpellsList raw.now definitions.items) }
+
+    // The texts of the list stand in it in their order.
+    ensures pieces { IfOk result (λ definitions. HasTexts raw.now definitions.items) }
+{
+    if suits_descent(raw) {
+        parse_by_descent(alloc, raw)
+    } else {
+        parse(alloc, raw)
+    }
+}

@@ -1,0 +1,32 @@
+//! Lending what one owns.
+
+ghost use Rattle.std.specs.Fn.{FnOnceReturnsAt};
+
+/// Lends what it owns to a function, and answers what that answers. Then it lets it go.
+///
+/// Whoever reads a text owns the list of its definitions, and writes first
+///
+/// ```text
+/// let definitions = parse(alloc, text)?;
+/// let entries = outline(alloc, &definitions)?;
+/// ```
+///
+/// which this prover doesn't take: a call that borrows from a local list of definitions is more than it can
+/// compute. Lent, it does:
+///
+/// ```rust
+/// let count = lend(parse(alloc, text)?, |definitions: &Definitions<'_>| {
+///     outline(alloc, definitions).map(|entries| entries.len())
+/// })?;
+/// ```
+///
+/// The type of the closure's argument has to be written. What the closure answers can't borrow from what is
+/// lent, so what is done with the entries is done in the closure.
+pub fn lend<T: Drop, R, F: FnOnce(&T) -> R>(owned: T, f: F) -> R
+    requires { F.IsAlwaysCallable f }
+
+    // What the function answers, where it is passed what is lent.
+    ensures { FnOnceReturnsAt F.FnOnce f owned result }
+{
+    f(&owned)
+}
