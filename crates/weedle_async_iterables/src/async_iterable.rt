@@ -23,10 +23,15 @@ use weedle_types::types::AttributedType;
 /// An asynchronous iteration over values, as `async iterable<long>;`. Arguments may follow the types.
 #[derive(Debug, PartialEq, Eq, PartialOrd, Ord, Hash)]
 pub struct SingleTypedAsyncIterable<'a> {
+    /// The attributes in brackets, as `[Exposed=Window]`, where they stand.
     pub attributes: Option<ExtendedAttributeList<'a>>,
+    /// The words `async` and `iterable`.
     pub async_iterable: (Async, Iterable),
+    /// The type of its values in angle brackets, as `<long>`.
     pub generics: Generics<AttributedType<'a>>,
+    /// The arguments between parentheses, as `(long x)`, where they stand.
     pub args: Option<ParenthesizedArgumentList<'a>>,
+    /// The `;` at the end.
     pub semi_colon: SemiColon,
 }
 
@@ -87,10 +92,16 @@ impl TryClone for SingleTypedAsyncIterable<'_> {
 /// follow the types.
 #[derive(Debug, PartialEq, Eq, PartialOrd, Ord, Hash)]
 pub struct DoubleTypedAsyncIterable<'a> {
+    /// The attributes in brackets, as `[Exposed=Window]`, where they stand.
     pub attributes: Option<ExtendedAttributeList<'a>>,
+    /// The words `async` and `iterable`.
     pub async_iterable: (Async, Iterable),
+    /// The types of its keys and values in angle brackets, as `<DOMString, long>`: `body.0` is
+    /// that of the keys, `body.2` that of the values.
     pub generics: Generics<(AttributedType<'a>, Comma, AttributedType<'a>)>,
+    /// The arguments between parentheses, as `(long x)`, where they stand.
     pub args: Option<ParenthesizedArgumentList<'a>>,
+    /// The `;` at the end.
     pub semi_colon: SemiColon,
 }
 
@@ -147,10 +158,13 @@ impl TryClone for DoubleTypedAsyncIterable<'_> {
     ghost equivalence = { seen_equivalence double_typed_async_iterable_tree equal_equivalence };
 }
 
-/// An asynchronous iteration, over values or pairs: the first of the two that fits.
+/// An asynchronous iteration over values or pairs, as `async iterable<long>;`: the first of the
+/// two that fits. Of what its variants read, `[attributes]` may be absent.
 #[derive(Debug, PartialEq, Eq, PartialOrd, Ord, Hash)]
 pub enum AsyncIterableInterfaceMember<'a> {
+    /// `[attributes] async iterable<type>(arguments);`, also without `(arguments)`.
     Single(SingleTypedAsyncIterable<'a>),
+    /// `[attributes] async iterable<type, type>(arguments);`, also without `(arguments)`.
     Double(DoubleTypedAsyncIterable<'a>),
 }
 

@@ -29,22 +29,37 @@ use weedle_statements::{
 /// Definitions one after another, as `interface A {}; interface B {};`.
 pub type Definitions<'a> = Vec<Definition<'a>>;
 
-/// A definition, as `interface A {};`: the first of the fourteen kinds that fits.
+/// A definition, as `interface A {};`: the first of the fourteen kinds that fits. Of what its
+/// variants read, `docstring`, `[attributes]` and `: parent` may be absent.
 #[derive(Debug, PartialEq, Eq, PartialOrd, Ord, Hash)]
 pub enum Definition<'a> {
+    /// `[attributes] callback name = type (arguments);`.
     Callback(CallbackDefinition<'a>),
+    /// `docstring [attributes] callback interface name : parent { members };`.
     CallbackInterface(CallbackInterfaceDefinition<'a>),
+    /// `docstring [attributes] interface name : parent { members };`.
     Interface(InterfaceDefinition<'a>),
+    /// `[attributes] interface mixin name { members };`.
     InterfaceMixin(InterfaceMixinDefinition<'a>),
+    /// `docstring [attributes] namespace name { members };`.
     Namespace(NamespaceDefinition<'a>),
+    /// `docstring [attributes] dictionary name : parent { members };`.
     Dictionary(DictionaryDefinition<'a>),
+    /// `[attributes] partial interface name { members };`.
     PartialInterface(PartialInterfaceDefinition<'a>),
+    /// `[attributes] partial interface mixin name { members };`.
     PartialInterfaceMixin(PartialInterfaceMixinDefinition<'a>),
+    /// `[attributes] partial dictionary name { members };`.
     PartialDictionary(PartialDictionaryDefinition<'a>),
+    /// `[attributes] partial namespace name { members };`.
     PartialNamespace(PartialNamespaceDefinition<'a>),
+    /// `docstring [attributes] enum name { "value", "value" };`.
     Enum(EnumDefinition<'a>),
+    /// `[attributes] typedef type name;`.
     Typedef(TypedefDefinition<'a>),
+    /// `[attributes] name includes name;`.
     IncludesStatement(IncludesStatementDefinition<'a>),
+    /// `[attributes] name implements name;`.
     Implements(ImplementsDefinition<'a>),
 }
 

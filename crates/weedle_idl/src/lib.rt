@@ -3,7 +3,8 @@
 //!
 //! A definition is the first of the fourteen kinds that fits; where none does it is a mismatch. Memory
 //! is taken for attributes, types, arguments, docstrings and lists; where it is refused that is a
-//! failure, and no other alternative is tried.
+//! failure, and no other alternative is tried. What each type reads stands in words in
+//! docs/GRAMMAR.md.
 //!
 //! ```rust
 //! use weedle_base::Parse;

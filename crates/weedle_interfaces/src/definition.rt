@@ -20,13 +20,21 @@ use weedle_types::parts::attributes;
 /// A callback interface, as `callback interface A {};`. A docstring may stand before it.
 #[derive(Debug, PartialEq, Eq, PartialOrd, Ord, Hash)]
 pub struct CallbackInterfaceDefinition<'a> {
+    /// The docstring in front, where one stands.
     pub docstring: Option<Docstring>,
+    /// The attributes in brackets, as `[Exposed=Window]`, where they stand.
     pub attributes: Option<ExtendedAttributeList<'a>>,
+    /// The word `callback`.
     pub callback: Callback,
+    /// The word `interface`.
     pub interface: Interface,
+    /// Its name.
     pub identifier: Identifier<'a>,
+    /// The interface that it inherits from, as `: EventTarget`, where one is named.
     pub inheritance: Option<Inheritance<'a>>,
+    /// Its members, between braces: `body` is their list.
     pub members: BracedInterfaceMembers<'a>,
+    /// The `;` at the end.
     pub semi_colon: SemiColon,
 }
 
@@ -94,12 +102,19 @@ impl TryClone for CallbackInterfaceDefinition<'_> {
 /// An interface, as `interface A : B { attribute long x; };`. A docstring may stand before it.
 #[derive(Debug, PartialEq, Eq, PartialOrd, Ord, Hash)]
 pub struct InterfaceDefinition<'a> {
+    /// The docstring in front, where one stands.
     pub docstring: Option<Docstring>,
+    /// The attributes in brackets, as `[Exposed=Window]`, where they stand.
     pub attributes: Option<ExtendedAttributeList<'a>>,
+    /// The word `interface`.
     pub interface: Interface,
+    /// Its name.
     pub identifier: Identifier<'a>,
+    /// The interface that it inherits from, as `: EventTarget`, where one is named.
     pub inheritance: Option<Inheritance<'a>>,
+    /// Its members, between braces: `body` is their list.
     pub members: BracedInterfaceMembers<'a>,
+    /// The `;` at the end.
     pub semi_colon: SemiColon,
 }
 
@@ -165,11 +180,17 @@ impl TryClone for InterfaceDefinition<'_> {
 /// A part of an interface, as `partial interface A {};`. No docstring may stand before it.
 #[derive(Debug, PartialEq, Eq, PartialOrd, Ord, Hash)]
 pub struct PartialInterfaceDefinition<'a> {
+    /// The attributes in brackets, as `[Exposed=Window]`, where they stand.
     pub attributes: Option<ExtendedAttributeList<'a>>,
+    /// The word `partial`.
     pub partial: Partial,
+    /// The word `interface`.
     pub interface: Interface,
+    /// The name of the interface that it is a part of.
     pub identifier: Identifier<'a>,
+    /// Its members, between braces: `body` is their list.
     pub members: BracedInterfaceMembers<'a>,
+    /// The `;` at the end.
     pub semi_colon: SemiColon,
 }
 

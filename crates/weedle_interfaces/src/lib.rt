@@ -2,7 +2,8 @@
 //!
 //! Each struct reads its fields in order, with blanks and comments between them. Where one of them
 //! isn't there it is a mismatch. Memory is taken for attributes, types, arguments, docstrings and
-//! lists; where it is refused that is a failure, and no other alternative is tried.
+//! lists; where it is refused that is a failure, and no other alternative is tried. What each type
+//! reads stands in words in docs/GRAMMAR.md.
 //!
 //! ```rust
 //! use weedle_base::Parse;

@@ -13,14 +13,17 @@ use std::alloc::{AllocError, Global};
 use weedle_base::{IResult, Parse, TryClone};
 use weedle_term::{CloseBrace, OpenBrace};
 
-/// The members of an interface, one after another; none included.
+/// The members of an interface, one after another, as `long f(); long g();`; none included.
 pub type InterfaceMembers<'a> = Vec<InterfaceMember<'a>>;
 
 /// The members of an interface between braces, as `{ attribute long length; }`.
 #[derive(Debug, PartialEq, Eq, PartialOrd, Ord, Hash)]
 pub struct BracedInterfaceMembers<'a> {
+    /// The `{`.
     pub open_brace: OpenBrace,
+    /// The members, one after another; none included.
     pub body: InterfaceMembers<'a>,
+    /// The `}`.
     pub close_brace: CloseBrace,
 }
 

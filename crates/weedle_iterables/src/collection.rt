@@ -19,10 +19,16 @@ use weedle_types::types::AttributedType;
 /// A map, as `readonly maplike<DOMString, long>;`.
 #[derive(Debug, PartialEq, Eq, PartialOrd, Ord, Hash)]
 pub struct MaplikeInterfaceMember<'a> {
+    /// The attributes in brackets, as `[Exposed=Window]`, where they stand.
     pub attributes: Option<ExtendedAttributeList<'a>>,
+    /// The word `readonly`, where it stands.
     pub readonly: Option<ReadOnly>,
+    /// The word `maplike`.
     pub maplike: Maplike,
+    /// The types of its keys and values in angle brackets, as `<DOMString, long>`: `body.0` is
+    /// that of the keys, `body.2` that of the values.
     pub generics: Generics<(AttributedType<'a>, Comma, AttributedType<'a>)>,
+    /// The `;` at the end.
     pub semi_colon: SemiColon,
 }
 
@@ -79,10 +85,15 @@ impl TryClone for MaplikeInterfaceMember<'_> {
 /// A set, as `readonly setlike<long>;`.
 #[derive(Debug, PartialEq, Eq, PartialOrd, Ord, Hash)]
 pub struct SetlikeInterfaceMember<'a> {
+    /// The attributes in brackets, as `[Exposed=Window]`, where they stand.
     pub attributes: Option<ExtendedAttributeList<'a>>,
+    /// The word `readonly`, where it stands.
     pub readonly: Option<ReadOnly>,
+    /// The word `setlike`.
     pub setlike: Setlike,
+    /// The type of its values in angle brackets, as `<long>`.
     pub generics: Generics<AttributedType<'a>>,
+    /// The `;` at the end.
     pub semi_colon: SemiColon,
 }
 

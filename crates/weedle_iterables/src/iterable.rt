@@ -20,9 +20,13 @@ use weedle_types::types::AttributedType;
 /// An iteration over values, as `iterable<long>;`.
 #[derive(Debug, PartialEq, Eq, PartialOrd, Ord, Hash)]
 pub struct SingleTypedIterable<'a> {
+    /// The attributes in brackets, as `[Exposed=Window]`, where they stand.
     pub attributes: Option<ExtendedAttributeList<'a>>,
+    /// The word `iterable`.
     pub iterable: Iterable,
+    /// The type of its values in angle brackets, as `<long>`.
     pub generics: Generics<AttributedType<'a>>,
+    /// The `;` at the end.
     pub semi_colon: SemiColon,
 }
 
@@ -76,9 +80,14 @@ impl TryClone for SingleTypedIterable<'_> {
 /// An iteration over pairs, as `iterable<DOMString, long>;`.
 #[derive(Debug, PartialEq, Eq, PartialOrd, Ord, Hash)]
 pub struct DoubleTypedIterable<'a> {
+    /// The attributes in brackets, as `[Exposed=Window]`, where they stand.
     pub attributes: Option<ExtendedAttributeList<'a>>,
+    /// The word `iterable`.
     pub iterable: Iterable,
+    /// The types of its keys and values in angle brackets, as `<DOMString, long>`: `body.0` is
+    /// that of the keys, `body.2` that of the values.
     pub generics: Generics<(AttributedType<'a>, Comma, AttributedType<'a>)>,
+    /// The `;` at the end.
     pub semi_colon: SemiColon,
 }
 
@@ -129,10 +138,13 @@ impl TryClone for DoubleTypedIterable<'_> {
     ghost equivalence = { seen_equivalence double_typed_iterable_tree equal_equivalence };
 }
 
-/// An iteration, over values or pairs: the first of the two that fits.
+/// An iteration over values or pairs, as `iterable<long>;`: the first of the two that fits. Of
+/// what its variants read, `[attributes]` may be absent.
 #[derive(Debug, PartialEq, Eq, PartialOrd, Ord, Hash)]
 pub enum IterableInterfaceMember<'a> {
+    /// `[attributes] iterable<type>;`.
     Single(SingleTypedIterable<'a>),
+    /// `[attributes] iterable<type, type>;`.
     Double(DoubleTypedIterable<'a>),
 }
 

@@ -1,7 +1,9 @@
-//! Tests of the grammar's rows, the table of ends, scanners, terminals, standard types, generic parts and leaves:
-//! worked examples whose answers come from outside.
+//! Tests of the grammar's rows, the table of ends, diagnoses, scanners, terminals, standard types,
+//! generic parts and leaves: worked examples whose answers come from outside.
 #![tactic(auto)]
 
+#[cfg(test)]
+mod diagnoses;
 #[cfg(test)]
 mod generic_parts;
 #[cfg(test)]

@@ -21,12 +21,19 @@ use weedle_types::types::AttributedType;
 /// it.
 #[derive(Debug, PartialEq, Eq, PartialOrd, Ord, Hash)]
 pub struct AttributeInterfaceMember<'a> {
+    /// The attributes in brackets, as `[Exposed=Window]`, where they stand.
     pub attributes: Option<ExtendedAttributeList<'a>>,
+    /// The word `stringifier`, `inherit` or `static`, where one of them stands.
     pub modifier: Option<StringifierOrInheritOrStatic>,
+    /// The word `readonly`, where it stands.
     pub readonly: Option<ReadOnly>,
+    /// The word `attribute`.
     pub attribute: Attribute,
+    /// Its type, as `long`, with the attributes that stand before it.
     pub type_: AttributedType<'a>,
+    /// Its name.
     pub identifier: Identifier<'a>,
+    /// The `;` at the end.
     pub semi_colon: SemiColon,
 }
 

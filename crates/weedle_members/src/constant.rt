@@ -20,12 +20,19 @@ use weedle_types::parts::attributes;
 /// A constant, as `const long X = 5;`. No docstring may stand before it.
 #[derive(Debug, PartialEq, Eq, PartialOrd, Ord, Hash)]
 pub struct ConstMember<'a> {
+    /// The attributes in brackets, as `[Exposed=Window]`, where they stand.
     pub attributes: Option<ExtendedAttributeList<'a>>,
+    /// The word `const`.
     pub const_: Const,
+    /// Its type, as `long`.
     pub const_type: ConstType<'a>,
+    /// Its name.
     pub identifier: Identifier<'a>,
+    /// The `=`.
     pub assign: Assign,
+    /// Its value, as `5`.
     pub const_value: ConstValue<'a>,
+    /// The `;` at the end.
     pub semi_colon: SemiColon,
 }
 

@@ -21,10 +21,15 @@ use weedle_types::types::ReturnType;
 /// A constructor, as `constructor(long x);`. A docstring may stand before it.
 #[derive(Debug, PartialEq, Eq, PartialOrd, Ord, Hash)]
 pub struct ConstructorInterfaceMember<'a> {
+    /// The docstring in front, where one stands.
     pub docstring: Option<Docstring>,
+    /// The attributes in brackets, as `[Exposed=Window]`, where they stand.
     pub attributes: Option<ExtendedAttributeList<'a>>,
+    /// The word `constructor`.
     pub constructor: Constructor,
+    /// Its arguments, between parentheses: `body.list` is their list.
     pub args: ParenthesizedArgumentList<'a>,
+    /// The `;` at the end.
     pub semi_colon: SemiColon,
 }
 
@@ -83,13 +88,21 @@ impl TryClone for ConstructorInterfaceMember<'_> {
 /// docstring may stand before it.
 #[derive(Debug, PartialEq, Eq, PartialOrd, Ord, Hash)]
 pub struct OperationInterfaceMember<'a> {
+    /// The docstring in front, where one stands.
     pub docstring: Option<Docstring>,
+    /// The attributes in brackets, as `[Exposed=Window]`, where they stand.
     pub attributes: Option<ExtendedAttributeList<'a>>,
+    /// The word `stringifier` or `static`, where one of them stands.
     pub modifier: Option<StringifierOrStatic>,
+    /// The word `getter`, `setter`, `deleter` or `legacycaller`, where one of them stands.
     pub special: Option<Special>,
+    /// The type of its result, as `undefined` or `long`.
     pub return_type: ReturnType<'a>,
+    /// Its name, where it has one.
     pub identifier: Option<Identifier<'a>>,
+    /// Its arguments, between parentheses: `body.list` is their list.
     pub args: ParenthesizedArgumentList<'a>,
+    /// The `;` at the end.
     pub semi_colon: SemiColon,
 }
 

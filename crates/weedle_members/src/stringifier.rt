@@ -17,8 +17,11 @@ use weedle_types::parts::attributes;
 /// A stringifier with no body, as `stringifier;`.
 #[derive(Debug, Default, PartialEq, Eq, PartialOrd, Ord, Hash)]
 pub struct StringifierMember<'a> {
+    /// The attributes in brackets, as `[Exposed=Window]`, where they stand.
     pub attributes: Option<ExtendedAttributeList<'a>>,
+    /// The word `stringifier`.
     pub stringifier: Stringifier,
+    /// The `;` at the end.
     pub semi_colon: SemiColon,
 }
 

@@ -20,14 +20,17 @@ use weedle_types::copies::copy_attributes;
 use weedle_types::parts::attributes;
 use weedle_types::types::{AttributedType, ReturnType};
 
-/// The members of a mixin, one after another; none included.
+/// The members of a mixin, one after another, as `long f(); long g();`; none included.
 pub type MixinMembers<'a> = Vec<MixinMember<'a>>;
 
 /// The members of a mixin between braces, as `{ long f(); }`.
 #[derive(Debug, PartialEq, Eq, PartialOrd, Ord, Hash)]
 pub struct BracedMixinMembers<'a> {
+    /// The `{`.
     pub open_brace: OpenBrace,
+    /// The members, one after another; none included.
     pub body: MixinMembers<'a>,
+    /// The `}`.
     pub close_brace: CloseBrace,
 }
 
@@ -78,11 +81,17 @@ impl TryClone for BracedMixinMembers<'_> {
 /// stand before it.
 #[derive(Debug, PartialEq, Eq, PartialOrd, Ord, Hash)]
 pub struct OperationMixinMember<'a> {
+    /// The attributes in brackets, as `[Exposed=Window]`, where they stand.
     pub attributes: Option<ExtendedAttributeList<'a>>,
+    /// The word `stringifier`, where it stands.
     pub stringifier: Option<Stringifier>,
+    /// The type of its result, as `undefined` or `long`.
     pub return_type: ReturnType<'a>,
+    /// Its name, where it has one.
     pub identifier: Option<Identifier<'a>>,
+    /// Its arguments, between parentheses: `body.list` is their list.
     pub args: ParenthesizedArgumentList<'a>,
+    /// The `;` at the end.
     pub semi_colon: SemiColon,
 }
 
@@ -144,12 +153,19 @@ impl TryClone for OperationMixinMember<'_> {
 /// An attribute of a mixin, as `readonly attribute long x;`.
 #[derive(Debug, PartialEq, Eq, PartialOrd, Ord, Hash)]
 pub struct AttributeMixinMember<'a> {
+    /// The attributes in brackets, as `[Exposed=Window]`, where they stand.
     pub attributes: Option<ExtendedAttributeList<'a>>,
+    /// The word `stringifier`, where it stands.
     pub stringifier: Option<Stringifier>,
+    /// The word `readonly`, where it stands.
     pub readonly: Option<ReadOnly>,
+    /// The word `attribute`.
     pub attribute: Attribute,
+    /// Its type, as `long`, with the attributes that stand before it.
     pub type_: AttributedType<'a>,
+    /// Its name.
     pub identifier: Identifier<'a>,
+    /// The `;` at the end.
     pub semi_colon: SemiColon,
 }
 
@@ -210,12 +226,18 @@ impl TryClone for AttributeMixinMember<'_> {
     ghost equivalence = { seen_equivalence attribute_mixin_member_tree equal_equivalence };
 }
 
-/// A member of a mixin, as `readonly attribute long x;`: the first of the four kinds that fits.
+/// A member of a mixin, as `readonly attribute long x;`: the first of the four kinds that fits. Of
+/// what its variants read, `[attributes]` may be absent.
 #[derive(Debug, PartialEq, Eq, PartialOrd, Ord, Hash)]
 pub enum MixinMember<'a> {
+    /// `[attributes] const type name = value;`.
     Const(ConstMember<'a>),
+    /// `[attributes] stringifier type name(arguments);`, also without `stringifier` or the name.
     Operation(OperationMixinMember<'a>),
+    /// `[attributes] stringifier readonly attribute type name;`, also without `stringifier` or
+    /// `readonly`.
     Attribute(AttributeMixinMember<'a>),
+    /// `[attributes] stringifier;`.
     Stringifier(StringifierMember<'a>),
 }
 

@@ -19,11 +19,17 @@ use weedle_types::parts::attributes;
 /// A mixin, as `interface mixin A {};`. No docstring may stand before it.
 #[derive(Debug, PartialEq, Eq, PartialOrd, Ord, Hash)]
 pub struct InterfaceMixinDefinition<'a> {
+    /// The attributes in brackets, as `[Exposed=Window]`, where they stand.
     pub attributes: Option<ExtendedAttributeList<'a>>,
+    /// The word `interface`.
     pub interface: Interface,
+    /// The word `mixin`.
     pub mixin: Mixin,
+    /// Its name.
     pub identifier: Identifier<'a>,
+    /// Its members, between braces: `body` is their list.
     pub members: BracedMixinMembers<'a>,
+    /// The `;` at the end.
     pub semi_colon: SemiColon,
 }
 
@@ -85,12 +91,19 @@ impl TryClone for InterfaceMixinDefinition<'_> {
 /// A part of a mixin, as `partial interface mixin A {};`. No docstring may stand before it.
 #[derive(Debug, PartialEq, Eq, PartialOrd, Ord, Hash)]
 pub struct PartialInterfaceMixinDefinition<'a> {
+    /// The attributes in brackets, as `[Exposed=Window]`, where they stand.
     pub attributes: Option<ExtendedAttributeList<'a>>,
+    /// The word `partial`.
     pub partial: Partial,
+    /// The word `interface`.
     pub interface: Interface,
+    /// The word `mixin`.
     pub mixin: Mixin,
+    /// The name of the mixin that it is a part of.
     pub identifier: Identifier<'a>,
+    /// Its members, between braces: `body` is their list.
     pub members: BracedMixinMembers<'a>,
+    /// The `;` at the end.
     pub semi_colon: SemiColon,
 }
 

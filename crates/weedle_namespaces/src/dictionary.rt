@@ -18,14 +18,17 @@ use weedle_types::copies::{copy_attributes, copy_docstring};
 use weedle_types::parts::attributes;
 use weedle_types::types::Type;
 
-/// The members of a dictionary, one after another; none included.
+/// The members of a dictionary, one after another, as `long x; long y = 5;`; none included.
 pub type DictionaryMembers<'a> = Vec<DictionaryMember<'a>>;
 
 /// The members of a dictionary between braces, as `{ long x = 5; }`.
 #[derive(Debug, PartialEq, Eq, PartialOrd, Ord, Hash)]
 pub struct BracedDictionaryMembers<'a> {
+    /// The `{`.
     pub open_brace: OpenBrace,
+    /// The members, one after another; none included.
     pub body: DictionaryMembers<'a>,
+    /// The `}`.
     pub close_brace: CloseBrace,
 }
 
@@ -75,12 +78,19 @@ impl TryClone for BracedDictionaryMembers<'_> {
 /// A member of a dictionary, as `required long x;` or `long x = 5;`. A docstring may stand before it.
 #[derive(Debug, PartialEq, Eq, PartialOrd, Ord, Hash)]
 pub struct DictionaryMember<'a> {
+    /// The docstring in front, where one stands.
     pub docstring: Option<Docstring>,
+    /// The attributes in brackets, as `[Exposed=Window]`, where they stand.
     pub attributes: Option<ExtendedAttributeList<'a>>,
+    /// The word `required`, where it stands.
     pub required: Option<Required>,
+    /// Its type, as `long`, with no attributes of its own.
     pub type_: Type<'a>,
+    /// Its name.
     pub identifier: Identifier<'a>,
+    /// Its default, as `= 5`, where one stands.
     pub default: Option<Default<'a>>,
+    /// The `;` at the end.
     pub semi_colon: SemiColon,
 }
 

@@ -20,12 +20,19 @@ use weedle_types::parts::attributes;
 /// A dictionary, as `dictionary A : B { long x = 5; };`. A docstring may stand before it.
 #[derive(Debug, PartialEq, Eq, PartialOrd, Ord, Hash)]
 pub struct DictionaryDefinition<'a> {
+    /// The docstring in front, where one stands.
     pub docstring: Option<Docstring>,
+    /// The attributes in brackets, as `[Exposed=Window]`, where they stand.
     pub attributes: Option<ExtendedAttributeList<'a>>,
+    /// The word `dictionary`.
     pub dictionary: Dictionary,
+    /// Its name.
     pub identifier: Identifier<'a>,
+    /// The dictionary that it inherits from, as `: EventInit`, where one is named.
     pub inheritance: Option<Inheritance<'a>>,
+    /// Its members, between braces: `body` is their list.
     pub members: BracedDictionaryMembers<'a>,
+    /// The `;` at the end.
     pub semi_colon: SemiColon,
 }
 
@@ -91,11 +98,17 @@ impl TryClone for DictionaryDefinition<'_> {
 /// A part of a dictionary, as `partial dictionary A {};`. No docstring may stand before it.
 #[derive(Debug, PartialEq, Eq, PartialOrd, Ord, Hash)]
 pub struct PartialDictionaryDefinition<'a> {
+    /// The attributes in brackets, as `[Exposed=Window]`, where they stand.
     pub attributes: Option<ExtendedAttributeList<'a>>,
+    /// The word `partial`.
     pub partial: Partial,
+    /// The word `dictionary`.
     pub dictionary: Dictionary,
+    /// The name of the dictionary that it is a part of.
     pub identifier: Identifier<'a>,
+    /// Its members, between braces: `body` is their list.
     pub members: BracedDictionaryMembers<'a>,
+    /// The `;` at the end.
     pub semi_colon: SemiColon,
 }
 

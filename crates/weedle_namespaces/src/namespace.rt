@@ -19,14 +19,17 @@ use weedle_types::copies::{copy_attributes, copy_docstring};
 use weedle_types::parts::attributes;
 use weedle_types::types::{AttributedType, ReturnType};
 
-/// The members of a namespace, one after another; none included.
+/// The members of a namespace, one after another, as `long f(); long g();`; none included.
 pub type NamespaceMembers<'a> = Vec<NamespaceMember<'a>>;
 
 /// The members of a namespace between braces, as `{ long f(); }`.
 #[derive(Debug, PartialEq, Eq, PartialOrd, Ord, Hash)]
 pub struct BracedNamespaceMembers<'a> {
+    /// The `{`.
     pub open_brace: OpenBrace,
+    /// The members, one after another; none included.
     pub body: NamespaceMembers<'a>,
+    /// The `}`.
     pub close_brace: CloseBrace,
 }
 
@@ -77,11 +80,17 @@ impl TryClone for BracedNamespaceMembers<'_> {
 /// before it.
 #[derive(Debug, PartialEq, Eq, PartialOrd, Ord, Hash)]
 pub struct OperationNamespaceMember<'a> {
+    /// The docstring in front, where one stands.
     pub docstring: Option<Docstring>,
+    /// The attributes in brackets, as `[Exposed=Window]`, where they stand.
     pub attributes: Option<ExtendedAttributeList<'a>>,
+    /// The type of its result, as `undefined` or `long`.
     pub return_type: ReturnType<'a>,
+    /// Its name, where it has one.
     pub identifier: Option<Identifier<'a>>,
+    /// Its arguments, between parentheses: `body.list` is their list.
     pub args: ParenthesizedArgumentList<'a>,
+    /// The `;` at the end.
     pub semi_colon: SemiColon,
 }
 
@@ -143,12 +152,19 @@ impl TryClone for OperationNamespaceMember<'_> {
 /// stand before it.
 #[derive(Debug, PartialEq, Eq, PartialOrd, Ord, Hash)]
 pub struct AttributeNamespaceMember<'a> {
+    /// The docstring in front, where one stands.
     pub docstring: Option<Docstring>,
+    /// The attributes in brackets, as `[Exposed=Window]`, where they stand.
     pub attributes: Option<ExtendedAttributeList<'a>>,
+    /// The word `readonly`, which always stands here.
     pub readonly: ReadOnly,
+    /// The word `attribute`.
     pub attribute: Attribute,
+    /// Its type, as `long`, with the attributes that stand before it.
     pub type_: AttributedType<'a>,
+    /// Its name.
     pub identifier: Identifier<'a>,
+    /// The `;` at the end.
     pub semi_colon: SemiColon,
 }
 
@@ -211,10 +227,13 @@ impl TryClone for AttributeNamespaceMember<'_> {
     ghost equivalence = { seen_equivalence attribute_namespace_member_tree equal_equivalence };
 }
 
-/// A member of a namespace, as `long f(long x);`: the first of the two kinds that fits.
+/// A member of a namespace, as `long f(long x);`: the first of the two kinds that fits. Of what
+/// its variants read, `docstring` and `[attributes]` may be absent.
 #[derive(Debug, PartialEq, Eq, PartialOrd, Ord, Hash)]
 pub enum NamespaceMember<'a> {
+    /// `docstring [attributes] type name(arguments);`, also without the name.
     Operation(OperationNamespaceMember<'a>),
+    /// `docstring [attributes] readonly attribute type name;`.
     Attribute(AttributeNamespaceMember<'a>),
 }
 

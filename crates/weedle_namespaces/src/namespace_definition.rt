@@ -19,11 +19,17 @@ use weedle_types::parts::attributes;
 /// A namespace, as `namespace A { long f(); };`. A docstring may stand before it.
 #[derive(Debug, PartialEq, Eq, PartialOrd, Ord, Hash)]
 pub struct NamespaceDefinition<'a> {
+    /// The docstring in front, where one stands.
     pub docstring: Option<Docstring>,
+    /// The attributes in brackets, as `[Exposed=Window]`, where they stand.
     pub attributes: Option<ExtendedAttributeList<'a>>,
+    /// The word `namespace`.
     pub namespace: Namespace,
+    /// Its name.
     pub identifier: Identifier<'a>,
+    /// Its members, between braces: `body` is their list.
     pub members: BracedNamespaceMembers<'a>,
+    /// The `;` at the end.
     pub semi_colon: SemiColon,
 }
 
@@ -84,11 +90,17 @@ impl TryClone for NamespaceDefinition<'_> {
 /// A part of a namespace, as `partial namespace A {};`. No docstring may stand before it.
 #[derive(Debug, PartialEq, Eq, PartialOrd, Ord, Hash)]
 pub struct PartialNamespaceDefinition<'a> {
+    /// The attributes in brackets, as `[Exposed=Window]`, where they stand.
     pub attributes: Option<ExtendedAttributeList<'a>>,
+    /// The word `partial`.
     pub partial: Partial,
+    /// The word `namespace`.
     pub namespace: Namespace,
+    /// The name of the namespace that it is a part of.
     pub identifier: Identifier<'a>,
+    /// Its members, between braces: `body` is their list.
     pub members: BracedNamespaceMembers<'a>,
+    /// The `;` at the end.
     pub semi_colon: SemiColon,
 }
 

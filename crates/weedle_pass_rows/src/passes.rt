@@ -9,75 +9,8 @@ use weedle_base::Parse;
 use weedle_build::{Built, build_definitions};
 use weedle_idl::Definitions;
 use weedle_rules::Ends;
-use weedle_texts::examples::{KINDS, SOUNDS, WINDOW, WINDOW_IN_LINES};
+use weedle_texts::examples::{CUT, TEXTS};
 use weedle_texts::{nested_attributes, repeated};
-
-/// The texts of the worked examples that `parse` and the program are given, read whole or not.
-const TEXTS: [&str; 60] = [
-    "",
-    "  ",
-    WINDOW,
-    WINDOW_IN_LINES,
-    KINDS,
-    SOUNDS,
-    "interface A {}; // end",
-    "interface A {};interface B {}",
-    "// c",
-    "// c\n",
-    "interface mixin {};",
-    "interface mixin M {};",
-    "interface includes B;",
-    "interface A { ///d\n attribute long x; };",
-    "interface A { ///d\n void f(); };",
-    "interface A { attribute long x; };",
-    "interface A { readonly attribute x; };",
-    "interface A {}; // c\n///d\ninterface B {};",
-    "interface A {};\ninterface _B {};",
-    "enum E {\"a\",\"b\",};",
-    "enum E {};",
-    "/*/*/interface A {};",
-    "/*/interface A {};",
-    "/**/interface A {};",
-    "// c\n///d\ninterface A {};",
-    "callback F = undefined (long x);",
-    "interface É {};",
-    "interface A {};\nenum E {\"a\"};",
-    "A includes B;",
-    "/*a*/enum/*b*/E/*c*/{/*d*/\"a\"/*e*/,/*f*/}/*g*/;/*h*/",
-    "enum E {\"a\"};",
-    "enum E {\"a\",};",
-    "interface _A{};",
-    "interface A {};",
-    "interface B {};",
-    "interface _Window {};",
-    "interface A {};}",
-    "interface 9 {};",
-    "interface A {}; ///d",
-    "interface A",
-    "[Exposed=Window] interface Window : EventTarget { readonly attribute Storage sessionStorage; };",
-    "interface A {}; /* ",
-    "interface A {}; /* x */ /*",
-    "interface A {};\n// é\nenum E {\"é\"};\n",
-    "interface A {}; é",
-    "interface Aé {};",
-    "\u{feff}interface A {};",
-    "interface A\u{a0}{};",
-    "interface A\0{};",
-    "enum E {\"日本\"};",
-    "interface A {};\n///d\n",
-    "///d\n[A] interface B {};",
-    "[A] ///d\ninterface B {};",
-    "///a\n// c\n///b\ninterface A {};",
-    "///a\n// c\ninterface A {};",
-    "dictionary D { ///d\n long x; };",
-    "///a\n/// b\ninterface A {};\nB includes C;",
-    "///\nenum E {\"x\"};",
-    "///a\r\ndictionary D { ///d\n long x; };",
-    "///a\ninterface A {}; ///d",
-];
-
-/// A text with characters of several bytes, which may be cut anywhere.
-const CUT: &str = "interface A {};\n// é\nenum E {\"é\"};\n";
 
 /// A list, what is left behind it, and how many nodes its tree has.
 type Pass<'a, T> = (T, &'a str, u128);

@@ -6,7 +6,7 @@ use std::io;
 use std::io::{ErrorKind, Write};
 use std::process::Abort;
 use std::test::Fail;
-use weedle::{Definition, Entry, Err, RunFault, Status, outline, parse, run_outline};
+use weedle::{Definitions, Entry, Err, RunFault, Status, lend, outline, parse, run_outline};
 use weedle_answers::Wanted;
 
 /// A text, and what a run writes of it.
@@ -44,23 +44,6 @@ const REPORTS: [(&str, Status, &str); 7] = [
 /// What an outline says of a definition: its kind, its name and its docstring.
 type Said = (&'static str, &'static str, Option<&'static str>);
 
-/// Looks at a list that it is lent.
-///
-/// A function that owns a list of definitions and lends it is more than the prover can compute, and one that
-/// owns a list of any type isn't.
-trait Look<T> {
-    fn look(alloc: Global, list: &Vec<T>, said: &[Said]) -> Result<bool, AllocError>;
-}
-
-/// Whether this is the outline.
-struct Outlined;
-
-impl<'a> Look<Definition<'a>> for Outlined {
-    fn look(alloc: Global, list: &Vec<Definition<'a>>, said: &[Said]) -> Result<bool, AllocError> {
-        Ok(are_said(&outline(alloc, list)?, said))
-    }
-}
-
 /// Whether the entries say this, in this order.
 fn are_said(entries: &[Entry<'_, '_>], said: &[Said]) -> bool {
     entries.len() == said.len()
@@ -68,21 +51,21 @@ fn are_said(entries: &[Entry<'_, '_>], said: &[Said]) -> bool {
             == *said)
 }
 
-/// Lends the list.
-fn lend<L: Look<T>, T: Drop>(
-    alloc: Global,
-    list: Vec<T>,
-    said: &[Said],
-) -> Result<bool, AllocError> {
-    L::look(alloc, &list, said)
+/// Whether this is the outline of the list.
+fn is_outline(alloc: Global, list: &Definitions<'_>, said: &[Said]) -> Result<bool, AllocError> {
+    Ok(are_said(&outline(alloc, list)?, said))
+}
+
+/// The same of a list that it lends.
+fn is_outline_of(alloc: Global, list: Definitions<'_>, said: &[Said]) -> Result<bool, AllocError> {
+    lend(list, |list: &Definitions<'_>| is_outline(alloc, list, said))
 }
 
 /// Asserts that the outline of the text is this, or that memory is wanted.
 fn assert_outlined(rt: &impl Abort, alloc: Global, wanted: &mut Wanted, text: &str, said: &[Said]) {
     match parse(alloc, text) {
         Ok(list) => {
-            let outlined = lend::<Outlined, Definition<'_>>(alloc, list, said);
-            if let Some(is_said) = wanted.given(outlined) {
+            if let Some(is_said) = wanted.given(is_outline_of(alloc, list, said)) {
                 assert!(rt; is_said, "of {text:?}");
             }
         }

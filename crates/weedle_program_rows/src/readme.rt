@@ -1,31 +1,41 @@
-//! The README's examples of use as a library.
+//! The README's program but for its `main`, and the example of a generic type.
 
-use std::alloc::Global;
+use std::alloc::{AllocError, Global};
 use std::test::Fail;
 use weedle::interface::InterfaceMember;
-use weedle::{Definition, Err, parse};
+use weedle::{Definition, Definitions, Err, lend, parse_quick};
 use weedle_base::{IResult, Parse};
 use weedle_parts::common::{Identifier, Punctuated};
 use weedle_term::Comma;
 
-/// The first attribute of a text's interfaces, or where the text is unread, or that memory was refused.
-fn first_attribute(alloc: Global, text: &str) -> &str {
-    match parse(alloc, text) {
-        Ok(definitions) => {
-            for definition in definitions {
-                if let Definition::Interface(interface) = &definition {
-                    for member in &interface.members.body {
-                        if let InterfaceMember::Attribute(attribute) = member {
-                            return attribute.identifier.0;
-                        }
-                    }
+/// The interfaces of a text with their attributes, or from where on it can't be read.
+fn listing_of(alloc: Global, text: &str) -> Result<String, AllocError> {
+    match parse_quick(alloc, text) {
+        Ok(definitions) => lend(definitions, |definitions: &Definitions<'_>| {
+            interfaces_of(alloc, definitions)
+        }),
+        Err(Err::Error(left)) => {
+            let place = text.len() - left.input.len();
+            format!(in alloc; "unread from byte {place} on\n")
+        }
+        Err(Err::Failure(_)) => Err(AllocError),
+    }
+}
+
+/// A line for each interface, and below it one for each of its attributes.
+fn interfaces_of(alloc: Global, definitions: &Definitions<'_>) -> Result<String, AllocError> {
+    let mut listing = String::new(alloc);
+    for definition in definitions {
+        if let Definition::Interface(interface) = definition {
+            writeln!(listing, "{}", interface.identifier.0)?;
+            for member in &interface.members.body {
+                if let InterfaceMember::Attribute(attribute) = member {
+                    writeln!(listing, "  {}", attribute.identifier.0)?;
                 }
             }
-            "no attribute"
         }
-        Err(Err::Error(left)) => left.input,
-        Err(Err::Failure(_)) => "out of memory",
     }
+    Ok(listing)
 }
 
 /// What follows the names, and how many they are.
@@ -35,11 +45,30 @@ fn count(alloc: Global, text: &str) -> IResult<&str, usize> {
 }
 
 #[test]
-fn a_text_is_read_or_left(rt: HostRuntime) -> Result<(), Fail> {
-    let text =
-        "[Exposed=Window] interface Window : EventTarget { readonly attribute Storage sessionStorage; };";
-    assert!(rt; first_attribute(rt.alloc(), text) == "sessionStorage");
-    assert!(rt; first_attribute(rt.alloc(), "interface A") == "interface A");
-    assert!(rt; count(rt.alloc(), "a, b ,") == Ok((",", 2)));
+fn interfaces_are_listed_with_their_attributes(rt: HostRuntime) -> Result<(), Fail> {
+    let table = [
+        (
+            "[Exposed=Window] interface Window : EventTarget { readonly attribute Storage sessionStorage; };",
+            "Window\n  sessionStorage\n",
+        ),
+        (
+            "interface A { attribute long x; void f(); attribute long y; }; B includes C; interface D {};",
+            "A\n  x\n  y\nD\n",
+        ),
+        ("", ""),
+        ("interface A {}; interface B", "unread from byte 16 on\n"),
+    ];
+    for (text, listing) in table {
+        assert_eq!(rt;
+            listing_of(rt.alloc(), text)?.as_str(),
+            listing,
+            "of {text:?}"
+        );
+    }
     Ok(())
+}
+
+#[test]
+fn a_separator_that_no_item_follows_is_given_back(rt: HostRuntime) {
+    assert!(rt; count(rt.alloc(), "a, b ,") == Ok((",", 2)));
 }

@@ -7,6 +7,8 @@ mod bounds;
 #[cfg(test)]
 mod definitions;
 #[cfg(test)]
+mod readers;
+#[cfg(test)]
 mod real_text;
 #[cfg(test)]
 mod spelling;

@@ -20,12 +20,19 @@ use weedle_types::types::ReturnType;
 /// A callback, as `callback F = undefined (long x);`. No docstring may stand before it.
 #[derive(Debug, PartialEq, Eq, PartialOrd, Ord, Hash)]
 pub struct CallbackDefinition<'a> {
+    /// The attributes in brackets, as `[Exposed=Window]`, where they stand.
     pub attributes: Option<ExtendedAttributeList<'a>>,
+    /// The word `callback`.
     pub callback: Callback,
+    /// Its name.
     pub identifier: Identifier<'a>,
+    /// The `=`.
     pub assign: Assign,
+    /// The type of its result, as `undefined` or `long`.
     pub return_type: ReturnType<'a>,
+    /// Its arguments, between parentheses: `body.list` is their list.
     pub arguments: ParenthesizedArgumentList<'a>,
+    /// The `;` at the end.
     pub semi_colon: SemiColon,
 }
 

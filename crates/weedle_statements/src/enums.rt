@@ -25,7 +25,9 @@ pub type EnumValueList<'a> = PunctuatedNonEmpty<EnumVariant<'a>, Comma>;
 /// A value of an enum, as `"blob"`. A docstring may stand before it.
 #[derive(Debug, PartialEq, Eq, PartialOrd, Ord, Hash)]
 pub struct EnumVariant<'a> {
+    /// The docstring in front, where one stands.
     pub docstring: Option<Docstring>,
+    /// The value in quotes, as `"blob"`: `value.0` is what stands between them.
     pub value: StringLit<'a>,
 }
 
@@ -66,11 +68,17 @@ impl TryClone for EnumVariant<'_> {
 /// An enum, as `enum A { "a", "b" };`: one value at least. A docstring may stand before it.
 #[derive(Debug, PartialEq, Eq, PartialOrd, Ord, Hash)]
 pub struct EnumDefinition<'a> {
+    /// The docstring in front, where one stands.
     pub docstring: Option<Docstring>,
+    /// The attributes in brackets, as `[Exposed=Window]`, where they stand.
     pub attributes: Option<ExtendedAttributeList<'a>>,
+    /// The word `enum`.
     pub enum_: Enum,
+    /// Its name.
     pub identifier: Identifier<'a>,
+    /// Its values, between braces: `body.list` is their list, one at least.
     pub values: Braced<EnumValueList<'a>>,
+    /// The `;` at the end.
     pub semi_colon: SemiColon,
 }
 

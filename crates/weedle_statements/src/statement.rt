@@ -18,10 +18,15 @@ use weedle_types::parts::attributes;
 /// The use of a mixin by an interface, as `A includes B;`. No docstring may stand before it.
 #[derive(Debug, PartialEq, Eq, PartialOrd, Ord, Hash)]
 pub struct IncludesStatementDefinition<'a> {
+    /// The attributes in brackets, as `[Exposed=Window]`, where they stand.
     pub attributes: Option<ExtendedAttributeList<'a>>,
+    /// The name of the interface, before `includes`.
     pub lhs_identifier: Identifier<'a>,
+    /// The word `includes`.
     pub includes: Includes,
+    /// The name of the mixin that it uses, behind `includes`.
     pub rhs_identifier: Identifier<'a>,
+    /// The `;` at the end.
     pub semi_colon: SemiColon,
 }
 
@@ -80,10 +85,15 @@ impl TryClone for IncludesStatementDefinition<'_> {
 /// The older form of a mixin's use, as `A implements B;`. No docstring may stand before it.
 #[derive(Debug, PartialEq, Eq, PartialOrd, Ord, Hash)]
 pub struct ImplementsDefinition<'a> {
+    /// The attributes in brackets, as `[Exposed=Window]`, where they stand.
     pub attributes: Option<ExtendedAttributeList<'a>>,
+    /// The name of the interface, before `implements`.
     pub lhs_identifier: Identifier<'a>,
+    /// The word `implements`.
     pub includes: Implements,
+    /// The name of the interface that it implements, behind `implements`.
     pub rhs_identifier: Identifier<'a>,
+    /// The `;` at the end.
     pub semi_colon: SemiColon,
 }
 

@@ -6,6 +6,7 @@ use std::process::Abort;
 use std::test::Fail;
 use weedle_answers::reads_whole;
 use weedle_front::{Definition, Definitions, parse, parse_counted};
+use weedle_texts::examples::CUT;
 use weedle_texts::{nested_attributes, repeated};
 
 /// Asserts that this is the outcome of the text, by `parse` and by `parse_counted`, within the bounds.
@@ -131,8 +132,6 @@ fn an_enum_may_have_many_values(rt: HostRuntime) -> Result<(), Fail> {
     assert_eq!(rt; count, 1);
     Ok(())
 }
-
-const CUT: &str = "interface A {};\n// é\nenum E {\"é\"};\n";
 
 /// What the front of that text is read as that has so many bytes.
 fn cut_outcome(count: usize, front: &str) -> Outcome<'_> {
