@@ -3,10 +3,12 @@
 
     python3 tools/depth.py PROGRAM [ARGUMENT..]
 
-The program reads standard input to its end and ends with status 0 where it has read it, as crates/weedle_list/out/weedle_list
-does by `parse`, once `rt run` has built it. With `--direct` in front it is one that reads by direct descent, as
-crates/weedle_bench/out/weedle_bench does with the argument `-`, and isn't given attributes, which take such a reader twice
-as long at each level.
+The program reads standard input to its end and ends with status 0 where it has read it, as
+crates/weedle_list/out/weedle_list does, once `rt run` has built it. That reads by `parse_quick`, which takes the table of
+ends for whatever nests deeper than 1,000 brackets, and for attributes within attributes: so what it says is `parse`'s
+depth too. With `--direct` in front the program is one that reads by descent, as crates/weedle_bench/out/weedle_bench does
+with the argument `-` (and `parse_by_descent`), and isn't given attributes, which take such a reader up to three times as
+long at each level.
 
 Of each family the deepest text that is read is looked for, between one that is and one at which the program dies for
 want of stack: it has 8 MB (or what STACK says, in KB).

@@ -1,0 +1,222 @@
+#!/usr/bin/env python3
+"""Says what the gate's time goes into, crate by crate.
+
+    python3 tools/gate_times.py [--json FILE] [--log FILE] [COMMAND..]
+    python3 tools/gate_times.py --read FILE [--json FILE]
+
+It runs the command, or `rt ci` where none is given, and looks twice a second at the processes below
+it: whose crate each works for, and how much processor time it has taken. When the command has ended
+it prints a table: of each crate the minutes of processor time of its proof, of its tests (their
+proof, and the building of their program), of its wrong bodies and of its program, when its proof
+began and how long that took by the clock; then the sums. What the command itself takes, and what
+no crate is named for, stands in the row `the rest`.
+
+--json writes the times in seconds in the form that a simulation takes: `proof`, `tests` and
+`programs` by crate, `edits` as how many there are and what they take in all. --log keeps what was
+seen of each process, a line of JSON each, and --read makes the table of such files again, of
+several runs too: their times are added.
+
+It needs Linux, whose /proc it reads. A process that lives for less than half a second may be missed.
+It ends with the command's status.
+"""
+
+import argparse
+import datetime
+import json
+import os
+import re
+import subprocess
+import sys
+import time
+from pathlib import Path
+
+TICKS = os.sysconf("SC_CLK_TCK")
+INTERVAL = 0.5
+KINDS = ("proof", "tests", "edits", "programs")
+
+
+def boot_time():
+    return time.time() - float(Path("/proc/uptime").read_text().split()[0])
+
+
+def look_at(pid, boot):
+    """The parent of a process, when it began, and the processor time that it has taken so far."""
+    fields = Path(f"/proc/{pid}/stat").read_text().rpartition(")")[2].split()
+    return int(fields[1]), boot + int(fields[19]) / TICKS, sum(map(int, fields[11:13])) / TICKS
+
+
+def all_processes(boot):
+    found = {}
+    for name in filter(str.isdigit, os.listdir("/proc")):
+        try:
+            found[int(name)] = look_at(name, boot)
+        except (OSError, IndexError, ValueError):
+            pass
+    return found
+
+
+def is_below(pid, root, processes):
+    while pid in processes and pid != root:
+        pid = processes[pid][0]
+    return pid == root
+
+
+class Sampler:
+    """What was seen of each process below one."""
+
+    def __init__(self, root, log):
+        self.root, self.log, self.boot, self.seen = root, log, boot_time(), {}
+
+    def sample(self):
+        processes = all_processes(self.boot)
+        below = {it for it in processes if is_below(it, self.root, processes)}
+        for pid in below:
+            self.note(pid, *processes[pid][1:])
+        for pid in set(self.seen) - below:
+            self.end(pid)
+
+    def note(self, pid, began, taken):
+        it = self.seen.get(pid)
+        if it is None or it["start"] != began:
+            it = self.seen[pid] = {"start": began, "words": [], "cwd": ""}
+        try:
+            words = Path(f"/proc/{pid}/cmdline").read_text().split("\0")[:-1]
+            # A process that has ended and isn't waited for yet has none.
+            it["words"] = words or it["words"]
+            it["cwd"] = os.readlink(f"/proc/{pid}/cwd")
+        except OSError:
+            pass
+        it["cpu"], it["end"] = taken, time.time()
+
+    def end(self, pid):
+        self.log.append(self.seen.pop(pid))
+
+    def end_all(self):
+        for pid in list(self.seen):
+            self.end(pid)
+
+
+def run(command):
+    """Runs a command; its status, and what was seen of each process."""
+    log = []
+    process = subprocess.Popen(command)
+    sampler = Sampler(process.pid, log)
+    while process.poll() is None:
+        sampler.sample()
+        time.sleep(INTERVAL)
+    sampler.end_all()
+    return process.returncode, log
+
+
+def taken_by(entry):
+    """The processor time of an entry; older files have user and system time apart."""
+    return sum(entry["cpu"][:2]) if isinstance(entry["cpu"], list) else entry["cpu"]
+
+
+def crate_of(entry):
+    words = entry["words"]
+    if "--crate-name" in words[:-1]:
+        return words[words.index("--crate-name") + 1]
+    found = re.search(r"/crates/(\w+)(?:/|$)", entry["cwd"])
+    return found[1] if found else None
+
+
+def kind_of(entry):
+    words = " ".join(entry["words"])
+    if "rt-edit" in words or "rt-edit" in entry["cwd"]:
+        return "edits"
+    if "--test" in entry["words"] or "_tests" in words:
+        return "tests"
+    if "src/main.rt" in entry["words"] or "clang" in words:
+        return "programs"
+    return "proof"
+
+
+class Times:
+    """Seconds of processor time by kind and crate, and when each proof began and ended."""
+
+    def __init__(self, log):
+        self.by = {kind: {} for kind in KINDS}
+        self.edits, self.spans, self.rest = {}, {}, 0.0
+        for entry in log:
+            self.add(entry)
+
+    def add(self, entry):
+        crate, kind = crate_of(entry), kind_of(entry)
+        if crate is None:
+            self.rest += taken_by(entry)
+            return
+        of_kind = self.by[kind]
+        of_kind[crate] = of_kind.get(crate, 0) + taken_by(entry)
+        if kind == "edits":
+            self.edits.setdefault(crate, set()).add(entry["cwd"])
+        if kind == "proof":
+            began, ended = self.spans.get(crate, (entry["start"], entry["end"]))
+            self.spans[crate] = min(began, entry["start"]), max(ended, entry["end"])
+
+    def crates(self):
+        names = {it for of_kind in self.by.values() for it in of_kind}
+        return sorted(names, key=lambda it: self.spans.get(it, (float("inf"), 0)))
+
+    def sum_of(self, kind):
+        return sum(self.by[kind].values())
+
+    def as_json(self):
+        said = {kind: {k: round(v, 1) for k, v in self.by[kind].items()} for kind in KINDS}
+        edits = {k: [len(self.edits[k]), v] for k, v in said["edits"].items()}
+        return {**said, "edits": edits, "rest": round(self.rest, 1)}
+
+
+def minutes(seconds):
+    return f"{seconds / 60:.1f}" if seconds else ""
+
+
+def machine():
+    """The processor's name, and how many there are."""
+    found = re.search(r"model name\s*: (.*)", Path("/proc/cpuinfo").read_text())
+    return f"{os.cpu_count()} processors, {found[1] if found else 'of no name'}"
+
+
+def table(times):
+    began = min((it[0] for it in times.spans.values()), default=0)
+    rows = [
+        "| Crate | Proof | Tests | Wrong bodies | Program | Begins | Takes |",
+        "|---|---|---|---|---|---|---|",
+    ]
+    for crate in times.crates():
+        costs = [minutes(times.by[kind].get(crate, 0)) for kind in KINDS]
+        first, last = times.spans.get(crate, (began, began))
+        clock = [f"{(first - began) / 60:.0f}", f"{(last - first) / 60:.0f}"]
+        rows.append(f"| `{crate}` | {' | '.join([*costs, *clock])} |")
+    sums = [minutes(times.sum_of(kind)) for kind in KINDS]
+    rows += [f"| all of these | {' | '.join(sums)} | | |", f"| the rest | {minutes(times.rest)} | | | | | |"]
+    whole = times.rest + sum(times.sum_of(kind) for kind in KINDS)
+    rows += ["", f"In all {whole / 60:.0f} minutes of processor time, on {machine()}, {datetime.date.today()}."]
+    return "\n".join(rows)
+
+
+def main():
+    parser = argparse.ArgumentParser(
+        description=__doc__, formatter_class=argparse.RawDescriptionHelpFormatter
+    )
+    parser.add_argument("--json", type=Path)
+    parser.add_argument("--log", type=Path)
+    parser.add_argument("--read", type=Path, action="append")
+    parser.add_argument("command", nargs=argparse.REMAINDER)
+    said = parser.parse_args()
+    status, log = 0, []
+    for file in said.read or ():
+        log += map(json.loads, file.read_text().splitlines())
+    if not said.read:
+        status, log = run(said.command or ["rt", "ci"])
+    if said.log:
+        said.log.write_text("".join(json.dumps(it) + "\n" for it in log))
+    times = Times(log)
+    if said.json:
+        said.json.write_text(json.dumps(times.as_json(), indent=1) + "\n")
+    print(table(times))
+    return status
+
+
+if __name__ == "__main__":
+    sys.exit(main())
