@@ -2,6 +2,7 @@
 //!
 //! A list of arguments ends behind its last argument: of `long x, long` the rest is `, long`. Attributes and
 //! types ask for memory: where it is refused, the call ends at once with a failure of code `Memory`.
+//! What each type reads stands in words in docs/GRAMMAR.md.
 
 ghost use Rattle.std.specs.Prelude.{◌≡◌};
 
@@ -18,8 +19,11 @@ pub type ArgumentList<'a> = Punctuated<Argument<'a>, Comma>;
 #[cycle(types)]
 #[derive(Debug, PartialEq, Eq, PartialOrd, Ord, Hash)]
 pub struct ParenthesizedArgumentList<'a> {
+    /// The `(`.
     pub open_paren: OpenParen,
+    /// The arguments, none included: `list` is their list.
     pub body: ArgumentList<'a>,
+    /// The `)`.
     pub close_paren: CloseParen,
 }
 
@@ -34,11 +38,15 @@ impl Drop for ParenthesizedArgumentList<'_> {
     }
 }
 
-/// An argument, as `long x`, or `long... xs` for any number of them.
+/// An argument, as `long x`, or `long... xs` for any number of them. Of what its variants read,
+/// `[attributes]` may be absent.
 #[cycle(types)]
 #[derive(Debug, PartialEq, Eq, PartialOrd, Ord, Hash)]
 pub enum Argument<'a> {
+    /// `[attributes] type name` or `[attributes] optional type name = value`, the latter also
+    /// without `= value`.
     Single(SingleArgument<'a>),
+    /// `[attributes] type... name`.
     Variadic(VariadicArgument<'a>),
 }
 
@@ -56,10 +64,15 @@ impl Drop for Argument<'_> {
 #[cycle(types)]
 #[derive(Debug, PartialEq, Eq, PartialOrd, Ord, Hash)]
 pub struct SingleArgument<'a> {
+    /// The attributes in brackets, as `[Exposed=Window]`, where they stand.
     pub attributes: Option<ExtendedAttributeList<'a>>,
+    /// The word `optional`, where it stands.
     pub optional: Option<Optional>,
+    /// Its type, as `long`, with attributes of its own, as in `optional [Clamp] long x`.
     pub type_: AttributedType<'a>,
+    /// Its name.
     pub identifier: Identifier<'a>,
+    /// Its default, as `= 5`, where `optional` and a default stand.
     pub default: Option<Default<'a>>,
 }
 
@@ -80,9 +93,13 @@ impl Drop for SingleArgument<'_> {
 #[cycle(types)]
 #[derive(Debug, PartialEq, Eq, PartialOrd, Ord, Hash)]
 pub struct VariadicArgument<'a> {
+    /// The attributes in brackets, as `[Exposed=Window]`, where they stand.
     pub attributes: Option<ExtendedAttributeList<'a>>,
+    /// Their type, as `long`, with no attributes of its own.
     pub type_: Type<'a>,
+    /// The `...`.
     pub ellipsis: Ellipsis,
+    /// Their name.
     pub identifier: Identifier<'a>,
 }
 

@@ -2,6 +2,7 @@
 //!
 //! A list without its closing bracket, or with a comma at its end, is a mismatch. Lists ask for memory: where it
 //! is refused, the call ends at once with a failure of code `Memory`.
+//! What each type reads stands in words in docs/GRAMMAR.md.
 
 ghost use Rattle.std.specs.Prelude.{◌≡◌};
 ghost use Rattle.weedle_base.specs.Own.{own};
@@ -26,10 +27,15 @@ pub type IdentifierList<'a> = Punctuated<Identifier<'a>, Comma>;
 #[cycle(types)]
 #[derive(Debug, PartialEq, Eq, PartialOrd, Ord, Hash)]
 pub enum ExtendedAttribute<'a> {
+    /// `name(arguments)`.
     ArgList(ExtendedAttributeArgList<'a>),
+    /// `name=name(arguments)`.
     NamedArgList(ExtendedAttributeNamedArgList<'a>),
+    /// `name=(names)`.
     IdentList(ExtendedAttributeIdentList<'a>),
+    /// `name=name` or `name="text"`.
     Ident(ExtendedAttributeIdent<'a>),
+    /// `name`.
     NoArgs(ExtendedAttributeNoArgs<'a>),
 }
 
@@ -50,7 +56,9 @@ impl Drop for ExtendedAttribute<'_> {
 #[cycle(types)]
 #[derive(Debug, PartialEq, Eq, PartialOrd, Ord, Hash)]
 pub struct ExtendedAttributeArgList<'a> {
+    /// Its name.
     pub identifier: Identifier<'a>,
+    /// Its arguments, between parentheses: `body.list` is their list.
     pub args: ParenthesizedArgumentList<'a>,
 }
 
@@ -68,9 +76,13 @@ impl Drop for ExtendedAttributeArgList<'_> {
 #[cycle(types)]
 #[derive(Debug, PartialEq, Eq, PartialOrd, Ord, Hash)]
 pub struct ExtendedAttributeNamedArgList<'a> {
+    /// Its name, before the `=`.
     pub lhs_identifier: Identifier<'a>,
+    /// The `=`.
     pub assign: Assign,
+    /// The name behind the `=`.
     pub rhs_identifier: Identifier<'a>,
+    /// Its arguments, between parentheses: `body.list` is their list.
     pub args: ParenthesizedArgumentList<'a>,
 }
 
@@ -89,16 +101,22 @@ impl Drop for ExtendedAttributeNamedArgList<'_> {
 /// An attribute with names, as `Exposed=(Window, Worker)`.
 #[derive(Debug, PartialEq, Eq, PartialOrd, Ord, Hash, Drop)]
 pub struct ExtendedAttributeIdentList<'a> {
+    /// Its name.
     pub identifier: Identifier<'a>,
+    /// The `=`.
     pub assign: Assign,
+    /// The names behind the `=`, between parentheses: `body.list` is their list.
     pub list: Parenthesized<IdentifierList<'a>>,
 }
 
 /// An attribute with a name or a string, as `PutForwards=name`. It takes no memory.
 #[derive(Clone, Copy, Debug, PartialEq, Eq, PartialOrd, Ord, Hash)]
 pub struct ExtendedAttributeIdent<'a> {
+    /// Its name, before the `=`.
     pub lhs_identifier: Identifier<'a>,
+    /// The `=`.
     pub assign: Assign,
+    /// The name or the string behind the `=`.
     pub rhs: IdentifierOrString<'a>,
 }
 
@@ -109,7 +127,9 @@ pub struct ExtendedAttributeNoArgs<'a>(pub Identifier<'a>);
 /// A name or a string, as `name` or `"name"`. It takes no memory.
 #[derive(Clone, Copy, Debug, PartialEq, Eq, PartialOrd, Ord, Hash)]
 pub enum IdentifierOrString<'a> {
+    /// A name, as `name`.
     Identifier(Identifier<'a>),
+    /// A text in quotes, as `"name"`.
     String(StringLit<'a>),
 }
 

@@ -1,5 +1,5 @@
 //! Types, attributes and arguments: types stand in attributes, attributes in arguments, and both in types,
-//! with no limit on how deep.
+//! with no limit on how deep. What each type reads stands in words in docs/GRAMMAR.md.
 #![tactic(auto)]
 
 pub mod argument;

@@ -3,7 +3,7 @@
 //! A type is read whole, with no limit on how deep types stand in one another. What follows it is the rest:
 //! `Promise<long>?` is a promise and `?`, since a promise is never null. A text that begins with no type is a
 //! mismatch. Boxes, unions and attributes ask for memory: where it is refused, the call ends at once with a
-//! failure of code `Memory`.
+//! failure of code `Memory`. What each type reads stands in words in docs/GRAMMAR.md.
 
 mod from;
 mod from_non_any;
@@ -46,7 +46,9 @@ pub type UnionType<'a> = Parenthesized<Punctuated<UnionMemberType<'a>, Or>>;
 #[cycle(types)]
 #[derive(Debug, PartialEq, Eq, PartialOrd, Ord, Hash)]
 pub enum Type<'a> {
+    /// `any`, or another type that is no union, as `long?`.
     Single(SingleType<'a>),
+    /// `(type or type)?`, also without `?`.
     Union(MayBeNull<UnionType<'a>>),
 }
 
@@ -60,38 +62,67 @@ impl Drop for Type<'_> {
 }
 
 /// A type that is neither `any` nor a union, as `long?`. A name that is no type of the grammar is an
-/// identifier.
+/// identifier. Of what its variants read, `?` may be absent.
 #[cycle(types)]
 #[derive(Debug, PartialEq, Eq, PartialOrd, Ord, Hash)]
 pub enum NonAnyType<'a> {
+    /// `Promise<type>`, also with `undefined` for the type.
     Promise(PromiseType<'a>),
+    /// `short?`, `long?` or `long long?`, each also with `unsigned` in front.
     Integer(MayBeNull<IntegerType>),
+    /// `float?` or `double?`, each also with `unrestricted` in front.
     FloatingPoint(MayBeNull<FloatingPointType>),
+    /// `boolean?`.
     Boolean(MayBeNull<Boolean>),
+    /// `byte?`.
     Byte(MayBeNull<Byte>),
+    /// `octet?`.
     Octet(MayBeNull<Octet>),
+    /// `ByteString?`.
     ByteString(MayBeNull<ByteString>),
+    /// `DOMString?`.
     DOMString(MayBeNull<DOMString>),
+    /// `USVString?`.
     USVString(MayBeNull<USVString>),
+    /// `sequence<type>?`.
     Sequence(MayBeNull<SequenceType<'a>>),
+    /// `object?`.
     Object(MayBeNull<Object>),
+    /// `symbol?`.
     Symbol(MayBeNull<Symbol>),
+    /// `Error?`.
     Error(MayBeNull<Error>),
+    /// `ArrayBuffer?`.
     ArrayBuffer(MayBeNull<ArrayBuffer>),
+    /// `DataView?`.
     DataView(MayBeNull<DataView>),
+    /// `Int8Array?`.
     Int8Array(MayBeNull<Int8Array>),
+    /// `Int16Array?`.
     Int16Array(MayBeNull<Int16Array>),
+    /// `Int32Array?`.
     Int32Array(MayBeNull<Int32Array>),
+    /// `Uint8Array?`.
     Uint8Array(MayBeNull<Uint8Array>),
+    /// `Uint16Array?`.
     Uint16Array(MayBeNull<Uint16Array>),
+    /// `Uint32Array?`.
     Uint32Array(MayBeNull<Uint32Array>),
+    /// `Uint8ClampedArray?`.
     Uint8ClampedArray(MayBeNull<Uint8ClampedArray>),
+    /// `Float32Array?`.
     Float32Array(MayBeNull<Float32Array>),
+    /// `Float64Array?`.
     Float64Array(MayBeNull<Float64Array>),
+    /// `ArrayBufferView?`.
     ArrayBufferView(MayBeNull<ArrayBufferView>),
+    /// `BufferSource?`.
     BufferSource(MayBeNull<BufferSource>),
+    /// `FrozenArray<type>?`.
     FrozenArrayType(MayBeNull<FrozenArrayType<'a>>),
+    /// `record<type, type>?`.
     RecordType(MayBeNull<RecordType<'a>>),
+    /// `name?`.
     Identifier(MayBeNull<Identifier<'a>>),
 }
 
@@ -148,7 +179,10 @@ impl Drop for RecordTypes<'_> {
 #[cycle(types)]
 #[derive(Debug, PartialEq, Eq, PartialOrd, Ord, Hash)]
 pub enum UnionMemberType<'a> {
+    /// `[attributes] type`, also without `[attributes]`, where the type is neither `any` nor a
+    /// union.
     Single(AttributedNonAnyType<'a>),
+    /// `(type or type)?`, also without `?`.
     Union(MayBeNull<UnionType<'a>>),
 }
 
@@ -165,7 +199,9 @@ impl Drop for UnionMemberType<'_> {
 #[cycle(types)]
 #[derive(Debug, PartialEq, Eq, PartialOrd, Ord, Hash)]
 pub struct AttributedType<'a> {
+    /// The attributes in brackets, as `[Clamp]`, where they stand.
     pub attributes: Option<ExtendedAttributeList<'a>>,
+    /// The type, as `octet`.
     pub type_: Type<'a>,
 }
 
@@ -183,7 +219,9 @@ impl Drop for AttributedType<'_> {
 #[cycle(types)]
 #[derive(Debug, PartialEq, Eq, PartialOrd, Ord, Hash)]
 pub struct AttributedNonAnyType<'a> {
+    /// The attributes in brackets, as `[Clamp]`, where they stand.
     pub attributes: Option<ExtendedAttributeList<'a>>,
+    /// The type, as `octet`.
     pub type_: NonAnyType<'a>,
 }
 
