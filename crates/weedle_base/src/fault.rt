@@ -16,7 +16,9 @@ pub enum ErrorKind {
 /// A place of the input, by what stands from there on, and what happened.
 #[derive(Clone, Copy, Debug, PartialEq, Eq)]
 pub struct Error<I> {
+    /// The text from that place on.
     pub input: I,
+    /// What happened.
     pub code: ErrorKind,
 }
 

@@ -12,7 +12,9 @@ use weedle_base::{IResult, Parse};
 /// refuses the text. `Choice<T, Choice<U, V>>` is one of three.
 #[derive(Drop)]
 pub enum Choice<T, U> {
+    /// A value of the first type.
     First(T),
+    /// A value of the second type, where the first refuses the text.
     Second(U),
 }
 

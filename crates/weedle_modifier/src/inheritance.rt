@@ -14,7 +14,9 @@ use weedle_term::Colon;
 /// failure.
 #[derive(Clone, Copy, Debug, PartialEq, Eq, PartialOrd, Ord, Hash)]
 pub struct Inheritance<'a> {
+    /// The `:`.
     pub colon: Colon,
+    /// The name of what is inherited from.
     pub identifier: Identifier<'a>,
 }
 

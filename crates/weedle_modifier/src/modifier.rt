@@ -15,9 +15,13 @@ use weedle_term::{Deleter, Getter, Inherit, LegacyCaller, Setter, Static, String
 /// failure.
 #[derive(Clone, Copy, Debug, PartialEq, Eq, PartialOrd, Ord, Hash)]
 pub enum Special {
+    /// The word `getter`.
     Getter(Getter),
+    /// The word `setter`.
     Setter(Setter),
+    /// The word `deleter`.
     Deleter(Deleter),
+    /// The word `legacycaller`.
     LegacyCaller(LegacyCaller),
 }
 
@@ -43,8 +47,11 @@ impl<'a> Parse<'a> for Special {
 /// failure.
 #[derive(Clone, Copy, Debug, PartialEq, Eq, PartialOrd, Ord, Hash)]
 pub enum StringifierOrInheritOrStatic {
+    /// The word `stringifier`.
     Stringifier(Stringifier),
+    /// The word `inherit`.
     Inherit(Inherit),
+    /// The word `static`.
     Static(Static),
 }
 
@@ -69,7 +76,9 @@ impl<'a> Parse<'a> for StringifierOrInheritOrStatic {
 /// failure.
 #[derive(Clone, Copy, Debug, PartialEq, Eq, PartialOrd, Ord, Hash)]
 pub enum StringifierOrStatic {
+    /// The word `stringifier`.
     Stringifier(Stringifier),
+    /// The word `static`.
     Static(Static),
 }
 

@@ -1,5 +1,5 @@
 //! Parts that stand anywhere in the grammar: brackets, lists with separators, names and
-//! docstrings.
+//! docstrings. What each type reads stands in words in docs/GRAMMAR.md.
 
 mod brackets;
 mod docstring;

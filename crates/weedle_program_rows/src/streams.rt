@@ -29,6 +29,7 @@ impl Read for ShortReader<'_> {
 /// Takes at most so many bytes a call, and fails once its calls are used up.
 #[derive(Drop)]
 pub struct ShortWriter {
+    /// The bytes that it took, in their order.
     pub taken: Vec<u8>,
     most: usize,
     calls: usize,

@@ -15,8 +15,11 @@ use weedle_term::{
 /// is a mismatch. It takes the memory that the body takes.
 #[derive(Clone, Copy, Debug, Default, Drop, PartialEq, Eq, PartialOrd, Ord, Hash)]
 pub struct Parenthesized<T> {
+    /// The `(`.
     pub open_paren: OpenParen,
+    /// What stands between the parentheses.
     pub body: T,
+    /// The `)`.
     pub close_paren: CloseParen,
 }
 
@@ -59,8 +62,11 @@ impl<T: TryClone> TryClone for Parenthesized<T> {
 /// A body in square brackets, as `[Exposed]`.
 #[derive(Clone, Copy, Debug, Default, Drop, PartialEq, Eq, PartialOrd, Ord, Hash)]
 pub struct Bracketed<T> {
+    /// The `[`.
     pub open_bracket: OpenBracket,
+    /// What stands between the square brackets.
     pub body: T,
+    /// The `]`.
     pub close_bracket: CloseBracket,
 }
 
@@ -103,8 +109,11 @@ impl<T: TryClone> TryClone for Bracketed<T> {
 /// A body in braces, as `{ .. }`.
 #[derive(Clone, Copy, Debug, Default, Drop, PartialEq, Eq, PartialOrd, Ord, Hash)]
 pub struct Braced<T> {
+    /// The `{`.
     pub open_brace: OpenBrace,
+    /// What stands between the braces.
     pub body: T,
+    /// The `}`.
     pub close_brace: CloseBrace,
 }
 
@@ -147,8 +156,11 @@ impl<T: TryClone> TryClone for Braced<T> {
 /// A body in angle brackets, as `<long>`.
 #[derive(Clone, Copy, Debug, Default, Drop, PartialEq, Eq, PartialOrd, Ord, Hash)]
 pub struct Generics<T> {
+    /// The `<`.
     pub open_angle: LessThan,
+    /// What stands between the angle brackets.
     pub body: T,
+    /// The `>`.
     pub close_angle: GreaterThan,
 }
 

@@ -13,7 +13,9 @@ use weedle_base::{Err, IResult, Parse, TryClone, mismatch, out_of_memory};
 /// was read.
 #[derive(Debug, Drop, PartialEq, Eq, PartialOrd, Ord, Hash)]
 pub struct Punctuated<T, S> {
+    /// The items, one after another; none included.
     pub list: Vec<T>,
+    /// The separator's default, not what was read.
     pub separator: S,
 }
 
@@ -56,7 +58,9 @@ impl<T: TryClone, S: TryClone> TryClone for Punctuated<T, S> {
 /// `a, b,`. `separator` is the default, not what was read.
 #[derive(Debug, Drop, PartialEq, Eq, PartialOrd, Ord, Hash)]
 pub struct PunctuatedNonEmpty<T, S> {
+    /// The items, one after another; one at least.
     pub list: Vec<T>,
+    /// The separator's default, not what was read.
     pub separator: S,
 }
 

@@ -15,14 +15,20 @@ use weedle_base::{IResult, Parse};
 use weedle_term::{Boolean, Byte, Octet};
 
 /// The type of a constant, as `long?`: a type of numbers, `boolean`, `byte`, `octet` or a name, and `?` where
-/// it may be null. It takes no memory.
+/// it may be null. It takes no memory. Of what its variants read, `?` may be absent.
 #[derive(Clone, Copy, Debug, PartialEq, Eq, PartialOrd, Ord, Hash)]
 pub enum ConstType<'a> {
+    /// `short?`, `long?` or `long long?`, each also with `unsigned` in front.
     Integer(MayBeNull<IntegerType>),
+    /// `float?` or `double?`, each also with `unrestricted` in front.
     FloatingPoint(MayBeNull<FloatingPointType>),
+    /// `boolean?`.
     Boolean(MayBeNull<Boolean>),
+    /// `byte?`.
     Byte(MayBeNull<Byte>),
+    /// `octet?`.
     Octet(MayBeNull<Octet>),
+    /// `name?`.
     Identifier(MayBeNull<Identifier<'a>>),
 }
 

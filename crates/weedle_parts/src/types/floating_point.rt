@@ -13,7 +13,9 @@ use weedle_term::{Double, Float, Unrestricted};
 /// `float` or `unrestricted float`.
 #[derive(Clone, Copy, Debug, PartialEq, Eq, PartialOrd, Ord, Hash)]
 pub struct FloatType {
+    /// The word `unrestricted`, where it stands.
     pub unrestricted: Option<Unrestricted>,
+    /// The word `float`.
     pub float: Float,
 }
 
@@ -39,7 +41,9 @@ impl<'a> Parse<'a> for FloatType {
 /// `double` or `unrestricted double`.
 #[derive(Clone, Copy, Debug, PartialEq, Eq, PartialOrd, Ord, Hash)]
 pub struct DoubleType {
+    /// The word `unrestricted`, where it stands.
     pub unrestricted: Option<Unrestricted>,
+    /// The word `double`.
     pub double: Double,
 }
 
@@ -65,7 +69,9 @@ impl<'a> Parse<'a> for DoubleType {
 /// A type of floating point numbers, as `unrestricted double`. It takes no memory.
 #[derive(Clone, Copy, Debug, PartialEq, Eq, PartialOrd, Ord, Hash)]
 pub enum FloatingPointType {
+    /// `unrestricted float`, also without `unrestricted`.
     Float(FloatType),
+    /// `unrestricted double`, also without `unrestricted`.
     Double(DoubleType),
 }
 

@@ -13,7 +13,9 @@ use weedle_term::{Long, Short, Unsigned};
 /// `long long` or `unsigned long long`.
 #[derive(Clone, Copy, Debug, PartialEq, Eq, PartialOrd, Ord, Hash)]
 pub struct LongLongType {
+    /// The word `unsigned`, where it stands.
     pub unsigned: Option<Unsigned>,
+    /// The words `long long`.
     pub long_long: (Long, Long),
 }
 
@@ -39,7 +41,9 @@ impl<'a> Parse<'a> for LongLongType {
 /// `long` or `unsigned long`.
 #[derive(Clone, Copy, Debug, PartialEq, Eq, PartialOrd, Ord, Hash)]
 pub struct LongType {
+    /// The word `unsigned`, where it stands.
     pub unsigned: Option<Unsigned>,
+    /// The word `long`.
     pub long: Long,
 }
 
@@ -59,7 +63,9 @@ impl<'a> Parse<'a> for LongType {
 /// `short` or `unsigned short`.
 #[derive(Clone, Copy, Debug, PartialEq, Eq, PartialOrd, Ord, Hash)]
 pub struct ShortType {
+    /// The word `unsigned`, where it stands.
     pub unsigned: Option<Unsigned>,
+    /// The word `short`.
     pub short: Short,
 }
 
@@ -80,8 +86,11 @@ impl<'a> Parse<'a> for ShortType {
 /// leaves `longx`. Anything else, as `unsigned x`, is a mismatch. It takes no memory.
 #[derive(Clone, Copy, Debug, PartialEq, Eq, PartialOrd, Ord, Hash)]
 pub enum IntegerType {
+    /// `unsigned long long`, also without `unsigned`.
     LongLong(LongLongType),
+    /// `unsigned long`, also without `unsigned`.
     Long(LongType),
+    /// `unsigned short`, also without `unsigned`.
     Short(ShortType),
 }
 

@@ -12,7 +12,9 @@ use weedle_term::QMark;
 /// A type, and `?` where it may be null, as `long?`.
 #[derive(Clone, Copy, Debug, Drop, PartialEq, Eq, PartialOrd, Ord, Hash)]
 pub struct MayBeNull<T> {
+    /// The type, as `long`.
     pub type_: T,
+    /// The `?`, where it stands.
     pub q_mark: Option<QMark>,
 }
 

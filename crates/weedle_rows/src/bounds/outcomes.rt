@@ -27,8 +27,11 @@ pub type Answer<'a> = Result<Definitions<'a>, Err<Error<&'a str>>>;
 /// How much was done for an answer.
 #[derive(Clone, Copy, Debug, PartialEq, Eq)]
 pub struct Counts {
+    /// How many times a rule was worked out at a place of the text.
     pub workings: u128,
+    /// How many times a byte, or what is known of a rule at a place, was looked at for that.
     pub reads: u128,
+    /// How many nodes of the tree were visited to build the list.
     pub visits: u128,
 }
 
