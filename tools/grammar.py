@@ -651,12 +651,12 @@ def code_grammar():
            "//! A constant is a rule's number. The rows of a section stand beside its constants.", "//!",
            f"//! {HEAD[0].upper() + HEAD[1:]}.", "",
            "ghost use Rattle.std.specs.Prelude.{◌≡◌};",
-           "ghost use Rattle.weedle_grammar.specs.Table.{row_of as row_of_lem};",
+           "ghost use Rattle.weedle_grammar.specs.Table.{row_of as the_row_of};",
            "ghost use Rattle.weedle_grammar.specs.View.{row_view};", "",
            "use crate::row::Row;", "use crate::rule::Rule;", ""]
     out += [f"pub mod {s.module};" for s in SECTIONS]
     out += ["", "/// What a rule reads. It takes no memory.", "#[inline(always)]", "pub fn row_of(rule: Rule) -> Row",
-            "    ensures { row_view result ≡ row_of_lem rule }", "{", "    let number = rule.number();"]
+            "    ensures { row_view result ≡ the_row_of rule }", "{", "    let number = rule.number();"]
     for i, s in enumerate(SECTIONS):
         high = NUMBER[s.rules[-1].name] + 1
         lead = "    if" if i == 0 else "    } else if"

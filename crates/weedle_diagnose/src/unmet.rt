@@ -3,8 +3,8 @@
 ghost use Rattle.std.specs.Prelude.{◌≡◌, ◌≤◌, ◌<◌, ◌-◌, ◌*◌, ◌/◌, ◌%◌, ◌↔◌, ℕ, length, IsTrue, IfOk};
 ghost use Rattle.std.specs.List.{Contains};
 ghost use Rattle.weedle_grammar.specs.Bound.{rule_count};
-ghost use Rattle.weedle_grammar.specs.Table.{row_of as row_of_lem};
-ghost use Rattle.weedle_diagnose.specs.Tries.{IsUnmet, has_no_parts as has_no_parts_lem};
+ghost use Rattle.weedle_grammar.specs.Table.{row_of as the_row_of};
+ghost use Rattle.weedle_diagnose.specs.Tries.{IsUnmet, has_no_parts as lacks_parts};
 ghost use Rattle.weedle_diagnose.specs.Marks.{AreTried, HasBit};
 ghost use Rattle.weedle_diagnose.specs.Diagnosis.{IsRising};
 
@@ -15,7 +15,7 @@ use weedle_rules::Ends;
 
 /// Whether the rule's row has no parts.
 fn has_no_parts(rule: Rule) -> bool
-    ensures { result ≡ has_no_parts_lem (row_of_lem rule) }
+    ensures { result ≡ lacks_parts (the_row_of rule) }
 {
     match row_of(rule) {
         Row::Bytes(_) | Row::OneOf(_) | Row::NotNext(_) | Row::Run(_) | Row::Past(_) => true,

@@ -5,7 +5,7 @@
 //! Written by tools/grammar.py.
 
 ghost use Rattle.std.specs.Prelude.{◌≡◌};
-ghost use Rattle.weedle_grammar.specs.Table.{row_of as row_of_lem};
+ghost use Rattle.weedle_grammar.specs.Table.{row_of as the_row_of};
 ghost use Rattle.weedle_grammar.specs.View.{row_view};
 
 use crate::row::Row;
@@ -26,7 +26,7 @@ pub mod types;
 /// What a rule reads. It takes no memory.
 #[inline(always)]
 pub fn row_of(rule: Rule) -> Row
-    ensures { row_view result ≡ row_of_lem rule }
+    ensures { row_view result ≡ the_row_of rule }
 {
     let number = rule.number();
     if number < 15 {

@@ -2,7 +2,7 @@
 
 ghost use Rattle.std.specs.Prelude.{◌≡◌, ◌<◌, ◌*◌, ℕ, length};
 ghost use Rattle.weedle_grammar.specs.Rows.{Many, Tail};
-ghost use Rattle.weedle_grammar.specs.Table.{row_of as row_of_lem};
+ghost use Rattle.weedle_grammar.specs.Table.{row_of};
 ghost use Rattle.weedle_diagnose.specs.Tries.{Tries, TriesListed};
 ghost use Rattle.weedle_diagnose.specs.Marks.{HasBit, Adds};
 
@@ -22,7 +22,7 @@ pub(crate) fn many(
     requires last { last ≡ length ends.now.text }
     requires fits { 64 * length marks.old < 18446744073709551616 }
     requires here { HasBit last (length marks.old) rule place }
-    requires row { row_of_lem rule ≡ Many item }
+    requires row { row_of rule ≡ Many item }
     ensures { Adds last marks.old marks.new (Tries ends.now.text rule place) }
 {
     mark(marks, last, item, place);
@@ -70,7 +70,7 @@ pub(crate) fn tail(
     requires last { last ≡ length ends.now.text }
     requires fits { 64 * length marks.old < 18446744073709551616 }
     requires here { HasBit last (length marks.old) rule place }
-    requires row { row_of_lem rule ≡ Tail item separator }
+    requires row { row_of rule ≡ Tail item separator }
     ensures { Adds last marks.old marks.new (Tries ends.now.text rule place) }
 {
     mark(marks, last, separator, place);

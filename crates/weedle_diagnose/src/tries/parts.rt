@@ -3,7 +3,7 @@
 ghost use Rattle.std.specs.Prelude.{◌≡◌, ◌≤◌, ◌<◌, ◌*◌, ℕ, length, MatchOption, if◌then◌else◌};
 ghost use Rattle.weedle_grammar.specs.Bound.{rule_count};
 ghost use Rattle.weedle_grammar.specs.Rows.{If};
-ghost use Rattle.weedle_grammar.specs.Table.{row_of as row_of_lem};
+ghost use Rattle.weedle_grammar.specs.Table.{row_of};
 ghost use Rattle.weedle_grammar.specs.View.{numbers_of};
 ghost use Rattle.weedle_diagnose.specs.Tries.{Tries, TriesInTurn, TriesByChoice, EndsWith};
 ghost use Rattle.weedle_diagnose.specs.Marks.{HasBit, Adds};
@@ -66,7 +66,7 @@ fn end_with(
 ) -> Option<usize>
     requires within { place ≤ length ends.now.text }
     requires low { rule < rule_count }
-    requires row { row_of_lem rule ≡ If (numbers_of parts) k y }
+    requires row { row_of rule ≡ If (numbers_of parts) k y }
     ensures { MatchOption result ((q : ℕ) → EndsWith ends.now.text (numbers_of parts) k place q → ⊥) (λ q. EndsWith ends.now.text (numbers_of parts) k place q) }
 {
     let mut end = place;
@@ -97,7 +97,7 @@ pub(crate) fn conditional(
     requires last { last ≡ length ends.now.text }
     requires fits { 64 * length marks.old < 18446744073709551616 }
     requires here { HasBit last (length marks.old) rule place }
-    requires row { row_of_lem rule ≡ If (numbers_of parts) k y }
+    requires row { row_of rule ≡ If (numbers_of parts) k y }
     ensures { Adds last marks.old marks.new (Tries ends.now.text rule place) }
 {
     in_turn(marks, ends, last, place, parts);

@@ -2,7 +2,7 @@
 
 ghost use Rattle.std.specs.Prelude.{◌≡◌};
 ghost use Rattle.weedle_grammar.specs.Rows.{Opt, Many, ListOf, List1, Tail};
-ghost use Rattle.weedle_grammar.specs.Table.{row_of as row_of_lem};
+ghost use Rattle.weedle_grammar.specs.Table.{row_of};
 ghost use Rattle.weedle_rules.specs.Filling.{IsBegun, IsWorked};
 
 use crate::cell::Cell;
@@ -19,7 +19,7 @@ pub(crate) fn opt<C: Cell>(
     x: Rule,
 ) -> Option<usize>
     requires begun { IsBegun reader.now working.old rule place }
-    requires row { row_of_lem rule ≡ Opt x }
+    requires row { row_of rule ≡ Opt x }
     ensures { IsWorked reader.now working.old working.new result }
 {
     match reader.cell(working, x, place) {
@@ -38,7 +38,7 @@ pub(crate) fn many<C: Cell>(
     item: Rule,
 ) -> Option<usize>
     requires begun { IsBegun reader.now working.old rule place }
-    requires row { row_of_lem rule ≡ Many item }
+    requires row { row_of rule ≡ Many item }
     ensures { IsWorked reader.now working.old working.new result }
 {
     match reader.cell(working, item, place) {
@@ -64,7 +64,7 @@ pub(crate) fn list<C: Cell>(
     tail: Rule,
 ) -> Option<usize>
     requires begun { IsBegun reader.now working.old rule place }
-    requires row { row_of_lem rule ≡ ListOf item tail }
+    requires row { row_of rule ≡ ListOf item tail }
     ensures { IsWorked reader.now working.old working.new result }
 {
     match reader.cell(working, item, place) {
@@ -84,7 +84,7 @@ pub(crate) fn list1<C: Cell>(
     tail: Rule,
 ) -> Option<usize>
     requires begun { IsBegun reader.now working.old rule place }
-    requires row { row_of_lem rule ≡ List1 item tail }
+    requires row { row_of rule ≡ List1 item tail }
     ensures { IsWorked reader.now working.old working.new result }
 {
     match reader.cell(working, item, place) {
@@ -104,7 +104,7 @@ pub(crate) fn tail<C: Cell>(
     separator: Rule,
 ) -> Option<usize>
     requires begun { IsBegun reader.now working.old rule place }
-    requires row { row_of_lem rule ≡ Tail item separator }
+    requires row { row_of rule ≡ Tail item separator }
     ensures { IsWorked reader.now working.old working.new result }
 {
     match reader.cell(working, separator, place) {

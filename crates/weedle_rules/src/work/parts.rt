@@ -2,7 +2,7 @@
 
 ghost use Rattle.std.specs.Prelude.{◌≡◌, if◌then◌else◌};
 ghost use Rattle.weedle_grammar.specs.Rows.{Seq, First, If};
-ghost use Rattle.weedle_grammar.specs.Table.{row_of as row_of_lem};
+ghost use Rattle.weedle_grammar.specs.Table.{row_of};
 ghost use Rattle.weedle_grammar.specs.View.{numbers_of};
 ghost use Rattle.weedle_rules.specs.Filling.{IsBegun, IsWorked};
 
@@ -20,7 +20,7 @@ pub(crate) fn seq<C: Cell>(
     parts: Parts,
 ) -> Option<usize>
     requires begun { IsBegun reader.now working.old rule place }
-    requires row { row_of_lem rule ≡ Seq (numbers_of parts) }
+    requires row { row_of rule ≡ Seq (numbers_of parts) }
     ensures { IsWorked reader.now working.old working.new result }
 {
     let mut end = place;
@@ -43,7 +43,7 @@ pub(crate) fn first<C: Cell>(
     parts: Parts,
 ) -> Option<usize>
     requires begun { IsBegun reader.now working.old rule place }
-    requires row { row_of_lem rule ≡ First (numbers_of parts) }
+    requires row { row_of rule ≡ First (numbers_of parts) }
     ensures { IsWorked reader.now working.old working.new result }
 {
     for i in 0..parts.len() {
@@ -75,7 +75,7 @@ pub(crate) fn conditional<C: Cell>(
     y: Rule,
 ) -> Option<usize>
     requires begun { IsBegun reader.now working.old rule place }
-    requires row { row_of_lem rule ≡ If (numbers_of parts) k y }
+    requires row { row_of rule ≡ If (numbers_of parts) k y }
     ensures { IsWorked reader.now working.old working.new result }
 {
     let mut end = place;

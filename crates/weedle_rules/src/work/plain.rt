@@ -1,8 +1,8 @@
 //! Rows without parts: bytes, a byte of a class, a run of them, everything past some bytes.
 
 ghost use Rattle.std.specs.Prelude.{◌≡◌, ◌≤◌, ◌<◌, true, length, drop};
-ghost use Rattle.weedle_grammar.specs.Rows.{begins as begins_lem, Bytes, OneOf, NotNext, Run, Past};
-ghost use Rattle.weedle_grammar.specs.Table.{row_of as row_of_lem};
+ghost use Rattle.weedle_grammar.specs.Rows.{begins as begins_with, Bytes, OneOf, NotNext, Run, Past};
+ghost use Rattle.weedle_grammar.specs.Table.{row_of};
 ghost use Rattle.weedle_rules.specs.Filling.{IsBegun, IsWorked};
 
 use crate::READS;
@@ -24,7 +24,7 @@ fn stand_at<C: Cell>(
     requires fits { length reader.now.text < 18446744073709551616 }
     requires some { 0 < length bytes.now }
     requires few { length bytes.now < READS }
-    ensures value { result ≡ begins_lem bytes.now (drop place reader.now.text) }
+    ensures value { result ≡ begins_with bytes.now (drop place reader.now.text) }
     ensures looked { 0 < working.new.count }
     ensures few { working.new.count ≤ length bytes.now }
     ensures same { working.new ≡ record working.old { count = working.new.count } }
@@ -52,7 +52,7 @@ pub(crate) fn bytes<C: Cell>(
     bytes: &[u8],
 ) -> Option<usize>
     requires begun { IsBegun reader.now working.old rule place }
-    requires row { row_of_lem rule ≡ Bytes bytes.now }
+    requires row { row_of rule ≡ Bytes bytes.now }
     ensures { IsWorked reader.now working.old working.new result }
 {
     if stand_at(reader, working, place, bytes) {
@@ -72,7 +72,7 @@ pub(crate) fn one_of<C: Cell>(
     class: Class,
 ) -> Option<usize>
     requires begun { IsBegun reader.now working.old rule place }
-    requires row { row_of_lem rule ≡ OneOf class }
+    requires row { row_of rule ≡ OneOf class }
     ensures { IsWorked reader.now working.old working.new result }
 {
     match reader.byte(working, place) {
@@ -97,7 +97,7 @@ pub(crate) fn not_next<C: Cell>(
     class: Class,
 ) -> Option<usize>
     requires begun { IsBegun reader.now working.old rule place }
-    requires row { row_of_lem rule ≡ NotNext class }
+    requires row { row_of rule ≡ NotNext class }
     ensures { IsWorked reader.now working.old working.new result }
 {
     match reader.byte(working, place) {
@@ -122,7 +122,7 @@ pub(crate) fn run<C: Cell>(
     class: Class,
 ) -> Option<usize>
     requires begun { IsBegun reader.now working.old rule place }
-    requires row { row_of_lem rule ≡ Run class }
+    requires row { row_of rule ≡ Run class }
     ensures { IsWorked reader.now working.old working.new result }
 {
     match reader.byte(working, place) {
@@ -147,7 +147,7 @@ pub(crate) fn past<C: Cell>(
     bytes: &[u8],
 ) -> Option<usize>
     requires begun { IsBegun reader.now working.old rule place }
-    requires row { row_of_lem rule ≡ Past bytes.now }
+    requires row { row_of rule ≡ Past bytes.now }
     ensures { IsWorked reader.now working.old working.new result }
 {
     if stand_at(reader, working, place, bytes) {
