@@ -7,6 +7,8 @@ ghost use Rattle.weedle_base.specs.OwnLaws.{own_lawful};
 ghost use Rattle.weedle_async_iterables.specs.Trees.{async_iterable_interface_member_tree, double_typed_async_iterable_tree, single_typed_async_iterable_tree};
 ghost use Rattle.weedle_grammar.specs.Table.InterfaceMembers.{ASYNC_ITERABLE_INTERFACE_MEMBER, DOUBLE_TYPED_ASYNC_ITERABLE, SINGLE_TYPED_ASYNC_ITERABLE};
 
+mod into_fields;
+
 use crate::copies::copy_optional_arguments;
 use crate::parts::{async_iterable, optional_arguments};
 use std::alloc::{AllocError, Global};

@@ -10,6 +10,8 @@ ghost use Rattle.weedle_idl.specs.Pieces.{callback_or_interface_rules, main_defi
 ghost use Rattle.weedle_grammar.specs.Table.Definitions.{DEFINITION};
 ghost use Rattle.weedle_types.specs.Steps.{members};
 
+mod into_fields;
+
 use std::alloc::{AllocError, Global};
 use weedle_base::{Err, IResult, Parse, TryClone};
 use weedle_choice::Choice::{self, First, Second};

@@ -7,6 +7,8 @@ ghost use Rattle.weedle_base.specs.OwnLaws.{own_lawful};
 ghost use Rattle.weedle_interfaces.specs.Trees.{callback_interface_definition_tree, interface_definition_tree, partial_interface_definition_tree};
 ghost use Rattle.weedle_grammar.specs.Table.Definitions.{CALLBACK_INTERFACE_DEFINITION, INTERFACE_DEFINITION, PARTIAL_INTERFACE_DEFINITION};
 
+mod into_fields;
+
 use crate::BracedInterfaceMembers;
 use std::alloc::{AllocError, Global};
 use weedle_base::{IResult, Parse, TryClone};

@@ -10,6 +10,8 @@ ghost use Rattle.weedle_interfaces.specs.Pieces.{collection_member_rules, iterab
 ghost use Rattle.weedle_grammar.specs.Table.InterfaceMembers.{INTERFACE_MEMBER};
 ghost use Rattle.weedle_types.specs.Steps.{members};
 
+mod into_fields;
+
 use std::alloc::{AllocError, Global};
 use weedle_async_iterables::AsyncIterableInterfaceMember;
 use weedle_base::{Err, IResult, Parse, TryClone};

@@ -8,6 +8,8 @@ ghost use Rattle.weedle_grammar.specs.Table.InterfaceMembers.{BRACED_INTERFACE_M
 ghost use Rattle.weedle_interfaces.specs.Trees.{braced_interface_members_tree, interface_member_tree};
 ghost use Rattle.weedle_types.specs.PartTrees.{members_tree};
 
+mod into_fields;
+
 use crate::InterfaceMember;
 use std::alloc::{AllocError, Global};
 use weedle_base::{IResult, Parse, TryClone};

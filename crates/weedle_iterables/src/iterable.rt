@@ -7,6 +7,8 @@ ghost use Rattle.weedle_base.specs.OwnLaws.{own_lawful};
 ghost use Rattle.weedle_iterables.specs.Trees.{double_typed_iterable_tree, iterable_interface_member_tree, single_typed_iterable_tree};
 ghost use Rattle.weedle_grammar.specs.Table.InterfaceMembers.{DOUBLE_TYPED_ITERABLE, ITERABLE_INTERFACE_MEMBER, SINGLE_TYPED_ITERABLE};
 
+mod into_fields;
+
 use std::alloc::{AllocError, Global};
 use weedle_base::{IResult, Parse, TryClone};
 use weedle_choice::Choice::{self, First, Second};

@@ -7,6 +7,8 @@ ghost use Rattle.weedle_base.specs.OwnLaws.{own_lawful};
 ghost use Rattle.weedle_members.specs.Trees.{attribute_interface_member_tree};
 ghost use Rattle.weedle_grammar.specs.Table.InterfaceMembers.{ATTRIBUTE_INTERFACE_MEMBER};
 
+mod into_fields;
+
 use std::alloc::{AllocError, Global};
 use weedle_base::{IResult, Parse, TryClone};
 use weedle_modifier::StringifierOrInheritOrStatic;

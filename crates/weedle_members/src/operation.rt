@@ -7,6 +7,8 @@ ghost use Rattle.weedle_base.specs.OwnLaws.{own_lawful};
 ghost use Rattle.weedle_members.specs.Trees.{constructor_interface_member_tree, operation_interface_member_tree};
 ghost use Rattle.weedle_grammar.specs.Table.InterfaceMembers.{CONSTRUCTOR_INTERFACE_MEMBER, OPERATION_INTERFACE_MEMBER};
 
+mod into_fields;
+
 use std::alloc::{AllocError, Global};
 use weedle_base::{IResult, Parse, TryClone};
 use weedle_modifier::{Special, StringifierOrStatic};

@@ -7,6 +7,8 @@ ghost use Rattle.weedle_base.specs.OwnLaws.{own_lawful};
 ghost use Rattle.weedle_mixins.specs.Trees.{interface_mixin_definition_tree, partial_interface_mixin_definition_tree};
 ghost use Rattle.weedle_grammar.specs.Table.Definitions.{INTERFACE_MIXIN_DEFINITION, PARTIAL_INTERFACE_MIXIN_DEFINITION};
 
+mod into_fields;
+
 use crate::mixin::BracedMixinMembers;
 use std::alloc::{AllocError, Global};
 use weedle_base::{IResult, Parse, TryClone};

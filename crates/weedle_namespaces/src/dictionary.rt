@@ -7,6 +7,8 @@ ghost use Rattle.weedle_base.specs.OwnLaws.{own_lawful};
 ghost use Rattle.weedle_namespaces.specs.Trees.{braced_dictionary_members_tree, dictionary_member_tree};
 ghost use Rattle.weedle_grammar.specs.Table.OtherMembers.{BRACED_DICTIONARY_MEMBERS, DICTIONARY_MEMBER};
 
+mod into_fields;
+
 use crate::copies::copy_dictionary_members;
 use std::alloc::{AllocError, Global};
 use weedle_base::{IResult, Parse, TryClone};

@@ -7,6 +7,8 @@ ghost use Rattle.weedle_base.specs.OwnLaws.{own_lawful};
 ghost use Rattle.weedle_namespaces.specs.Trees.{dictionary_definition_tree, partial_dictionary_definition_tree};
 ghost use Rattle.weedle_grammar.specs.Table.Definitions.{DICTIONARY_DEFINITION, PARTIAL_DICTIONARY_DEFINITION};
 
+mod into_fields;
+
 use crate::dictionary::BracedDictionaryMembers;
 use std::alloc::{AllocError, Global};
 use weedle_base::{IResult, Parse, TryClone};

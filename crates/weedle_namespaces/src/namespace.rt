@@ -7,6 +7,8 @@ ghost use Rattle.weedle_base.specs.OwnLaws.{own_lawful};
 ghost use Rattle.weedle_namespaces.specs.Trees.{attribute_namespace_member_tree, braced_namespace_members_tree, namespace_member_tree, operation_namespace_member_tree};
 ghost use Rattle.weedle_grammar.specs.Table.OtherMembers.{ATTRIBUTE_NAMESPACE_MEMBER, BRACED_NAMESPACE_MEMBERS, NAMESPACE_MEMBER, OPERATION_NAMESPACE_MEMBER};
 
+mod into_fields;
+
 use crate::copies::copy_namespace_members;
 use std::alloc::{AllocError, Global};
 use weedle_base::{IResult, Parse, TryClone};

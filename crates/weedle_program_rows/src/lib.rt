@@ -11,3 +11,5 @@ mod program;
 mod readme;
 #[cfg(test)]
 mod streams;
+#[cfg(test)]
+mod taking_apart;

@@ -9,6 +9,8 @@ ghost use Rattle.weedle_grammar.specs.Table.Definitions.{ENUM_DEFINITION};
 ghost use Rattle.weedle_grammar.specs.Table.OtherMembers.{BRACED_ENUM_VALUE_LIST, ENUM_VARIANT};
 ghost use Rattle.weedle_statements.specs.Trees.{enum_definition_tree, enum_values_tree, enum_variant_tree};
 
+mod into_fields;
+
 use crate::copies::copy_enum_values;
 use std::alloc::{AllocError, Global};
 use weedle_base::{IResult, Parse, TryClone};

@@ -7,6 +7,8 @@ ghost use Rattle.weedle_base.specs.OwnLaws.{own_lawful};
 ghost use Rattle.weedle_grammar.specs.Table.Definitions.{TYPEDEF_DEFINITION};
 ghost use Rattle.weedle_statements.specs.Trees.{typedef_definition_tree};
 
+mod into_fields;
+
 use std::alloc::{AllocError, Global};
 use weedle_base::{IResult, Parse, TryClone};
 use weedle_parts::common::Identifier;
