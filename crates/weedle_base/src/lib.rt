@@ -3,6 +3,7 @@
 
 mod doc_lines;
 mod fault;
+mod fault_text;
 pub mod laws;
 mod names;
 mod parse;
