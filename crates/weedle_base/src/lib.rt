@@ -14,7 +14,7 @@ mod token;
 mod trivia;
 mod try_clone;
 
-pub use doc_lines::docstring;
+pub use doc_lines::{docstring, push_line};
 pub use fault::{Err, Error, ErrorKind, IResult, mismatch, out_of_memory};
 pub use names::{ident_tag, is_alphanum_underscore_dash};
 pub use parse::Parse;
