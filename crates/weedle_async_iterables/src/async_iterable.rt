@@ -10,8 +10,8 @@ ghost use Rattle.weedle_grammar.specs.Table.InterfaceMembers.{ASYNC_ITERABLE_INT
 use crate::copies::copy_optional_arguments;
 use crate::parts::{async_iterable, optional_arguments};
 use std::alloc::{AllocError, Global};
+use weedle_base::Choice::{self, First, Second};
 use weedle_base::{IResult, Parse, TryClone};
-use weedle_choice::Choice::{self, First, Second};
 use weedle_parts::common::Generics;
 use weedle_term::{Async, Comma, Iterable, SemiColon};
 use weedle_types::argument::ParenthesizedArgumentList;

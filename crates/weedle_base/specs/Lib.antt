@@ -16,3 +16,5 @@ pub mod RunLaws
 pub mod GenericLaws
 pub mod OwnLaws
 pub mod RuleLaws
+pub mod Choices
+pub mod ChoiceLaws

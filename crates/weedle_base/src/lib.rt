@@ -1,6 +1,7 @@
 //! The ground of the parser: faults, the trait [`Parse`] with its meaning and laws, trivia and words.
 #![tactic(auto)]
 
+mod choice;
 mod doc_lines;
 mod fault;
 mod fault_text;
@@ -14,6 +15,7 @@ mod token;
 mod trivia;
 mod try_clone;
 
+pub use choice::Choice;
 pub use doc_lines::{docstring, push_line};
 pub use fault::{Err, Error, ErrorKind, IResult, mismatch, out_of_memory};
 pub use names::{ident_tag, is_alphanum_underscore_dash};

@@ -12,8 +12,8 @@ ghost use Rattle.weedle_types.specs.Steps.{members};
 
 use std::alloc::{AllocError, Global};
 use weedle_async_iterables::AsyncIterableInterfaceMember;
+use weedle_base::Choice::{self, First, Second};
 use weedle_base::{Err, IResult, Parse, TryClone};
-use weedle_choice::Choice::{self, First, Second};
 use weedle_iterables::{IterableInterfaceMember, MaplikeInterfaceMember, SetlikeInterfaceMember};
 use weedle_members::{
     AttributeInterfaceMember, ConstMember, ConstructorInterfaceMember, OperationInterfaceMember,

@@ -8,8 +8,8 @@ ghost use Rattle.weedle_iterables.specs.Trees.{double_typed_iterable_tree, itera
 ghost use Rattle.weedle_grammar.specs.Table.InterfaceMembers.{DOUBLE_TYPED_ITERABLE, ITERABLE_INTERFACE_MEMBER, SINGLE_TYPED_ITERABLE};
 
 use std::alloc::{AllocError, Global};
+use weedle_base::Choice::{self, First, Second};
 use weedle_base::{IResult, Parse, TryClone};
-use weedle_choice::Choice::{self, First, Second};
 use weedle_parts::common::Generics;
 use weedle_term::{Comma, Iterable, SemiColon};
 use weedle_types::attribute::ExtendedAttributeList;

@@ -9,8 +9,8 @@ ghost use Rattle.weedle_grammar.specs.Table.OtherMembers.{ATTRIBUTE_MIXIN_MEMBER
 
 use crate::copies::copy_mixin_members;
 use std::alloc::{AllocError, Global};
+use weedle_base::Choice::{self, First, Second};
 use weedle_base::{IResult, Parse, TryClone};
-use weedle_choice::Choice::{self, First, Second};
 use weedle_members::{ConstMember, StringifierMember};
 use weedle_parts::common::Identifier;
 use weedle_term::{Attribute, CloseBrace, OpenBrace, ReadOnly, SemiColon, Stringifier};
