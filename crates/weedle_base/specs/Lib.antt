@@ -18,3 +18,4 @@ pub mod OwnLaws
 pub mod RuleLaws
 pub mod Choices
 pub mod ChoiceLaws
+pub mod FaultTexts
