@@ -243,25 +243,25 @@ FILES = [
 ]
 
 # Where each name stands.
-BASE, CHOICE, TERM, PARTS, LITERAL, TYPES, ASYNC_ITERABLES, STATEMENTS, INTERFACES, IDL, GRAMMAR = (
+BASE, TERM, PARTS, LITERAL, TYPES, ASYNC_ITERABLES, STATEMENTS, INTERFACES, IDL, GRAMMAR = (
     f"Rattle.weedle_{x}"
-    for x in ("base", "choice", "term", "parts", "literal", "types", "async_iterables", "statements", "interfaces", "idl", "grammar")
+    for x in ("base", "term", "parts", "literal", "types", "async_iterables", "statements", "interfaces", "idl", "grammar")
 )
 HOMES = {
     "Rattle.std.proofs.Common": "refl inl inr",
     "Rattle.std.specs.Borrow": "Bor",
     "Rattle.std.specs.Global": "Vec",
-    f"{BASE}.proofs.Choice": "choice_tree first_last first_more first_rule choice_steps IsFirst",
+    f"{BASE}.proofs.ChoiceFacts": "choice_tree first_last first_more first_rule choice_steps IsFirst",
+    f"{BASE}.proofs.ChoiceSteps": "first_seen",
     f"{BASE}.proofs.RuleFacts": "own_rule still_rule option_rule seq_rule seq_next seq_last got_rule fault_rule mark mark_rule",
     f"{BASE}.proofs.Steps": "part_steps",
+    f"{BASE}.specs.Choices": "choice_view",
     f"{BASE}.specs.Generic": "choice_reading pair_reading option_reading seen_reading",
-    f"{CHOICE}.proofs.ChoiceSteps": "first_seen",
-    f"{CHOICE}.specs.Choices": "choice_view",
-    f"{CHOICE}.specs.declared.choice.Choice": "Choice",
-    f"{CHOICE}.specs.declared.choice.Choice.TheVariants": "First Second",
     f"{BASE}.specs.Own": "own",
     f"{BASE}.specs.Reading": "Reading Got Faults",
     f"{BASE}.specs.Rules": "IsRule mark_tree option_tree",
+    f"{BASE}.specs.declared.choice.Choice": "Choice",
+    f"{BASE}.specs.declared.choice.Choice.TheVariants": "First Second",
     f"{BASE}.specs.declared.fault.Error": "Error",
     f"{LITERAL}.specs.LiteralTrees": "string_tree default_tree const_value_tree",
     f"{PARTS}.specs.ValueTrees": "identifier_tree docstring_tree const_type_tree",

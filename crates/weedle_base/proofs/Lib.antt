@@ -6,7 +6,7 @@ pub mod Reached
 pub mod TakesFacts
 pub mod RuleFacts
 pub mod RunRules
-pub mod Choice
+pub mod ChoiceFacts
 pub mod Direct
 pub mod LeafFacts
 pub mod TriviaFacts
@@ -19,3 +19,4 @@ pub mod WordFacts
 pub mod FindFacts
 pub mod LineEndFacts
 pub mod LineFacts
+pub mod ChoiceSteps

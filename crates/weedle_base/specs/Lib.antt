@@ -16,3 +16,6 @@ pub mod RunLaws
 pub mod GenericLaws
 pub mod OwnLaws
 pub mod RuleLaws
+pub mod Choices
+pub mod ChoiceLaws
+pub mod FaultTexts

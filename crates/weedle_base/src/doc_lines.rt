@@ -24,8 +24,9 @@ fn doc_line(input: &str) -> Option<(&str, &str)>
     Some((&after[..end], &after[end + 1..]))
 }
 
-/// Puts an LF and the line at the end of the text.
-fn push_line(text: &mut String, line: &str) -> Result<(), AllocError>
+/// Puts an LF and the line at the end of the text, as a docstring's lines are put together: of `a` and
+/// ` b` it makes `a`, an LF and ` b`. Where memory is refused the text may have grown in part.
+pub fn push_line(text: &mut String, line: &str) -> Result<(), AllocError>
     ensures { OnOk result (string_bytes text.new ≡ (string_bytes text.old ++ (10 ∷ [])) ++ line.now) }
 {
     text.push('\n')?;

@@ -1,21 +1,26 @@
 //! The ground of the parser: faults, the trait [`Parse`] with its meaning and laws, trivia and words.
 #![tactic(auto)]
 
+mod choice;
 mod doc_lines;
 mod fault;
+mod fault_text;
 pub mod laws;
 mod names;
 mod parse;
+mod place;
 pub mod scan;
 mod standard;
 mod token;
 mod trivia;
 mod try_clone;
 
-pub use doc_lines::docstring;
+pub use choice::Choice;
+pub use doc_lines::{docstring, push_line};
 pub use fault::{Err, Error, ErrorKind, IResult, mismatch, out_of_memory};
 pub use names::{ident_tag, is_alphanum_underscore_dash};
 pub use parse::Parse;
+pub use place::at_byte;
 pub use token::{keyword, symbol};
 pub use trivia::sp;
 pub use try_clone::TryClone;

@@ -1,6 +1,6 @@
 //! Docstrings.
 
-ghost use Rattle.std.specs.Prelude.{◌≡◌, [], ◌∷◌, ◌++◌, OnOk, string_bytes};
+ghost use Rattle.std.specs.Prelude.{◌≡◌, [], ◌∷◌};
 ghost use Rattle.weedle_grammar.specs.Trees.{Lines, Gives};
 ghost use Rattle.weedle_grammar.specs.Table.{Reads};
 ghost use Rattle.weedle_grammar.specs.Table.Leaves.{DOC_LINE, DOCSTRING};
@@ -9,7 +9,8 @@ ghost use Rattle.weedle_build_base.specs.Built.{Due};
 
 use crate::at::At;
 use crate::build::{Build, BuildResult, end_at};
-use std::alloc::{AllocError, Global};
+use std::alloc::Global;
+use weedle_base::push_line;
 use weedle_parts::common::Docstring;
 use weedle_rules::{Ends, Rule};
 
@@ -23,14 +24,6 @@ fn doc_line<'a>(table: &Ends<'a>, place: usize) -> (&'a str, usize)
     let end = end_at(table, Rule::DOC_LINE, place);
     let text = table.text();
     (&text[start..end - 1], end)
-}
-
-/// Puts an LF and the line at the end of the text.
-fn push_line(text: &mut String, line: &str) -> Result<(), AllocError>
-    ensures { OnOk result (string_bytes text.new ≡ (string_bytes text.old ++ (10 ∷ [])) ++ line.now) }
-{
-    text.push('\n')?;
-    text.push_str(line)
 }
 
 impl<'a> Build<'a> for Docstring {

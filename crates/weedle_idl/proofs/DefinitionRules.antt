@@ -2,18 +2,18 @@
 use Rattle.std.proofs.Common.{inl, inr, refl}
 use Rattle.std.specs.Borrow.{Bor}
 use Rattle.std.specs.Prelude.{ℕ, List, ◌⊎◌}
-use Rattle.weedle_base.proofs.Choice.{IsFirst, choice_tree, first_last, first_more, first_rule}
+use Rattle.weedle_base.proofs.ChoiceFacts.{IsFirst, choice_tree, first_last, first_more, first_rule}
+use Rattle.weedle_base.proofs.ChoiceSteps.{first_seen}
 use Rattle.weedle_base.proofs.RuleFacts.{fault_rule, got_rule, own_rule}
+use Rattle.weedle_base.specs.Choices.{choice_view}
 use Rattle.weedle_base.specs.Generic.{choice_reading, seen_reading}
 use Rattle.weedle_base.specs.Own.{own}
 use Rattle.weedle_base.specs.Reading.{Faults, Got, Reading}
 use Rattle.weedle_base.specs.Rules.{IsRule}
+use Rattle.weedle_base.specs.declared.choice.Choice.TheVariants.{First, Second}
+use Rattle.weedle_base.specs.declared.choice.Choice.{Choice}
 use Rattle.weedle_base.specs.declared.fault.Err.{Err as Fault}
 use Rattle.weedle_base.specs.declared.fault.Error.{Error}
-use Rattle.weedle_choice.proofs.ChoiceSteps.{first_seen}
-use Rattle.weedle_choice.specs.Choices.{choice_view}
-use Rattle.weedle_choice.specs.declared.choice.Choice.TheVariants.{First, Second}
-use Rattle.weedle_choice.specs.declared.choice.Choice.{Choice}
 use Rattle.weedle_grammar.specs.Table.Definitions.{CALLBACK_DEFINITION, CALLBACK_INTERFACE_DEFINITION, DEFINITION, DICTIONARY_DEFINITION, ENUM_DEFINITION, IMPLEMENTS_DEFINITION, INCLUDES_STATEMENT_DEFINITION, INTERFACE_DEFINITION, INTERFACE_MIXIN_DEFINITION, NAMESPACE_DEFINITION, PARTIAL_DICTIONARY_DEFINITION, PARTIAL_INTERFACE_DEFINITION, PARTIAL_INTERFACE_MIXIN_DEFINITION, PARTIAL_NAMESPACE_DEFINITION, TYPEDEF_DEFINITION}
 use Rattle.weedle_grammar.specs.Trees.{Alt}
 use Rattle.weedle_idl.specs.DefinitionTrees.{definition_tree}

@@ -13,8 +13,8 @@ ghost use Rattle.weedle_types.specs.Steps.{members};
 mod into_fields;
 
 use std::alloc::{AllocError, Global};
+use weedle_base::Choice::{self, First, Second};
 use weedle_base::{Err, IResult, Parse, TryClone};
-use weedle_choice::Choice::{self, First, Second};
 use weedle_interfaces::{
     CallbackInterfaceDefinition, InterfaceDefinition, PartialInterfaceDefinition,
 };

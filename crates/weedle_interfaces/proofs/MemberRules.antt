@@ -4,18 +4,18 @@ use Rattle.std.specs.Borrow.{Bor}
 use Rattle.std.specs.Prelude.{ℕ, List, ◌⊎◌}
 use Rattle.weedle_async_iterables.specs.Trees.{async_iterable_interface_member_tree}
 use Rattle.weedle_async_iterables.specs.declared.async_iterable.AsyncIterableInterfaceMember.{AsyncIterableInterfaceMember}
-use Rattle.weedle_base.proofs.Choice.{IsFirst, choice_tree, first_last, first_more, first_rule}
+use Rattle.weedle_base.proofs.ChoiceFacts.{IsFirst, choice_tree, first_last, first_more, first_rule}
+use Rattle.weedle_base.proofs.ChoiceSteps.{first_seen}
 use Rattle.weedle_base.proofs.RuleFacts.{fault_rule, got_rule, own_rule}
+use Rattle.weedle_base.specs.Choices.{choice_view}
 use Rattle.weedle_base.specs.Generic.{choice_reading, seen_reading}
 use Rattle.weedle_base.specs.Own.{own}
 use Rattle.weedle_base.specs.Reading.{Faults, Got, Reading}
 use Rattle.weedle_base.specs.Rules.{IsRule}
+use Rattle.weedle_base.specs.declared.choice.Choice.TheVariants.{First, Second}
+use Rattle.weedle_base.specs.declared.choice.Choice.{Choice}
 use Rattle.weedle_base.specs.declared.fault.Err.{Err as Fault}
 use Rattle.weedle_base.specs.declared.fault.Error.{Error}
-use Rattle.weedle_choice.proofs.ChoiceSteps.{first_seen}
-use Rattle.weedle_choice.specs.Choices.{choice_view}
-use Rattle.weedle_choice.specs.declared.choice.Choice.TheVariants.{First, Second}
-use Rattle.weedle_choice.specs.declared.choice.Choice.{Choice}
 use Rattle.weedle_grammar.specs.Table.InterfaceMembers.{ASYNC_ITERABLE_INTERFACE_MEMBER, ATTRIBUTE_INTERFACE_MEMBER, CONSTRUCTOR_INTERFACE_MEMBER, CONST_MEMBER, INTERFACE_MEMBER, ITERABLE_INTERFACE_MEMBER, MAPLIKE_INTERFACE_MEMBER, OPERATION_INTERFACE_MEMBER, SETLIKE_INTERFACE_MEMBER, STRINGIFIER_MEMBER}
 use Rattle.weedle_grammar.specs.Trees.{Alt}
 use Rattle.weedle_interfaces.specs.Pieces.{collection_member_rules, iterable_member_rules, main_member_rules}

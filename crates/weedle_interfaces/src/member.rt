@@ -14,8 +14,8 @@ mod into_fields;
 
 use std::alloc::{AllocError, Global};
 use weedle_async_iterables::AsyncIterableInterfaceMember;
+use weedle_base::Choice::{self, First, Second};
 use weedle_base::{Err, IResult, Parse, TryClone};
-use weedle_choice::Choice::{self, First, Second};
 use weedle_iterables::{IterableInterfaceMember, MaplikeInterfaceMember, SetlikeInterfaceMember};
 use weedle_members::{
     AttributeInterfaceMember, ConstMember, ConstructorInterfaceMember, OperationInterfaceMember,

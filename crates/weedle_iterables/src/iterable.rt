@@ -10,8 +10,8 @@ ghost use Rattle.weedle_grammar.specs.Table.InterfaceMembers.{DOUBLE_TYPED_ITERA
 mod into_fields;
 
 use std::alloc::{AllocError, Global};
+use weedle_base::Choice::{self, First, Second};
 use weedle_base::{IResult, Parse, TryClone};
-use weedle_choice::Choice::{self, First, Second};
 use weedle_parts::common::Generics;
 use weedle_term::{Comma, Iterable, SemiColon};
 use weedle_types::attribute::ExtendedAttributeList;

@@ -11,7 +11,7 @@ use Rattle.weedle_term.specs.declared.type_keywords.True.{True}
 use Rattle.weedle_term.specs.declared.type_keywords.False.{False}
 use Rattle.weedle_base.specs.Reading.{Reading, Got, Faults}
 use Rattle.weedle_base.specs.Generic.{choice_reading, option_reading}
-use Rattle.weedle_base.proofs.Choice.{choice_tree, choose_left, choose_right, end_left, end_right, first_last, first_more, first_rule}
+use Rattle.weedle_base.proofs.ChoiceFacts.{choice_tree, choose_left, choose_right, end_left, end_right, first_last, first_more, first_rule}
 use Rattle.weedle_base.specs.Own.{own}
 use Rattle.weedle_base.specs.Rules.{IsRule}
 use Rattle.weedle_base.proofs.RuleFacts.{own_rule, got_rule, fault_rule}

@@ -14,7 +14,7 @@ use Rattle.weedle_term.specs.declared.capitalized_keywords.NegInfinity.{NegInfin
 use Rattle.weedle_base.specs.Own.{own}
 use Rattle.weedle_base.specs.Reading.{Reading, Got, Faults}
 use Rattle.weedle_base.specs.Rules.{IsRule}
-use Rattle.weedle_base.proofs.Choice.{choice_tree, first_last, first_more, first_rule, choice_steps}
+use Rattle.weedle_base.proofs.ChoiceFacts.{choice_tree, first_last, first_more, first_rule, choice_steps}
 use Rattle.weedle_base.specs.Generic.{choice_reading}
 use Rattle.weedle_base.proofs.RuleFacts.{own_rule, got_rule, fault_rule}
 use Rattle.weedle_literal.specs.declared.float.FloatValueLit.{FloatValueLit}

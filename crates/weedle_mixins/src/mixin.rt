@@ -11,8 +11,8 @@ mod into_fields;
 
 use crate::copies::copy_mixin_members;
 use std::alloc::{AllocError, Global};
+use weedle_base::Choice::{self, First, Second};
 use weedle_base::{IResult, Parse, TryClone};
-use weedle_choice::Choice::{self, First, Second};
 use weedle_members::{ConstMember, StringifierMember};
 use weedle_parts::common::Identifier;
 use weedle_term::{Attribute, CloseBrace, OpenBrace, ReadOnly, SemiColon, Stringifier};

@@ -2,18 +2,18 @@
 use Rattle.std.proofs.Common.{refl}
 use Rattle.std.specs.Borrow.{Bor}
 use Rattle.std.specs.Prelude.{ℕ, List}
-use Rattle.weedle_base.proofs.Choice.{choice_tree, first_last, first_more, first_rule}
+use Rattle.weedle_base.proofs.ChoiceFacts.{choice_tree, first_last, first_more, first_rule}
+use Rattle.weedle_base.proofs.ChoiceSteps.{first_seen}
 use Rattle.weedle_base.proofs.RuleFacts.{fault_rule, got_rule, mark, mark_rule}
+use Rattle.weedle_base.specs.Choices.{choice_view}
 use Rattle.weedle_base.specs.Generic.{choice_reading, seen_reading}
 use Rattle.weedle_base.specs.Own.{own}
 use Rattle.weedle_base.specs.Reading.{Faults, Got, Reading}
 use Rattle.weedle_base.specs.Rules.{IsRule}
+use Rattle.weedle_base.specs.declared.choice.Choice.TheVariants.{First, Second}
+use Rattle.weedle_base.specs.declared.choice.Choice.{Choice}
 use Rattle.weedle_base.specs.declared.fault.Err.{Err as Fault}
 use Rattle.weedle_base.specs.declared.fault.Error.{Error}
-use Rattle.weedle_choice.proofs.ChoiceSteps.{first_seen}
-use Rattle.weedle_choice.specs.Choices.{choice_view}
-use Rattle.weedle_choice.specs.declared.choice.Choice.TheVariants.{First, Second}
-use Rattle.weedle_choice.specs.declared.choice.Choice.{Choice}
 use Rattle.weedle_grammar.specs.Table.InterfaceMembers.{SPECIAL, STRINGIFIER_OR_INHERIT_OR_STATIC, STRINGIFIER_OR_STATIC}
 use Rattle.weedle_grammar.specs.Table.Keywords.{DELETER, GETTER, INHERIT, LEGACY_CALLER, SETTER, STATIC, STRINGIFIER}
 use Rattle.weedle_grammar.specs.Trees.{Alt, Mark}

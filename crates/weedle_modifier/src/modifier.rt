@@ -7,8 +7,8 @@ ghost use Rattle.weedle_modifier.specs.Trees.{special_tree, stringifier_or_inher
 ghost use Rattle.weedle_grammar.specs.Table.InterfaceMembers.{SPECIAL, STRINGIFIER_OR_INHERIT_OR_STATIC, STRINGIFIER_OR_STATIC};
 
 use std::alloc::Global;
+use weedle_base::Choice::{self, First, Second};
 use weedle_base::{IResult, Parse};
-use weedle_choice::Choice::{self, First, Second};
 use weedle_term::{Deleter, Getter, Inherit, LegacyCaller, Setter, Static, Stringifier};
 
 /// The word of a special operation, as `getter`: one of four. It takes no memory and never gives a

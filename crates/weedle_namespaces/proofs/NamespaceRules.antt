@@ -3,19 +3,19 @@ use Rattle.std.proofs.Common.{refl}
 use Rattle.std.specs.Borrow.{Bor}
 use Rattle.std.specs.Global.{Vec}
 use Rattle.std.specs.Prelude.{ℕ, List, [], ◌∷◌, Option}
-use Rattle.weedle_base.proofs.Choice.{choice_tree, first_last, first_more, first_rule}
+use Rattle.weedle_base.proofs.ChoiceFacts.{choice_tree, first_last, first_more, first_rule}
+use Rattle.weedle_base.proofs.ChoiceSteps.{first_seen}
 use Rattle.weedle_base.proofs.RuleFacts.{fault_rule, got_rule, mark, option_rule, own_rule, seq_last, seq_next, seq_rule, still_rule}
 use Rattle.weedle_base.proofs.Steps.{part_steps}
+use Rattle.weedle_base.specs.Choices.{choice_view}
 use Rattle.weedle_base.specs.Generic.{choice_reading, option_reading, pair_reading, seen_reading}
 use Rattle.weedle_base.specs.Own.{own}
 use Rattle.weedle_base.specs.Reading.{Faults, Got, Reading}
 use Rattle.weedle_base.specs.Rules.{IsRule, option_tree}
+use Rattle.weedle_base.specs.declared.choice.Choice.TheVariants.{First, Second}
+use Rattle.weedle_base.specs.declared.choice.Choice.{Choice}
 use Rattle.weedle_base.specs.declared.fault.Err.{Err as Fault}
 use Rattle.weedle_base.specs.declared.fault.Error.{Error}
-use Rattle.weedle_choice.proofs.ChoiceSteps.{first_seen}
-use Rattle.weedle_choice.specs.Choices.{choice_view}
-use Rattle.weedle_choice.specs.declared.choice.Choice.TheVariants.{First, Second}
-use Rattle.weedle_choice.specs.declared.choice.Choice.{Choice}
 use Rattle.weedle_grammar.specs.Table.InterfaceMembers.{OPT_DOCSTRING, OPT_IDENTIFIER}
 use Rattle.weedle_grammar.specs.Table.Keywords.{ATTRIBUTE, READ_ONLY}
 use Rattle.weedle_grammar.specs.Table.Leaves.{DOCSTRING, IDENTIFIER}

@@ -11,8 +11,8 @@ mod into_fields;
 
 use crate::copies::copy_namespace_members;
 use std::alloc::{AllocError, Global};
+use weedle_base::Choice::{self, First, Second};
 use weedle_base::{IResult, Parse, TryClone};
-use weedle_choice::Choice::{self, First, Second};
 use weedle_parts::common::{Docstring, Identifier};
 use weedle_term::{Attribute, CloseBrace, OpenBrace, ReadOnly, SemiColon};
 use weedle_types::argument::ParenthesizedArgumentList;

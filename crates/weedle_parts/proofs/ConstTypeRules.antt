@@ -2,7 +2,7 @@
 use Rattle.std.proofs.Common.{refl, inl, inr}
 use Rattle.std.specs.Borrow.{Bor}
 use Rattle.std.specs.Prelude.{ℕ, List, ◌⊎◌}
-use Rattle.weedle_base.proofs.Choice.{choice_tree, first_last, first_more, first_rule, choice_steps}
+use Rattle.weedle_base.proofs.ChoiceFacts.{choice_tree, first_last, first_more, first_rule, choice_steps}
 use Rattle.weedle_base.specs.Generic.{choice_reading}
 use Rattle.weedle_base.proofs.RuleFacts.{mark, mark_rule, own_rule, got_rule, fault_rule}
 use Rattle.weedle_base.specs.Own.{own}

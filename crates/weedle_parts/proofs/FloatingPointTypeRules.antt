@@ -3,7 +3,7 @@ use Rattle.weedle_base.proofs.Steps.{part_steps}
 use Rattle.std.proofs.Common.{refl, inl, inr}
 use Rattle.std.specs.Borrow.{Bor}
 use Rattle.std.specs.Prelude.{ℕ, List, [], ◌∷◌, ◌⊎◌, Option}
-use Rattle.weedle_base.proofs.Choice.{choice_tree, first_last, first_more, first_rule, choice_steps}
+use Rattle.weedle_base.proofs.ChoiceFacts.{choice_tree, first_last, first_more, first_rule, choice_steps}
 use Rattle.weedle_base.specs.Generic.{choice_reading, option_reading, pair_reading}
 use Rattle.weedle_base.proofs.RuleFacts.{mark, mark_rule, own_rule, option_rule, pair_rule, got_rule, fault_rule}
 use Rattle.weedle_base.specs.Own.{own}

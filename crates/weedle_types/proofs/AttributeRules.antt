@@ -6,7 +6,7 @@ use Rattle.std.specs.Borrow.{Bor}
 use Rattle.std.specs.Global.{Vec}
 use Rattle.std.specs.Prelude.{List, None, Some, [], ℕ, ◌≡◌, ◌⊎◌}
 use Rattle.std.specs.Str.{IsUtf8}
-use Rattle.weedle_base.proofs.Choice.{choice_tree, first_last, first_more, first_rule}
+use Rattle.weedle_base.proofs.ChoiceFacts.{choice_tree, first_last, first_more, first_rule}
 use Rattle.weedle_base.proofs.RuleFacts.{fault_rule, got_rule, mark, mark_rule, option_rule, own_rule, seq_last, seq_next, seq_rule, still_rule}
 use Rattle.weedle_base.proofs.Steps.{part_steps}
 use Rattle.weedle_base.proofs.TakesFacts.{own_takes}

@@ -4,7 +4,7 @@
 use Rattle.std.proofs.Common.{inl, inr, refl}
 use Rattle.std.specs.Borrow.{Bor}
 use Rattle.std.specs.Prelude.{List, ℕ, ◌⊎◌}
-use Rattle.weedle_base.proofs.Choice.{IsFirst, choice_tree, first_last, first_more}
+use Rattle.weedle_base.proofs.ChoiceFacts.{IsFirst, choice_tree, first_last, first_more}
 use Rattle.weedle_base.proofs.RuleFacts.{mark, mark_rule, own_rule}
 use Rattle.weedle_base.proofs.TakesFacts.{own_takes}
 use Rattle.weedle_base.specs.Generic.{choice_reading}

@@ -1,6 +1,6 @@
 -- What the search for the proof of a choice uses.
 use Rattle.std.specs.Prelude.{ℕ, List}
-use Rattle.weedle_base.proofs.Choice.{IsFirst, choice_steps}
+use Rattle.weedle_base.proofs.ChoiceFacts.{IsFirst, choice_steps}
 use Rattle.weedle_base.proofs.Steps.{fault_seen, got_seen}
 use Rattle.weedle_base.specs.Generic.{seen_reading}
 use Rattle.weedle_base.specs.Reading.{Reading}

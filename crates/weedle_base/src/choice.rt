@@ -2,11 +2,12 @@
 
 ghost use Rattle.weedle_base.specs.Generic.{choice_reading, seen_reading};
 ghost use Rattle.weedle_base.specs.GenericLaws.{seen_lawful};
-ghost use Rattle.weedle_choice.specs.Choices.{choice_view};
-ghost use Rattle.weedle_choice.specs.ChoiceLaws.{choice_lawful};
+ghost use Rattle.weedle_base.specs.Choices.{choice_view};
+ghost use Rattle.weedle_base.specs.ChoiceLaws.{choice_lawful};
 
+use crate::fault::IResult;
+use crate::parse::Parse;
 use std::alloc::Global;
-use weedle_base::{IResult, Parse};
 
 /// A value of the first of two types that fits a text: of the first, or of the second where the first
 /// refuses the text. `Choice<T, Choice<U, V>>` is one of three.
