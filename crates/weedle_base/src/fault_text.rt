@@ -42,20 +42,26 @@ impl Display for Error<usize> {
 
 impl error::Error for Error<usize> {}
 
-/// Says what happened and what stands there, as ``unread from `interface A {` on``. It shows one
-/// line, the first that isn't blank, and of a long one sixty characters and `..`; where there is
-/// none it says that the text ends. Where memory was refused it says no place.
+/// Says what happened and what stands there, as ``unread from `interface A {` on``. It shows the
+/// first line, and of a long one sixty characters and `..`; where nothing stands there it says that
+/// the text ends. Where memory was refused it says no place.
 impl Display for Error<&str> {
     fn fmt<W: Write>(&self, f: &mut Formatter<W>) -> fmt::Result {
         let (line, dots) = cut(first_line(self.input));
         match self.code {
-            ErrorKind::Mismatch if line.is_empty() => {
+            ErrorKind::Memory => ErrorKind::Memory.fmt(f),
+            ErrorKind::Mismatch if self.input.is_empty() => {
                 f.write_str("the text ends where more was looked for")
             }
+            ErrorKind::Mismatch if line.is_empty() => {
+                f.write_str("a blank line isn't what was looked for")
+            }
             ErrorKind::Mismatch => write!(f, "`{line}{dots}` isn't what was looked for"),
-            ErrorKind::Unread if line.is_empty() => f.write_str("unread at the end of the text"),
+            ErrorKind::Unread if self.input.is_empty() => {
+                f.write_str("unread from the end of the text on")
+            }
+            ErrorKind::Unread if line.is_empty() => f.write_str("unread from a blank line on"),
             ErrorKind::Unread => write!(f, "unread from `{line}{dots}` on"),
-            ErrorKind::Memory => ErrorKind::Memory.fmt(f),
         }
     }
 }
@@ -75,9 +81,9 @@ impl<E: Display> Display for Err<E> {
 
 impl<E: error::Error + Copy> error::Error for Err<E> {}
 
-/// The first line that isn't blank, from its first character on; empty where there is none.
+/// The first line, without the blanks around it.
 fn first_line(text: &str) -> &str {
-    text.trim_start().lines().next().unwrap_or("")
+    text.lines().next().unwrap_or("").trim()
 }
 
 /// As much of the line as is shown, and the dots that stand for the rest of it.
