@@ -4,8 +4,16 @@ ghost use Rattle.std.specs.Prelude.{◌≡◌};
 ghost use Rattle.weedle_base.specs.AlikeLaws.{equal_equivalence, seen_equivalence};
 ghost use Rattle.weedle_base.specs.Own.{own};
 ghost use Rattle.weedle_base.specs.OwnLaws.{own_lawful};
-ghost use Rattle.weedle_async_iterables.specs.Trees.{async_iterable_interface_member_tree, double_typed_async_iterable_tree, single_typed_async_iterable_tree};
-ghost use Rattle.weedle_grammar.specs.Table.InterfaceMembers.{ASYNC_ITERABLE_INTERFACE_MEMBER, DOUBLE_TYPED_ASYNC_ITERABLE, SINGLE_TYPED_ASYNC_ITERABLE};
+ghost use Rattle.weedle_async_iterables.specs.Trees.{
+  async_iterable_interface_member_tree,
+  double_typed_async_iterable_tree,
+  single_typed_async_iterable_tree,
+};
+ghost use Rattle.weedle_grammar.specs.Table.InterfaceMembers.{
+  ASYNC_ITERABLE_INTERFACE_MEMBER,
+  DOUBLE_TYPED_ASYNC_ITERABLE,
+  SINGLE_TYPED_ASYNC_ITERABLE,
+};
 
 mod into_fields;
 
@@ -212,7 +220,9 @@ impl TryClone for AsyncIterableInterfaceMember<'_> {
 }
 
 impl<'a> From<SingleTypedAsyncIterable<'a>> for AsyncIterableInterfaceMember<'a> {
-    ghost use Rattle.weedle_async_iterables.specs.declared.async_iterable.AsyncIterableInterfaceMember.TheVariants.{Single};
+    ghost use Rattle.weedle_async_iterables.specs.declared.async_iterable.AsyncIterableInterfaceMember.TheVariants.{
+      Single,
+    };
 
     ghost from_gives = { λ value made. made ≡ Single value };
 
@@ -222,7 +232,9 @@ impl<'a> From<SingleTypedAsyncIterable<'a>> for AsyncIterableInterfaceMember<'a>
 }
 
 impl<'a> From<DoubleTypedAsyncIterable<'a>> for AsyncIterableInterfaceMember<'a> {
-    ghost use Rattle.weedle_async_iterables.specs.declared.async_iterable.AsyncIterableInterfaceMember.TheVariants.{Double};
+    ghost use Rattle.weedle_async_iterables.specs.declared.async_iterable.AsyncIterableInterfaceMember.TheVariants.{
+      Double,
+    };
 
     ghost from_gives = { λ value made. made ≡ Double value };
 

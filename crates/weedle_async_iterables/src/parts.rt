@@ -2,8 +2,14 @@
 
 ghost use Rattle.weedle_base.specs.Own.{own};
 ghost use Rattle.weedle_base.specs.Reading.{Answers};
-ghost use Rattle.weedle_async_iterables.specs.PartTrees.{async_iterable_tree, optional_arguments_tree};
-ghost use Rattle.weedle_grammar.specs.Table.InterfaceMembers.{ASYNC_ITERABLE, OPT_PARENTHESIZED_ARGUMENT_LIST};
+ghost use Rattle.weedle_async_iterables.specs.PartTrees.{
+  async_iterable_tree,
+  optional_arguments_tree,
+};
+ghost use Rattle.weedle_grammar.specs.Table.InterfaceMembers.{
+  ASYNC_ITERABLE,
+  OPT_PARENTHESIZED_ARGUMENT_LIST,
+};
 
 use std::alloc::Global;
 use weedle_base::{IResult, Parse};

@@ -4,7 +4,11 @@ ghost use Rattle.std.specs.Prelude.{◌≡◌, [], ◌∷◌, MatchOption};
 ghost use Rattle.weedle_grammar.specs.Rows.{is_in};
 ghost use Rattle.weedle_grammar.specs.declared.class.Class.TheVariants.{Name};
 ghost use Rattle.weedle_grammar.specs.Table.{Reads};
-ghost use Rattle.weedle_grammar.specs.Table.Leaves.{IDENTIFIER, IDENTIFIER_TEXT, OPT_BYTES_UNDERSCORE};
+ghost use Rattle.weedle_grammar.specs.Table.Leaves.{
+  IDENTIFIER,
+  IDENTIFIER_TEXT,
+  OPT_BYTES_UNDERSCORE,
+};
 ghost use Rattle.weedle_grammar.specs.Trees.{Text, Fails};
 ghost use Rattle.weedle_base.specs.Names.{IsTagged, LacksTag};
 ghost use Rattle.weedle_base.specs.Trivia.{Took, TookText};

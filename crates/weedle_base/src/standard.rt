@@ -1,7 +1,17 @@
 //! `Parse` for the standard library's types.
 
-ghost use Rattle.weedle_base.specs.Generic.{option_reading, pair_reading, boxed_reading, seen_reading};
-ghost use Rattle.weedle_base.specs.GenericLaws.{option_lawful, pair_lawful, boxed_lawful, seen_lawful};
+ghost use Rattle.weedle_base.specs.Generic.{
+  option_reading,
+  pair_reading,
+  boxed_reading,
+  seen_reading,
+};
+ghost use Rattle.weedle_base.specs.GenericLaws.{
+  option_lawful,
+  pair_lawful,
+  boxed_lawful,
+  seen_lawful,
+};
 ghost use Rattle.weedle_base.specs.Runs.{run_reading, vec_step};
 ghost use Rattle.weedle_base.specs.RunLaws.{run_lawful, vec_step_lawful};
 

@@ -1,7 +1,15 @@
 //! The scanners of trivia.
 
 ghost use Rattle.std.specs.Prelude.{List, ℕ, []};
-ghost use Rattle.weedle_grammar.specs.Table.Trivia.{RUN_NOT_LINE_FEED, LINE_END, LINE_COMMENT, BLANKS, BLOCK_COMMENT, PIECE, TRIVIA};
+ghost use Rattle.weedle_grammar.specs.Table.Trivia.{
+  RUN_NOT_LINE_FEED,
+  LINE_END,
+  LINE_COMMENT,
+  BLANKS,
+  BLOCK_COMMENT,
+  PIECE,
+  TRIVIA,
+};
 ghost use Rattle.weedle_base.specs.Trivia.{Trial, Took, TookText};
 
 use crate::scan::{after_one, after_run, after_word, next_is, taken};

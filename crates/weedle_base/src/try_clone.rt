@@ -2,7 +2,13 @@
 
 ghost use Rattle.std.specs.Prelude.{◌≡◌, IfOk, string_bytes};
 ghost use Rattle.weedle_base.specs.Alike.{IsEquivalence, option_alike, all_alike};
-ghost use Rattle.weedle_base.specs.AlikeLaws.{equal_equivalence, seen_equivalence, option_equivalence, pair_equivalence, all_equivalence};
+ghost use Rattle.weedle_base.specs.AlikeLaws.{
+  equal_equivalence,
+  seen_equivalence,
+  option_equivalence,
+  pair_equivalence,
+  all_equivalence,
+};
 
 use std::alloc::{AllocError, Global};
 

@@ -3,7 +3,21 @@
 //! In a word the first cell has the highest bit and the last cell the lowest. So the last cell that is
 //! marked in a word is the number of its trailing zeros away from its end.
 
-ghost use Rattle.std.specs.Prelude.{◌≡◌, ◌⊎◌, ◌≤◌, ◌<◌, ◌*◌, ◌/◌, ◌-◌, ◌↔◌, ℕ, IsTrue, length, IfSome, IfNone};
+ghost use Rattle.std.specs.Prelude.{
+  ◌≡◌,
+  ◌⊎◌,
+  ◌≤◌,
+  ◌<◌,
+  ◌*◌,
+  ◌/◌,
+  ◌-◌,
+  ◌↔◌,
+  ℕ,
+  IsTrue,
+  length,
+  IfSome,
+  IfNone,
+};
 ghost use Rattle.weedle_rules.specs.Cells.{cell_number};
 ghost use Rattle.weedle_diagnose.specs.Tries.{SameAttempt};
 ghost use Rattle.weedle_diagnose.specs.Marks.{HasBit, IsSet, IsMarked, Adds, IsLastSet, IsClear};

@@ -1,6 +1,19 @@
 //! What is unmet: rules without parts that are tried and fail.
 
-ghost use Rattle.std.specs.Prelude.{◌≡◌, ◌≤◌, ◌<◌, ◌-◌, ◌*◌, ◌/◌, ◌%◌, ◌↔◌, ℕ, length, IsTrue, IfOk};
+ghost use Rattle.std.specs.Prelude.{
+  ◌≡◌,
+  ◌≤◌,
+  ◌<◌,
+  ◌-◌,
+  ◌*◌,
+  ◌/◌,
+  ◌%◌,
+  ◌↔◌,
+  ℕ,
+  length,
+  IsTrue,
+  IfOk,
+};
 ghost use Rattle.std.specs.List.{Contains};
 ghost use Rattle.weedle_grammar.specs.Bound.{rule_count};
 ghost use Rattle.weedle_grammar.specs.Table.{row_of as the_row_of};

@@ -6,7 +6,12 @@ ghost use Rattle.weedle_base.specs.Own.{own};
 ghost use Rattle.weedle_base.specs.OwnLaws.{own_lawful};
 ghost use Rattle.weedle_base.specs.Reading.{Answers};
 ghost use Rattle.weedle_idl.specs.DefinitionTrees.{definition_tree};
-ghost use Rattle.weedle_idl.specs.Pieces.{callback_or_interface_rules, main_definition_rules, other_definition_rules, partial_definition_rules};
+ghost use Rattle.weedle_idl.specs.Pieces.{
+  callback_or_interface_rules,
+  main_definition_rules,
+  other_definition_rules,
+  partial_definition_rules,
+};
 ghost use Rattle.weedle_grammar.specs.Table.Definitions.{DEFINITION};
 ghost use Rattle.weedle_types.specs.Steps.{members};
 
@@ -221,7 +226,9 @@ impl<'a> From<CallbackDefinition<'a>> for Definition<'a> {
 }
 
 impl<'a> From<CallbackInterfaceDefinition<'a>> for Definition<'a> {
-    ghost use Rattle.weedle_idl.specs.declared.definition.Definition.TheVariants.{CallbackInterface};
+    ghost use Rattle.weedle_idl.specs.declared.definition.Definition.TheVariants.{
+      CallbackInterface,
+    };
 
     ghost from_gives = { λ value made. made ≡ CallbackInterface value };
 
@@ -281,7 +288,9 @@ impl<'a> From<PartialInterfaceDefinition<'a>> for Definition<'a> {
 }
 
 impl<'a> From<PartialInterfaceMixinDefinition<'a>> for Definition<'a> {
-    ghost use Rattle.weedle_idl.specs.declared.definition.Definition.TheVariants.{PartialInterfaceMixin};
+    ghost use Rattle.weedle_idl.specs.declared.definition.Definition.TheVariants.{
+      PartialInterfaceMixin,
+    };
 
     ghost from_gives = { λ value made. made ≡ PartialInterfaceMixin value };
 
@@ -291,7 +300,9 @@ impl<'a> From<PartialInterfaceMixinDefinition<'a>> for Definition<'a> {
 }
 
 impl<'a> From<PartialDictionaryDefinition<'a>> for Definition<'a> {
-    ghost use Rattle.weedle_idl.specs.declared.definition.Definition.TheVariants.{PartialDictionary};
+    ghost use Rattle.weedle_idl.specs.declared.definition.Definition.TheVariants.{
+      PartialDictionary,
+    };
 
     ghost from_gives = { λ value made. made ≡ PartialDictionary value };
 
@@ -331,7 +342,9 @@ impl<'a> From<TypedefDefinition<'a>> for Definition<'a> {
 }
 
 impl<'a> From<IncludesStatementDefinition<'a>> for Definition<'a> {
-    ghost use Rattle.weedle_idl.specs.declared.definition.Definition.TheVariants.{IncludesStatement};
+    ghost use Rattle.weedle_idl.specs.declared.definition.Definition.TheVariants.{
+      IncludesStatement,
+    };
 
     ghost from_gives = { λ value made. made ≡ IncludesStatement value };
 

@@ -4,8 +4,16 @@ ghost use Rattle.std.specs.Prelude.{◌≡◌};
 ghost use Rattle.weedle_base.specs.AlikeLaws.{equal_equivalence, seen_equivalence};
 ghost use Rattle.weedle_base.specs.Own.{own};
 ghost use Rattle.weedle_base.specs.OwnLaws.{own_lawful};
-ghost use Rattle.weedle_interfaces.specs.Trees.{callback_interface_definition_tree, interface_definition_tree, partial_interface_definition_tree};
-ghost use Rattle.weedle_grammar.specs.Table.Definitions.{CALLBACK_INTERFACE_DEFINITION, INTERFACE_DEFINITION, PARTIAL_INTERFACE_DEFINITION};
+ghost use Rattle.weedle_interfaces.specs.Trees.{
+  callback_interface_definition_tree,
+  interface_definition_tree,
+  partial_interface_definition_tree,
+};
+ghost use Rattle.weedle_grammar.specs.Table.Definitions.{
+  CALLBACK_INTERFACE_DEFINITION,
+  INTERFACE_DEFINITION,
+  PARTIAL_INTERFACE_DEFINITION,
+};
 
 mod into_fields;
 

@@ -6,7 +6,11 @@ ghost use Rattle.weedle_base.specs.Own.{own};
 ghost use Rattle.weedle_base.specs.OwnLaws.{own_lawful};
 ghost use Rattle.weedle_base.specs.Reading.{Answers};
 ghost use Rattle.weedle_interfaces.specs.Trees.{interface_member_tree};
-ghost use Rattle.weedle_interfaces.specs.Pieces.{collection_member_rules, iterable_member_rules, main_member_rules};
+ghost use Rattle.weedle_interfaces.specs.Pieces.{
+  collection_member_rules,
+  iterable_member_rules,
+  main_member_rules,
+};
 ghost use Rattle.weedle_grammar.specs.Table.InterfaceMembers.{INTERFACE_MEMBER};
 ghost use Rattle.weedle_types.specs.Steps.{members};
 
@@ -177,7 +181,9 @@ impl<'a> From<ConstMember<'a>> for InterfaceMember<'a> {
 }
 
 impl<'a> From<AttributeInterfaceMember<'a>> for InterfaceMember<'a> {
-    ghost use Rattle.weedle_interfaces.specs.declared.member.InterfaceMember.TheVariants.{Attribute};
+    ghost use Rattle.weedle_interfaces.specs.declared.member.InterfaceMember.TheVariants.{
+      Attribute,
+    };
 
     ghost from_gives = { λ value made. made ≡ Attribute value };
 
@@ -187,7 +193,9 @@ impl<'a> From<AttributeInterfaceMember<'a>> for InterfaceMember<'a> {
 }
 
 impl<'a> From<ConstructorInterfaceMember<'a>> for InterfaceMember<'a> {
-    ghost use Rattle.weedle_interfaces.specs.declared.member.InterfaceMember.TheVariants.{Constructor};
+    ghost use Rattle.weedle_interfaces.specs.declared.member.InterfaceMember.TheVariants.{
+      Constructor,
+    };
 
     ghost from_gives = { λ value made. made ≡ Constructor value };
 
@@ -197,7 +205,9 @@ impl<'a> From<ConstructorInterfaceMember<'a>> for InterfaceMember<'a> {
 }
 
 impl<'a> From<OperationInterfaceMember<'a>> for InterfaceMember<'a> {
-    ghost use Rattle.weedle_interfaces.specs.declared.member.InterfaceMember.TheVariants.{Operation};
+    ghost use Rattle.weedle_interfaces.specs.declared.member.InterfaceMember.TheVariants.{
+      Operation,
+    };
 
     ghost from_gives = { λ value made. made ≡ Operation value };
 
@@ -217,7 +227,9 @@ impl<'a> From<IterableInterfaceMember<'a>> for InterfaceMember<'a> {
 }
 
 impl<'a> From<AsyncIterableInterfaceMember<'a>> for InterfaceMember<'a> {
-    ghost use Rattle.weedle_interfaces.specs.declared.member.InterfaceMember.TheVariants.{AsyncIterable};
+    ghost use Rattle.weedle_interfaces.specs.declared.member.InterfaceMember.TheVariants.{
+      AsyncIterable,
+    };
 
     ghost from_gives = { λ value made. made ≡ AsyncIterable value };
 
@@ -247,7 +259,9 @@ impl<'a> From<SetlikeInterfaceMember<'a>> for InterfaceMember<'a> {
 }
 
 impl<'a> From<StringifierMember<'a>> for InterfaceMember<'a> {
-    ghost use Rattle.weedle_interfaces.specs.declared.member.InterfaceMember.TheVariants.{Stringifier};
+    ghost use Rattle.weedle_interfaces.specs.declared.member.InterfaceMember.TheVariants.{
+      Stringifier,
+    };
 
     ghost from_gives = { λ value made. made ≡ Stringifier value };
 

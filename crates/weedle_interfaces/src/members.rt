@@ -5,7 +5,10 @@ ghost use Rattle.weedle_base.specs.AlikeLaws.{equal_equivalence, seen_equivalenc
 ghost use Rattle.weedle_base.specs.Own.{own};
 ghost use Rattle.weedle_base.specs.OwnLaws.{own_lawful};
 ghost use Rattle.weedle_grammar.specs.Table.InterfaceMembers.{BRACED_INTERFACE_MEMBERS};
-ghost use Rattle.weedle_interfaces.specs.Trees.{braced_interface_members_tree, interface_member_tree};
+ghost use Rattle.weedle_interfaces.specs.Trees.{
+  braced_interface_members_tree,
+  interface_member_tree,
+};
 ghost use Rattle.weedle_types.specs.PartTrees.{members_tree};
 
 mod into_fields;

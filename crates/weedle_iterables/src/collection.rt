@@ -4,8 +4,14 @@ ghost use Rattle.std.specs.Prelude.{◌≡◌};
 ghost use Rattle.weedle_base.specs.AlikeLaws.{equal_equivalence, seen_equivalence};
 ghost use Rattle.weedle_base.specs.Own.{own};
 ghost use Rattle.weedle_base.specs.OwnLaws.{own_lawful};
-ghost use Rattle.weedle_iterables.specs.Trees.{maplike_interface_member_tree, setlike_interface_member_tree};
-ghost use Rattle.weedle_grammar.specs.Table.InterfaceMembers.{MAPLIKE_INTERFACE_MEMBER, SETLIKE_INTERFACE_MEMBER};
+ghost use Rattle.weedle_iterables.specs.Trees.{
+  maplike_interface_member_tree,
+  setlike_interface_member_tree,
+};
+ghost use Rattle.weedle_grammar.specs.Table.InterfaceMembers.{
+  MAPLIKE_INTERFACE_MEMBER,
+  SETLIKE_INTERFACE_MEMBER,
+};
 
 mod into_fields;
 

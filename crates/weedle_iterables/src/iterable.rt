@@ -4,8 +4,16 @@ ghost use Rattle.std.specs.Prelude.{◌≡◌};
 ghost use Rattle.weedle_base.specs.AlikeLaws.{equal_equivalence, seen_equivalence};
 ghost use Rattle.weedle_base.specs.Own.{own};
 ghost use Rattle.weedle_base.specs.OwnLaws.{own_lawful};
-ghost use Rattle.weedle_iterables.specs.Trees.{double_typed_iterable_tree, iterable_interface_member_tree, single_typed_iterable_tree};
-ghost use Rattle.weedle_grammar.specs.Table.InterfaceMembers.{DOUBLE_TYPED_ITERABLE, ITERABLE_INTERFACE_MEMBER, SINGLE_TYPED_ITERABLE};
+ghost use Rattle.weedle_iterables.specs.Trees.{
+  double_typed_iterable_tree,
+  iterable_interface_member_tree,
+  single_typed_iterable_tree,
+};
+ghost use Rattle.weedle_grammar.specs.Table.InterfaceMembers.{
+  DOUBLE_TYPED_ITERABLE,
+  ITERABLE_INTERFACE_MEMBER,
+  SINGLE_TYPED_ITERABLE,
+};
 
 mod into_fields;
 
@@ -192,7 +200,9 @@ impl TryClone for IterableInterfaceMember<'_> {
 }
 
 impl<'a> From<SingleTypedIterable<'a>> for IterableInterfaceMember<'a> {
-    ghost use Rattle.weedle_iterables.specs.declared.iterable.IterableInterfaceMember.TheVariants.{Single};
+    ghost use Rattle.weedle_iterables.specs.declared.iterable.IterableInterfaceMember.TheVariants.{
+      Single,
+    };
 
     ghost from_gives = { λ value made. made ≡ Single value };
 
@@ -202,7 +212,9 @@ impl<'a> From<SingleTypedIterable<'a>> for IterableInterfaceMember<'a> {
 }
 
 impl<'a> From<DoubleTypedIterable<'a>> for IterableInterfaceMember<'a> {
-    ghost use Rattle.weedle_iterables.specs.declared.iterable.IterableInterfaceMember.TheVariants.{Double};
+    ghost use Rattle.weedle_iterables.specs.declared.iterable.IterableInterfaceMember.TheVariants.{
+      Double,
+    };
 
     ghost from_gives = { λ value made. made ≡ Double value };
 

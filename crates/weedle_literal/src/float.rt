@@ -1,7 +1,20 @@
 //! Numbers with a point or an exponent, and the words among floats.
 
 ghost use Rattle.std.specs.Prelude.{◌≡◌, []};
-ghost use Rattle.weedle_grammar.specs.Table.Leaves.{DIGITS, OPT_ONE_OF_SIGN, EXPONENT, OPT_EXPONENT, POINT_AFTER_DIGITS, POINT_BEFORE_DIGITS, POINT, POINT_FORM, EXPONENT_FORM, FLOAT_FORM, FLOAT_VALUE_LIT, FLOAT_VALUE_LIT_TEXT};
+ghost use Rattle.weedle_grammar.specs.Table.Leaves.{
+  DIGITS,
+  OPT_ONE_OF_SIGN,
+  EXPONENT,
+  OPT_EXPONENT,
+  POINT_AFTER_DIGITS,
+  POINT_BEFORE_DIGITS,
+  POINT,
+  POINT_FORM,
+  EXPONENT_FORM,
+  FLOAT_FORM,
+  FLOAT_VALUE_LIT,
+  FLOAT_VALUE_LIT_TEXT,
+};
 ghost use Rattle.weedle_grammar.specs.Table.Literals.{FLOAT_LIT};
 ghost use Rattle.weedle_base.specs.Own.{own};
 ghost use Rattle.weedle_base.specs.OwnLaws.{own_lawful};

@@ -1,7 +1,15 @@
 //! Whole numbers.
 
 ghost use Rattle.std.specs.Prelude.{◌≡◌, []};
-ghost use Rattle.weedle_grammar.specs.Table.Leaves.{DEC_LIT, DEC_LIT_TEXT, HEX_LIT, HEX_LIT_TEXT, OCT_LIT, OCT_LIT_TEXT, OPT_BYTES_MINUS};
+ghost use Rattle.weedle_grammar.specs.Table.Leaves.{
+  DEC_LIT,
+  DEC_LIT_TEXT,
+  HEX_LIT,
+  HEX_LIT_TEXT,
+  OCT_LIT,
+  OCT_LIT_TEXT,
+  OPT_BYTES_MINUS,
+};
 ghost use Rattle.weedle_grammar.specs.Table.Literals.{INTEGER_LIT};
 ghost use Rattle.weedle_base.specs.Own.{own};
 ghost use Rattle.weedle_base.specs.OwnLaws.{own_lawful};

@@ -4,8 +4,14 @@ ghost use Rattle.std.specs.Prelude.{◌≡◌};
 ghost use Rattle.weedle_base.specs.AlikeLaws.{equal_equivalence, seen_equivalence};
 ghost use Rattle.weedle_base.specs.Own.{own};
 ghost use Rattle.weedle_base.specs.OwnLaws.{own_lawful};
-ghost use Rattle.weedle_members.specs.Trees.{constructor_interface_member_tree, operation_interface_member_tree};
-ghost use Rattle.weedle_grammar.specs.Table.InterfaceMembers.{CONSTRUCTOR_INTERFACE_MEMBER, OPERATION_INTERFACE_MEMBER};
+ghost use Rattle.weedle_members.specs.Trees.{
+  constructor_interface_member_tree,
+  operation_interface_member_tree,
+};
+ghost use Rattle.weedle_grammar.specs.Table.InterfaceMembers.{
+  CONSTRUCTOR_INTERFACE_MEMBER,
+  OPERATION_INTERFACE_MEMBER,
+};
 
 mod into_fields;
 

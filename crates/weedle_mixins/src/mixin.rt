@@ -4,8 +4,18 @@ ghost use Rattle.std.specs.Prelude.{◌≡◌};
 ghost use Rattle.weedle_base.specs.AlikeLaws.{equal_equivalence, seen_equivalence};
 ghost use Rattle.weedle_base.specs.Own.{own};
 ghost use Rattle.weedle_base.specs.OwnLaws.{own_lawful};
-ghost use Rattle.weedle_mixins.specs.Trees.{attribute_mixin_member_tree, braced_mixin_members_tree, mixin_member_tree, operation_mixin_member_tree};
-ghost use Rattle.weedle_grammar.specs.Table.OtherMembers.{ATTRIBUTE_MIXIN_MEMBER, BRACED_MIXIN_MEMBERS, MIXIN_MEMBER, OPERATION_MIXIN_MEMBER};
+ghost use Rattle.weedle_mixins.specs.Trees.{
+  attribute_mixin_member_tree,
+  braced_mixin_members_tree,
+  mixin_member_tree,
+  operation_mixin_member_tree,
+};
+ghost use Rattle.weedle_grammar.specs.Table.OtherMembers.{
+  ATTRIBUTE_MIXIN_MEMBER,
+  BRACED_MIXIN_MEMBERS,
+  MIXIN_MEMBER,
+  OPERATION_MIXIN_MEMBER,
+};
 
 mod into_fields;
 

@@ -4,8 +4,14 @@ ghost use Rattle.std.specs.Prelude.{◌≡◌};
 ghost use Rattle.weedle_base.specs.AlikeLaws.{equal_equivalence, seen_equivalence};
 ghost use Rattle.weedle_base.specs.Own.{own};
 ghost use Rattle.weedle_base.specs.OwnLaws.{own_lawful};
-ghost use Rattle.weedle_mixins.specs.Trees.{interface_mixin_definition_tree, partial_interface_mixin_definition_tree};
-ghost use Rattle.weedle_grammar.specs.Table.Definitions.{INTERFACE_MIXIN_DEFINITION, PARTIAL_INTERFACE_MIXIN_DEFINITION};
+ghost use Rattle.weedle_mixins.specs.Trees.{
+  interface_mixin_definition_tree,
+  partial_interface_mixin_definition_tree,
+};
+ghost use Rattle.weedle_grammar.specs.Table.Definitions.{
+  INTERFACE_MIXIN_DEFINITION,
+  PARTIAL_INTERFACE_MIXIN_DEFINITION,
+};
 
 mod into_fields;
 

@@ -3,8 +3,16 @@
 ghost use Rattle.std.specs.Prelude.{◌≡◌};
 ghost use Rattle.weedle_base.specs.Own.{own};
 ghost use Rattle.weedle_base.specs.OwnLaws.{own_lawful};
-ghost use Rattle.weedle_modifier.specs.Trees.{special_tree, stringifier_or_inherit_or_static_tree, stringifier_or_static_tree};
-ghost use Rattle.weedle_grammar.specs.Table.InterfaceMembers.{SPECIAL, STRINGIFIER_OR_INHERIT_OR_STATIC, STRINGIFIER_OR_STATIC};
+ghost use Rattle.weedle_modifier.specs.Trees.{
+  special_tree,
+  stringifier_or_inherit_or_static_tree,
+  stringifier_or_static_tree,
+};
+ghost use Rattle.weedle_grammar.specs.Table.InterfaceMembers.{
+  SPECIAL,
+  STRINGIFIER_OR_INHERIT_OR_STATIC,
+  STRINGIFIER_OR_STATIC,
+};
 
 use std::alloc::Global;
 use weedle_base::Choice::{self, First, Second};
@@ -139,7 +147,9 @@ impl From<LegacyCaller> for Special {
 }
 
 impl From<Stringifier> for StringifierOrInheritOrStatic {
-    ghost use Rattle.weedle_modifier.specs.declared.modifier.StringifierOrInheritOrStatic.TheVariants.{Stringifier};
+    ghost use Rattle.weedle_modifier.specs.declared.modifier.StringifierOrInheritOrStatic.TheVariants.{
+      Stringifier,
+    };
 
     ghost from_gives = { λ value made. made ≡ Stringifier value };
 
@@ -149,7 +159,9 @@ impl From<Stringifier> for StringifierOrInheritOrStatic {
 }
 
 impl From<Inherit> for StringifierOrInheritOrStatic {
-    ghost use Rattle.weedle_modifier.specs.declared.modifier.StringifierOrInheritOrStatic.TheVariants.{Inherit};
+    ghost use Rattle.weedle_modifier.specs.declared.modifier.StringifierOrInheritOrStatic.TheVariants.{
+      Inherit,
+    };
 
     ghost from_gives = { λ value made. made ≡ Inherit value };
 
@@ -159,7 +171,9 @@ impl From<Inherit> for StringifierOrInheritOrStatic {
 }
 
 impl From<Static> for StringifierOrInheritOrStatic {
-    ghost use Rattle.weedle_modifier.specs.declared.modifier.StringifierOrInheritOrStatic.TheVariants.{Static};
+    ghost use Rattle.weedle_modifier.specs.declared.modifier.StringifierOrInheritOrStatic.TheVariants.{
+      Static,
+    };
 
     ghost from_gives = { λ value made. made ≡ Static value };
 
@@ -169,7 +183,9 @@ impl From<Static> for StringifierOrInheritOrStatic {
 }
 
 impl From<Stringifier> for StringifierOrStatic {
-    ghost use Rattle.weedle_modifier.specs.declared.modifier.StringifierOrStatic.TheVariants.{Stringifier};
+    ghost use Rattle.weedle_modifier.specs.declared.modifier.StringifierOrStatic.TheVariants.{
+      Stringifier,
+    };
 
     ghost from_gives = { λ value made. made ≡ Stringifier value };
 
@@ -179,7 +195,9 @@ impl From<Stringifier> for StringifierOrStatic {
 }
 
 impl From<Static> for StringifierOrStatic {
-    ghost use Rattle.weedle_modifier.specs.declared.modifier.StringifierOrStatic.TheVariants.{Static};
+    ghost use Rattle.weedle_modifier.specs.declared.modifier.StringifierOrStatic.TheVariants.{
+      Static,
+    };
 
     ghost from_gives = { λ value made. made ≡ Static value };
 

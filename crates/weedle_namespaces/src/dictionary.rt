@@ -4,8 +4,14 @@ ghost use Rattle.std.specs.Prelude.{◌≡◌};
 ghost use Rattle.weedle_base.specs.AlikeLaws.{equal_equivalence, seen_equivalence};
 ghost use Rattle.weedle_base.specs.Own.{own};
 ghost use Rattle.weedle_base.specs.OwnLaws.{own_lawful};
-ghost use Rattle.weedle_namespaces.specs.Trees.{braced_dictionary_members_tree, dictionary_member_tree};
-ghost use Rattle.weedle_grammar.specs.Table.OtherMembers.{BRACED_DICTIONARY_MEMBERS, DICTIONARY_MEMBER};
+ghost use Rattle.weedle_namespaces.specs.Trees.{
+  braced_dictionary_members_tree,
+  dictionary_member_tree,
+};
+ghost use Rattle.weedle_grammar.specs.Table.OtherMembers.{
+  BRACED_DICTIONARY_MEMBERS,
+  DICTIONARY_MEMBER,
+};
 
 mod into_fields;
 

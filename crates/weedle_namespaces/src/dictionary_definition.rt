@@ -4,8 +4,14 @@ ghost use Rattle.std.specs.Prelude.{◌≡◌};
 ghost use Rattle.weedle_base.specs.AlikeLaws.{equal_equivalence, seen_equivalence};
 ghost use Rattle.weedle_base.specs.Own.{own};
 ghost use Rattle.weedle_base.specs.OwnLaws.{own_lawful};
-ghost use Rattle.weedle_namespaces.specs.Trees.{dictionary_definition_tree, partial_dictionary_definition_tree};
-ghost use Rattle.weedle_grammar.specs.Table.Definitions.{DICTIONARY_DEFINITION, PARTIAL_DICTIONARY_DEFINITION};
+ghost use Rattle.weedle_namespaces.specs.Trees.{
+  dictionary_definition_tree,
+  partial_dictionary_definition_tree,
+};
+ghost use Rattle.weedle_grammar.specs.Table.Definitions.{
+  DICTIONARY_DEFINITION,
+  PARTIAL_DICTIONARY_DEFINITION,
+};
 
 mod into_fields;
 

@@ -4,8 +4,18 @@ ghost use Rattle.std.specs.Prelude.{◌≡◌};
 ghost use Rattle.weedle_base.specs.AlikeLaws.{equal_equivalence, seen_equivalence};
 ghost use Rattle.weedle_base.specs.Own.{own};
 ghost use Rattle.weedle_base.specs.OwnLaws.{own_lawful};
-ghost use Rattle.weedle_namespaces.specs.Trees.{attribute_namespace_member_tree, braced_namespace_members_tree, namespace_member_tree, operation_namespace_member_tree};
-ghost use Rattle.weedle_grammar.specs.Table.OtherMembers.{ATTRIBUTE_NAMESPACE_MEMBER, BRACED_NAMESPACE_MEMBERS, NAMESPACE_MEMBER, OPERATION_NAMESPACE_MEMBER};
+ghost use Rattle.weedle_namespaces.specs.Trees.{
+  attribute_namespace_member_tree,
+  braced_namespace_members_tree,
+  namespace_member_tree,
+  operation_namespace_member_tree,
+};
+ghost use Rattle.weedle_grammar.specs.Table.OtherMembers.{
+  ATTRIBUTE_NAMESPACE_MEMBER,
+  BRACED_NAMESPACE_MEMBERS,
+  NAMESPACE_MEMBER,
+  OPERATION_NAMESPACE_MEMBER,
+};
 
 mod into_fields;
 
@@ -281,7 +291,9 @@ impl TryClone for NamespaceMember<'_> {
 }
 
 impl<'a> From<OperationNamespaceMember<'a>> for NamespaceMember<'a> {
-    ghost use Rattle.weedle_namespaces.specs.declared.namespace.NamespaceMember.TheVariants.{Operation};
+    ghost use Rattle.weedle_namespaces.specs.declared.namespace.NamespaceMember.TheVariants.{
+      Operation,
+    };
 
     ghost from_gives = { λ value made. made ≡ Operation value };
 
@@ -291,7 +303,9 @@ impl<'a> From<OperationNamespaceMember<'a>> for NamespaceMember<'a> {
 }
 
 impl<'a> From<AttributeNamespaceMember<'a>> for NamespaceMember<'a> {
-    ghost use Rattle.weedle_namespaces.specs.declared.namespace.NamespaceMember.TheVariants.{Attribute};
+    ghost use Rattle.weedle_namespaces.specs.declared.namespace.NamespaceMember.TheVariants.{
+      Attribute,
+    };
 
     ghost from_gives = { λ value made. made ≡ Attribute value };
 

@@ -4,8 +4,14 @@ ghost use Rattle.std.specs.Prelude.{◌≡◌};
 ghost use Rattle.weedle_base.specs.AlikeLaws.{equal_equivalence, seen_equivalence};
 ghost use Rattle.weedle_base.specs.Own.{own};
 ghost use Rattle.weedle_base.specs.OwnLaws.{own_lawful};
-ghost use Rattle.weedle_namespaces.specs.Trees.{namespace_definition_tree, partial_namespace_definition_tree};
-ghost use Rattle.weedle_grammar.specs.Table.Definitions.{NAMESPACE_DEFINITION, PARTIAL_NAMESPACE_DEFINITION};
+ghost use Rattle.weedle_namespaces.specs.Trees.{
+  namespace_definition_tree,
+  partial_namespace_definition_tree,
+};
+ghost use Rattle.weedle_grammar.specs.Table.Definitions.{
+  NAMESPACE_DEFINITION,
+  PARTIAL_NAMESPACE_DEFINITION,
+};
 
 mod into_fields;
 

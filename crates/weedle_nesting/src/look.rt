@@ -2,7 +2,12 @@
 
 ghost use Rattle.std.specs.Prelude.{◌≡◌, ◌+◌, ◌-◌, ◌<◌, ◌≤◌, ◌^◌, max};
 ghost use Rattle.weedle_nesting.specs.Bare.{bare};
-ghost use Rattle.weedle_nesting.specs.Nesting.{attributes_behind, brackets_behind, most_attributes, most_brackets};
+ghost use Rattle.weedle_nesting.specs.Nesting.{
+  attributes_behind,
+  brackets_behind,
+  most_attributes,
+  most_brackets,
+};
 
 use crate::marks::{next_mark, past_mark};
 

@@ -4,9 +4,31 @@
 //! A type that reads what a rule reads is put into a part: then what the part reads is what any
 //! rule reads whose row is made so of the rules of the parameters.
 
-ghost use Rattle.weedle_grammar.specs.Table.Symbols.{OPEN_PAREN, CLOSE_PAREN, OPEN_BRACKET, CLOSE_BRACKET, OPEN_BRACE, CLOSE_BRACE, LESS_THAN, GREATER_THAN};
-ghost use Rattle.weedle_parts.specs.RuleLaws.{BracketLaw, MayBeNullLaw, PunctuatedLaw, PunctuatedNonEmptyLaw};
-ghost use Rattle.weedle_parts.specs.ValueTrees.{parenthesized_tree, bracketed_tree, braced_tree, generics_tree, may_be_null_tree, punctuated_tree, punctuated_non_empty_tree};
+ghost use Rattle.weedle_grammar.specs.Table.Symbols.{
+  OPEN_PAREN,
+  CLOSE_PAREN,
+  OPEN_BRACKET,
+  CLOSE_BRACKET,
+  OPEN_BRACE,
+  CLOSE_BRACE,
+  LESS_THAN,
+  GREATER_THAN,
+};
+ghost use Rattle.weedle_parts.specs.RuleLaws.{
+  BracketLaw,
+  MayBeNullLaw,
+  PunctuatedLaw,
+  PunctuatedNonEmptyLaw,
+};
+ghost use Rattle.weedle_parts.specs.ValueTrees.{
+  parenthesized_tree,
+  bracketed_tree,
+  braced_tree,
+  generics_tree,
+  may_be_null_tree,
+  punctuated_tree,
+  punctuated_non_empty_tree,
+};
 
 use crate::common::{Braced, Bracketed, Generics, Parenthesized, Punctuated, PunctuatedNonEmpty};
 use crate::types::MayBeNull;

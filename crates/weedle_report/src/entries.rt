@@ -2,7 +2,14 @@
 
 ghost use Rattle.std.specs.Prelude.{◌≡◌, map, ◌++◌, IfOk, OnOk, string_bytes};
 ghost use Rattle.std.specs.Option.{option_map};
-ghost use Rattle.weedle_report.specs.Outline.{indented, docstring_lines, docstring_text, given_text, outlined, said};
+ghost use Rattle.weedle_report.specs.Outline.{
+  indented,
+  docstring_lines,
+  docstring_text,
+  given_text,
+  outlined,
+  said,
+};
 
 use crate::titles::{kind_of, name_of};
 use std::alloc::{AllocError, Global};

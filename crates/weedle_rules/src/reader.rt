@@ -3,7 +3,28 @@
 //! Its fields are private to this module. While a cell is worked out, bytes and cells are looked at
 //! by `byte` and `cell` alone, each of which counts; the text is never handed out.
 
-ghost use Rattle.std.specs.Prelude.{◌≡◌, ◌≤◌, ◌<◌, ◌+◌, ◌*◌, ◌∷◌, ◌++◌, [], ℕ, true, false, length, max, slice_get, slice_index_or, Option, Some, None, IfSome, IfOk};
+ghost use Rattle.std.specs.Prelude.{
+  ◌≡◌,
+  ◌≤◌,
+  ◌<◌,
+  ◌+◌,
+  ◌*◌,
+  ◌∷◌,
+  ◌++◌,
+  [],
+  ℕ,
+  true,
+  false,
+  length,
+  max,
+  slice_get,
+  slice_index_or,
+  Option,
+  Some,
+  None,
+  IfSome,
+  IfOk,
+};
 ghost use Rattle.weedle_grammar.specs.Bound.{rule_count};
 ghost use Rattle.weedle_rules.specs.Cells.{HasEnd, cell_number, cell_of, AllRight};
 ghost use Rattle.weedle_rules.specs.Filling.{Filling, IsUnfilled, IsFilled};

@@ -7,7 +7,11 @@ ghost use Rattle.weedle_base.specs.OwnLaws.{own_lawful};
 ghost use Rattle.weedle_base.specs.Reading.{Answers};
 ghost use Rattle.weedle_grammar.specs.Table.Definitions.{ENUM_DEFINITION};
 ghost use Rattle.weedle_grammar.specs.Table.OtherMembers.{BRACED_ENUM_VALUE_LIST, ENUM_VARIANT};
-ghost use Rattle.weedle_statements.specs.Trees.{enum_definition_tree, enum_values_tree, enum_variant_tree};
+ghost use Rattle.weedle_statements.specs.Trees.{
+  enum_definition_tree,
+  enum_values_tree,
+  enum_variant_tree,
+};
 
 mod into_fields;
 

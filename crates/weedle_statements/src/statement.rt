@@ -4,8 +4,14 @@ ghost use Rattle.std.specs.Prelude.{◌≡◌};
 ghost use Rattle.weedle_base.specs.AlikeLaws.{equal_equivalence, seen_equivalence};
 ghost use Rattle.weedle_base.specs.Own.{own};
 ghost use Rattle.weedle_base.specs.OwnLaws.{own_lawful};
-ghost use Rattle.weedle_grammar.specs.Table.Definitions.{IMPLEMENTS_DEFINITION, INCLUDES_STATEMENT_DEFINITION};
-ghost use Rattle.weedle_statements.specs.Trees.{implements_definition_tree, includes_statement_definition_tree};
+ghost use Rattle.weedle_grammar.specs.Table.Definitions.{
+  IMPLEMENTS_DEFINITION,
+  INCLUDES_STATEMENT_DEFINITION,
+};
+ghost use Rattle.weedle_statements.specs.Trees.{
+  implements_definition_tree,
+  includes_statement_definition_tree,
+};
 
 mod into_fields;
 

@@ -3,7 +3,28 @@
 //! Written by tools/terminals.py.
 
 ghost use Rattle.weedle_grammar.specs.Trees.{Mark};
-ghost use Rattle.weedle_grammar.specs.Table.Keywords.{OR, OPTIONAL, UNRESTRICTED, SYMBOL, ANY, BOOLEAN, BYTE, DOUBLE, FALSE, FLOAT, LONG, NULL, OBJECT, OCTET, SEQUENCE, SHORT, TRUE, UNSIGNED, UNDEFINED, RECORD};
+ghost use Rattle.weedle_grammar.specs.Table.Keywords.{
+  OR,
+  OPTIONAL,
+  UNRESTRICTED,
+  SYMBOL,
+  ANY,
+  BOOLEAN,
+  BYTE,
+  DOUBLE,
+  FALSE,
+  FLOAT,
+  LONG,
+  NULL,
+  OBJECT,
+  OCTET,
+  SEQUENCE,
+  SHORT,
+  TRUE,
+  UNSIGNED,
+  UNDEFINED,
+  RECORD,
+};
 ghost use Rattle.weedle_base.specs.Own.{own};
 ghost use Rattle.weedle_base.specs.OwnLaws.{own_lawful};
 

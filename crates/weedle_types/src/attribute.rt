@@ -7,8 +7,18 @@
 ghost use Rattle.std.specs.Prelude.{◌≡◌};
 ghost use Rattle.weedle_base.specs.Own.{own};
 ghost use Rattle.weedle_base.specs.OwnLaws.{own_lawful};
-ghost use Rattle.weedle_grammar.specs.Table.Types.{EXTENDED_ATTRIBUTE_IDENT, EXTENDED_ATTRIBUTE_IDENT_LIST, EXTENDED_ATTRIBUTE_NO_ARGS, IDENTIFIER_OR_STRING};
-ghost use Rattle.weedle_types.specs.Trees.{extended_attribute_ident_list_tree, extended_attribute_ident_tree, extended_attribute_no_args_tree, identifier_or_string_tree};
+ghost use Rattle.weedle_grammar.specs.Table.Types.{
+  EXTENDED_ATTRIBUTE_IDENT,
+  EXTENDED_ATTRIBUTE_IDENT_LIST,
+  EXTENDED_ATTRIBUTE_NO_ARGS,
+  IDENTIFIER_OR_STRING,
+};
+ghost use Rattle.weedle_types.specs.Trees.{
+  extended_attribute_ident_list_tree,
+  extended_attribute_ident_tree,
+  extended_attribute_no_args_tree,
+  identifier_or_string_tree,
+};
 
 use crate::argument::ParenthesizedArgumentList;
 use std::alloc::Global;
@@ -213,7 +223,9 @@ impl<'a> From<ExtendedAttributeArgList<'a>> for ExtendedAttribute<'a> {
 }
 
 impl<'a> From<ExtendedAttributeNamedArgList<'a>> for ExtendedAttribute<'a> {
-    ghost use Rattle.weedle_types.specs.declared.attribute.ExtendedAttribute.TheVariants.{NamedArgList};
+    ghost use Rattle.weedle_types.specs.declared.attribute.ExtendedAttribute.TheVariants.{
+      NamedArgList,
+    };
 
     ghost from_gives = { λ v e. e ≡ NamedArgList v };
 
@@ -223,7 +235,9 @@ impl<'a> From<ExtendedAttributeNamedArgList<'a>> for ExtendedAttribute<'a> {
 }
 
 impl<'a> From<ExtendedAttributeIdentList<'a>> for ExtendedAttribute<'a> {
-    ghost use Rattle.weedle_types.specs.declared.attribute.ExtendedAttribute.TheVariants.{IdentList};
+    ghost use Rattle.weedle_types.specs.declared.attribute.ExtendedAttribute.TheVariants.{
+      IdentList,
+    };
 
     ghost from_gives = { λ v e. e ≡ IdentList v };
 
@@ -253,7 +267,9 @@ impl<'a> From<ExtendedAttributeNoArgs<'a>> for ExtendedAttribute<'a> {
 }
 
 impl<'a> From<Identifier<'a>> for IdentifierOrString<'a> {
-    ghost use Rattle.weedle_types.specs.declared.attribute.IdentifierOrString.TheVariants.{Identifier};
+    ghost use Rattle.weedle_types.specs.declared.attribute.IdentifierOrString.TheVariants.{
+      Identifier,
+    };
 
     ghost from_gives = { λ v e. e ≡ Identifier v };
 

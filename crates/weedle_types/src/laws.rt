@@ -4,10 +4,29 @@
 //! With these laws the types made of generic parts stand in further parts, as options, lists and brackets.
 
 ghost use Rattle.weedle_base.specs.Rules.{HasRule};
-ghost use Rattle.weedle_parts.specs.ValueTrees.{identifier_tree, may_be_null_tree, parenthesized_tree, punctuated_tree};
-ghost use Rattle.weedle_grammar.specs.Table.SimpleTypes.{IDENTIFIER_LIST, PARENTHESIZED_IDENTIFIER_LIST};
-ghost use Rattle.weedle_grammar.specs.Table.Types.{ARGUMENT_LIST, EXTENDED_ATTRIBUTE_LIST, MAY_BE_NULL_UNION_TYPE, OPT_EXTENDED_ATTRIBUTE_LIST, UNION_TYPE};
-ghost use Rattle.weedle_types.specs.Trees.{argument_list_tree, attributes_tree, extended_attribute_list_tree, union_type_tree};
+ghost use Rattle.weedle_parts.specs.ValueTrees.{
+  identifier_tree,
+  may_be_null_tree,
+  parenthesized_tree,
+  punctuated_tree,
+};
+ghost use Rattle.weedle_grammar.specs.Table.SimpleTypes.{
+  IDENTIFIER_LIST,
+  PARENTHESIZED_IDENTIFIER_LIST,
+};
+ghost use Rattle.weedle_grammar.specs.Table.Types.{
+  ARGUMENT_LIST,
+  EXTENDED_ATTRIBUTE_LIST,
+  MAY_BE_NULL_UNION_TYPE,
+  OPT_EXTENDED_ATTRIBUTE_LIST,
+  UNION_TYPE,
+};
+ghost use Rattle.weedle_types.specs.Trees.{
+  argument_list_tree,
+  attributes_tree,
+  extended_attribute_list_tree,
+  union_type_tree,
+};
 
 use crate::argument::ArgumentList;
 use crate::attribute::{ExtendedAttributeList, IdentifierList};

@@ -2,8 +2,50 @@
 
 ghost use Rattle.weedle_base.specs.Own.{own};
 ghost use Rattle.weedle_base.specs.OwnLaws.{own_lawful};
-ghost use Rattle.weedle_grammar.specs.Table.Types.{ARGUMENT, ATTRIBUTED_NON_ANY_TYPE, ATTRIBUTED_TYPE, EXTENDED_ATTRIBUTE, EXTENDED_ATTRIBUTE_ARG_LIST, EXTENDED_ATTRIBUTE_NAMED_ARG_LIST, FROZEN_ARRAY_TYPE, NON_ANY_TYPE, PARENTHESIZED_ARGUMENT_LIST, PROMISE_TYPE, RECORD_KEY_TYPE, RECORD_TYPE, RECORD_TYPES, RETURN_TYPE, SEQUENCE_TYPE, SINGLE_ARGUMENT, SINGLE_TYPE, TYPE, UNION_MEMBER_TYPE, VARIADIC_ARGUMENT};
-ghost use Rattle.weedle_types.specs.Trees.{argument_tree, arguments_tree, attributed_non_any_type_tree, attributed_type_tree, extended_attribute_arg_list_tree, extended_attribute_named_arg_list_tree, extended_attribute_tree, frozen_array_type_tree, non_any_type_tree, promise_type_tree, record_key_type_tree, record_type_tree, record_types_tree, return_type_tree, sequence_type_tree, single_argument_tree, single_type_tree, type_tree, union_member_type_tree, variadic_argument_tree};
+ghost use Rattle.weedle_grammar.specs.Table.Types.{
+  ARGUMENT,
+  ATTRIBUTED_NON_ANY_TYPE,
+  ATTRIBUTED_TYPE,
+  EXTENDED_ATTRIBUTE,
+  EXTENDED_ATTRIBUTE_ARG_LIST,
+  EXTENDED_ATTRIBUTE_NAMED_ARG_LIST,
+  FROZEN_ARRAY_TYPE,
+  NON_ANY_TYPE,
+  PARENTHESIZED_ARGUMENT_LIST,
+  PROMISE_TYPE,
+  RECORD_KEY_TYPE,
+  RECORD_TYPE,
+  RECORD_TYPES,
+  RETURN_TYPE,
+  SEQUENCE_TYPE,
+  SINGLE_ARGUMENT,
+  SINGLE_TYPE,
+  TYPE,
+  UNION_MEMBER_TYPE,
+  VARIADIC_ARGUMENT,
+};
+ghost use Rattle.weedle_types.specs.Trees.{
+  argument_tree,
+  arguments_tree,
+  attributed_non_any_type_tree,
+  attributed_type_tree,
+  extended_attribute_arg_list_tree,
+  extended_attribute_named_arg_list_tree,
+  extended_attribute_tree,
+  frozen_array_type_tree,
+  non_any_type_tree,
+  promise_type_tree,
+  record_key_type_tree,
+  record_type_tree,
+  record_types_tree,
+  return_type_tree,
+  sequence_type_tree,
+  single_argument_tree,
+  single_type_tree,
+  type_tree,
+  union_member_type_tree,
+  variadic_argument_tree,
+};
 
 use crate::argument::{Argument, ParenthesizedArgumentList, SingleArgument, VariadicArgument};
 use crate::attribute::{

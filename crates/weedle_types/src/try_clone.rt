@@ -2,7 +2,29 @@
 
 ghost use Rattle.std.specs.Prelude.{◌≡◌};
 ghost use Rattle.weedle_base.specs.AlikeLaws.{equal_equivalence, seen_equivalence};
-ghost use Rattle.weedle_types.specs.Trees.{argument_tree, arguments_tree, attributed_non_any_type_tree, attributed_type_tree, extended_attribute_arg_list_tree, extended_attribute_ident_list_tree, extended_attribute_named_arg_list_tree, extended_attribute_tree, frozen_array_type_tree, non_any_type_tree, promise_type_tree, record_key_type_tree, record_type_tree, record_types_tree, return_type_tree, sequence_type_tree, single_argument_tree, single_type_tree, type_tree, union_member_type_tree, variadic_argument_tree};
+ghost use Rattle.weedle_types.specs.Trees.{
+  argument_tree,
+  arguments_tree,
+  attributed_non_any_type_tree,
+  attributed_type_tree,
+  extended_attribute_arg_list_tree,
+  extended_attribute_ident_list_tree,
+  extended_attribute_named_arg_list_tree,
+  extended_attribute_tree,
+  frozen_array_type_tree,
+  non_any_type_tree,
+  promise_type_tree,
+  record_key_type_tree,
+  record_type_tree,
+  record_types_tree,
+  return_type_tree,
+  sequence_type_tree,
+  single_argument_tree,
+  single_type_tree,
+  type_tree,
+  union_member_type_tree,
+  variadic_argument_tree,
+};
 
 use crate::argument::{Argument, ParenthesizedArgumentList, SingleArgument, VariadicArgument};
 use crate::attribute::{

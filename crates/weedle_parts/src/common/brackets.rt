@@ -1,9 +1,27 @@
 //! A body between two brackets.
 
-ghost use Rattle.weedle_grammar.specs.Table.Symbols.{OPEN_PAREN, CLOSE_PAREN, OPEN_BRACKET, CLOSE_BRACKET, OPEN_BRACE, CLOSE_BRACE, LESS_THAN, GREATER_THAN};
+ghost use Rattle.weedle_grammar.specs.Table.Symbols.{
+  OPEN_PAREN,
+  CLOSE_PAREN,
+  OPEN_BRACKET,
+  CLOSE_BRACKET,
+  OPEN_BRACE,
+  CLOSE_BRACE,
+  LESS_THAN,
+  GREATER_THAN,
+};
 ghost use Rattle.weedle_base.specs.AlikeLaws.{seen_equivalence};
 ghost use Rattle.weedle_parts.specs.PartLaws.{bracket_lawful};
-ghost use Rattle.weedle_parts.specs.Brackets.{parenthesized_view, parenthesized_reading, bracketed_view, bracketed_reading, braced_view, braced_reading, generics_view, generics_reading};
+ghost use Rattle.weedle_parts.specs.Brackets.{
+  parenthesized_view,
+  parenthesized_reading,
+  bracketed_view,
+  bracketed_reading,
+  braced_view,
+  braced_reading,
+  generics_view,
+  generics_reading,
+};
 
 use std::alloc::{AllocError, Global};
 use weedle_base::{IResult, Parse, TryClone};

@@ -3,7 +3,11 @@
 ghost use Rattle.weedle_base.specs.Alike.{all_alike};
 ghost use Rattle.weedle_base.specs.AlikeLaws.{all_equivalence, pair_equivalence, seen_equivalence};
 ghost use Rattle.weedle_base.specs.Reading.{Answers};
-ghost use Rattle.weedle_parts.specs.Lists.{after_first, punctuated_reading, punctuated_non_empty_reading};
+ghost use Rattle.weedle_parts.specs.Lists.{
+  after_first,
+  punctuated_reading,
+  punctuated_non_empty_reading,
+};
 ghost use Rattle.weedle_parts.specs.ListLaws.{punctuated_lawful, punctuated_non_empty_lawful};
 
 use std::alloc::{AllocError, Global};

@@ -70,7 +70,9 @@ impl From<MayBeNull<IntegerType>> for ConstType<'_> {
 }
 
 impl From<MayBeNull<FloatingPointType>> for ConstType<'_> {
-    ghost use Rattle.weedle_parts.specs.declared.types.const_type.ConstType.TheVariants.{FloatingPoint};
+    ghost use Rattle.weedle_parts.specs.declared.types.const_type.ConstType.TheVariants.{
+      FloatingPoint,
+    };
 
     ghost from_gives = { λ v e. e ≡ FloatingPoint v };
 
@@ -110,7 +112,9 @@ impl From<MayBeNull<Octet>> for ConstType<'_> {
 }
 
 impl<'a> From<MayBeNull<Identifier<'a>>> for ConstType<'a> {
-    ghost use Rattle.weedle_parts.specs.declared.types.const_type.ConstType.TheVariants.{Identifier};
+    ghost use Rattle.weedle_parts.specs.declared.types.const_type.ConstType.TheVariants.{
+      Identifier,
+    };
 
     ghost from_gives = { λ v e. e ≡ Identifier v };
 

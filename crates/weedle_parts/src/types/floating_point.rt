@@ -1,10 +1,18 @@
 //! The types of floating-point numbers.
 
 ghost use Rattle.std.specs.Prelude.{◌≡◌};
-ghost use Rattle.weedle_grammar.specs.Table.SimpleTypes.{FLOAT_TYPE, DOUBLE_TYPE, FLOATING_POINT_TYPE};
+ghost use Rattle.weedle_grammar.specs.Table.SimpleTypes.{
+  FLOAT_TYPE,
+  DOUBLE_TYPE,
+  FLOATING_POINT_TYPE,
+};
 ghost use Rattle.weedle_base.specs.Own.{own};
 ghost use Rattle.weedle_base.specs.OwnLaws.{own_lawful};
-ghost use Rattle.weedle_parts.specs.ValueTrees.{float_type_tree, double_type_tree, floating_point_type_tree};
+ghost use Rattle.weedle_parts.specs.ValueTrees.{
+  float_type_tree,
+  double_type_tree,
+  floating_point_type_tree,
+};
 
 use std::alloc::Global;
 use weedle_base::{IResult, Parse};
@@ -91,7 +99,9 @@ impl<'a> Parse<'a> for FloatingPointType {
 }
 
 impl From<FloatType> for FloatingPointType {
-    ghost use Rattle.weedle_parts.specs.declared.types.floating_point.FloatingPointType.TheVariants.{Float};
+    ghost use Rattle.weedle_parts.specs.declared.types.floating_point.FloatingPointType.TheVariants.{
+      Float,
+    };
 
     ghost from_gives = { λ v e. e ≡ Float v };
 
@@ -101,7 +111,9 @@ impl From<FloatType> for FloatingPointType {
 }
 
 impl From<DoubleType> for FloatingPointType {
-    ghost use Rattle.weedle_parts.specs.declared.types.floating_point.FloatingPointType.TheVariants.{Double};
+    ghost use Rattle.weedle_parts.specs.declared.types.floating_point.FloatingPointType.TheVariants.{
+      Double,
+    };
 
     ghost from_gives = { λ v e. e ≡ Double v };
 

@@ -1,10 +1,20 @@
 //! The types of integers.
 
 ghost use Rattle.std.specs.Prelude.{◌≡◌};
-ghost use Rattle.weedle_grammar.specs.Table.SimpleTypes.{LONG_LONG_TYPE, LONG_TYPE, SHORT_TYPE, INTEGER_TYPE};
+ghost use Rattle.weedle_grammar.specs.Table.SimpleTypes.{
+  LONG_LONG_TYPE,
+  LONG_TYPE,
+  SHORT_TYPE,
+  INTEGER_TYPE,
+};
 ghost use Rattle.weedle_base.specs.Own.{own};
 ghost use Rattle.weedle_base.specs.OwnLaws.{own_lawful};
-ghost use Rattle.weedle_parts.specs.ValueTrees.{long_long_type_tree, long_type_tree, short_type_tree, integer_type_tree};
+ghost use Rattle.weedle_parts.specs.ValueTrees.{
+  long_long_type_tree,
+  long_type_tree,
+  short_type_tree,
+  integer_type_tree,
+};
 
 use std::alloc::Global;
 use weedle_base::{IResult, Parse};

@@ -1,7 +1,11 @@
 //! A type that may be null.
 
 ghost use Rattle.std.specs.Prelude.{◌≡◌};
-ghost use Rattle.weedle_base.specs.AlikeLaws.{equal_equivalence, seen_equivalence, pair_equivalence};
+ghost use Rattle.weedle_base.specs.AlikeLaws.{
+  equal_equivalence,
+  seen_equivalence,
+  pair_equivalence,
+};
 ghost use Rattle.weedle_parts.specs.MayBeNull.{may_be_null_reading};
 ghost use Rattle.weedle_parts.specs.PartLaws.{may_be_null_lawful};
 

@@ -1,7 +1,14 @@
 //! Rows without parts: bytes, a byte of a class, a run of them, everything past some bytes.
 
 ghost use Rattle.std.specs.Prelude.{◌≡◌, ◌≤◌, ◌<◌, true, length, drop};
-ghost use Rattle.weedle_grammar.specs.Rows.{begins as begins_with, Bytes, OneOf, NotNext, Run, Past};
+ghost use Rattle.weedle_grammar.specs.Rows.{
+  begins as begins_with,
+  Bytes,
+  OneOf,
+  NotNext,
+  Run,
+  Past,
+};
 ghost use Rattle.weedle_grammar.specs.Table.{row_of};
 ghost use Rattle.weedle_rules.specs.Filling.{IsBegun, IsWorked};
 

@@ -1,10 +1,32 @@
 //! The laws of names, numbers, strings and docstrings.
 
-ghost use Rattle.weedle_literal.specs.LiteralTrees.{dec_tree, hex_tree, oct_tree, float_value_tree, string_tree};
+ghost use Rattle.weedle_literal.specs.LiteralTrees.{
+  dec_tree,
+  hex_tree,
+  oct_tree,
+  float_value_tree,
+  string_tree,
+};
 ghost use Rattle.weedle_parts.specs.ValueTrees.{identifier_tree, docstring_tree};
-ghost use Rattle.weedle_grammar.specs.Table.Leaves.{IDENTIFIER, DEC_LIT, HEX_LIT, OCT_LIT, FLOAT_VALUE_LIT, STRING_LIT, DOCSTRING};
+ghost use Rattle.weedle_grammar.specs.Table.Leaves.{
+  IDENTIFIER,
+  DEC_LIT,
+  HEX_LIT,
+  OCT_LIT,
+  FLOAT_VALUE_LIT,
+  STRING_LIT,
+  DOCSTRING,
+};
 ghost use Rattle.weedle_spell.specs.Laws.{SpellsExactly, SpellsValues};
-ghost use Rattle.weedle_spell.specs.Leaves.{identifier_spelling, dec_spelling, hex_spelling, oct_spelling, float_value_spelling, string_spelling, docstring_spelling};
+ghost use Rattle.weedle_spell.specs.Leaves.{
+  identifier_spelling,
+  dec_spelling,
+  hex_spelling,
+  oct_spelling,
+  float_value_spelling,
+  string_spelling,
+  docstring_spelling,
+};
 
 /// A name, as `_name`, is its letters: the underscore is not of it.
 #[tactic(auto, using(crate::proofs::LeafLaws::identifier_law))]

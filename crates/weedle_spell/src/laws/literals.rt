@@ -1,9 +1,36 @@
 //! The laws of literals and defaults.
 
-ghost use Rattle.weedle_literal.specs.LiteralTrees.{integer_tree, float_tree, boolean_tree, empty_array_tree, empty_dictionary_tree, default_value_tree, const_value_tree, default_tree};
-ghost use Rattle.weedle_grammar.specs.Table.Literals.{INTEGER_LIT, FLOAT_LIT, BOOLEAN_LIT, EMPTY_ARRAY_LIT, EMPTY_DICTIONARY_LIT, DEFAULT_VALUE, CONST_VALUE, DEFAULT};
+ghost use Rattle.weedle_literal.specs.LiteralTrees.{
+  integer_tree,
+  float_tree,
+  boolean_tree,
+  empty_array_tree,
+  empty_dictionary_tree,
+  default_value_tree,
+  const_value_tree,
+  default_tree,
+};
+ghost use Rattle.weedle_grammar.specs.Table.Literals.{
+  INTEGER_LIT,
+  FLOAT_LIT,
+  BOOLEAN_LIT,
+  EMPTY_ARRAY_LIT,
+  EMPTY_DICTIONARY_LIT,
+  DEFAULT_VALUE,
+  CONST_VALUE,
+  DEFAULT,
+};
 ghost use Rattle.weedle_spell.specs.Laws.{SpellsValues};
-ghost use Rattle.weedle_spell.specs.Literals.{integer_spelling, float_spelling, boolean_spelling, empty_array_spelling, empty_dictionary_spelling, default_value_spelling, const_value_spelling, default_spelling};
+ghost use Rattle.weedle_spell.specs.Literals.{
+  integer_spelling,
+  float_spelling,
+  boolean_spelling,
+  empty_array_spelling,
+  empty_dictionary_spelling,
+  default_value_spelling,
+  const_value_spelling,
+  default_spelling,
+};
 
 /// A whole number, as `-12`, `0x1F` and `017`.
 #[tactic(auto, using(crate::proofs::LiteralLaws::integer_law))]

@@ -1,9 +1,36 @@
 //! The laws of the types that hold no other type.
 
-ghost use Rattle.weedle_parts.specs.ValueTrees.{long_long_type_tree, long_type_tree, short_type_tree, integer_type_tree, float_type_tree, double_type_tree, floating_point_type_tree, const_type_tree};
-ghost use Rattle.weedle_grammar.specs.Table.SimpleTypes.{LONG_LONG_TYPE, LONG_TYPE, SHORT_TYPE, INTEGER_TYPE, FLOAT_TYPE, DOUBLE_TYPE, FLOATING_POINT_TYPE, CONST_TYPE};
+ghost use Rattle.weedle_parts.specs.ValueTrees.{
+  long_long_type_tree,
+  long_type_tree,
+  short_type_tree,
+  integer_type_tree,
+  float_type_tree,
+  double_type_tree,
+  floating_point_type_tree,
+  const_type_tree,
+};
+ghost use Rattle.weedle_grammar.specs.Table.SimpleTypes.{
+  LONG_LONG_TYPE,
+  LONG_TYPE,
+  SHORT_TYPE,
+  INTEGER_TYPE,
+  FLOAT_TYPE,
+  DOUBLE_TYPE,
+  FLOATING_POINT_TYPE,
+  CONST_TYPE,
+};
 ghost use Rattle.weedle_spell.specs.Laws.{SpellsValues};
-ghost use Rattle.weedle_spell.specs.SimpleTypes.{long_long_type_spelling, long_type_spelling, short_type_spelling, integer_type_spelling, float_type_spelling, double_type_spelling, floating_point_type_spelling, const_type_spelling};
+ghost use Rattle.weedle_spell.specs.SimpleTypes.{
+  long_long_type_spelling,
+  long_type_spelling,
+  short_type_spelling,
+  integer_type_spelling,
+  float_type_spelling,
+  double_type_spelling,
+  floating_point_type_spelling,
+  const_type_spelling,
+};
 
 /// `unsigned long long` and `long long`.
 #[tactic(auto, using(crate::proofs::SimpleTypeLaws::long_long_type_law))]

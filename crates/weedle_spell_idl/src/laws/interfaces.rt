@@ -1,13 +1,42 @@
 //! The laws of the members of interfaces, of interfaces and of mixins.
 
-ghost use Rattle.weedle_grammar.specs.Table.Definitions.{CALLBACK_INTERFACE_DEFINITION, INTERFACE_DEFINITION, INTERFACE_MIXIN_DEFINITION, PARTIAL_INTERFACE_DEFINITION, PARTIAL_INTERFACE_MIXIN_DEFINITION};
-ghost use Rattle.weedle_grammar.specs.Table.InterfaceMembers.{BRACED_INTERFACE_MEMBERS, INTERFACE_MEMBER, INTERFACE_MEMBERS};
+ghost use Rattle.weedle_grammar.specs.Table.Definitions.{
+  CALLBACK_INTERFACE_DEFINITION,
+  INTERFACE_DEFINITION,
+  INTERFACE_MIXIN_DEFINITION,
+  PARTIAL_INTERFACE_DEFINITION,
+  PARTIAL_INTERFACE_MIXIN_DEFINITION,
+};
+ghost use Rattle.weedle_grammar.specs.Table.InterfaceMembers.{
+  BRACED_INTERFACE_MEMBERS,
+  INTERFACE_MEMBER,
+  INTERFACE_MEMBERS,
+};
 ghost use Rattle.weedle_types.specs.PartTrees.{members_tree};
-ghost use Rattle.weedle_interfaces.specs.Trees.{callback_interface_definition_tree, interface_definition_tree, partial_interface_definition_tree};
-ghost use Rattle.weedle_mixins.specs.Trees.{interface_mixin_definition_tree, partial_interface_mixin_definition_tree};
-ghost use Rattle.weedle_interfaces.specs.Trees.{braced_interface_members_tree, interface_member_tree};
+ghost use Rattle.weedle_interfaces.specs.Trees.{
+  callback_interface_definition_tree,
+  interface_definition_tree,
+  partial_interface_definition_tree,
+};
+ghost use Rattle.weedle_mixins.specs.Trees.{
+  interface_mixin_definition_tree,
+  partial_interface_mixin_definition_tree,
+};
+ghost use Rattle.weedle_interfaces.specs.Trees.{
+  braced_interface_members_tree,
+  interface_member_tree,
+};
 ghost use Rattle.weedle_spell.specs.Laws.{SpellsValues};
-ghost use Rattle.weedle_spell_idl.specs.Interfaces.{braced_interface_members_spelling, callback_interface_definition_spelling, interface_definition_spelling, interface_member_spelling, interface_members_spelling, interface_mixin_definition_spelling, partial_interface_definition_spelling, partial_interface_mixin_definition_spelling};
+ghost use Rattle.weedle_spell_idl.specs.Interfaces.{
+  braced_interface_members_spelling,
+  callback_interface_definition_spelling,
+  interface_definition_spelling,
+  interface_member_spelling,
+  interface_members_spelling,
+  interface_mixin_definition_spelling,
+  partial_interface_definition_spelling,
+  partial_interface_mixin_definition_spelling,
+};
 
 /// A member of an interface, as `attribute long length;`.
 #[tactic(auto, using(crate::proofs::InterfaceLaws::interface_member_law))]

@@ -1,10 +1,38 @@
 //! The laws of iterations, maps and sets.
 
-ghost use Rattle.weedle_grammar.specs.Table.InterfaceMembers.{ASYNC_ITERABLE_INTERFACE_MEMBER, DOUBLE_TYPED_ASYNC_ITERABLE, DOUBLE_TYPED_ITERABLE, ITERABLE_INTERFACE_MEMBER, MAPLIKE_INTERFACE_MEMBER, SETLIKE_INTERFACE_MEMBER, SINGLE_TYPED_ASYNC_ITERABLE, SINGLE_TYPED_ITERABLE};
-ghost use Rattle.weedle_async_iterables.specs.Trees.{async_iterable_interface_member_tree, double_typed_async_iterable_tree, single_typed_async_iterable_tree};
-ghost use Rattle.weedle_iterables.specs.Trees.{double_typed_iterable_tree, iterable_interface_member_tree, maplike_interface_member_tree, setlike_interface_member_tree, single_typed_iterable_tree};
+ghost use Rattle.weedle_grammar.specs.Table.InterfaceMembers.{
+  ASYNC_ITERABLE_INTERFACE_MEMBER,
+  DOUBLE_TYPED_ASYNC_ITERABLE,
+  DOUBLE_TYPED_ITERABLE,
+  ITERABLE_INTERFACE_MEMBER,
+  MAPLIKE_INTERFACE_MEMBER,
+  SETLIKE_INTERFACE_MEMBER,
+  SINGLE_TYPED_ASYNC_ITERABLE,
+  SINGLE_TYPED_ITERABLE,
+};
+ghost use Rattle.weedle_async_iterables.specs.Trees.{
+  async_iterable_interface_member_tree,
+  double_typed_async_iterable_tree,
+  single_typed_async_iterable_tree,
+};
+ghost use Rattle.weedle_iterables.specs.Trees.{
+  double_typed_iterable_tree,
+  iterable_interface_member_tree,
+  maplike_interface_member_tree,
+  setlike_interface_member_tree,
+  single_typed_iterable_tree,
+};
 ghost use Rattle.weedle_spell.specs.Laws.{SpellsValues};
-ghost use Rattle.weedle_spell_idl.specs.Iterables.{async_iterable_interface_member_spelling, double_typed_async_iterable_spelling, double_typed_iterable_spelling, iterable_interface_member_spelling, maplike_interface_member_spelling, setlike_interface_member_spelling, single_typed_async_iterable_spelling, single_typed_iterable_spelling};
+ghost use Rattle.weedle_spell_idl.specs.Iterables.{
+  async_iterable_interface_member_spelling,
+  double_typed_async_iterable_spelling,
+  double_typed_iterable_spelling,
+  iterable_interface_member_spelling,
+  maplike_interface_member_spelling,
+  setlike_interface_member_spelling,
+  single_typed_async_iterable_spelling,
+  single_typed_iterable_spelling,
+};
 
 /// An iteration over values, as `iterable<long>;`.
 #[tactic(auto, using(crate::proofs::IterableLaws::single_typed_iterable_law))]

@@ -1,13 +1,47 @@
 //! The laws of constants, attributes, operations, constructors and stringifiers of interfaces, and of
 //! the members of mixins.
 
-ghost use Rattle.weedle_grammar.specs.Table.InterfaceMembers.{ATTRIBUTE_INTERFACE_MEMBER, CONSTRUCTOR_INTERFACE_MEMBER, CONST_MEMBER, OPERATION_INTERFACE_MEMBER, STRINGIFIER_MEMBER};
-ghost use Rattle.weedle_grammar.specs.Table.OtherMembers.{ATTRIBUTE_MIXIN_MEMBER, BRACED_MIXIN_MEMBERS, MIXIN_MEMBER, MIXIN_MEMBERS, OPERATION_MIXIN_MEMBER};
+ghost use Rattle.weedle_grammar.specs.Table.InterfaceMembers.{
+  ATTRIBUTE_INTERFACE_MEMBER,
+  CONSTRUCTOR_INTERFACE_MEMBER,
+  CONST_MEMBER,
+  OPERATION_INTERFACE_MEMBER,
+  STRINGIFIER_MEMBER,
+};
+ghost use Rattle.weedle_grammar.specs.Table.OtherMembers.{
+  ATTRIBUTE_MIXIN_MEMBER,
+  BRACED_MIXIN_MEMBERS,
+  MIXIN_MEMBER,
+  MIXIN_MEMBERS,
+  OPERATION_MIXIN_MEMBER,
+};
 ghost use Rattle.weedle_types.specs.PartTrees.{members_tree};
-ghost use Rattle.weedle_members.specs.Trees.{attribute_interface_member_tree, const_member_tree, constructor_interface_member_tree, operation_interface_member_tree, stringifier_member_tree};
-ghost use Rattle.weedle_mixins.specs.Trees.{attribute_mixin_member_tree, braced_mixin_members_tree, mixin_member_tree, operation_mixin_member_tree};
+ghost use Rattle.weedle_members.specs.Trees.{
+  attribute_interface_member_tree,
+  const_member_tree,
+  constructor_interface_member_tree,
+  operation_interface_member_tree,
+  stringifier_member_tree,
+};
+ghost use Rattle.weedle_mixins.specs.Trees.{
+  attribute_mixin_member_tree,
+  braced_mixin_members_tree,
+  mixin_member_tree,
+  operation_mixin_member_tree,
+};
 ghost use Rattle.weedle_spell.specs.Laws.{SpellsValues};
-ghost use Rattle.weedle_spell_idl.specs.Members.{attribute_interface_member_spelling, attribute_mixin_member_spelling, braced_mixin_members_spelling, const_member_spelling, constructor_interface_member_spelling, mixin_member_spelling, mixin_members_spelling, operation_interface_member_spelling, operation_mixin_member_spelling, stringifier_member_spelling};
+ghost use Rattle.weedle_spell_idl.specs.Members.{
+  attribute_interface_member_spelling,
+  attribute_mixin_member_spelling,
+  braced_mixin_members_spelling,
+  const_member_spelling,
+  constructor_interface_member_spelling,
+  mixin_member_spelling,
+  mixin_members_spelling,
+  operation_interface_member_spelling,
+  operation_mixin_member_spelling,
+  stringifier_member_spelling,
+};
 
 /// A constant, as `const long X = 5;`.
 #[tactic(auto, using(crate::proofs::MemberLaws::const_member_law))]

@@ -1,9 +1,24 @@
 //! The laws of what is inherited from, and of the words before a member.
 
-ghost use Rattle.weedle_grammar.specs.Table.InterfaceMembers.{INHERITANCE, SPECIAL, STRINGIFIER_OR_INHERIT_OR_STATIC, STRINGIFIER_OR_STATIC};
-ghost use Rattle.weedle_modifier.specs.Trees.{inheritance_tree, special_tree, stringifier_or_inherit_or_static_tree, stringifier_or_static_tree};
+ghost use Rattle.weedle_grammar.specs.Table.InterfaceMembers.{
+  INHERITANCE,
+  SPECIAL,
+  STRINGIFIER_OR_INHERIT_OR_STATIC,
+  STRINGIFIER_OR_STATIC,
+};
+ghost use Rattle.weedle_modifier.specs.Trees.{
+  inheritance_tree,
+  special_tree,
+  stringifier_or_inherit_or_static_tree,
+  stringifier_or_static_tree,
+};
 ghost use Rattle.weedle_spell.specs.Laws.{SpellsValues};
-ghost use Rattle.weedle_spell_idl.specs.Modifiers.{inheritance_spelling, special_spelling, stringifier_or_inherit_or_static_spelling, stringifier_or_static_spelling};
+ghost use Rattle.weedle_spell_idl.specs.Modifiers.{
+  inheritance_spelling,
+  special_spelling,
+  stringifier_or_inherit_or_static_spelling,
+  stringifier_or_static_spelling,
+};
 
 /// What an interface or a dictionary inherits from, as `: Node`.
 #[tactic(auto, using(crate::proofs::ModifierLaws::inheritance_law))]

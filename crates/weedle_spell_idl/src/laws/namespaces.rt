@@ -1,11 +1,49 @@
 //! The laws of namespaces and dictionaries, and of their members.
 
-ghost use Rattle.weedle_grammar.specs.Table.Definitions.{DICTIONARY_DEFINITION, NAMESPACE_DEFINITION, PARTIAL_DICTIONARY_DEFINITION, PARTIAL_NAMESPACE_DEFINITION};
-ghost use Rattle.weedle_grammar.specs.Table.OtherMembers.{ATTRIBUTE_NAMESPACE_MEMBER, BRACED_DICTIONARY_MEMBERS, BRACED_NAMESPACE_MEMBERS, DICTIONARY_MEMBER, DICTIONARY_MEMBERS, NAMESPACE_MEMBER, NAMESPACE_MEMBERS, OPERATION_NAMESPACE_MEMBER};
+ghost use Rattle.weedle_grammar.specs.Table.Definitions.{
+  DICTIONARY_DEFINITION,
+  NAMESPACE_DEFINITION,
+  PARTIAL_DICTIONARY_DEFINITION,
+  PARTIAL_NAMESPACE_DEFINITION,
+};
+ghost use Rattle.weedle_grammar.specs.Table.OtherMembers.{
+  ATTRIBUTE_NAMESPACE_MEMBER,
+  BRACED_DICTIONARY_MEMBERS,
+  BRACED_NAMESPACE_MEMBERS,
+  DICTIONARY_MEMBER,
+  DICTIONARY_MEMBERS,
+  NAMESPACE_MEMBER,
+  NAMESPACE_MEMBERS,
+  OPERATION_NAMESPACE_MEMBER,
+};
 ghost use Rattle.weedle_types.specs.PartTrees.{members_tree};
-ghost use Rattle.weedle_namespaces.specs.Trees.{attribute_namespace_member_tree, braced_dictionary_members_tree, braced_namespace_members_tree, dictionary_definition_tree, dictionary_member_tree, namespace_definition_tree, namespace_member_tree, operation_namespace_member_tree, partial_dictionary_definition_tree, partial_namespace_definition_tree};
+ghost use Rattle.weedle_namespaces.specs.Trees.{
+  attribute_namespace_member_tree,
+  braced_dictionary_members_tree,
+  braced_namespace_members_tree,
+  dictionary_definition_tree,
+  dictionary_member_tree,
+  namespace_definition_tree,
+  namespace_member_tree,
+  operation_namespace_member_tree,
+  partial_dictionary_definition_tree,
+  partial_namespace_definition_tree,
+};
 ghost use Rattle.weedle_spell.specs.Laws.{SpellsValues};
-ghost use Rattle.weedle_spell_idl.specs.Namespaces.{attribute_namespace_member_spelling, braced_dictionary_members_spelling, braced_namespace_members_spelling, dictionary_definition_spelling, dictionary_member_spelling, dictionary_members_spelling, namespace_definition_spelling, namespace_member_spelling, namespace_members_spelling, operation_namespace_member_spelling, partial_dictionary_definition_spelling, partial_namespace_definition_spelling};
+ghost use Rattle.weedle_spell_idl.specs.Namespaces.{
+  attribute_namespace_member_spelling,
+  braced_dictionary_members_spelling,
+  braced_namespace_members_spelling,
+  dictionary_definition_spelling,
+  dictionary_member_spelling,
+  dictionary_members_spelling,
+  namespace_definition_spelling,
+  namespace_member_spelling,
+  namespace_members_spelling,
+  operation_namespace_member_spelling,
+  partial_dictionary_definition_spelling,
+  partial_namespace_definition_spelling,
+};
 
 /// An operation of a namespace, as `long f(long x);`.
 #[tactic(auto, using(crate::proofs::NamespaceLaws::operation_namespace_member_law))]

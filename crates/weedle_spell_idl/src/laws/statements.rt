@@ -1,11 +1,32 @@
 //! The laws of definitions without members.
 
-ghost use Rattle.weedle_grammar.specs.Table.Definitions.{CALLBACK_DEFINITION, ENUM_DEFINITION, IMPLEMENTS_DEFINITION, INCLUDES_STATEMENT_DEFINITION, TYPEDEF_DEFINITION};
+ghost use Rattle.weedle_grammar.specs.Table.Definitions.{
+  CALLBACK_DEFINITION,
+  ENUM_DEFINITION,
+  IMPLEMENTS_DEFINITION,
+  INCLUDES_STATEMENT_DEFINITION,
+  TYPEDEF_DEFINITION,
+};
 ghost use Rattle.weedle_grammar.specs.Table.OtherMembers.{ENUM_VALUE_LIST, ENUM_VARIANT};
 ghost use Rattle.weedle_parts.specs.ValueTrees.{punctuated_non_empty_tree};
-ghost use Rattle.weedle_statements.specs.Trees.{callback_definition_tree, enum_definition_tree, enum_variant_tree, implements_definition_tree, includes_statement_definition_tree, typedef_definition_tree};
+ghost use Rattle.weedle_statements.specs.Trees.{
+  callback_definition_tree,
+  enum_definition_tree,
+  enum_variant_tree,
+  implements_definition_tree,
+  includes_statement_definition_tree,
+  typedef_definition_tree,
+};
 ghost use Rattle.weedle_spell.specs.Laws.{SpellsValues};
-ghost use Rattle.weedle_spell_idl.specs.Statements.{callback_definition_spelling, enum_definition_spelling, enum_value_list_spelling, enum_variant_spelling, implements_definition_spelling, includes_statement_definition_spelling, typedef_definition_spelling};
+ghost use Rattle.weedle_spell_idl.specs.Statements.{
+  callback_definition_spelling,
+  enum_definition_spelling,
+  enum_value_list_spelling,
+  enum_variant_spelling,
+  implements_definition_spelling,
+  includes_statement_definition_spelling,
+  typedef_definition_spelling,
+};
 
 /// A value of an enum, as `"blob"`.
 #[tactic(auto, using(crate::proofs::StatementLaws::enum_variant_law))]

@@ -1,10 +1,41 @@
 //! The laws of arguments, and of attributes that may have arguments.
 
-ghost use Rattle.weedle_types.specs.Trees.{argument_tree, single_argument_tree, variadic_argument_tree, argument_list_tree, arguments_tree, extended_attribute_tree, extended_attribute_arg_list_tree, extended_attribute_named_arg_list_tree, extended_attribute_list_tree};
-ghost use Rattle.weedle_grammar.specs.Table.Types.{ARGUMENT, SINGLE_ARGUMENT, VARIADIC_ARGUMENT, ARGUMENT_LIST, PARENTHESIZED_ARGUMENT_LIST, EXTENDED_ATTRIBUTE, EXTENDED_ATTRIBUTE_ARG_LIST, EXTENDED_ATTRIBUTE_NAMED_ARG_LIST, EXTENDED_ATTRIBUTE_LIST};
+ghost use Rattle.weedle_types.specs.Trees.{
+  argument_tree,
+  single_argument_tree,
+  variadic_argument_tree,
+  argument_list_tree,
+  arguments_tree,
+  extended_attribute_tree,
+  extended_attribute_arg_list_tree,
+  extended_attribute_named_arg_list_tree,
+  extended_attribute_list_tree,
+};
+ghost use Rattle.weedle_grammar.specs.Table.Types.{
+  ARGUMENT,
+  SINGLE_ARGUMENT,
+  VARIADIC_ARGUMENT,
+  ARGUMENT_LIST,
+  PARENTHESIZED_ARGUMENT_LIST,
+  EXTENDED_ATTRIBUTE,
+  EXTENDED_ATTRIBUTE_ARG_LIST,
+  EXTENDED_ATTRIBUTE_NAMED_ARG_LIST,
+  EXTENDED_ATTRIBUTE_LIST,
+};
 ghost use Rattle.weedle_spell.specs.Laws.{SpellsValues};
-ghost use Rattle.weedle_spell_types.specs.Arguments.{single_argument_spelling, variadic_argument_spelling, argument_list_spelling, arguments_spelling, extended_attribute_arg_list_spelling, extended_attribute_named_arg_list_spelling, extended_attribute_list_spelling};
-ghost use Rattle.weedle_spell_types.specs.RecursiveTypes.{argument_spelling, extended_attribute_spelling};
+ghost use Rattle.weedle_spell_types.specs.Arguments.{
+  single_argument_spelling,
+  variadic_argument_spelling,
+  argument_list_spelling,
+  arguments_spelling,
+  extended_attribute_arg_list_spelling,
+  extended_attribute_named_arg_list_spelling,
+  extended_attribute_list_spelling,
+};
+ghost use Rattle.weedle_spell_types.specs.RecursiveTypes.{
+  argument_spelling,
+  extended_attribute_spelling,
+};
 
 /// An argument, as `long x` and `long... xs`.
 #[tactic(auto, using(crate::proofs::ArgumentLaws::argument_law))]

@@ -1,11 +1,27 @@
 //! The laws of attributes without arguments.
 
 ghost use Rattle.weedle_parts.specs.ValueTrees.{identifier_tree, punctuated_tree};
-ghost use Rattle.weedle_types.specs.Trees.{identifier_or_string_tree, extended_attribute_ident_tree, extended_attribute_ident_list_tree, extended_attribute_no_args_tree};
+ghost use Rattle.weedle_types.specs.Trees.{
+  identifier_or_string_tree,
+  extended_attribute_ident_tree,
+  extended_attribute_ident_list_tree,
+  extended_attribute_no_args_tree,
+};
 ghost use Rattle.weedle_grammar.specs.Table.SimpleTypes.{IDENTIFIER_LIST};
-ghost use Rattle.weedle_grammar.specs.Table.Types.{IDENTIFIER_OR_STRING, EXTENDED_ATTRIBUTE_IDENT, EXTENDED_ATTRIBUTE_IDENT_LIST, EXTENDED_ATTRIBUTE_NO_ARGS};
+ghost use Rattle.weedle_grammar.specs.Table.Types.{
+  IDENTIFIER_OR_STRING,
+  EXTENDED_ATTRIBUTE_IDENT,
+  EXTENDED_ATTRIBUTE_IDENT_LIST,
+  EXTENDED_ATTRIBUTE_NO_ARGS,
+};
 ghost use Rattle.weedle_spell.specs.Laws.{SpellsValues};
-ghost use Rattle.weedle_spell_types.specs.PlainAttributes.{identifier_or_string_spelling, identifier_list_spelling, extended_attribute_ident_spelling, extended_attribute_ident_list_spelling, extended_attribute_no_args_spelling};
+ghost use Rattle.weedle_spell_types.specs.PlainAttributes.{
+  identifier_or_string_spelling,
+  identifier_list_spelling,
+  extended_attribute_ident_spelling,
+  extended_attribute_ident_list_spelling,
+  extended_attribute_no_args_spelling,
+};
 
 /// A name or a string, as `name` and `"name"`.
 #[tactic(auto, using(crate::proofs::PlainAttributeLaws::identifier_or_string_law))]

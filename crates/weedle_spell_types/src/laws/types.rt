@@ -1,10 +1,56 @@
 //! The laws of types.
 
-ghost use Rattle.weedle_types.specs.Trees.{type_tree, single_type_tree, non_any_type_tree, sequence_type_tree, frozen_array_type_tree, promise_type_tree, record_type_tree, record_types_tree, record_key_type_tree, return_type_tree, union_type_tree, union_member_type_tree, attributed_type_tree, attributed_non_any_type_tree};
-ghost use Rattle.weedle_grammar.specs.Table.Types.{TYPE, SINGLE_TYPE, NON_ANY_TYPE, SEQUENCE_TYPE, FROZEN_ARRAY_TYPE, PROMISE_TYPE, RECORD_TYPE, RECORD_TYPES, RECORD_KEY_TYPE, RETURN_TYPE, UNION_TYPE, UNION_MEMBER_TYPE, ATTRIBUTED_TYPE, ATTRIBUTED_NON_ANY_TYPE};
+ghost use Rattle.weedle_types.specs.Trees.{
+  type_tree,
+  single_type_tree,
+  non_any_type_tree,
+  sequence_type_tree,
+  frozen_array_type_tree,
+  promise_type_tree,
+  record_type_tree,
+  record_types_tree,
+  record_key_type_tree,
+  return_type_tree,
+  union_type_tree,
+  union_member_type_tree,
+  attributed_type_tree,
+  attributed_non_any_type_tree,
+};
+ghost use Rattle.weedle_grammar.specs.Table.Types.{
+  TYPE,
+  SINGLE_TYPE,
+  NON_ANY_TYPE,
+  SEQUENCE_TYPE,
+  FROZEN_ARRAY_TYPE,
+  PROMISE_TYPE,
+  RECORD_TYPE,
+  RECORD_TYPES,
+  RECORD_KEY_TYPE,
+  RETURN_TYPE,
+  UNION_TYPE,
+  UNION_MEMBER_TYPE,
+  ATTRIBUTED_TYPE,
+  ATTRIBUTED_NON_ANY_TYPE,
+};
 ghost use Rattle.weedle_spell.specs.Laws.{SpellsValues};
-ghost use Rattle.weedle_spell_types.specs.RecursiveTypes.{type_spelling, non_any_type_spelling, union_member_type_spelling};
-ghost use Rattle.weedle_spell_types.specs.Types.{single_type_spelling, sequence_type_spelling, frozen_array_type_spelling, promise_type_spelling, record_type_spelling, record_types_spelling, record_key_type_spelling, return_type_spelling, union_type_spelling, attributed_type_spelling, attributed_non_any_type_spelling};
+ghost use Rattle.weedle_spell_types.specs.RecursiveTypes.{
+  type_spelling,
+  non_any_type_spelling,
+  union_member_type_spelling,
+};
+ghost use Rattle.weedle_spell_types.specs.Types.{
+  single_type_spelling,
+  sequence_type_spelling,
+  frozen_array_type_spelling,
+  promise_type_spelling,
+  record_type_spelling,
+  record_types_spelling,
+  record_key_type_spelling,
+  return_type_spelling,
+  union_type_spelling,
+  attributed_type_spelling,
+  attributed_non_any_type_spelling,
+};
 
 /// A type, as `long`, `any` and `(long or DOMString)?`.
 #[tactic(auto, using(crate::proofs::TypeLaws::type_law))]

@@ -2,7 +2,12 @@
 #![tactic(auto, using(crate::proofs::TreeLaws::clone_steps))]
 
 ghost use Rattle.std.specs.Prelude.{◌≡◌, IfOk, map};
-ghost use Rattle.weedle_types.specs.Trees.{argument_tree, arguments_tree, single_argument_tree, variadic_argument_tree};
+ghost use Rattle.weedle_types.specs.Trees.{
+  argument_tree,
+  arguments_tree,
+  single_argument_tree,
+  variadic_argument_tree,
+};
 
 use super::attributes::clone_attributes;
 use super::types::{clone_attributed_type, clone_type};

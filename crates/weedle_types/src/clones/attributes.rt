@@ -3,7 +3,13 @@
 
 ghost use Rattle.std.specs.Prelude.{◌≡◌, IfOk, map};
 ghost use Rattle.weedle_parts.specs.ValueTrees.{identifier_tree};
-ghost use Rattle.weedle_types.specs.Trees.{attributes_tree, extended_attribute_arg_list_tree, extended_attribute_ident_list_tree, extended_attribute_named_arg_list_tree, extended_attribute_tree};
+ghost use Rattle.weedle_types.specs.Trees.{
+  attributes_tree,
+  extended_attribute_arg_list_tree,
+  extended_attribute_ident_list_tree,
+  extended_attribute_named_arg_list_tree,
+  extended_attribute_tree,
+};
 
 use super::arguments::clone_arguments;
 use crate::attribute::{

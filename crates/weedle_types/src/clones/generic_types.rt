@@ -2,7 +2,13 @@
 #![tactic(auto, using(crate::proofs::TreeLaws::clone_steps))]
 
 ghost use Rattle.std.specs.Prelude.{◌≡◌, IfOk};
-ghost use Rattle.weedle_types.specs.Trees.{frozen_array_type_tree, promise_type_tree, record_type_tree, record_types_tree, sequence_type_tree};
+ghost use Rattle.weedle_types.specs.Trees.{
+  frozen_array_type_tree,
+  promise_type_tree,
+  record_type_tree,
+  record_types_tree,
+  sequence_type_tree,
+};
 
 use super::types::{clone_record_key_type, clone_return_type, clone_type};
 use crate::types::{FrozenArrayType, PromiseType, RecordType, RecordTypes, SequenceType};

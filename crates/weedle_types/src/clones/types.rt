@@ -2,7 +2,15 @@
 #![tactic(auto, using(crate::proofs::TreeLaws::clone_steps))]
 
 ghost use Rattle.std.specs.Prelude.{◌≡◌, IfOk};
-ghost use Rattle.weedle_types.specs.Trees.{attributed_non_any_type_tree, attributed_type_tree, non_any_type_tree, record_key_type_tree, return_type_tree, single_type_tree, type_tree};
+ghost use Rattle.weedle_types.specs.Trees.{
+  attributed_non_any_type_tree,
+  attributed_type_tree,
+  non_any_type_tree,
+  record_key_type_tree,
+  return_type_tree,
+  single_type_tree,
+  type_tree,
+};
 
 use super::attributes::clone_attributes;
 use super::generic_types::{

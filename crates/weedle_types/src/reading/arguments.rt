@@ -4,9 +4,21 @@ ghost use Rattle.std.specs.Prelude.{◌<◌, ◌≤◌, length, IfOk};
 ghost use Rattle.weedle_base.specs.Own.{own};
 ghost use Rattle.weedle_base.specs.Reading.{Answers};
 ghost use Rattle.weedle_parts.specs.Lists.{after_first};
-ghost use Rattle.weedle_grammar.specs.Table.Types.{ARGUMENT, ARGUMENT_LIST, PARENTHESIZED_ARGUMENT_LIST, SINGLE_ARGUMENT, VARIADIC_ARGUMENT};
+ghost use Rattle.weedle_grammar.specs.Table.Types.{
+  ARGUMENT,
+  ARGUMENT_LIST,
+  PARENTHESIZED_ARGUMENT_LIST,
+  SINGLE_ARGUMENT,
+  VARIADIC_ARGUMENT,
+};
 ghost use Rattle.weedle_types.specs.Separators.{comma_reading};
-ghost use Rattle.weedle_types.specs.Trees.{argument_list_tree, argument_tree, arguments_tree, single_argument_tree, variadic_argument_tree};
+ghost use Rattle.weedle_types.specs.Trees.{
+  argument_list_tree,
+  argument_tree,
+  arguments_tree,
+  single_argument_tree,
+  variadic_argument_tree,
+};
 
 use super::attributes::attributes;
 use super::steps::{part, word};

@@ -5,9 +5,22 @@ ghost use Rattle.weedle_base.specs.Own.{own};
 ghost use Rattle.weedle_base.specs.Reading.{Answers};
 ghost use Rattle.weedle_base.specs.Rules.{option_tree};
 ghost use Rattle.weedle_parts.specs.Lists.{after_first};
-ghost use Rattle.weedle_grammar.specs.Table.Types.{EXTENDED_ATTRIBUTE, EXTENDED_ATTRIBUTE_ARG_LIST, EXTENDED_ATTRIBUTE_LIST, EXTENDED_ATTRIBUTE_NAMED_ARG_LIST, LIST_EXTENDED_ATTRIBUTE_COMMA, OPT_EXTENDED_ATTRIBUTE_LIST};
+ghost use Rattle.weedle_grammar.specs.Table.Types.{
+  EXTENDED_ATTRIBUTE,
+  EXTENDED_ATTRIBUTE_ARG_LIST,
+  EXTENDED_ATTRIBUTE_LIST,
+  EXTENDED_ATTRIBUTE_NAMED_ARG_LIST,
+  LIST_EXTENDED_ATTRIBUTE_COMMA,
+  OPT_EXTENDED_ATTRIBUTE_LIST,
+};
 ghost use Rattle.weedle_types.specs.Separators.{comma_reading};
-ghost use Rattle.weedle_types.specs.Trees.{extended_attribute_arg_list_tree, extended_attribute_list_tree, extended_attribute_named_arg_list_tree, extended_attribute_tree, extended_attributes_tree};
+ghost use Rattle.weedle_types.specs.Trees.{
+  extended_attribute_arg_list_tree,
+  extended_attribute_list_tree,
+  extended_attribute_named_arg_list_tree,
+  extended_attribute_tree,
+  extended_attributes_tree,
+};
 
 use super::arguments::arguments;
 use super::steps::{part, word};

@@ -5,7 +5,16 @@ ghost use Rattle.std.specs.Prelude.{◌<◌, length, IfOk};
 ghost use Rattle.weedle_base.specs.Reading.{Answers};
 ghost use Rattle.weedle_types.specs.Steps.{members};
 ghost use Rattle.weedle_types.specs.Trees.{non_any_type_tree};
-ghost use Rattle.weedle_types.specs.Pieces.{numbers_rules, strings_rules, objects_rules, signed_arrays_rules, unsigned_arrays_rules, float_arrays_rules, before_sequence_rules, after_sequence_rules};
+ghost use Rattle.weedle_types.specs.Pieces.{
+  numbers_rules,
+  strings_rules,
+  objects_rules,
+  signed_arrays_rules,
+  unsigned_arrays_rules,
+  float_arrays_rules,
+  before_sequence_rules,
+  after_sequence_rules,
+};
 
 use super::steps::word;
 use crate::types::NonAnyType;

@@ -3,8 +3,24 @@
 ghost use Rattle.std.specs.Prelude.{◌<◌, length, IfOk};
 ghost use Rattle.weedle_base.specs.Own.{own};
 ghost use Rattle.weedle_base.specs.Reading.{Answers};
-ghost use Rattle.weedle_grammar.specs.Table.Types.{ATTRIBUTED_NON_ANY_TYPE, ATTRIBUTED_TYPE, NON_ANY_TYPE, RECORD_KEY_TYPE, RETURN_TYPE, SINGLE_TYPE, TYPE};
-ghost use Rattle.weedle_types.specs.Trees.{attributed_non_any_type_tree, attributed_type_tree, non_any_type_tree, record_key_type_tree, return_type_tree, single_type_tree, type_tree};
+ghost use Rattle.weedle_grammar.specs.Table.Types.{
+  ATTRIBUTED_NON_ANY_TYPE,
+  ATTRIBUTED_TYPE,
+  NON_ANY_TYPE,
+  RECORD_KEY_TYPE,
+  RETURN_TYPE,
+  SINGLE_TYPE,
+  TYPE,
+};
+ghost use Rattle.weedle_types.specs.Trees.{
+  attributed_non_any_type_tree,
+  attributed_type_tree,
+  non_any_type_tree,
+  record_key_type_tree,
+  return_type_tree,
+  single_type_tree,
+  type_tree,
+};
 
 use super::attributes::attributes;
 use super::generic_types::{

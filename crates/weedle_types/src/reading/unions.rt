@@ -5,9 +5,18 @@ ghost use Rattle.weedle_base.specs.Own.{own};
 ghost use Rattle.weedle_base.specs.Reading.{Answers};
 ghost use Rattle.weedle_parts.specs.Lists.{after_first};
 ghost use Rattle.weedle_parts.specs.ValueTrees.{may_be_null_tree};
-ghost use Rattle.weedle_grammar.specs.Table.Types.{LIST_UNION_MEMBER_TYPE_OR, MAY_BE_NULL_UNION_TYPE, UNION_MEMBER_TYPE, UNION_TYPE};
+ghost use Rattle.weedle_grammar.specs.Table.Types.{
+  LIST_UNION_MEMBER_TYPE_OR,
+  MAY_BE_NULL_UNION_TYPE,
+  UNION_MEMBER_TYPE,
+  UNION_TYPE,
+};
 ghost use Rattle.weedle_types.specs.Separators.{or_reading};
-ghost use Rattle.weedle_types.specs.Trees.{union_member_type_tree, union_member_types_tree, union_type_tree};
+ghost use Rattle.weedle_types.specs.Trees.{
+  union_member_type_tree,
+  union_member_types_tree,
+  union_type_tree,
+};
 
 use super::steps::{part, word};
 use super::types::attributed_non_any_type;
