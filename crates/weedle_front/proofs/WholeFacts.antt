@@ -3,7 +3,8 @@ use Rattle.std.proofs.Common.{refl, ap, subst, arith}
 use Rattle.std.proofs.lemmas.List.{length-drop, take_all}
 use Rattle.std.specs.Borrow.{Bor}
 use Rattle.std.specs.Global.{Vec}
-use Rattle.std.specs.Prelude.{◌≡◌, ℕ, ◌-◌, ◌<◌, ◌≤◌, List, [], ◌∷◌, length, drop, Result, Ok, Err as Failed, IfOk}
+use Rattle.std.specs.Prelude.{◌≡◌, ℕ, ◌-◌, ◌<◌, ◌≤◌, List, [], ◌∷◌, length, drop, Result, Ok, Err as Failed, IfOk, IfErr}
+use Rattle.weedle_base.specs.Faults.{IsWithin}
 use Rattle.weedle_base.specs.Reading.{Reading, Got}
 use Rattle.weedle_base.specs.Rules.{HasRule}
 use Rattle.weedle_base.specs.declared.fault.Err.{Err as Fault}
@@ -91,3 +92,9 @@ module _ (law : SpellsValues DEFINITIONS definitions_tree definitions_spelling) 
   unfolding IsWhole HasTexts
   whole_texts (Ok v) d = subst (IsInPieces (definitions_tree v.items)) (whole_text raw) (law.in_pieces v.items raw 0 (length raw) d)
   whole_texts (Failed e) d = tt
+
+-- what is left of a text is no longer than the text, and neither is the text itself
+pub answers_within : {raw : List ℕ} (r : Result (Vec Definition) (Fault (Error (Bor (List ℕ))))) → ParseAnswers raw r → IfErr r (IsWithin raw)
+answers_within (Ok v) d = tt
+answers_within (Failed (Stopped e)) d = d.within
+answers_within (Failed (Failure e)) d = omega (arith, ap length d.input)

@@ -1,3 +1,4 @@
+pub mod FaultTexts
 pub mod Counts
 pub mod Run
 pub mod Whole

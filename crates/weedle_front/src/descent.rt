@@ -1,6 +1,7 @@
 //! Whole texts by descent, with no table of ends.
 
-ghost use Rattle.std.specs.Prelude.{IfOk};
+ghost use Rattle.std.specs.Prelude.{IfOk, IfErr};
+ghost use Rattle.weedle_base.specs.Faults.{IsWithin};
 ghost use Rattle.weedle_front.specs.Whole.{ParseAnswers, SpellsList, HasTexts};
 
 use crate::reader::{parse, whole};
@@ -23,6 +24,9 @@ pub fn parse_by_descent(alloc: Global, raw: &str) -> Result<Definitions<'_>, Err
 
     // The texts of the list stand in it in their order.
     ensures pieces { IfOk result (λ definitions. HasTexts raw.now definitions.items) }
+
+    // What a fault has of the text is no longer than the text.
+    ensures within { IfErr result (λ fault. IsWithin raw.now fault) }
 {
     weedle_idl::laws::definitions();
     weedle_spell_idl::laws::definitions();
@@ -48,6 +52,9 @@ pub fn parse_quick(alloc: Global, raw: &str) -> Result<Definitions<'_>, Err<Erro
 
     // The texts of the list stand in it in their order.
     ensures pieces { IfOk result (λ definitions. HasTexts raw.now definitions.items) }
+
+    // What a fault has of the text is no longer than the text.
+    ensures within { IfErr result (λ fault. IsWithin raw.now fault) }
 {
     if suits_descent(raw) {
         parse_by_descent(alloc, raw)

@@ -17,6 +17,7 @@
 #![tactic(auto)]
 
 mod descent;
+mod fault_text;
 mod program;
 mod reader;
 

@@ -1,6 +1,7 @@
 //! Whole texts.
 
-ghost use Rattle.std.specs.Prelude.{IfOk};
+ghost use Rattle.std.specs.Prelude.{IfOk, IfErr};
+ghost use Rattle.weedle_base.specs.Faults.{IsWithin};
 ghost use Rattle.weedle_front.specs.Counts.{MemoryRanOut, IsBounded, IsExact, IsCutShort};
 ghost use Rattle.weedle_front.specs.Whole.{ParseAnswers, SpellsList, HasTexts, WholeOf};
 
@@ -49,6 +50,9 @@ pub fn parse(alloc: Global, raw: &str) -> Result<Definitions<'_>, Err<Error<&str
 
     // The texts of the list stand in it in their order.
     ensures pieces { IfOk result (λ definitions. HasTexts raw.now definitions.items) }
+
+    // What a fault has of the text is no longer than the text.
+    ensures within { IfErr result (λ fault. IsWithin raw.now fault) }
 {
     parse_counted(alloc, raw).answer
 }
@@ -70,6 +74,9 @@ pub fn parse_counted(alloc: Global, raw: &str) -> Counted<'_>
 
     // The texts of the list stand in it in their order.
     ensures pieces { IfOk result.answer (λ definitions. HasTexts raw.now definitions.items) }
+
+    // What a fault has of the text is no longer than the text.
+    ensures within { IfErr result.answer (λ fault. IsWithin raw.now fault) }
 
     // Whatever the answer is, the counts are within bounds that grow with the text's length alone.
     ensures bounded { IsBounded raw.now result }

@@ -9,6 +9,7 @@
 mod tests;
 
 use std::env::Args;
+use std::fmt::Display;
 use std::process::ExitCode;
 use std::{env, io};
 use weedle_front::{RunFault, Status, run, run_outline};
@@ -56,13 +57,13 @@ fn task_of(mut arguments: Args) -> Option<Task> {
 /// Says on standard error what the fault was, if there was one.
 fn end(rt: &impl Eprint, outcome: &Result<Status, RunFault>) -> ExitCode {
     if let Err(fault) = outcome {
-        complain(rt, fault_line(fault));
+        complain(rt, *fault);
     }
     ExitCode::from(status_of(outcome))
 }
 
-/// Prints the line on standard error. A fault there changes nothing.
-fn complain(rt: &impl Eprint, line: &str) {
+/// Prints a line on standard error. A fault there changes nothing.
+fn complain<D: Display + Drop>(rt: &impl Eprint, line: D) {
     let _ = rt.eprintln(line);
 }
 
@@ -74,15 +75,5 @@ fn status_of(outcome: &Result<Status, RunFault>) -> u8 {
         Err(RunFault::NotUtf8) => 2,
         Err(RunFault::Memory) => 3,
         Err(RunFault::Input | RunFault::Output) => 4,
-    }
-}
-
-/// The line that says what the fault was, without its LF.
-fn fault_line(fault: &RunFault) -> &'static str {
-    match fault {
-        RunFault::NotUtf8 => "input is not UTF-8",
-        RunFault::Memory => "out of memory",
-        RunFault::Input => "cannot read input",
-        RunFault::Output => "cannot write output",
     }
 }

@@ -1,4 +1,4 @@
-use super::{Task, USAGE, USAGE_STATUS, fault_line, status_of, task_of};
+use super::{Task, USAGE, USAGE_STATUS, status_of, task_of};
 use std::alloc::{AllocError, Global};
 use std::env::Args;
 use std::test::Fail;
@@ -52,7 +52,7 @@ fn gives_each_outcome_its_status(rt: HostRuntime) {
 }
 
 #[test]
-fn gives_each_fault_its_line(rt: HostRuntime) {
+fn gives_each_fault_its_line(rt: HostRuntime) -> Result<(), Fail> {
     let table = [
         (RunFault::NotUtf8, "input is not UTF-8"),
         (RunFault::Memory, "out of memory"),
@@ -60,6 +60,8 @@ fn gives_each_fault_its_line(rt: HostRuntime) {
         (RunFault::Output, "cannot write output"),
     ];
     for (fault, line) in table {
-        assert_eq!(rt; fault_line(&fault), line, "of {fault:?}");
+        let said = format!(in rt.alloc(); "{fault}")?;
+        assert_eq!(rt; said.as_str(), line, "of {fault:?}");
     }
+    Ok(())
 }

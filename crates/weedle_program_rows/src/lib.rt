@@ -1,6 +1,8 @@
-//! Tests of the program, of outlines and of the README's examples.
+//! Tests of the program, of outlines, of what errors say, and of the README's examples.
 #![tactic(auto)]
 
+#[cfg(test)]
+mod faults;
 #[cfg(test)]
 mod hostile;
 #[cfg(test)]
