@@ -54,7 +54,7 @@ SAID = re.compile(r"(?:rt: )?must-fail (?P<name>\w+/\S+)\.edit: (?P<words>.*)")
 
 
 class Edit:
-    """An edit by hand: its file, the crate that it is of, and its name, as `weedle_rules/no-end`."""
+    """An edit by hand: its file, its crate's folder and name, its own name, as `low/no-end`."""
 
     def __init__(self, file):
         self.file, self.folder = file, file.parents[2]
