@@ -31,144 +31,89 @@ impl<'a> Build<'a> for AnyDefinition {
     ghost tree = { definition_tree };
 
     fn build(alloc: Global, table: &Ends<'a>, _rule: Rule, at: At) -> BuildResult<Definition<'a>> {
-        match choice(table, Rule::DEFINITION, at.place) {
+        let rule = Rule::DEFINITION;
+        match choice(table, rule, at.place) {
             0 => {
                 let (member, at) = alternative::<StatementPart<CallbackDefinition<'a>>>(
-                    alloc,
-                    table,
-                    Rule::DEFINITION,
-                    0,
-                    at,
+                    alloc, table, rule, 0, at,
                 )?;
                 Ok((Definition::Callback(member), at))
             }
             1 => {
                 let (member, at) = alternative::<InterfacePart<CallbackInterfaceDefinition<'a>>>(
-                    alloc,
-                    table,
-                    Rule::DEFINITION,
-                    1,
-                    at,
+                    alloc, table, rule, 1, at,
                 )?;
                 Ok((Definition::CallbackInterface(member), at))
             }
             2 => {
                 let (member, at) = alternative::<InterfacePart<InterfaceDefinition<'a>>>(
-                    alloc,
-                    table,
-                    Rule::DEFINITION,
-                    2,
-                    at,
+                    alloc, table, rule, 2, at,
                 )?;
                 Ok((Definition::Interface(member), at))
             }
             3 => {
                 let (member, at) = alternative::<MixinPart<InterfaceMixinDefinition<'a>>>(
-                    alloc,
-                    table,
-                    Rule::DEFINITION,
-                    3,
-                    at,
+                    alloc, table, rule, 3, at,
                 )?;
                 Ok((Definition::InterfaceMixin(member), at))
             }
             4 => {
                 let (member, at) = alternative::<NamespacePart<NamespaceDefinition<'a>>>(
-                    alloc,
-                    table,
-                    Rule::DEFINITION,
-                    4,
-                    at,
+                    alloc, table, rule, 4, at,
                 )?;
                 Ok((Definition::Namespace(member), at))
             }
             5 => {
                 let (member, at) = alternative::<NamespacePart<DictionaryDefinition<'a>>>(
-                    alloc,
-                    table,
-                    Rule::DEFINITION,
-                    5,
-                    at,
+                    alloc, table, rule, 5, at,
                 )?;
                 Ok((Definition::Dictionary(member), at))
             }
             6 => {
                 let (member, at) = alternative::<InterfacePart<PartialInterfaceDefinition<'a>>>(
-                    alloc,
-                    table,
-                    Rule::DEFINITION,
-                    6,
-                    at,
+                    alloc, table, rule, 6, at,
                 )?;
                 Ok((Definition::PartialInterface(member), at))
             }
             7 => {
                 let (member, at) = alternative::<MixinPart<PartialInterfaceMixinDefinition<'a>>>(
-                    alloc,
-                    table,
-                    Rule::DEFINITION,
-                    7,
-                    at,
+                    alloc, table, rule, 7, at,
                 )?;
                 Ok((Definition::PartialInterfaceMixin(member), at))
             }
             8 => {
                 let (member, at) = alternative::<NamespacePart<PartialDictionaryDefinition<'a>>>(
-                    alloc,
-                    table,
-                    Rule::DEFINITION,
-                    8,
-                    at,
+                    alloc, table, rule, 8, at,
                 )?;
                 Ok((Definition::PartialDictionary(member), at))
             }
             9 => {
                 let (member, at) = alternative::<NamespacePart<PartialNamespaceDefinition<'a>>>(
-                    alloc,
-                    table,
-                    Rule::DEFINITION,
-                    9,
-                    at,
+                    alloc, table, rule, 9, at,
                 )?;
                 Ok((Definition::PartialNamespace(member), at))
             }
             10 => {
                 let (member, at) = alternative::<StatementPart<EnumDefinition<'a>>>(
-                    alloc,
-                    table,
-                    Rule::DEFINITION,
-                    10,
-                    at,
+                    alloc, table, rule, 10, at,
                 )?;
                 Ok((Definition::Enum(member), at))
             }
             11 => {
                 let (member, at) = alternative::<StatementPart<TypedefDefinition<'a>>>(
-                    alloc,
-                    table,
-                    Rule::DEFINITION,
-                    11,
-                    at,
+                    alloc, table, rule, 11, at,
                 )?;
                 Ok((Definition::Typedef(member), at))
             }
             12 => {
                 let (member, at) = alternative::<StatementPart<IncludesStatementDefinition<'a>>>(
-                    alloc,
-                    table,
-                    Rule::DEFINITION,
-                    12,
-                    at,
+                    alloc, table, rule, 12, at,
                 )?;
                 Ok((Definition::IncludesStatement(member), at))
             }
             13 => {
                 let (member, at) = alternative::<StatementPart<ImplementsDefinition<'a>>>(
-                    alloc,
-                    table,
-                    Rule::DEFINITION,
-                    13,
-                    at,
+                    alloc, table, rule, 13, at,
                 )?;
                 Ok((Definition::Implements(member), at))
             }

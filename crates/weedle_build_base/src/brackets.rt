@@ -7,7 +7,7 @@ ghost use Rattle.weedle_build_base.specs.Fits.{fits_seq, bracket_fits, may_be_nu
 
 use crate::at::At;
 use crate::build::{Build, BuildResult};
-use crate::fields::{Last, sequence};
+use crate::structs::{three_fields, two_fields};
 use std::alloc::Global;
 use weedle_parts::common::{Braced, Bracketed, Generics, Parenthesized};
 use weedle_parts::types::MayBeNull;
@@ -30,9 +30,9 @@ impl<'a, T: Build<'a>> Build<'a> for Parenthesized<T> {
         rule: Rule,
         at: At,
     ) -> BuildResult<Parenthesized<T::Value>> {
-        let ((open_paren, (body, Last(close_paren))), at) = sequence::<
-            (OpenParen, (T, Last<CloseParen>)),
-        >(alloc, table, rule, at)?;
+        let ((open_paren, body, close_paren), at) = three_fields::<OpenParen, T, CloseParen>(
+            alloc, table, rule, at,
+        )?;
         Ok((
             Parenthesized {
                 open_paren,
@@ -57,8 +57,10 @@ impl<'a, T: Build<'a>> Build<'a> for Bracketed<T> {
         rule: Rule,
         at: At,
     ) -> BuildResult<Bracketed<T::Value>> {
-        let ((open_bracket, (body, Last(close_bracket))), at) = sequence::<
-            (OpenBracket, (T, Last<CloseBracket>)),
+        let ((open_bracket, body, close_bracket), at) = three_fields::<
+            OpenBracket,
+            T,
+            CloseBracket,
         >(alloc, table, rule, at)?;
         Ok((
             Bracketed {
@@ -79,9 +81,9 @@ impl<'a, T: Build<'a>> Build<'a> for Braced<T> {
     ghost tree = { braced_tree T.tree };
 
     fn build(alloc: Global, table: &Ends<'a>, rule: Rule, at: At) -> BuildResult<Braced<T::Value>> {
-        let ((open_brace, (body, Last(close_brace))), at) = sequence::<
-            (OpenBrace, (T, Last<CloseBrace>)),
-        >(alloc, table, rule, at)?;
+        let ((open_brace, body, close_brace), at) = three_fields::<OpenBrace, T, CloseBrace>(
+            alloc, table, rule, at,
+        )?;
         Ok((
             Braced {
                 open_brace,
@@ -106,9 +108,9 @@ impl<'a, T: Build<'a>> Build<'a> for Generics<T> {
         rule: Rule,
         at: At,
     ) -> BuildResult<Generics<T::Value>> {
-        let ((open_angle, (body, Last(close_angle))), at) = sequence::<
-            (LessThan, (T, Last<GreaterThan>)),
-        >(alloc, table, rule, at)?;
+        let ((open_angle, body, close_angle), at) = three_fields::<LessThan, T, GreaterThan>(
+            alloc, table, rule, at,
+        )?;
         Ok((
             Generics {
                 open_angle,
@@ -133,9 +135,7 @@ impl<'a, T: Build<'a>> Build<'a> for MayBeNull<T> {
         rule: Rule,
         at: At,
     ) -> BuildResult<MayBeNull<T::Value>> {
-        let ((type_, Last(q_mark)), at) = sequence::<(T, Last<Option<QMark>>)>(
-            alloc, table, rule, at,
-        )?;
+        let ((type_, q_mark), at) = two_fields::<T, Option<QMark>>(alloc, table, rule, at)?;
         Ok((MayBeNull { type_, q_mark }, at))
     }
 }

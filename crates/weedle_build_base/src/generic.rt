@@ -7,7 +7,7 @@ ghost use Rattle.weedle_build_base.specs.Tuples.{pair_tree, triple_tree};
 
 use crate::at::At;
 use crate::build::{Build, BuildResult, visit};
-use crate::fields::{Last, sequence};
+use crate::structs::{three_fields, two_fields};
 use std::alloc::Global;
 use weedle_rules::{Ends, Row, Rule, row_of};
 
@@ -81,8 +81,7 @@ impl<'a, T: Build<'a>, U: Build<'a>> Build<'a> for (T, U) {
         rule: Rule,
         at: At,
     ) -> BuildResult<(T::Value, U::Value)> {
-        let ((first, Last(second)), at) = sequence::<(T, Last<U>)>(alloc, table, rule, at)?;
-        Ok(((first, second), at))
+        two_fields::<T, U>(alloc, table, rule, at)
     }
 }
 
@@ -99,9 +98,6 @@ impl<'a, T: Build<'a>, U: Build<'a>, V: Build<'a>> Build<'a> for (T, U, V) {
         rule: Rule,
         at: At,
     ) -> BuildResult<(T::Value, U::Value, V::Value)> {
-        let ((first, (second, Last(third))), at) = sequence::<(T, (U, Last<V>))>(
-            alloc, table, rule, at,
-        )?;
-        Ok(((first, second, third), at))
+        three_fields::<T, U, V>(alloc, table, rule, at)
     }
 }

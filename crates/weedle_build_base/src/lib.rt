@@ -27,6 +27,7 @@ mod lists;
 mod literals;
 mod modifiers;
 mod simple_types;
+mod structs;
 mod terminals;
 mod texts;
 mod whole;
@@ -36,5 +37,8 @@ pub use at::At;
 pub use build::{Build, BuildResult, end_at, mark, visit};
 pub use fields::{Fields, Last, part, sequence};
 pub use lists::items;
+pub use structs::{
+    eight_fields, five_fields, four_fields, seven_fields, six_fields, three_fields, two_fields,
+};
 pub use texts::kept;
 pub use whole::build_front;

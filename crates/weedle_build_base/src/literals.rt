@@ -8,7 +8,7 @@ ghost use Rattle.weedle_literal.specs.LiteralTrees.{boolean_tree, integer_tree, 
 use crate::alternatives::{alternative, choice};
 use crate::at::At;
 use crate::build::{Build, BuildResult};
-use crate::fields::{Last, sequence};
+use crate::structs::two_fields;
 use std::alloc::Global;
 use weedle_literal::{
     BooleanLit, ConstValue, DecLit, Default, DefaultValue, EmptyArrayLit, EmptyDictionaryLit,
@@ -28,13 +28,14 @@ impl<'a> Build<'a> for BooleanLit {
     ghost tree = { boolean_tree };
 
     fn build(alloc: Global, table: &Ends<'a>, _rule: Rule, at: At) -> BuildResult<Self> {
-        match choice(table, Rule::BOOLEAN_LIT, at.place) {
+        let rule = Rule::BOOLEAN_LIT;
+        match choice(table, rule, at.place) {
             0 => {
-                let (_, at) = alternative::<True>(alloc, table, Rule::BOOLEAN_LIT, 0, at)?;
+                let (_, at) = alternative::<True>(alloc, table, rule, 0, at)?;
                 Ok((BooleanLit(true), at))
             }
             1 => {
-                let (_, at) = alternative::<False>(alloc, table, Rule::BOOLEAN_LIT, 1, at)?;
+                let (_, at) = alternative::<False>(alloc, table, rule, 1, at)?;
                 Ok((BooleanLit(false), at))
             }
             _ => unreachable!(),
@@ -50,17 +51,18 @@ impl<'a> Build<'a> for IntegerLit<'a> {
     ghost tree = { integer_tree };
 
     fn build(alloc: Global, table: &Ends<'a>, _rule: Rule, at: At) -> BuildResult<Self> {
-        match choice(table, Rule::INTEGER_LIT, at.place) {
+        let rule = Rule::INTEGER_LIT;
+        match choice(table, rule, at.place) {
             0 => {
-                let (member, at) = alternative::<DecLit>(alloc, table, Rule::INTEGER_LIT, 0, at)?;
+                let (member, at) = alternative::<DecLit>(alloc, table, rule, 0, at)?;
                 Ok((IntegerLit::Dec(member), at))
             }
             1 => {
-                let (member, at) = alternative::<HexLit>(alloc, table, Rule::INTEGER_LIT, 1, at)?;
+                let (member, at) = alternative::<HexLit>(alloc, table, rule, 1, at)?;
                 Ok((IntegerLit::Hex(member), at))
             }
             2 => {
-                let (member, at) = alternative::<OctLit>(alloc, table, Rule::INTEGER_LIT, 2, at)?;
+                let (member, at) = alternative::<OctLit>(alloc, table, rule, 2, at)?;
                 Ok((IntegerLit::Oct(member), at))
             }
             _ => unreachable!(),
@@ -76,33 +78,22 @@ impl<'a> Build<'a> for FloatLit<'a> {
     ghost tree = { float_tree };
 
     fn build(alloc: Global, table: &Ends<'a>, _rule: Rule, at: At) -> BuildResult<Self> {
-        match choice(table, Rule::FLOAT_LIT, at.place) {
+        let rule = Rule::FLOAT_LIT;
+        match choice(table, rule, at.place) {
             0 => {
-                let (member, at) = alternative::<FloatValueLit>(
-                    alloc,
-                    table,
-                    Rule::FLOAT_LIT,
-                    0,
-                    at,
-                )?;
+                let (member, at) = alternative::<FloatValueLit>(alloc, table, rule, 0, at)?;
                 Ok((FloatLit::Value(member), at))
             }
             1 => {
-                let (member, at) = alternative::<NegInfinity>(
-                    alloc,
-                    table,
-                    Rule::FLOAT_LIT,
-                    1,
-                    at,
-                )?;
+                let (member, at) = alternative::<NegInfinity>(alloc, table, rule, 1, at)?;
                 Ok((FloatLit::NegInfinity(member), at))
             }
             2 => {
-                let (member, at) = alternative::<Infinity>(alloc, table, Rule::FLOAT_LIT, 2, at)?;
+                let (member, at) = alternative::<Infinity>(alloc, table, rule, 2, at)?;
                 Ok((FloatLit::Infinity(member), at))
             }
             3 => {
-                let (member, at) = alternative::<NaN>(alloc, table, Rule::FLOAT_LIT, 3, at)?;
+                let (member, at) = alternative::<NaN>(alloc, table, rule, 3, at)?;
                 Ok((FloatLit::NaN(member), at))
             }
             _ => unreachable!(),
@@ -118,9 +109,12 @@ impl<'a> Build<'a> for EmptyArrayLit {
     ghost tree = { empty_array_tree };
 
     fn build(alloc: Global, table: &Ends<'a>, _rule: Rule, at: At) -> BuildResult<Self> {
-        let ((open_bracket, Last(close_bracket)), at) = sequence::<
-            (OpenBracket, Last<CloseBracket>),
-        >(alloc, table, Rule::EMPTY_ARRAY_LIT, at)?;
+        let ((open_bracket, close_bracket), at) = two_fields::<OpenBracket, CloseBracket>(
+            alloc,
+            table,
+            Rule::EMPTY_ARRAY_LIT,
+            at,
+        )?;
         Ok((
             EmptyArrayLit {
                 open_bracket,
@@ -139,7 +133,7 @@ impl<'a> Build<'a> for EmptyDictionaryLit {
     ghost tree = { empty_dictionary_tree };
 
     fn build(alloc: Global, table: &Ends<'a>, _rule: Rule, at: At) -> BuildResult<Self> {
-        let ((open_brace, Last(close_brace)), at) = sequence::<(OpenBrace, Last<CloseBrace>)>(
+        let ((open_brace, close_brace), at) = two_fields::<OpenBrace, CloseBrace>(
             alloc,
             table,
             Rule::EMPTY_DICTIONARY_LIT,
@@ -163,69 +157,34 @@ impl<'a> Build<'a> for DefaultValue<'a> {
     ghost tree = { default_value_tree };
 
     fn build(alloc: Global, table: &Ends<'a>, _rule: Rule, at: At) -> BuildResult<Self> {
-        match choice(table, Rule::DEFAULT_VALUE, at.place) {
+        let rule = Rule::DEFAULT_VALUE;
+        match choice(table, rule, at.place) {
             0 => {
-                let (member, at) = alternative::<BooleanLit>(
-                    alloc,
-                    table,
-                    Rule::DEFAULT_VALUE,
-                    0,
-                    at,
-                )?;
+                let (member, at) = alternative::<BooleanLit>(alloc, table, rule, 0, at)?;
                 Ok((DefaultValue::Boolean(member), at))
             }
             1 => {
-                let (member, at) = alternative::<EmptyArrayLit>(
-                    alloc,
-                    table,
-                    Rule::DEFAULT_VALUE,
-                    1,
-                    at,
-                )?;
+                let (member, at) = alternative::<EmptyArrayLit>(alloc, table, rule, 1, at)?;
                 Ok((DefaultValue::EmptyArray(member), at))
             }
             2 => {
-                let (member, at) = alternative::<EmptyDictionaryLit>(
-                    alloc,
-                    table,
-                    Rule::DEFAULT_VALUE,
-                    2,
-                    at,
-                )?;
+                let (member, at) = alternative::<EmptyDictionaryLit>(alloc, table, rule, 2, at)?;
                 Ok((DefaultValue::EmptyDictionary(member), at))
             }
             3 => {
-                let (member, at) = alternative::<FloatLit>(
-                    alloc,
-                    table,
-                    Rule::DEFAULT_VALUE,
-                    3,
-                    at,
-                )?;
+                let (member, at) = alternative::<FloatLit>(alloc, table, rule, 3, at)?;
                 Ok((DefaultValue::Float(member), at))
             }
             4 => {
-                let (member, at) = alternative::<IntegerLit>(
-                    alloc,
-                    table,
-                    Rule::DEFAULT_VALUE,
-                    4,
-                    at,
-                )?;
+                let (member, at) = alternative::<IntegerLit>(alloc, table, rule, 4, at)?;
                 Ok((DefaultValue::Integer(member), at))
             }
             5 => {
-                let (member, at) = alternative::<Null>(alloc, table, Rule::DEFAULT_VALUE, 5, at)?;
+                let (member, at) = alternative::<Null>(alloc, table, rule, 5, at)?;
                 Ok((DefaultValue::Null(member), at))
             }
             6 => {
-                let (member, at) = alternative::<StringLit>(
-                    alloc,
-                    table,
-                    Rule::DEFAULT_VALUE,
-                    6,
-                    at,
-                )?;
+                let (member, at) = alternative::<StringLit>(alloc, table, rule, 6, at)?;
                 Ok((DefaultValue::String(member), at))
             }
             _ => unreachable!(),
@@ -241,33 +200,22 @@ impl<'a> Build<'a> for ConstValue<'a> {
     ghost tree = { const_value_tree };
 
     fn build(alloc: Global, table: &Ends<'a>, _rule: Rule, at: At) -> BuildResult<Self> {
-        match choice(table, Rule::CONST_VALUE, at.place) {
+        let rule = Rule::CONST_VALUE;
+        match choice(table, rule, at.place) {
             0 => {
-                let (member, at) = alternative::<BooleanLit>(
-                    alloc,
-                    table,
-                    Rule::CONST_VALUE,
-                    0,
-                    at,
-                )?;
+                let (member, at) = alternative::<BooleanLit>(alloc, table, rule, 0, at)?;
                 Ok((ConstValue::Boolean(member), at))
             }
             1 => {
-                let (member, at) = alternative::<FloatLit>(alloc, table, Rule::CONST_VALUE, 1, at)?;
+                let (member, at) = alternative::<FloatLit>(alloc, table, rule, 1, at)?;
                 Ok((ConstValue::Float(member), at))
             }
             2 => {
-                let (member, at) = alternative::<IntegerLit>(
-                    alloc,
-                    table,
-                    Rule::CONST_VALUE,
-                    2,
-                    at,
-                )?;
+                let (member, at) = alternative::<IntegerLit>(alloc, table, rule, 2, at)?;
                 Ok((ConstValue::Integer(member), at))
             }
             3 => {
-                let (member, at) = alternative::<Null>(alloc, table, Rule::CONST_VALUE, 3, at)?;
+                let (member, at) = alternative::<Null>(alloc, table, rule, 3, at)?;
                 Ok((ConstValue::Null(member), at))
             }
             _ => unreachable!(),
@@ -283,7 +231,7 @@ impl<'a> Build<'a> for Default<'a> {
     ghost tree = { default_tree };
 
     fn build(alloc: Global, table: &Ends<'a>, _rule: Rule, at: At) -> BuildResult<Self> {
-        let ((assign, Last(value)), at) = sequence::<(Assign, Last<DefaultValue>)>(
+        let ((assign, value), at) = two_fields::<Assign, DefaultValue>(
             alloc,
             table,
             Rule::DEFAULT,

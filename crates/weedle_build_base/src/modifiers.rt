@@ -8,7 +8,7 @@ ghost use Rattle.weedle_modifier.specs.Trees.{inheritance_tree, special_tree, st
 use crate::alternatives::{alternative, choice};
 use crate::at::At;
 use crate::build::{Build, BuildResult};
-use crate::fields::{Last, sequence};
+use crate::structs::two_fields;
 use std::alloc::Global;
 use weedle_modifier::{Inheritance, Special, StringifierOrInheritOrStatic, StringifierOrStatic};
 use weedle_parts::common::Identifier;
@@ -23,7 +23,7 @@ impl<'a> Build<'a> for Inheritance<'a> {
     ghost tree = { inheritance_tree };
 
     fn build(alloc: Global, table: &Ends<'a>, _rule: Rule, at: At) -> BuildResult<Self> {
-        let ((colon, Last(identifier)), at) = sequence::<(Colon, Last<Identifier>)>(
+        let ((colon, identifier), at) = two_fields::<Colon, Identifier>(
             alloc,
             table,
             Rule::INHERITANCE,
@@ -41,21 +41,22 @@ impl<'a> Build<'a> for Special {
     ghost tree = { special_tree };
 
     fn build(alloc: Global, table: &Ends<'a>, _rule: Rule, at: At) -> BuildResult<Self> {
-        match choice(table, Rule::SPECIAL, at.place) {
+        let rule = Rule::SPECIAL;
+        match choice(table, rule, at.place) {
             0 => {
-                let (member, at) = alternative::<Getter>(alloc, table, Rule::SPECIAL, 0, at)?;
+                let (member, at) = alternative::<Getter>(alloc, table, rule, 0, at)?;
                 Ok((Special::Getter(member), at))
             }
             1 => {
-                let (member, at) = alternative::<Setter>(alloc, table, Rule::SPECIAL, 1, at)?;
+                let (member, at) = alternative::<Setter>(alloc, table, rule, 1, at)?;
                 Ok((Special::Setter(member), at))
             }
             2 => {
-                let (member, at) = alternative::<Deleter>(alloc, table, Rule::SPECIAL, 2, at)?;
+                let (member, at) = alternative::<Deleter>(alloc, table, rule, 2, at)?;
                 Ok((Special::Deleter(member), at))
             }
             3 => {
-                let (member, at) = alternative::<LegacyCaller>(alloc, table, Rule::SPECIAL, 3, at)?;
+                let (member, at) = alternative::<LegacyCaller>(alloc, table, rule, 3, at)?;
                 Ok((Special::LegacyCaller(member), at))
             }
             _ => unreachable!(),
@@ -71,35 +72,18 @@ impl<'a> Build<'a> for StringifierOrInheritOrStatic {
     ghost tree = { stringifier_or_inherit_or_static_tree };
 
     fn build(alloc: Global, table: &Ends<'a>, _rule: Rule, at: At) -> BuildResult<Self> {
-        match choice(table, Rule::STRINGIFIER_OR_INHERIT_OR_STATIC, at.place) {
+        let rule = Rule::STRINGIFIER_OR_INHERIT_OR_STATIC;
+        match choice(table, rule, at.place) {
             0 => {
-                let (member, at) = alternative::<Stringifier>(
-                    alloc,
-                    table,
-                    Rule::STRINGIFIER_OR_INHERIT_OR_STATIC,
-                    0,
-                    at,
-                )?;
+                let (member, at) = alternative::<Stringifier>(alloc, table, rule, 0, at)?;
                 Ok((StringifierOrInheritOrStatic::Stringifier(member), at))
             }
             1 => {
-                let (member, at) = alternative::<Inherit>(
-                    alloc,
-                    table,
-                    Rule::STRINGIFIER_OR_INHERIT_OR_STATIC,
-                    1,
-                    at,
-                )?;
+                let (member, at) = alternative::<Inherit>(alloc, table, rule, 1, at)?;
                 Ok((StringifierOrInheritOrStatic::Inherit(member), at))
             }
             2 => {
-                let (member, at) = alternative::<Static>(
-                    alloc,
-                    table,
-                    Rule::STRINGIFIER_OR_INHERIT_OR_STATIC,
-                    2,
-                    at,
-                )?;
+                let (member, at) = alternative::<Static>(alloc, table, rule, 2, at)?;
                 Ok((StringifierOrInheritOrStatic::Static(member), at))
             }
             _ => unreachable!(),
@@ -115,25 +99,14 @@ impl<'a> Build<'a> for StringifierOrStatic {
     ghost tree = { stringifier_or_static_tree };
 
     fn build(alloc: Global, table: &Ends<'a>, _rule: Rule, at: At) -> BuildResult<Self> {
-        match choice(table, Rule::STRINGIFIER_OR_STATIC, at.place) {
+        let rule = Rule::STRINGIFIER_OR_STATIC;
+        match choice(table, rule, at.place) {
             0 => {
-                let (member, at) = alternative::<Stringifier>(
-                    alloc,
-                    table,
-                    Rule::STRINGIFIER_OR_STATIC,
-                    0,
-                    at,
-                )?;
+                let (member, at) = alternative::<Stringifier>(alloc, table, rule, 0, at)?;
                 Ok((StringifierOrStatic::Stringifier(member), at))
             }
             1 => {
-                let (member, at) = alternative::<Static>(
-                    alloc,
-                    table,
-                    Rule::STRINGIFIER_OR_STATIC,
-                    1,
-                    at,
-                )?;
+                let (member, at) = alternative::<Static>(alloc, table, rule, 1, at)?;
                 Ok((StringifierOrStatic::Static(member), at))
             }
             _ => unreachable!(),

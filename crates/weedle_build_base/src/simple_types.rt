@@ -8,7 +8,7 @@ ghost use Rattle.weedle_parts.specs.ValueTrees.{long_long_type_tree, long_type_t
 use crate::alternatives::{alternative, choice};
 use crate::at::At;
 use crate::build::{Build, BuildResult};
-use crate::fields::{Last, sequence};
+use crate::structs::two_fields;
 use std::alloc::Global;
 use weedle_parts::common::Identifier;
 use weedle_parts::types::{
@@ -26,7 +26,7 @@ impl<'a> Build<'a> for LongLongType {
     ghost tree = { long_long_type_tree };
 
     fn build(alloc: Global, table: &Ends<'a>, _rule: Rule, at: At) -> BuildResult<Self> {
-        let ((unsigned, Last(long_long)), at) = sequence::<(Option<Unsigned>, Last<(Long, Long)>)>(
+        let ((unsigned, long_long), at) = two_fields::<Option<Unsigned>, (Long, Long)>(
             alloc,
             table,
             Rule::LONG_LONG_TYPE,
@@ -50,7 +50,7 @@ impl<'a> Build<'a> for LongType {
     ghost tree = { long_type_tree };
 
     fn build(alloc: Global, table: &Ends<'a>, _rule: Rule, at: At) -> BuildResult<Self> {
-        let ((unsigned, Last(long)), at) = sequence::<(Option<Unsigned>, Last<Long>)>(
+        let ((unsigned, long), at) = two_fields::<Option<Unsigned>, Long>(
             alloc,
             table,
             Rule::LONG_TYPE,
@@ -68,7 +68,7 @@ impl<'a> Build<'a> for ShortType {
     ghost tree = { short_type_tree };
 
     fn build(alloc: Global, table: &Ends<'a>, _rule: Rule, at: At) -> BuildResult<Self> {
-        let ((unsigned, Last(short)), at) = sequence::<(Option<Unsigned>, Last<Short>)>(
+        let ((unsigned, short), at) = two_fields::<Option<Unsigned>, Short>(
             alloc,
             table,
             Rule::SHORT_TYPE,
@@ -86,35 +86,18 @@ impl<'a> Build<'a> for IntegerType {
     ghost tree = { integer_type_tree };
 
     fn build(alloc: Global, table: &Ends<'a>, _rule: Rule, at: At) -> BuildResult<Self> {
-        match choice(table, Rule::INTEGER_TYPE, at.place) {
+        let rule = Rule::INTEGER_TYPE;
+        match choice(table, rule, at.place) {
             0 => {
-                let (member, at) = alternative::<LongLongType>(
-                    alloc,
-                    table,
-                    Rule::INTEGER_TYPE,
-                    0,
-                    at,
-                )?;
+                let (member, at) = alternative::<LongLongType>(alloc, table, rule, 0, at)?;
                 Ok((IntegerType::LongLong(member), at))
             }
             1 => {
-                let (member, at) = alternative::<LongType>(
-                    alloc,
-                    table,
-                    Rule::INTEGER_TYPE,
-                    1,
-                    at,
-                )?;
+                let (member, at) = alternative::<LongType>(alloc, table, rule, 1, at)?;
                 Ok((IntegerType::Long(member), at))
             }
             2 => {
-                let (member, at) = alternative::<ShortType>(
-                    alloc,
-                    table,
-                    Rule::INTEGER_TYPE,
-                    2,
-                    at,
-                )?;
+                let (member, at) = alternative::<ShortType>(alloc, table, rule, 2, at)?;
                 Ok((IntegerType::Short(member), at))
             }
             _ => unreachable!(),
@@ -130,7 +113,7 @@ impl<'a> Build<'a> for FloatType {
     ghost tree = { float_type_tree };
 
     fn build(alloc: Global, table: &Ends<'a>, _rule: Rule, at: At) -> BuildResult<Self> {
-        let ((unrestricted, Last(float)), at) = sequence::<(Option<Unrestricted>, Last<Float>)>(
+        let ((unrestricted, float), at) = two_fields::<Option<Unrestricted>, Float>(
             alloc,
             table,
             Rule::FLOAT_TYPE,
@@ -154,7 +137,7 @@ impl<'a> Build<'a> for DoubleType {
     ghost tree = { double_type_tree };
 
     fn build(alloc: Global, table: &Ends<'a>, _rule: Rule, at: At) -> BuildResult<Self> {
-        let ((unrestricted, Last(double)), at) = sequence::<(Option<Unrestricted>, Last<Double>)>(
+        let ((unrestricted, double), at) = two_fields::<Option<Unrestricted>, Double>(
             alloc,
             table,
             Rule::DOUBLE_TYPE,
@@ -178,25 +161,14 @@ impl<'a> Build<'a> for FloatingPointType {
     ghost tree = { floating_point_type_tree };
 
     fn build(alloc: Global, table: &Ends<'a>, _rule: Rule, at: At) -> BuildResult<Self> {
-        match choice(table, Rule::FLOATING_POINT_TYPE, at.place) {
+        let rule = Rule::FLOATING_POINT_TYPE;
+        match choice(table, rule, at.place) {
             0 => {
-                let (member, at) = alternative::<FloatType>(
-                    alloc,
-                    table,
-                    Rule::FLOATING_POINT_TYPE,
-                    0,
-                    at,
-                )?;
+                let (member, at) = alternative::<FloatType>(alloc, table, rule, 0, at)?;
                 Ok((FloatingPointType::Float(member), at))
             }
             1 => {
-                let (member, at) = alternative::<DoubleType>(
-                    alloc,
-                    table,
-                    Rule::FLOATING_POINT_TYPE,
-                    1,
-                    at,
-                )?;
+                let (member, at) = alternative::<DoubleType>(alloc, table, rule, 1, at)?;
                 Ok((FloatingPointType::Double(member), at))
             }
             _ => unreachable!(),
@@ -212,65 +184,34 @@ impl<'a> Build<'a> for ConstType<'a> {
     ghost tree = { const_type_tree };
 
     fn build(alloc: Global, table: &Ends<'a>, _rule: Rule, at: At) -> BuildResult<Self> {
-        match choice(table, Rule::CONST_TYPE, at.place) {
+        let rule = Rule::CONST_TYPE;
+        match choice(table, rule, at.place) {
             0 => {
                 let (member, at) = alternative::<MayBeNull<IntegerType>>(
-                    alloc,
-                    table,
-                    Rule::CONST_TYPE,
-                    0,
-                    at,
+                    alloc, table, rule, 0, at,
                 )?;
                 Ok((ConstType::Integer(member), at))
             }
             1 => {
                 let (member, at) = alternative::<MayBeNull<FloatingPointType>>(
-                    alloc,
-                    table,
-                    Rule::CONST_TYPE,
-                    1,
-                    at,
+                    alloc, table, rule, 1, at,
                 )?;
                 Ok((ConstType::FloatingPoint(member), at))
             }
             2 => {
-                let (member, at) = alternative::<MayBeNull<Boolean>>(
-                    alloc,
-                    table,
-                    Rule::CONST_TYPE,
-                    2,
-                    at,
-                )?;
+                let (member, at) = alternative::<MayBeNull<Boolean>>(alloc, table, rule, 2, at)?;
                 Ok((ConstType::Boolean(member), at))
             }
             3 => {
-                let (member, at) = alternative::<MayBeNull<Byte>>(
-                    alloc,
-                    table,
-                    Rule::CONST_TYPE,
-                    3,
-                    at,
-                )?;
+                let (member, at) = alternative::<MayBeNull<Byte>>(alloc, table, rule, 3, at)?;
                 Ok((ConstType::Byte(member), at))
             }
             4 => {
-                let (member, at) = alternative::<MayBeNull<Octet>>(
-                    alloc,
-                    table,
-                    Rule::CONST_TYPE,
-                    4,
-                    at,
-                )?;
+                let (member, at) = alternative::<MayBeNull<Octet>>(alloc, table, rule, 4, at)?;
                 Ok((ConstType::Octet(member), at))
             }
             5 => {
-                let (member, at) = alternative::<MayBeNull<Identifier>>(
-                    alloc,
-                    table,
-                    Rule::CONST_TYPE,
-                    5,
-                    at,
-                )?;
+                let (member, at) = alternative::<MayBeNull<Identifier>>(alloc, table, rule, 5, at)?;
                 Ok((ConstType::Identifier(member), at))
             }
             _ => unreachable!(),

@@ -13,7 +13,10 @@ ghost use Rattle.weedle_interfaces.specs.Trees.{braced_interface_members_tree, c
 use crate::part::InterfacePart;
 use std::alloc::Global;
 use weedle_async_iterables::AsyncIterableInterfaceMember;
-use weedle_build_base::{At, Build, BuildResult, Last, alternative, choice, sequence};
+use weedle_build_base::{
+    At, Build, BuildResult, alternative, choice, eight_fields, seven_fields, six_fields,
+    three_fields,
+};
 use weedle_build_members::MemberPart;
 use weedle_build_types::Attributes;
 use weedle_interfaces::{
@@ -43,94 +46,59 @@ impl<'a> Build<'a> for InterfacePart<InterfaceMember<'a>> {
         _rule: Rule,
         at: At,
     ) -> BuildResult<InterfaceMember<'a>> {
-        match choice(table, Rule::INTERFACE_MEMBER, at.place) {
+        let rule = Rule::INTERFACE_MEMBER;
+        match choice(table, rule, at.place) {
             0 => {
                 let (member, at) = alternative::<MemberPart<ConstMember<'a>>>(
-                    alloc,
-                    table,
-                    Rule::INTERFACE_MEMBER,
-                    0,
-                    at,
+                    alloc, table, rule, 0, at,
                 )?;
                 Ok((InterfaceMember::Const(member), at))
             }
             1 => {
                 let (member, at) = alternative::<MemberPart<AttributeInterfaceMember<'a>>>(
-                    alloc,
-                    table,
-                    Rule::INTERFACE_MEMBER,
-                    1,
-                    at,
+                    alloc, table, rule, 1, at,
                 )?;
                 Ok((InterfaceMember::Attribute(member), at))
             }
             2 => {
                 let (member, at) = alternative::<MemberPart<ConstructorInterfaceMember<'a>>>(
-                    alloc,
-                    table,
-                    Rule::INTERFACE_MEMBER,
-                    2,
-                    at,
+                    alloc, table, rule, 2, at,
                 )?;
                 Ok((InterfaceMember::Constructor(member), at))
             }
             3 => {
                 let (member, at) = alternative::<MemberPart<OperationInterfaceMember<'a>>>(
-                    alloc,
-                    table,
-                    Rule::INTERFACE_MEMBER,
-                    3,
-                    at,
+                    alloc, table, rule, 3, at,
                 )?;
                 Ok((InterfaceMember::Operation(member), at))
             }
             4 => {
                 let (member, at) = alternative::<MemberPart<IterableInterfaceMember<'a>>>(
-                    alloc,
-                    table,
-                    Rule::INTERFACE_MEMBER,
-                    4,
-                    at,
+                    alloc, table, rule, 4, at,
                 )?;
                 Ok((InterfaceMember::Iterable(member), at))
             }
             5 => {
                 let (member, at) = alternative::<MemberPart<AsyncIterableInterfaceMember<'a>>>(
-                    alloc,
-                    table,
-                    Rule::INTERFACE_MEMBER,
-                    5,
-                    at,
+                    alloc, table, rule, 5, at,
                 )?;
                 Ok((InterfaceMember::AsyncIterable(member), at))
             }
             6 => {
                 let (member, at) = alternative::<MemberPart<MaplikeInterfaceMember<'a>>>(
-                    alloc,
-                    table,
-                    Rule::INTERFACE_MEMBER,
-                    6,
-                    at,
+                    alloc, table, rule, 6, at,
                 )?;
                 Ok((InterfaceMember::Maplike(member), at))
             }
             7 => {
                 let (member, at) = alternative::<MemberPart<SetlikeInterfaceMember<'a>>>(
-                    alloc,
-                    table,
-                    Rule::INTERFACE_MEMBER,
-                    7,
-                    at,
+                    alloc, table, rule, 7, at,
                 )?;
                 Ok((InterfaceMember::Setlike(member), at))
             }
             8 => {
                 let (member, at) = alternative::<MemberPart<StringifierMember<'a>>>(
-                    alloc,
-                    table,
-                    Rule::INTERFACE_MEMBER,
-                    8,
-                    at,
+                    alloc, table, rule, 8, at,
                 )?;
                 Ok((InterfaceMember::Stringifier(member), at))
             }
@@ -152,20 +120,19 @@ impl<'a> Build<'a> for InterfacePart<BracedInterfaceMembers<'a>> {
         rule: Rule,
         at: At,
     ) -> BuildResult<BracedInterfaceMembers<'a>> {
-        let ((open_brace, (body, Last(close_brace))), at) = sequence::<
-            (
-                OpenBrace,
-                (Vec<InterfacePart<InterfaceMember<'a>>>, Last<CloseBrace>),
-            ),
-        >(alloc, table, rule, at)?;
-        Ok((
-            BracedInterfaceMembers {
-                open_brace,
-                body,
-                close_brace,
-            },
-            at,
-        ))
+        match three_fields::<OpenBrace, Vec<InterfacePart<InterfaceMember<'a>>>, CloseBrace>(
+            alloc, table, rule, at,
+        ) {
+            Ok(((open_brace, body, close_brace), at)) => Ok((
+                BracedInterfaceMembers {
+                    open_brace,
+                    body,
+                    close_brace,
+                },
+                at,
+            )),
+            Err(error) => Err(error),
+        }
     }
 }
 
@@ -182,42 +149,43 @@ impl<'a> Build<'a> for InterfacePart<InterfaceDefinition<'a>> {
         _rule: Rule,
         at: At,
     ) -> BuildResult<InterfaceDefinition<'a>> {
-        let (
-            (
-                docstring,
-                (attributes, (interface, (identifier, (inheritance, (members, Last(semi_colon)))))),
-            ),
-            at,
-        ) = sequence::<
-            (
-                Option<Docstring>,
+        match seven_fields::<
+            Option<Docstring>,
+            Attributes<'a>,
+            Interface,
+            Identifier<'a>,
+            Option<Inheritance<'a>>,
+            InterfacePart<BracedInterfaceMembers<'a>>,
+            SemiColon,
+        >(alloc, table, Rule::INTERFACE_DEFINITION, at)
+        {
+            Ok(
                 (
-                    Attributes<'a>,
                     (
-                        Interface,
-                        (
-                            Identifier<'a>,
-                            (
-                                Option<Inheritance<'a>>,
-                                (InterfacePart<BracedInterfaceMembers<'a>>, Last<SemiColon>),
-                            ),
-                        ),
+                        docstring,
+                        attributes,
+                        interface,
+                        identifier,
+                        inheritance,
+                        members,
+                        semi_colon,
                     ),
+                    at,
                 ),
-            ),
-        >(alloc, table, Rule::INTERFACE_DEFINITION, at)?;
-        Ok((
-            InterfaceDefinition {
-                docstring,
-                attributes,
-                interface,
-                identifier,
-                inheritance,
-                members,
-                semi_colon,
-            },
-            at,
-        ))
+            ) => Ok((
+                InterfaceDefinition {
+                    docstring,
+                    attributes,
+                    interface,
+                    identifier,
+                    inheritance,
+                    members,
+                    semi_colon,
+                },
+                at,
+            )),
+            Err(error) => Err(error),
+        }
     }
 }
 
@@ -234,33 +202,28 @@ impl<'a> Build<'a> for InterfacePart<PartialInterfaceDefinition<'a>> {
         _rule: Rule,
         at: At,
     ) -> BuildResult<PartialInterfaceDefinition<'a>> {
-        let ((attributes, (partial, (interface, (identifier, (members, Last(semi_colon)))))), at) =
-            sequence::<
-                (
-                    Attributes<'a>,
-                    (
-                        Partial,
-                        (
-                            Interface,
-                            (
-                                Identifier<'a>,
-                                (InterfacePart<BracedInterfaceMembers<'a>>, Last<SemiColon>),
-                            ),
-                        ),
-                    ),
-                ),
-            >(alloc, table, Rule::PARTIAL_INTERFACE_DEFINITION, at)?;
-        Ok((
-            PartialInterfaceDefinition {
-                attributes,
-                partial,
-                interface,
-                identifier,
-                members,
-                semi_colon,
-            },
-            at,
-        ))
+        match six_fields::<
+            Attributes<'a>,
+            Partial,
+            Interface,
+            Identifier<'a>,
+            InterfacePart<BracedInterfaceMembers<'a>>,
+            SemiColon,
+        >(alloc, table, Rule::PARTIAL_INTERFACE_DEFINITION, at)
+        {
+            Ok(((attributes, partial, interface, identifier, members, semi_colon), at)) => Ok((
+                PartialInterfaceDefinition {
+                    attributes,
+                    partial,
+                    interface,
+                    identifier,
+                    members,
+                    semi_colon,
+                },
+                at,
+            )),
+            Err(error) => Err(error),
+        }
     }
 }
 
@@ -277,51 +240,45 @@ impl<'a> Build<'a> for InterfacePart<CallbackInterfaceDefinition<'a>> {
         _rule: Rule,
         at: At,
     ) -> BuildResult<CallbackInterfaceDefinition<'a>> {
-        let (
-            (
-                docstring,
+        match eight_fields::<
+            Option<Docstring>,
+            Attributes<'a>,
+            Callback,
+            Interface,
+            Identifier<'a>,
+            Option<Inheritance<'a>>,
+            InterfacePart<BracedInterfaceMembers<'a>>,
+            SemiColon,
+        >(alloc, table, Rule::CALLBACK_INTERFACE_DEFINITION, at)
+        {
+            Ok(
                 (
-                    attributes,
                     (
+                        docstring,
+                        attributes,
                         callback,
-                        (interface, (identifier, (inheritance, (members, Last(semi_colon))))),
+                        interface,
+                        identifier,
+                        inheritance,
+                        members,
+                        semi_colon,
                     ),
+                    at,
                 ),
-            ),
-            at,
-        ) = sequence::<
-            (
-                Option<Docstring>,
-                (
-                    Attributes<'a>,
-                    (
-                        Callback,
-                        (
-                            Interface,
-                            (
-                                Identifier<'a>,
-                                (
-                                    Option<Inheritance<'a>>,
-                                    (InterfacePart<BracedInterfaceMembers<'a>>, Last<SemiColon>),
-                                ),
-                            ),
-                        ),
-                    ),
-                ),
-            ),
-        >(alloc, table, Rule::CALLBACK_INTERFACE_DEFINITION, at)?;
-        Ok((
-            CallbackInterfaceDefinition {
-                docstring,
-                attributes,
-                callback,
-                interface,
-                identifier,
-                inheritance,
-                members,
-                semi_colon,
-            },
-            at,
-        ))
+            ) => Ok((
+                CallbackInterfaceDefinition {
+                    docstring,
+                    attributes,
+                    callback,
+                    interface,
+                    identifier,
+                    inheritance,
+                    members,
+                    semi_colon,
+                },
+                at,
+            )),
+            Err(error) => Err(error),
+        }
     }
 }

@@ -11,7 +11,7 @@ use std::alloc::Global;
 use weedle_async_iterables::{
     AsyncIterableInterfaceMember, DoubleTypedAsyncIterable, SingleTypedAsyncIterable,
 };
-use weedle_build_base::{At, Build, BuildResult, Last, alternative, choice, sequence};
+use weedle_build_base::{At, Build, BuildResult, alternative, choice, five_fields, four_fields};
 use weedle_build_types::{Arguments, Attributes};
 use weedle_iterables::{
     DoubleTypedIterable, IterableInterfaceMember, MaplikeInterfaceMember, SetlikeInterfaceMember,
@@ -33,18 +33,23 @@ impl<'a> Build<'a> for MemberPart<SingleTypedIterable<'a>> {
         _rule: Rule,
         at: At,
     ) -> BuildResult<SingleTypedIterable<'a>> {
-        let ((attributes, (iterable, (generics, Last(semi_colon)))), at) = sequence::<
-            (Attributes<'a>, (Iterable, (OneType<'a>, Last<SemiColon>))),
-        >(alloc, table, Rule::SINGLE_TYPED_ITERABLE, at)?;
-        Ok((
-            SingleTypedIterable {
-                attributes,
-                iterable,
-                generics,
-                semi_colon,
-            },
+        match four_fields::<Attributes<'a>, Iterable, OneType<'a>, SemiColon>(
+            alloc,
+            table,
+            Rule::SINGLE_TYPED_ITERABLE,
             at,
-        ))
+        ) {
+            Ok(((attributes, iterable, generics, semi_colon), at)) => Ok((
+                SingleTypedIterable {
+                    attributes,
+                    iterable,
+                    generics,
+                    semi_colon,
+                },
+                at,
+            )),
+            Err(error) => Err(error),
+        }
     }
 }
 
@@ -61,18 +66,23 @@ impl<'a> Build<'a> for MemberPart<DoubleTypedIterable<'a>> {
         _rule: Rule,
         at: At,
     ) -> BuildResult<DoubleTypedIterable<'a>> {
-        let ((attributes, (iterable, (generics, Last(semi_colon)))), at) = sequence::<
-            (Attributes<'a>, (Iterable, (TwoTypes<'a>, Last<SemiColon>))),
-        >(alloc, table, Rule::DOUBLE_TYPED_ITERABLE, at)?;
-        Ok((
-            DoubleTypedIterable {
-                attributes,
-                iterable,
-                generics,
-                semi_colon,
-            },
+        match four_fields::<Attributes<'a>, Iterable, TwoTypes<'a>, SemiColon>(
+            alloc,
+            table,
+            Rule::DOUBLE_TYPED_ITERABLE,
             at,
-        ))
+        ) {
+            Ok(((attributes, iterable, generics, semi_colon), at)) => Ok((
+                DoubleTypedIterable {
+                    attributes,
+                    iterable,
+                    generics,
+                    semi_colon,
+                },
+                at,
+            )),
+            Err(error) => Err(error),
+        }
     }
 }
 
@@ -89,24 +99,17 @@ impl<'a> Build<'a> for MemberPart<IterableInterfaceMember<'a>> {
         _rule: Rule,
         at: At,
     ) -> BuildResult<IterableInterfaceMember<'a>> {
-        match choice(table, Rule::ITERABLE_INTERFACE_MEMBER, at.place) {
+        let rule = Rule::ITERABLE_INTERFACE_MEMBER;
+        match choice(table, rule, at.place) {
             0 => {
                 let (member, at) = alternative::<MemberPart<SingleTypedIterable<'a>>>(
-                    alloc,
-                    table,
-                    Rule::ITERABLE_INTERFACE_MEMBER,
-                    0,
-                    at,
+                    alloc, table, rule, 0, at,
                 )?;
                 Ok((IterableInterfaceMember::Single(member), at))
             }
             1 => {
                 let (member, at) = alternative::<MemberPart<DoubleTypedIterable<'a>>>(
-                    alloc,
-                    table,
-                    Rule::ITERABLE_INTERFACE_MEMBER,
-                    1,
-                    at,
+                    alloc, table, rule, 1, at,
                 )?;
                 Ok((IterableInterfaceMember::Double(member), at))
             }
@@ -128,25 +131,26 @@ impl<'a> Build<'a> for MemberPart<SingleTypedAsyncIterable<'a>> {
         _rule: Rule,
         at: At,
     ) -> BuildResult<SingleTypedAsyncIterable<'a>> {
-        let ((attributes, (async_iterable, (generics, (args, Last(semi_colon))))), at) = sequence::<
-            (
-                Attributes<'a>,
-                (
-                    (Async, Iterable),
-                    (OneType<'a>, (Option<Arguments<'a>>, Last<SemiColon>)),
-                ),
-            ),
-        >(alloc, table, Rule::SINGLE_TYPED_ASYNC_ITERABLE, at)?;
-        Ok((
-            SingleTypedAsyncIterable {
-                attributes,
-                async_iterable,
-                generics,
-                args,
-                semi_colon,
-            },
-            at,
-        ))
+        match five_fields::<
+            Attributes<'a>,
+            (Async, Iterable),
+            OneType<'a>,
+            Option<Arguments<'a>>,
+            SemiColon,
+        >(alloc, table, Rule::SINGLE_TYPED_ASYNC_ITERABLE, at)
+        {
+            Ok(((attributes, async_iterable, generics, args, semi_colon), at)) => Ok((
+                SingleTypedAsyncIterable {
+                    attributes,
+                    async_iterable,
+                    generics,
+                    args,
+                    semi_colon,
+                },
+                at,
+            )),
+            Err(error) => Err(error),
+        }
     }
 }
 
@@ -163,25 +167,26 @@ impl<'a> Build<'a> for MemberPart<DoubleTypedAsyncIterable<'a>> {
         _rule: Rule,
         at: At,
     ) -> BuildResult<DoubleTypedAsyncIterable<'a>> {
-        let ((attributes, (async_iterable, (generics, (args, Last(semi_colon))))), at) = sequence::<
-            (
-                Attributes<'a>,
-                (
-                    (Async, Iterable),
-                    (TwoTypes<'a>, (Option<Arguments<'a>>, Last<SemiColon>)),
-                ),
-            ),
-        >(alloc, table, Rule::DOUBLE_TYPED_ASYNC_ITERABLE, at)?;
-        Ok((
-            DoubleTypedAsyncIterable {
-                attributes,
-                async_iterable,
-                generics,
-                args,
-                semi_colon,
-            },
-            at,
-        ))
+        match five_fields::<
+            Attributes<'a>,
+            (Async, Iterable),
+            TwoTypes<'a>,
+            Option<Arguments<'a>>,
+            SemiColon,
+        >(alloc, table, Rule::DOUBLE_TYPED_ASYNC_ITERABLE, at)
+        {
+            Ok(((attributes, async_iterable, generics, args, semi_colon), at)) => Ok((
+                DoubleTypedAsyncIterable {
+                    attributes,
+                    async_iterable,
+                    generics,
+                    args,
+                    semi_colon,
+                },
+                at,
+            )),
+            Err(error) => Err(error),
+        }
     }
 }
 
@@ -198,24 +203,17 @@ impl<'a> Build<'a> for MemberPart<AsyncIterableInterfaceMember<'a>> {
         _rule: Rule,
         at: At,
     ) -> BuildResult<AsyncIterableInterfaceMember<'a>> {
-        match choice(table, Rule::ASYNC_ITERABLE_INTERFACE_MEMBER, at.place) {
+        let rule = Rule::ASYNC_ITERABLE_INTERFACE_MEMBER;
+        match choice(table, rule, at.place) {
             0 => {
                 let (member, at) = alternative::<MemberPart<SingleTypedAsyncIterable<'a>>>(
-                    alloc,
-                    table,
-                    Rule::ASYNC_ITERABLE_INTERFACE_MEMBER,
-                    0,
-                    at,
+                    alloc, table, rule, 0, at,
                 )?;
                 Ok((AsyncIterableInterfaceMember::Single(member), at))
             }
             1 => {
                 let (member, at) = alternative::<MemberPart<DoubleTypedAsyncIterable<'a>>>(
-                    alloc,
-                    table,
-                    Rule::ASYNC_ITERABLE_INTERFACE_MEMBER,
-                    1,
-                    at,
+                    alloc, table, rule, 1, at,
                 )?;
                 Ok((AsyncIterableInterfaceMember::Double(member), at))
             }
@@ -237,22 +235,24 @@ impl<'a> Build<'a> for MemberPart<MaplikeInterfaceMember<'a>> {
         _rule: Rule,
         at: At,
     ) -> BuildResult<MaplikeInterfaceMember<'a>> {
-        let ((attributes, (readonly, (maplike, (generics, Last(semi_colon))))), at) = sequence::<
-            (
-                Attributes<'a>,
-                (Option<ReadOnly>, (Maplike, (TwoTypes<'a>, Last<SemiColon>))),
-            ),
-        >(alloc, table, Rule::MAPLIKE_INTERFACE_MEMBER, at)?;
-        Ok((
-            MaplikeInterfaceMember {
-                attributes,
-                readonly,
-                maplike,
-                generics,
-                semi_colon,
-            },
+        match five_fields::<Attributes<'a>, Option<ReadOnly>, Maplike, TwoTypes<'a>, SemiColon>(
+            alloc,
+            table,
+            Rule::MAPLIKE_INTERFACE_MEMBER,
             at,
-        ))
+        ) {
+            Ok(((attributes, readonly, maplike, generics, semi_colon), at)) => Ok((
+                MaplikeInterfaceMember {
+                    attributes,
+                    readonly,
+                    maplike,
+                    generics,
+                    semi_colon,
+                },
+                at,
+            )),
+            Err(error) => Err(error),
+        }
     }
 }
 
@@ -269,21 +269,23 @@ impl<'a> Build<'a> for MemberPart<SetlikeInterfaceMember<'a>> {
         _rule: Rule,
         at: At,
     ) -> BuildResult<SetlikeInterfaceMember<'a>> {
-        let ((attributes, (readonly, (setlike, (generics, Last(semi_colon))))), at) = sequence::<
-            (
-                Attributes<'a>,
-                (Option<ReadOnly>, (Setlike, (OneType<'a>, Last<SemiColon>))),
-            ),
-        >(alloc, table, Rule::SETLIKE_INTERFACE_MEMBER, at)?;
-        Ok((
-            SetlikeInterfaceMember {
-                attributes,
-                readonly,
-                setlike,
-                generics,
-                semi_colon,
-            },
+        match five_fields::<Attributes<'a>, Option<ReadOnly>, Setlike, OneType<'a>, SemiColon>(
+            alloc,
+            table,
+            Rule::SETLIKE_INTERFACE_MEMBER,
             at,
-        ))
+        ) {
+            Ok(((attributes, readonly, setlike, generics, semi_colon), at)) => Ok((
+                SetlikeInterfaceMember {
+                    attributes,
+                    readonly,
+                    setlike,
+                    generics,
+                    semi_colon,
+                },
+                at,
+            )),
+            Err(error) => Err(error),
+        }
     }
 }

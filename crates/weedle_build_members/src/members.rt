@@ -7,7 +7,9 @@ ghost use Rattle.weedle_members.specs.Trees.{attribute_interface_member_tree, co
 
 use crate::part::MemberPart;
 use std::alloc::Global;
-use weedle_build_base::{At, Build, BuildResult, Last, sequence};
+use weedle_build_base::{
+    At, Build, BuildResult, eight_fields, five_fields, seven_fields, three_fields,
+};
 use weedle_build_types::{Arguments, Attributes, Held};
 use weedle_literal::ConstValue;
 use weedle_members::{
@@ -29,36 +31,32 @@ impl<'a> Build<'a> for MemberPart<ConstMember<'a>> {
     ghost tree = { const_member_tree };
 
     fn build(alloc: Global, table: &Ends<'a>, _rule: Rule, at: At) -> BuildResult<ConstMember<'a>> {
-        let (
-            (
-                attributes,
-                (const_, (const_type, (identifier, (assign, (const_value, Last(semi_colon)))))),
-            ),
-            at,
-        ) = sequence::<
-            (
-                Attributes<'a>,
-                (
-                    Const,
-                    (
-                        ConstType<'a>,
-                        (Identifier<'a>, (Assign, (ConstValue<'a>, Last<SemiColon>))),
-                    ),
-                ),
-            ),
-        >(alloc, table, Rule::CONST_MEMBER, at)?;
-        Ok((
-            ConstMember {
-                attributes,
-                const_,
-                const_type,
-                identifier,
-                assign,
-                const_value,
-                semi_colon,
-            },
-            at,
-        ))
+        match seven_fields::<
+            Attributes<'a>,
+            Const,
+            ConstType<'a>,
+            Identifier<'a>,
+            Assign,
+            ConstValue<'a>,
+            SemiColon,
+        >(alloc, table, Rule::CONST_MEMBER, at)
+        {
+            Ok(
+                ((attributes, const_, const_type, identifier, assign, const_value, semi_colon), at),
+            ) => Ok((
+                ConstMember {
+                    attributes,
+                    const_,
+                    const_type,
+                    identifier,
+                    assign,
+                    const_value,
+                    semi_colon,
+                },
+                at,
+            )),
+            Err(error) => Err(error),
+        }
     }
 }
 
@@ -75,39 +73,31 @@ impl<'a> Build<'a> for MemberPart<AttributeInterfaceMember<'a>> {
         _rule: Rule,
         at: At,
     ) -> BuildResult<AttributeInterfaceMember<'a>> {
-        let (
-            (
-                attributes,
-                (modifier, (readonly, (attribute, (type_, (identifier, Last(semi_colon)))))),
-            ),
-            at,
-        ) = sequence::<
-            (
-                Attributes<'a>,
-                (
-                    Option<StringifierOrInheritOrStatic>,
-                    (
-                        Option<ReadOnly>,
-                        (
-                            Attribute,
-                            (Held<AttributedType<'a>>, (Identifier<'a>, Last<SemiColon>)),
-                        ),
-                    ),
-                ),
-            ),
-        >(alloc, table, Rule::ATTRIBUTE_INTERFACE_MEMBER, at)?;
-        Ok((
-            AttributeInterfaceMember {
-                attributes,
-                modifier,
-                readonly,
-                attribute,
-                type_,
-                identifier,
-                semi_colon,
-            },
-            at,
-        ))
+        match seven_fields::<
+            Attributes<'a>,
+            Option<StringifierOrInheritOrStatic>,
+            Option<ReadOnly>,
+            Attribute,
+            Held<AttributedType<'a>>,
+            Identifier<'a>,
+            SemiColon,
+        >(alloc, table, Rule::ATTRIBUTE_INTERFACE_MEMBER, at)
+        {
+            Ok(((attributes, modifier, readonly, attribute, type_, identifier, semi_colon), at)) =>
+                Ok((
+                    AttributeInterfaceMember {
+                        attributes,
+                        modifier,
+                        readonly,
+                        attribute,
+                        type_,
+                        identifier,
+                        semi_colon,
+                    },
+                    at,
+                )),
+            Err(error) => Err(error),
+        }
     }
 }
 
@@ -124,25 +114,26 @@ impl<'a> Build<'a> for MemberPart<ConstructorInterfaceMember<'a>> {
         _rule: Rule,
         at: At,
     ) -> BuildResult<ConstructorInterfaceMember<'a>> {
-        let ((docstring, (attributes, (constructor, (args, Last(semi_colon))))), at) = sequence::<
-            (
-                Option<Docstring>,
-                (
-                    Attributes<'a>,
-                    (Constructor, (Arguments<'a>, Last<SemiColon>)),
-                ),
-            ),
-        >(alloc, table, Rule::CONSTRUCTOR_INTERFACE_MEMBER, at)?;
-        Ok((
-            ConstructorInterfaceMember {
-                docstring,
-                attributes,
-                constructor,
-                args,
-                semi_colon,
-            },
-            at,
-        ))
+        match five_fields::<
+            Option<Docstring>,
+            Attributes<'a>,
+            Constructor,
+            Arguments<'a>,
+            SemiColon,
+        >(alloc, table, Rule::CONSTRUCTOR_INTERFACE_MEMBER, at)
+        {
+            Ok(((docstring, attributes, constructor, args, semi_colon), at)) => Ok((
+                ConstructorInterfaceMember {
+                    docstring,
+                    attributes,
+                    constructor,
+                    args,
+                    semi_colon,
+                },
+                at,
+            )),
+            Err(error) => Err(error),
+        }
     }
 }
 
@@ -159,46 +150,46 @@ impl<'a> Build<'a> for MemberPart<OperationInterfaceMember<'a>> {
         _rule: Rule,
         at: At,
     ) -> BuildResult<OperationInterfaceMember<'a>> {
-        let (
-            (
-                docstring,
+        match eight_fields::<
+            Option<Docstring>,
+            Attributes<'a>,
+            Option<StringifierOrStatic>,
+            Option<Special>,
+            Held<ReturnType<'a>>,
+            Option<Identifier<'a>>,
+            Arguments<'a>,
+            SemiColon,
+        >(alloc, table, Rule::OPERATION_INTERFACE_MEMBER, at)
+        {
+            Ok(
                 (
-                    attributes,
-                    (modifier, (special, (return_type, (identifier, (args, Last(semi_colon)))))),
-                ),
-            ),
-            at,
-        ) = sequence::<
-            (
-                Option<Docstring>,
-                (
-                    Attributes<'a>,
                     (
-                        Option<StringifierOrStatic>,
-                        (
-                            Option<Special>,
-                            (
-                                Held<ReturnType<'a>>,
-                                (Option<Identifier<'a>>, (Arguments<'a>, Last<SemiColon>)),
-                            ),
-                        ),
+                        docstring,
+                        attributes,
+                        modifier,
+                        special,
+                        return_type,
+                        identifier,
+                        args,
+                        semi_colon,
                     ),
+                    at,
                 ),
-            ),
-        >(alloc, table, Rule::OPERATION_INTERFACE_MEMBER, at)?;
-        Ok((
-            OperationInterfaceMember {
-                docstring,
-                attributes,
-                modifier,
-                special,
-                return_type,
-                identifier,
-                args,
-                semi_colon,
-            },
-            at,
-        ))
+            ) => Ok((
+                OperationInterfaceMember {
+                    docstring,
+                    attributes,
+                    modifier,
+                    special,
+                    return_type,
+                    identifier,
+                    args,
+                    semi_colon,
+                },
+                at,
+            )),
+            Err(error) => Err(error),
+        }
     }
 }
 
@@ -215,16 +206,21 @@ impl<'a> Build<'a> for MemberPart<StringifierMember<'a>> {
         _rule: Rule,
         at: At,
     ) -> BuildResult<StringifierMember<'a>> {
-        let ((attributes, (stringifier, Last(semi_colon))), at) = sequence::<
-            (Attributes<'a>, (Stringifier, Last<SemiColon>)),
-        >(alloc, table, Rule::STRINGIFIER_MEMBER, at)?;
-        Ok((
-            StringifierMember {
-                attributes,
-                stringifier,
-                semi_colon,
-            },
+        match three_fields::<Attributes<'a>, Stringifier, SemiColon>(
+            alloc,
+            table,
+            Rule::STRINGIFIER_MEMBER,
             at,
-        ))
+        ) {
+            Ok(((attributes, stringifier, semi_colon), at)) => Ok((
+                StringifierMember {
+                    attributes,
+                    stringifier,
+                    semi_colon,
+                },
+                at,
+            )),
+            Err(error) => Err(error),
+        }
     }
 }

@@ -12,7 +12,9 @@ ghost use Rattle.weedle_mixins.specs.Trees.{attribute_mixin_member_tree, braced_
 
 use crate::part::MixinPart;
 use std::alloc::Global;
-use weedle_build_base::{At, Build, BuildResult, Last, alternative, choice, sequence};
+use weedle_build_base::{
+    At, Build, BuildResult, alternative, choice, seven_fields, six_fields, three_fields,
+};
 use weedle_build_members::MemberPart;
 use weedle_build_types::{Arguments, Attributes, Held};
 use weedle_members::{ConstMember, StringifierMember};
@@ -40,32 +42,28 @@ impl<'a> Build<'a> for MixinPart<OperationMixinMember<'a>> {
         _rule: Rule,
         at: At,
     ) -> BuildResult<OperationMixinMember<'a>> {
-        let (
-            (attributes, (stringifier, (return_type, (identifier, (args, Last(semi_colon)))))),
-            at,
-        ) = sequence::<
-            (
-                Attributes<'a>,
-                (
-                    Option<Stringifier>,
-                    (
-                        Held<ReturnType<'a>>,
-                        (Option<Identifier<'a>>, (Arguments<'a>, Last<SemiColon>)),
-                    ),
-                ),
-            ),
-        >(alloc, table, Rule::OPERATION_MIXIN_MEMBER, at)?;
-        Ok((
-            OperationMixinMember {
-                attributes,
-                stringifier,
-                return_type,
-                identifier,
-                args,
-                semi_colon,
-            },
-            at,
-        ))
+        match six_fields::<
+            Attributes<'a>,
+            Option<Stringifier>,
+            Held<ReturnType<'a>>,
+            Option<Identifier<'a>>,
+            Arguments<'a>,
+            SemiColon,
+        >(alloc, table, Rule::OPERATION_MIXIN_MEMBER, at)
+        {
+            Ok(((attributes, stringifier, return_type, identifier, args, semi_colon), at)) => Ok((
+                OperationMixinMember {
+                    attributes,
+                    stringifier,
+                    return_type,
+                    identifier,
+                    args,
+                    semi_colon,
+                },
+                at,
+            )),
+            Err(error) => Err(error),
+        }
     }
 }
 
@@ -82,39 +80,32 @@ impl<'a> Build<'a> for MixinPart<AttributeMixinMember<'a>> {
         _rule: Rule,
         at: At,
     ) -> BuildResult<AttributeMixinMember<'a>> {
-        let (
-            (
-                attributes,
-                (stringifier, (readonly, (attribute, (type_, (identifier, Last(semi_colon)))))),
-            ),
-            at,
-        ) = sequence::<
-            (
-                Attributes<'a>,
-                (
-                    Option<Stringifier>,
-                    (
-                        Option<ReadOnly>,
-                        (
-                            Attribute,
-                            (Held<AttributedType<'a>>, (Identifier<'a>, Last<SemiColon>)),
-                        ),
-                    ),
-                ),
-            ),
-        >(alloc, table, Rule::ATTRIBUTE_MIXIN_MEMBER, at)?;
-        Ok((
-            AttributeMixinMember {
-                attributes,
-                stringifier,
-                readonly,
-                attribute,
-                type_,
-                identifier,
-                semi_colon,
-            },
-            at,
-        ))
+        match seven_fields::<
+            Attributes<'a>,
+            Option<Stringifier>,
+            Option<ReadOnly>,
+            Attribute,
+            Held<AttributedType<'a>>,
+            Identifier<'a>,
+            SemiColon,
+        >(alloc, table, Rule::ATTRIBUTE_MIXIN_MEMBER, at)
+        {
+            Ok(
+                ((attributes, stringifier, readonly, attribute, type_, identifier, semi_colon), at),
+            ) => Ok((
+                AttributeMixinMember {
+                    attributes,
+                    stringifier,
+                    readonly,
+                    attribute,
+                    type_,
+                    identifier,
+                    semi_colon,
+                },
+                at,
+            )),
+            Err(error) => Err(error),
+        }
     }
 }
 
@@ -126,44 +117,29 @@ impl<'a> Build<'a> for MixinPart<MixinMember<'a>> {
     ghost tree = { mixin_member_tree };
 
     fn build(alloc: Global, table: &Ends<'a>, _rule: Rule, at: At) -> BuildResult<MixinMember<'a>> {
-        match choice(table, Rule::MIXIN_MEMBER, at.place) {
+        let rule = Rule::MIXIN_MEMBER;
+        match choice(table, rule, at.place) {
             0 => {
                 let (member, at) = alternative::<MemberPart<ConstMember<'a>>>(
-                    alloc,
-                    table,
-                    Rule::MIXIN_MEMBER,
-                    0,
-                    at,
+                    alloc, table, rule, 0, at,
                 )?;
                 Ok((MixinMember::Const(member), at))
             }
             1 => {
                 let (member, at) = alternative::<MixinPart<OperationMixinMember<'a>>>(
-                    alloc,
-                    table,
-                    Rule::MIXIN_MEMBER,
-                    1,
-                    at,
+                    alloc, table, rule, 1, at,
                 )?;
                 Ok((MixinMember::Operation(member), at))
             }
             2 => {
                 let (member, at) = alternative::<MixinPart<AttributeMixinMember<'a>>>(
-                    alloc,
-                    table,
-                    Rule::MIXIN_MEMBER,
-                    2,
-                    at,
+                    alloc, table, rule, 2, at,
                 )?;
                 Ok((MixinMember::Attribute(member), at))
             }
             3 => {
                 let (member, at) = alternative::<MemberPart<StringifierMember<'a>>>(
-                    alloc,
-                    table,
-                    Rule::MIXIN_MEMBER,
-                    3,
-                    at,
+                    alloc, table, rule, 3, at,
                 )?;
                 Ok((MixinMember::Stringifier(member), at))
             }
@@ -185,20 +161,19 @@ impl<'a> Build<'a> for MixinPart<BracedMixinMembers<'a>> {
         rule: Rule,
         at: At,
     ) -> BuildResult<BracedMixinMembers<'a>> {
-        let ((open_brace, (body, Last(close_brace))), at) = sequence::<
-            (
-                OpenBrace,
-                (Vec<MixinPart<MixinMember<'a>>>, Last<CloseBrace>),
-            ),
-        >(alloc, table, rule, at)?;
-        Ok((
-            BracedMixinMembers {
-                open_brace,
-                body,
-                close_brace,
-            },
-            at,
-        ))
+        match three_fields::<OpenBrace, Vec<MixinPart<MixinMember<'a>>>, CloseBrace>(
+            alloc, table, rule, at,
+        ) {
+            Ok(((open_brace, body, close_brace), at)) => Ok((
+                BracedMixinMembers {
+                    open_brace,
+                    body,
+                    close_brace,
+                },
+                at,
+            )),
+            Err(error) => Err(error),
+        }
     }
 }
 
@@ -215,33 +190,28 @@ impl<'a> Build<'a> for MixinPart<InterfaceMixinDefinition<'a>> {
         _rule: Rule,
         at: At,
     ) -> BuildResult<InterfaceMixinDefinition<'a>> {
-        let ((attributes, (interface, (mixin, (identifier, (members, Last(semi_colon)))))), at) =
-            sequence::<
-                (
-                    Attributes<'a>,
-                    (
-                        Interface,
-                        (
-                            Mixin,
-                            (
-                                Identifier<'a>,
-                                (MixinPart<BracedMixinMembers<'a>>, Last<SemiColon>),
-                            ),
-                        ),
-                    ),
-                ),
-            >(alloc, table, Rule::INTERFACE_MIXIN_DEFINITION, at)?;
-        Ok((
-            InterfaceMixinDefinition {
-                attributes,
-                interface,
-                mixin,
-                identifier,
-                members,
-                semi_colon,
-            },
-            at,
-        ))
+        match six_fields::<
+            Attributes<'a>,
+            Interface,
+            Mixin,
+            Identifier<'a>,
+            MixinPart<BracedMixinMembers<'a>>,
+            SemiColon,
+        >(alloc, table, Rule::INTERFACE_MIXIN_DEFINITION, at)
+        {
+            Ok(((attributes, interface, mixin, identifier, members, semi_colon), at)) => Ok((
+                InterfaceMixinDefinition {
+                    attributes,
+                    interface,
+                    mixin,
+                    identifier,
+                    members,
+                    semi_colon,
+                },
+                at,
+            )),
+            Err(error) => Err(error),
+        }
     }
 }
 
@@ -258,41 +228,30 @@ impl<'a> Build<'a> for MixinPart<PartialInterfaceMixinDefinition<'a>> {
         _rule: Rule,
         at: At,
     ) -> BuildResult<PartialInterfaceMixinDefinition<'a>> {
-        let (
-            (
-                attributes,
-                (partial, (interface, (mixin, (identifier, (members, Last(semi_colon)))))),
-            ),
-            at,
-        ) = sequence::<
-            (
-                Attributes<'a>,
-                (
-                    Partial,
-                    (
-                        Interface,
-                        (
-                            Mixin,
-                            (
-                                Identifier<'a>,
-                                (MixinPart<BracedMixinMembers<'a>>, Last<SemiColon>),
-                            ),
-                        ),
-                    ),
-                ),
-            ),
-        >(alloc, table, Rule::PARTIAL_INTERFACE_MIXIN_DEFINITION, at)?;
-        Ok((
-            PartialInterfaceMixinDefinition {
-                attributes,
-                partial,
-                interface,
-                mixin,
-                identifier,
-                members,
-                semi_colon,
-            },
-            at,
-        ))
+        match seven_fields::<
+            Attributes<'a>,
+            Partial,
+            Interface,
+            Mixin,
+            Identifier<'a>,
+            MixinPart<BracedMixinMembers<'a>>,
+            SemiColon,
+        >(alloc, table, Rule::PARTIAL_INTERFACE_MIXIN_DEFINITION, at)
+        {
+            Ok(((attributes, partial, interface, mixin, identifier, members, semi_colon), at)) =>
+                Ok((
+                    PartialInterfaceMixinDefinition {
+                        attributes,
+                        partial,
+                        interface,
+                        mixin,
+                        identifier,
+                        members,
+                        semi_colon,
+                    },
+                    at,
+                )),
+            Err(error) => Err(error),
+        }
     }
 }

@@ -12,7 +12,7 @@ ghost use Rattle.weedle_namespaces.specs.Trees.{braced_dictionary_members_tree, 
 
 use crate::part::NamespacePart;
 use std::alloc::Global;
-use weedle_build_base::{At, Build, BuildResult, Last, sequence};
+use weedle_build_base::{At, Build, BuildResult, seven_fields, six_fields, three_fields};
 use weedle_build_types::{Attributes, Held};
 use weedle_literal::Default;
 use weedle_modifier::Inheritance;
@@ -36,39 +36,31 @@ impl<'a> Build<'a> for NamespacePart<DictionaryMember<'a>> {
         _rule: Rule,
         at: At,
     ) -> BuildResult<DictionaryMember<'a>> {
-        let (
-            (
-                docstring,
-                (attributes, (required, (type_, (identifier, (default, Last(semi_colon)))))),
-            ),
-            at,
-        ) = sequence::<
-            (
-                Option<Docstring>,
-                (
-                    Attributes<'a>,
-                    (
-                        Option<Required>,
-                        (
-                            Held<Type<'a>>,
-                            (Identifier<'a>, (Option<Default<'a>>, Last<SemiColon>)),
-                        ),
-                    ),
-                ),
-            ),
-        >(alloc, table, Rule::DICTIONARY_MEMBER, at)?;
-        Ok((
-            DictionaryMember {
-                docstring,
-                attributes,
-                required,
-                type_,
-                identifier,
-                default,
-                semi_colon,
-            },
-            at,
-        ))
+        match seven_fields::<
+            Option<Docstring>,
+            Attributes<'a>,
+            Option<Required>,
+            Held<Type<'a>>,
+            Identifier<'a>,
+            Option<Default<'a>>,
+            SemiColon,
+        >(alloc, table, Rule::DICTIONARY_MEMBER, at)
+        {
+            Ok(((docstring, attributes, required, type_, identifier, default, semi_colon), at)) =>
+                Ok((
+                    DictionaryMember {
+                        docstring,
+                        attributes,
+                        required,
+                        type_,
+                        identifier,
+                        default,
+                        semi_colon,
+                    },
+                    at,
+                )),
+            Err(error) => Err(error),
+        }
     }
 }
 
@@ -85,20 +77,19 @@ impl<'a> Build<'a> for NamespacePart<BracedDictionaryMembers<'a>> {
         rule: Rule,
         at: At,
     ) -> BuildResult<BracedDictionaryMembers<'a>> {
-        let ((open_brace, (body, Last(close_brace))), at) = sequence::<
-            (
-                OpenBrace,
-                (Vec<NamespacePart<DictionaryMember<'a>>>, Last<CloseBrace>),
-            ),
-        >(alloc, table, rule, at)?;
-        Ok((
-            BracedDictionaryMembers {
-                open_brace,
-                body,
-                close_brace,
-            },
-            at,
-        ))
+        match three_fields::<OpenBrace, Vec<NamespacePart<DictionaryMember<'a>>>, CloseBrace>(
+            alloc, table, rule, at,
+        ) {
+            Ok(((open_brace, body, close_brace), at)) => Ok((
+                BracedDictionaryMembers {
+                    open_brace,
+                    body,
+                    close_brace,
+                },
+                at,
+            )),
+            Err(error) => Err(error),
+        }
     }
 }
 
@@ -115,45 +106,43 @@ impl<'a> Build<'a> for NamespacePart<DictionaryDefinition<'a>> {
         _rule: Rule,
         at: At,
     ) -> BuildResult<DictionaryDefinition<'a>> {
-        let (
-            (
-                docstring,
+        match seven_fields::<
+            Option<Docstring>,
+            Attributes<'a>,
+            Dictionary,
+            Identifier<'a>,
+            Option<Inheritance<'a>>,
+            NamespacePart<BracedDictionaryMembers<'a>>,
+            SemiColon,
+        >(alloc, table, Rule::DICTIONARY_DEFINITION, at)
+        {
+            Ok(
                 (
-                    attributes,
-                    (dictionary, (identifier, (inheritance, (members, Last(semi_colon))))),
-                ),
-            ),
-            at,
-        ) = sequence::<
-            (
-                Option<Docstring>,
-                (
-                    Attributes<'a>,
                     (
-                        Dictionary,
-                        (
-                            Identifier<'a>,
-                            (
-                                Option<Inheritance<'a>>,
-                                (NamespacePart<BracedDictionaryMembers<'a>>, Last<SemiColon>),
-                            ),
-                        ),
+                        docstring,
+                        attributes,
+                        dictionary,
+                        identifier,
+                        inheritance,
+                        members,
+                        semi_colon,
                     ),
+                    at,
                 ),
-            ),
-        >(alloc, table, Rule::DICTIONARY_DEFINITION, at)?;
-        Ok((
-            DictionaryDefinition {
-                docstring,
-                attributes,
-                dictionary,
-                identifier,
-                inheritance,
-                members,
-                semi_colon,
-            },
-            at,
-        ))
+            ) => Ok((
+                DictionaryDefinition {
+                    docstring,
+                    attributes,
+                    dictionary,
+                    identifier,
+                    inheritance,
+                    members,
+                    semi_colon,
+                },
+                at,
+            )),
+            Err(error) => Err(error),
+        }
     }
 }
 
@@ -170,32 +159,27 @@ impl<'a> Build<'a> for NamespacePart<PartialDictionaryDefinition<'a>> {
         _rule: Rule,
         at: At,
     ) -> BuildResult<PartialDictionaryDefinition<'a>> {
-        let ((attributes, (partial, (dictionary, (identifier, (members, Last(semi_colon)))))), at) =
-            sequence::<
-                (
-                    Attributes<'a>,
-                    (
-                        Partial,
-                        (
-                            Dictionary,
-                            (
-                                Identifier<'a>,
-                                (NamespacePart<BracedDictionaryMembers<'a>>, Last<SemiColon>),
-                            ),
-                        ),
-                    ),
-                ),
-            >(alloc, table, Rule::PARTIAL_DICTIONARY_DEFINITION, at)?;
-        Ok((
-            PartialDictionaryDefinition {
-                attributes,
-                partial,
-                dictionary,
-                identifier,
-                members,
-                semi_colon,
-            },
-            at,
-        ))
+        match six_fields::<
+            Attributes<'a>,
+            Partial,
+            Dictionary,
+            Identifier<'a>,
+            NamespacePart<BracedDictionaryMembers<'a>>,
+            SemiColon,
+        >(alloc, table, Rule::PARTIAL_DICTIONARY_DEFINITION, at)
+        {
+            Ok(((attributes, partial, dictionary, identifier, members, semi_colon), at)) => Ok((
+                PartialDictionaryDefinition {
+                    attributes,
+                    partial,
+                    dictionary,
+                    identifier,
+                    members,
+                    semi_colon,
+                },
+                at,
+            )),
+            Err(error) => Err(error),
+        }
     }
 }

@@ -12,7 +12,9 @@ ghost use Rattle.weedle_namespaces.specs.Trees.{attribute_namespace_member_tree,
 
 use crate::part::NamespacePart;
 use std::alloc::Global;
-use weedle_build_base::{At, Build, BuildResult, Last, alternative, choice, sequence};
+use weedle_build_base::{
+    At, Build, BuildResult, alternative, choice, seven_fields, six_fields, three_fields,
+};
 use weedle_build_types::{Arguments, Attributes, Held};
 use weedle_namespaces::namespace::{
     AttributeNamespaceMember, BracedNamespaceMembers, NamespaceMember, OperationNamespaceMember,
@@ -36,30 +38,28 @@ impl<'a> Build<'a> for NamespacePart<OperationNamespaceMember<'a>> {
         _rule: Rule,
         at: At,
     ) -> BuildResult<OperationNamespaceMember<'a>> {
-        let ((docstring, (attributes, (return_type, (identifier, (args, Last(semi_colon)))))), at) =
-            sequence::<
-                (
-                    Option<Docstring>,
-                    (
-                        Attributes<'a>,
-                        (
-                            Held<ReturnType<'a>>,
-                            (Option<Identifier<'a>>, (Arguments<'a>, Last<SemiColon>)),
-                        ),
-                    ),
-                ),
-            >(alloc, table, Rule::OPERATION_NAMESPACE_MEMBER, at)?;
-        Ok((
-            OperationNamespaceMember {
-                docstring,
-                attributes,
-                return_type,
-                identifier,
-                args,
-                semi_colon,
-            },
-            at,
-        ))
+        match six_fields::<
+            Option<Docstring>,
+            Attributes<'a>,
+            Held<ReturnType<'a>>,
+            Option<Identifier<'a>>,
+            Arguments<'a>,
+            SemiColon,
+        >(alloc, table, Rule::OPERATION_NAMESPACE_MEMBER, at)
+        {
+            Ok(((docstring, attributes, return_type, identifier, args, semi_colon), at)) => Ok((
+                OperationNamespaceMember {
+                    docstring,
+                    attributes,
+                    return_type,
+                    identifier,
+                    args,
+                    semi_colon,
+                },
+                at,
+            )),
+            Err(error) => Err(error),
+        }
     }
 }
 
@@ -76,39 +76,31 @@ impl<'a> Build<'a> for NamespacePart<AttributeNamespaceMember<'a>> {
         _rule: Rule,
         at: At,
     ) -> BuildResult<AttributeNamespaceMember<'a>> {
-        let (
-            (
-                docstring,
-                (attributes, (readonly, (attribute, (type_, (identifier, Last(semi_colon)))))),
-            ),
-            at,
-        ) = sequence::<
-            (
-                Option<Docstring>,
-                (
-                    Attributes<'a>,
-                    (
-                        ReadOnly,
-                        (
-                            Attribute,
-                            (Held<AttributedType<'a>>, (Identifier<'a>, Last<SemiColon>)),
-                        ),
-                    ),
-                ),
-            ),
-        >(alloc, table, Rule::ATTRIBUTE_NAMESPACE_MEMBER, at)?;
-        Ok((
-            AttributeNamespaceMember {
-                docstring,
-                attributes,
-                readonly,
-                attribute,
-                type_,
-                identifier,
-                semi_colon,
-            },
-            at,
-        ))
+        match seven_fields::<
+            Option<Docstring>,
+            Attributes<'a>,
+            ReadOnly,
+            Attribute,
+            Held<AttributedType<'a>>,
+            Identifier<'a>,
+            SemiColon,
+        >(alloc, table, Rule::ATTRIBUTE_NAMESPACE_MEMBER, at)
+        {
+            Ok(((docstring, attributes, readonly, attribute, type_, identifier, semi_colon), at)) =>
+                Ok((
+                    AttributeNamespaceMember {
+                        docstring,
+                        attributes,
+                        readonly,
+                        attribute,
+                        type_,
+                        identifier,
+                        semi_colon,
+                    },
+                    at,
+                )),
+            Err(error) => Err(error),
+        }
     }
 }
 
@@ -125,24 +117,17 @@ impl<'a> Build<'a> for NamespacePart<NamespaceMember<'a>> {
         _rule: Rule,
         at: At,
     ) -> BuildResult<NamespaceMember<'a>> {
-        match choice(table, Rule::NAMESPACE_MEMBER, at.place) {
+        let rule = Rule::NAMESPACE_MEMBER;
+        match choice(table, rule, at.place) {
             0 => {
                 let (member, at) = alternative::<NamespacePart<OperationNamespaceMember<'a>>>(
-                    alloc,
-                    table,
-                    Rule::NAMESPACE_MEMBER,
-                    0,
-                    at,
+                    alloc, table, rule, 0, at,
                 )?;
                 Ok((NamespaceMember::Operation(member), at))
             }
             1 => {
                 let (member, at) = alternative::<NamespacePart<AttributeNamespaceMember<'a>>>(
-                    alloc,
-                    table,
-                    Rule::NAMESPACE_MEMBER,
-                    1,
-                    at,
+                    alloc, table, rule, 1, at,
                 )?;
                 Ok((NamespaceMember::Attribute(member), at))
             }
@@ -164,20 +149,19 @@ impl<'a> Build<'a> for NamespacePart<BracedNamespaceMembers<'a>> {
         rule: Rule,
         at: At,
     ) -> BuildResult<BracedNamespaceMembers<'a>> {
-        let ((open_brace, (body, Last(close_brace))), at) = sequence::<
-            (
-                OpenBrace,
-                (Vec<NamespacePart<NamespaceMember<'a>>>, Last<CloseBrace>),
-            ),
-        >(alloc, table, rule, at)?;
-        Ok((
-            BracedNamespaceMembers {
-                open_brace,
-                body,
-                close_brace,
-            },
-            at,
-        ))
+        match three_fields::<OpenBrace, Vec<NamespacePart<NamespaceMember<'a>>>, CloseBrace>(
+            alloc, table, rule, at,
+        ) {
+            Ok(((open_brace, body, close_brace), at)) => Ok((
+                BracedNamespaceMembers {
+                    open_brace,
+                    body,
+                    close_brace,
+                },
+                at,
+            )),
+            Err(error) => Err(error),
+        }
     }
 }
 
@@ -194,35 +178,28 @@ impl<'a> Build<'a> for NamespacePart<NamespaceDefinition<'a>> {
         _rule: Rule,
         at: At,
     ) -> BuildResult<NamespaceDefinition<'a>> {
-        let (
-            (docstring, (attributes, (namespace, (identifier, (members, Last(semi_colon)))))),
-            at,
-        ) = sequence::<
-            (
-                Option<Docstring>,
-                (
-                    Attributes<'a>,
-                    (
-                        Namespace,
-                        (
-                            Identifier<'a>,
-                            (NamespacePart<BracedNamespaceMembers<'a>>, Last<SemiColon>),
-                        ),
-                    ),
-                ),
-            ),
-        >(alloc, table, Rule::NAMESPACE_DEFINITION, at)?;
-        Ok((
-            NamespaceDefinition {
-                docstring,
-                attributes,
-                namespace,
-                identifier,
-                members,
-                semi_colon,
-            },
-            at,
-        ))
+        match six_fields::<
+            Option<Docstring>,
+            Attributes<'a>,
+            Namespace,
+            Identifier<'a>,
+            NamespacePart<BracedNamespaceMembers<'a>>,
+            SemiColon,
+        >(alloc, table, Rule::NAMESPACE_DEFINITION, at)
+        {
+            Ok(((docstring, attributes, namespace, identifier, members, semi_colon), at)) => Ok((
+                NamespaceDefinition {
+                    docstring,
+                    attributes,
+                    namespace,
+                    identifier,
+                    members,
+                    semi_colon,
+                },
+                at,
+            )),
+            Err(error) => Err(error),
+        }
     }
 }
 
@@ -239,32 +216,27 @@ impl<'a> Build<'a> for NamespacePart<PartialNamespaceDefinition<'a>> {
         _rule: Rule,
         at: At,
     ) -> BuildResult<PartialNamespaceDefinition<'a>> {
-        let ((attributes, (partial, (namespace, (identifier, (members, Last(semi_colon)))))), at) =
-            sequence::<
-                (
-                    Attributes<'a>,
-                    (
-                        Partial,
-                        (
-                            Namespace,
-                            (
-                                Identifier<'a>,
-                                (NamespacePart<BracedNamespaceMembers<'a>>, Last<SemiColon>),
-                            ),
-                        ),
-                    ),
-                ),
-            >(alloc, table, Rule::PARTIAL_NAMESPACE_DEFINITION, at)?;
-        Ok((
-            PartialNamespaceDefinition {
-                attributes,
-                partial,
-                namespace,
-                identifier,
-                members,
-                semi_colon,
-            },
-            at,
-        ))
+        match six_fields::<
+            Attributes<'a>,
+            Partial,
+            Namespace,
+            Identifier<'a>,
+            NamespacePart<BracedNamespaceMembers<'a>>,
+            SemiColon,
+        >(alloc, table, Rule::PARTIAL_NAMESPACE_DEFINITION, at)
+        {
+            Ok(((attributes, partial, namespace, identifier, members, semi_colon), at)) => Ok((
+                PartialNamespaceDefinition {
+                    attributes,
+                    partial,
+                    namespace,
+                    identifier,
+                    members,
+                    semi_colon,
+                },
+                at,
+            )),
+            Err(error) => Err(error),
+        }
     }
 }

@@ -8,7 +8,9 @@ ghost use Rattle.weedle_statements.specs.Trees.{callback_definition_tree, enum_d
 
 use crate::part::{EnumValues, StatementPart};
 use std::alloc::Global;
-use weedle_build_base::{At, Build, BuildResult, Last, sequence};
+use weedle_build_base::{
+    At, Build, BuildResult, five_fields, seven_fields, six_fields, two_fields,
+};
 use weedle_build_types::{Arguments, Attributes, Held};
 use weedle_literal::StringLit;
 use weedle_parts::common::{Docstring, Identifier};
@@ -28,7 +30,7 @@ impl<'a> Build<'a> for StatementPart<EnumVariant<'a>> {
     ghost tree = { enum_variant_tree };
 
     fn build(alloc: Global, table: &Ends<'a>, _rule: Rule, at: At) -> BuildResult<EnumVariant<'a>> {
-        let ((docstring, Last(value)), at) = sequence::<(Option<Docstring>, Last<StringLit<'a>>)>(
+        let ((docstring, value), at) = two_fields::<Option<Docstring>, StringLit<'a>>(
             alloc,
             table,
             Rule::ENUM_VARIANT,
@@ -51,27 +53,28 @@ impl<'a> Build<'a> for StatementPart<EnumDefinition<'a>> {
         _rule: Rule,
         at: At,
     ) -> BuildResult<EnumDefinition<'a>> {
-        let ((docstring, (attributes, (enum_, (identifier, (values, Last(semi_colon)))))), at) =
-            sequence::<
-                (
-                    Option<Docstring>,
-                    (
-                        Attributes<'a>,
-                        (Enum, (Identifier<'a>, (EnumValues<'a>, Last<SemiColon>))),
-                    ),
-                ),
-            >(alloc, table, Rule::ENUM_DEFINITION, at)?;
-        Ok((
-            EnumDefinition {
-                docstring,
-                attributes,
-                enum_,
-                identifier,
-                values,
-                semi_colon,
-            },
-            at,
-        ))
+        match six_fields::<
+            Option<Docstring>,
+            Attributes<'a>,
+            Enum,
+            Identifier<'a>,
+            EnumValues<'a>,
+            SemiColon,
+        >(alloc, table, Rule::ENUM_DEFINITION, at)
+        {
+            Ok(((docstring, attributes, enum_, identifier, values, semi_colon), at)) => Ok((
+                EnumDefinition {
+                    docstring,
+                    attributes,
+                    enum_,
+                    identifier,
+                    values,
+                    semi_colon,
+                },
+                at,
+            )),
+            Err(error) => Err(error),
+        }
     }
 }
 
@@ -88,39 +91,35 @@ impl<'a> Build<'a> for StatementPart<CallbackDefinition<'a>> {
         _rule: Rule,
         at: At,
     ) -> BuildResult<CallbackDefinition<'a>> {
-        let (
-            (
-                attributes,
-                (callback, (identifier, (assign, (return_type, (arguments, Last(semi_colon)))))),
-            ),
-            at,
-        ) = sequence::<
-            (
-                Attributes<'a>,
+        match seven_fields::<
+            Attributes<'a>,
+            Callback,
+            Identifier<'a>,
+            Assign,
+            Held<ReturnType<'a>>,
+            Arguments<'a>,
+            SemiColon,
+        >(alloc, table, Rule::CALLBACK_DEFINITION, at)
+        {
+            Ok(
                 (
-                    Callback,
-                    (
-                        Identifier<'a>,
-                        (
-                            Assign,
-                            (Held<ReturnType<'a>>, (Arguments<'a>, Last<SemiColon>)),
-                        ),
-                    ),
+                    (attributes, callback, identifier, assign, return_type, arguments, semi_colon),
+                    at,
                 ),
-            ),
-        >(alloc, table, Rule::CALLBACK_DEFINITION, at)?;
-        Ok((
-            CallbackDefinition {
-                attributes,
-                callback,
-                identifier,
-                assign,
-                return_type,
-                arguments,
-                semi_colon,
-            },
-            at,
-        ))
+            ) => Ok((
+                CallbackDefinition {
+                    attributes,
+                    callback,
+                    identifier,
+                    assign,
+                    return_type,
+                    arguments,
+                    semi_colon,
+                },
+                at,
+            )),
+            Err(error) => Err(error),
+        }
     }
 }
 
@@ -137,25 +136,26 @@ impl<'a> Build<'a> for StatementPart<TypedefDefinition<'a>> {
         _rule: Rule,
         at: At,
     ) -> BuildResult<TypedefDefinition<'a>> {
-        let ((attributes, (typedef, (type_, (identifier, Last(semi_colon))))), at) = sequence::<
-            (
-                Attributes<'a>,
-                (
-                    Typedef,
-                    (Held<AttributedType<'a>>, (Identifier<'a>, Last<SemiColon>)),
-                ),
-            ),
-        >(alloc, table, Rule::TYPEDEF_DEFINITION, at)?;
-        Ok((
-            TypedefDefinition {
-                attributes,
-                typedef,
-                type_,
-                identifier,
-                semi_colon,
-            },
-            at,
-        ))
+        match five_fields::<
+            Attributes<'a>,
+            Typedef,
+            Held<AttributedType<'a>>,
+            Identifier<'a>,
+            SemiColon,
+        >(alloc, table, Rule::TYPEDEF_DEFINITION, at)
+        {
+            Ok(((attributes, typedef, type_, identifier, semi_colon), at)) => Ok((
+                TypedefDefinition {
+                    attributes,
+                    typedef,
+                    type_,
+                    identifier,
+                    semi_colon,
+                },
+                at,
+            )),
+            Err(error) => Err(error),
+        }
     }
 }
 
@@ -172,26 +172,24 @@ impl<'a> Build<'a> for StatementPart<IncludesStatementDefinition<'a>> {
         _rule: Rule,
         at: At,
     ) -> BuildResult<IncludesStatementDefinition<'a>> {
-        let ((attributes, (lhs_identifier, (includes, (rhs_identifier, Last(semi_colon))))), at) =
-            sequence::<
-                (
-                    Attributes<'a>,
-                    (
-                        Identifier<'a>,
-                        (Includes, (Identifier<'a>, Last<SemiColon>)),
-                    ),
-                ),
-            >(alloc, table, Rule::INCLUDES_STATEMENT_DEFINITION, at)?;
-        Ok((
-            IncludesStatementDefinition {
-                attributes,
-                lhs_identifier,
-                includes,
-                rhs_identifier,
-                semi_colon,
-            },
+        match five_fields::<Attributes<'a>, Identifier<'a>, Includes, Identifier<'a>, SemiColon>(
+            alloc,
+            table,
+            Rule::INCLUDES_STATEMENT_DEFINITION,
             at,
-        ))
+        ) {
+            Ok(((attributes, lhs_identifier, includes, rhs_identifier, semi_colon), at)) => Ok((
+                IncludesStatementDefinition {
+                    attributes,
+                    lhs_identifier,
+                    includes,
+                    rhs_identifier,
+                    semi_colon,
+                },
+                at,
+            )),
+            Err(error) => Err(error),
+        }
     }
 }
 
@@ -208,25 +206,23 @@ impl<'a> Build<'a> for StatementPart<ImplementsDefinition<'a>> {
         _rule: Rule,
         at: At,
     ) -> BuildResult<ImplementsDefinition<'a>> {
-        let ((attributes, (lhs_identifier, (includes, (rhs_identifier, Last(semi_colon))))), at) =
-            sequence::<
-                (
-                    Attributes<'a>,
-                    (
-                        Identifier<'a>,
-                        (Implements, (Identifier<'a>, Last<SemiColon>)),
-                    ),
-                ),
-            >(alloc, table, Rule::IMPLEMENTS_DEFINITION, at)?;
-        Ok((
-            ImplementsDefinition {
-                attributes,
-                lhs_identifier,
-                includes,
-                rhs_identifier,
-                semi_colon,
-            },
+        match five_fields::<Attributes<'a>, Identifier<'a>, Implements, Identifier<'a>, SemiColon>(
+            alloc,
+            table,
+            Rule::IMPLEMENTS_DEFINITION,
             at,
-        ))
+        ) {
+            Ok(((attributes, lhs_identifier, includes, rhs_identifier, semi_colon), at)) => Ok((
+                ImplementsDefinition {
+                    attributes,
+                    lhs_identifier,
+                    includes,
+                    rhs_identifier,
+                    semi_colon,
+                },
+                at,
+            )),
+            Err(error) => Err(error),
+        }
     }
 }

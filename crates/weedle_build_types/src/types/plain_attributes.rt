@@ -7,7 +7,9 @@ ghost use Rattle.weedle_types.specs.Trees.{extended_attribute_ident_list_tree, e
 
 use crate::held::Held;
 use std::alloc::Global;
-use weedle_build_base::{At, Build, BuildResult, Last, alternative, choice, sequence};
+use weedle_build_base::{
+    At, Build, BuildResult, Last, alternative, choice, sequence, three_fields,
+};
 use weedle_literal::StringLit;
 use weedle_parts::common::{Identifier, Parenthesized, Punctuated};
 use weedle_rules::{Ends, Rule};
@@ -29,11 +31,10 @@ impl<'a> Build<'a> for Held<ExtendedAttributeIdentList<'a>> {
         _rule: Rule,
         at: At,
     ) -> BuildResult<ExtendedAttributeIdentList<'a>> {
-        let ((identifier, (assign, Last(list))), at) = sequence::<
-            (
-                Identifier,
-                (Assign, Last<Parenthesized<Punctuated<Identifier, Comma>>>),
-            ),
+        let ((identifier, assign, list), at) = three_fields::<
+            Identifier,
+            Assign,
+            Parenthesized<Punctuated<Identifier, Comma>>,
         >(alloc, table, Rule::EXTENDED_ATTRIBUTE_IDENT_LIST, at)?;
         Ok((
             ExtendedAttributeIdentList {
@@ -59,8 +60,10 @@ impl<'a> Build<'a> for Held<ExtendedAttributeIdent<'a>> {
         _rule: Rule,
         at: At,
     ) -> BuildResult<ExtendedAttributeIdent<'a>> {
-        let ((lhs_identifier, (assign, Last(rhs))), at) = sequence::<
-            (Identifier, (Assign, Last<Held<IdentifierOrString>>)),
+        let ((lhs_identifier, assign, rhs), at) = three_fields::<
+            Identifier,
+            Assign,
+            Held<IdentifierOrString>,
         >(alloc, table, Rule::EXTENDED_ATTRIBUTE_IDENT, at)?;
         Ok((
             ExtendedAttributeIdent {
@@ -109,25 +112,14 @@ impl<'a> Build<'a> for Held<IdentifierOrString<'a>> {
         _rule: Rule,
         at: At,
     ) -> BuildResult<IdentifierOrString<'a>> {
-        match choice(table, Rule::IDENTIFIER_OR_STRING, at.place) {
+        let rule = Rule::IDENTIFIER_OR_STRING;
+        match choice(table, rule, at.place) {
             0 => {
-                let (member, at) = alternative::<Identifier>(
-                    alloc,
-                    table,
-                    Rule::IDENTIFIER_OR_STRING,
-                    0,
-                    at,
-                )?;
+                let (member, at) = alternative::<Identifier>(alloc, table, rule, 0, at)?;
                 Ok((IdentifierOrString::Identifier(member), at))
             }
             1 => {
-                let (member, at) = alternative::<StringLit>(
-                    alloc,
-                    table,
-                    Rule::IDENTIFIER_OR_STRING,
-                    1,
-                    at,
-                )?;
+                let (member, at) = alternative::<StringLit>(alloc, table, rule, 1, at)?;
                 Ok((IdentifierOrString::String(member), at))
             }
             _ => unreachable!(),

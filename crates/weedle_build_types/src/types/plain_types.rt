@@ -60,45 +60,24 @@ fn numbers<'a>(
     requires range { (1 ≤ number) × (number ≤ 4) }
     ensures { Answers table.now.text NON_ANY_TYPE non_any_type_tree at.place at.visits result }
 {
+    let rule = Rule::NON_ANY_TYPE;
     match number {
         1 => {
-            let (member, at) = alternative::<MayBeNull<IntegerType>>(
-                alloc,
-                table,
-                Rule::NON_ANY_TYPE,
-                1,
-                at,
-            )?;
+            let (member, at) = alternative::<MayBeNull<IntegerType>>(alloc, table, rule, 1, at)?;
             Ok((NonAnyType::Integer(member), at))
         }
         2 => {
             let (member, at) = alternative::<MayBeNull<FloatingPointType>>(
-                alloc,
-                table,
-                Rule::NON_ANY_TYPE,
-                2,
-                at,
+                alloc, table, rule, 2, at,
             )?;
             Ok((NonAnyType::FloatingPoint(member), at))
         }
         3 => {
-            let (member, at) = alternative::<MayBeNull<Boolean>>(
-                alloc,
-                table,
-                Rule::NON_ANY_TYPE,
-                3,
-                at,
-            )?;
+            let (member, at) = alternative::<MayBeNull<Boolean>>(alloc, table, rule, 3, at)?;
             Ok((NonAnyType::Boolean(member), at))
         }
         4 => {
-            let (member, at) = alternative::<MayBeNull<Byte>>(
-                alloc,
-                table,
-                Rule::NON_ANY_TYPE,
-                4,
-                at,
-            )?;
+            let (member, at) = alternative::<MayBeNull<Byte>>(alloc, table, rule, 4, at)?;
             Ok((NonAnyType::Byte(member), at))
         }
         _ => unreachable!(),
@@ -116,45 +95,22 @@ fn strings<'a>(
     requires range { (5 ≤ number) × (number ≤ 8) }
     ensures { Answers table.now.text NON_ANY_TYPE non_any_type_tree at.place at.visits result }
 {
+    let rule = Rule::NON_ANY_TYPE;
     match number {
         5 => {
-            let (member, at) = alternative::<MayBeNull<Octet>>(
-                alloc,
-                table,
-                Rule::NON_ANY_TYPE,
-                5,
-                at,
-            )?;
+            let (member, at) = alternative::<MayBeNull<Octet>>(alloc, table, rule, 5, at)?;
             Ok((NonAnyType::Octet(member), at))
         }
         6 => {
-            let (member, at) = alternative::<MayBeNull<ByteString>>(
-                alloc,
-                table,
-                Rule::NON_ANY_TYPE,
-                6,
-                at,
-            )?;
+            let (member, at) = alternative::<MayBeNull<ByteString>>(alloc, table, rule, 6, at)?;
             Ok((NonAnyType::ByteString(member), at))
         }
         7 => {
-            let (member, at) = alternative::<MayBeNull<DOMString>>(
-                alloc,
-                table,
-                Rule::NON_ANY_TYPE,
-                7,
-                at,
-            )?;
+            let (member, at) = alternative::<MayBeNull<DOMString>>(alloc, table, rule, 7, at)?;
             Ok((NonAnyType::DOMString(member), at))
         }
         8 => {
-            let (member, at) = alternative::<MayBeNull<USVString>>(
-                alloc,
-                table,
-                Rule::NON_ANY_TYPE,
-                8,
-                at,
-            )?;
+            let (member, at) = alternative::<MayBeNull<USVString>>(alloc, table, rule, 8, at)?;
             Ok((NonAnyType::USVString(member), at))
         }
         _ => unreachable!(),
@@ -172,45 +128,22 @@ fn objects<'a>(
     requires range { (10 ≤ number) × (number ≤ 13) }
     ensures { Answers table.now.text NON_ANY_TYPE non_any_type_tree at.place at.visits result }
 {
+    let rule = Rule::NON_ANY_TYPE;
     match number {
         10 => {
-            let (member, at) = alternative::<MayBeNull<Object>>(
-                alloc,
-                table,
-                Rule::NON_ANY_TYPE,
-                10,
-                at,
-            )?;
+            let (member, at) = alternative::<MayBeNull<Object>>(alloc, table, rule, 10, at)?;
             Ok((NonAnyType::Object(member), at))
         }
         11 => {
-            let (member, at) = alternative::<MayBeNull<Symbol>>(
-                alloc,
-                table,
-                Rule::NON_ANY_TYPE,
-                11,
-                at,
-            )?;
+            let (member, at) = alternative::<MayBeNull<Symbol>>(alloc, table, rule, 11, at)?;
             Ok((NonAnyType::Symbol(member), at))
         }
         12 => {
-            let (member, at) = alternative::<MayBeNull<Error>>(
-                alloc,
-                table,
-                Rule::NON_ANY_TYPE,
-                12,
-                at,
-            )?;
+            let (member, at) = alternative::<MayBeNull<Error>>(alloc, table, rule, 12, at)?;
             Ok((NonAnyType::Error(member), at))
         }
         13 => {
-            let (member, at) = alternative::<MayBeNull<ArrayBuffer>>(
-                alloc,
-                table,
-                Rule::NON_ANY_TYPE,
-                13,
-                at,
-            )?;
+            let (member, at) = alternative::<MayBeNull<ArrayBuffer>>(alloc, table, rule, 13, at)?;
             Ok((NonAnyType::ArrayBuffer(member), at))
         }
         _ => unreachable!(),
@@ -228,45 +161,22 @@ fn signed_arrays<'a>(
     requires range { (14 ≤ number) × (number ≤ 17) }
     ensures { Answers table.now.text NON_ANY_TYPE non_any_type_tree at.place at.visits result }
 {
+    let rule = Rule::NON_ANY_TYPE;
     match number {
         14 => {
-            let (member, at) = alternative::<MayBeNull<DataView>>(
-                alloc,
-                table,
-                Rule::NON_ANY_TYPE,
-                14,
-                at,
-            )?;
+            let (member, at) = alternative::<MayBeNull<DataView>>(alloc, table, rule, 14, at)?;
             Ok((NonAnyType::DataView(member), at))
         }
         15 => {
-            let (member, at) = alternative::<MayBeNull<Int8Array>>(
-                alloc,
-                table,
-                Rule::NON_ANY_TYPE,
-                15,
-                at,
-            )?;
+            let (member, at) = alternative::<MayBeNull<Int8Array>>(alloc, table, rule, 15, at)?;
             Ok((NonAnyType::Int8Array(member), at))
         }
         16 => {
-            let (member, at) = alternative::<MayBeNull<Int16Array>>(
-                alloc,
-                table,
-                Rule::NON_ANY_TYPE,
-                16,
-                at,
-            )?;
+            let (member, at) = alternative::<MayBeNull<Int16Array>>(alloc, table, rule, 16, at)?;
             Ok((NonAnyType::Int16Array(member), at))
         }
         17 => {
-            let (member, at) = alternative::<MayBeNull<Int32Array>>(
-                alloc,
-                table,
-                Rule::NON_ANY_TYPE,
-                17,
-                at,
-            )?;
+            let (member, at) = alternative::<MayBeNull<Int32Array>>(alloc, table, rule, 17, at)?;
             Ok((NonAnyType::Int32Array(member), at))
         }
         _ => unreachable!(),
@@ -284,44 +194,23 @@ fn unsigned_arrays<'a>(
     requires range { (18 ≤ number) × (number ≤ 21) }
     ensures { Answers table.now.text NON_ANY_TYPE non_any_type_tree at.place at.visits result }
 {
+    let rule = Rule::NON_ANY_TYPE;
     match number {
         18 => {
-            let (member, at) = alternative::<MayBeNull<Uint8Array>>(
-                alloc,
-                table,
-                Rule::NON_ANY_TYPE,
-                18,
-                at,
-            )?;
+            let (member, at) = alternative::<MayBeNull<Uint8Array>>(alloc, table, rule, 18, at)?;
             Ok((NonAnyType::Uint8Array(member), at))
         }
         19 => {
-            let (member, at) = alternative::<MayBeNull<Uint16Array>>(
-                alloc,
-                table,
-                Rule::NON_ANY_TYPE,
-                19,
-                at,
-            )?;
+            let (member, at) = alternative::<MayBeNull<Uint16Array>>(alloc, table, rule, 19, at)?;
             Ok((NonAnyType::Uint16Array(member), at))
         }
         20 => {
-            let (member, at) = alternative::<MayBeNull<Uint32Array>>(
-                alloc,
-                table,
-                Rule::NON_ANY_TYPE,
-                20,
-                at,
-            )?;
+            let (member, at) = alternative::<MayBeNull<Uint32Array>>(alloc, table, rule, 20, at)?;
             Ok((NonAnyType::Uint32Array(member), at))
         }
         21 => {
             let (member, at) = alternative::<MayBeNull<Uint8ClampedArray>>(
-                alloc,
-                table,
-                Rule::NON_ANY_TYPE,
-                21,
-                at,
+                alloc, table, rule, 21, at,
             )?;
             Ok((NonAnyType::Uint8ClampedArray(member), at))
         }
@@ -340,45 +229,24 @@ fn float_arrays<'a>(
     requires range { (22 ≤ number) × (number ≤ 25) }
     ensures { Answers table.now.text NON_ANY_TYPE non_any_type_tree at.place at.visits result }
 {
+    let rule = Rule::NON_ANY_TYPE;
     match number {
         22 => {
-            let (member, at) = alternative::<MayBeNull<Float32Array>>(
-                alloc,
-                table,
-                Rule::NON_ANY_TYPE,
-                22,
-                at,
-            )?;
+            let (member, at) = alternative::<MayBeNull<Float32Array>>(alloc, table, rule, 22, at)?;
             Ok((NonAnyType::Float32Array(member), at))
         }
         23 => {
-            let (member, at) = alternative::<MayBeNull<Float64Array>>(
-                alloc,
-                table,
-                Rule::NON_ANY_TYPE,
-                23,
-                at,
-            )?;
+            let (member, at) = alternative::<MayBeNull<Float64Array>>(alloc, table, rule, 23, at)?;
             Ok((NonAnyType::Float64Array(member), at))
         }
         24 => {
             let (member, at) = alternative::<MayBeNull<ArrayBufferView>>(
-                alloc,
-                table,
-                Rule::NON_ANY_TYPE,
-                24,
-                at,
+                alloc, table, rule, 24, at,
             )?;
             Ok((NonAnyType::ArrayBufferView(member), at))
         }
         25 => {
-            let (member, at) = alternative::<MayBeNull<BufferSource>>(
-                alloc,
-                table,
-                Rule::NON_ANY_TYPE,
-                25,
-                at,
-            )?;
+            let (member, at) = alternative::<MayBeNull<BufferSource>>(alloc, table, rule, 25, at)?;
             Ok((NonAnyType::BufferSource(member), at))
         }
         _ => unreachable!(),
