@@ -20,10 +20,10 @@ FILES = {
     "crates/low/specs/Rows.antt": "rows = []\n",
     "crates/low/out/kept": "made by rt\n",
     "crates/low/must-fail/tried-by-the-gate.edit": ONE,
-    "crates/low/must-fail/by-hand/turned.edit": ONE,
-    "crates/low/must-fail/by-hand/at-most.edit": ONE,
+    "must-fail/by-hand/low/turned.edit": ONE,
+    "must-fail/by-hand/low/at-most.edit": ONE,
     "crates/high/src/lib.rt": "a < b\n",
-    "crates/high/must-fail/by-hand/above.edit": ONE,
+    "must-fail/by-hand/high/above.edit": ONE,
     "crates/other/src/lib.rt": "",
     "crates/other/out/kept": "made by rt\n",
     ".git/HEAD": "main\n",
@@ -53,7 +53,7 @@ class TryEditsTest(unittest.TestCase):
         write(self.root, FILES)
 
     def add(self, text, name="new"):
-        write(self.root, {f"crates/low/must-fail/by-hand/{name}.edit": text})
+        write(self.root, {f"must-fail/by-hand/low/{name}.edit": text})
 
     def run_main(self, *words):
         """The status, and the lines that are printed."""

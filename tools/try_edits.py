@@ -3,8 +3,7 @@
 
     python3 tools/try_edits.py [--check] [CRATE..]
 
-They are the edits crates/CRATE/must-fail/by-hand/*.edit, of all crates or of those that are
-named. An edit has a line `file: src/lib.rt`, and then pairs of lines `old: TEXT` and `new: TEXT`,
+They are the edits must-fail/by-hand/CRATE/*.edit, of all crates or of those that are named. An edit has a line `file: src/lib.rt`, and then pairs of lines `old: TEXT` and `new: TEXT`,
 each TEXT one line; further pairs apply to what the earlier ones made. A line that begins with `#`
 says something to the reader.
 
@@ -41,7 +40,7 @@ from pathlib import Path
 from crates import PARTS, Unfit, closure, read_lines
 
 TOP = Path(__file__).resolve().parent.parent
-GATE, BY_HAND = "must-fail", "must-fail/by-hand"
+GATE, BY_HAND = "must-fail", Path("must-fail", "by-hand")
 REFUSED, LET_THROUGH, UNFIT, UNTRIED = "refused", "LET THROUGH", "doesn't apply", "NOT TRIED"
 # What rt says of an edit, and what stands for it here. The first that is found counts.
 WORDS = [
@@ -56,9 +55,9 @@ SAID = re.compile(r"(?:rt: )?must-fail (?P<name>\w+/\S+)\.edit: (?P<words>.*)")
 class Edit:
     """An edit by hand: its file, its crate's folder and name, its own name, as `low/no-end`."""
 
-    def __init__(self, file):
-        self.file, self.folder = file, file.parents[2]
-        self.crate = self.folder.name
+    def __init__(self, root, file):
+        self.file, self.crate = file, file.parent.name
+        self.folder = Path(root, "crates", self.crate)
         self.name = f"{self.crate}/{file.stem}"
 
     def misfit(self):
@@ -110,8 +109,8 @@ def find_edits(root, names):
         if name not in lines:
             raise Unfit(f"there is no crate {name}")
     wanted = [name for name in lines if not names or name in names]
-    folders = [Path(root) / "crates" / name / BY_HAND for name in wanted]
-    return [Edit(file) for folder in folders for file in sorted(folder.glob("*.edit"))]
+    folders = [root / BY_HAND / name for name in wanted]
+    return [Edit(root, file) for folder in folders for file in sorted(folder.glob("*.edit"))]
 
 
 def copy_repository(root, to, names):
