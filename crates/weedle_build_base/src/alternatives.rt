@@ -1,6 +1,19 @@
 //! The first alternative that fits.
 
-ghost use Rattle.std.specs.Prelude.{ℕ, List, [], ◌∷◌, ◌≡◌, ◌+◌, ◌<◌, ◌^◌, IsTrue, IsSome, length, get_or};
+ghost use Rattle.std.specs.Prelude.{
+  ℕ,
+  List,
+  [],
+  ◌∷◌,
+  ◌≡◌,
+  ◌+◌,
+  ◌<◌,
+  ◌^◌,
+  IsTrue,
+  IsSome,
+  length,
+  get_or,
+};
 ghost use Rattle.weedle_grammar.specs.Trees.{Tree, Alt};
 ghost use Rattle.weedle_grammar.specs.Table.{row_of as row_of_rule, shape_of};
 ghost use Rattle.weedle_build_base.specs.Built.{Due, IsChosen, Answers};

@@ -1,8 +1,23 @@
 //! A body between two brackets, and a type that may be null.
 
 ghost use Rattle.weedle_grammar.specs.Table.{row_of as row_of_rule, shape_of};
-ghost use Rattle.weedle_grammar.specs.Table.Symbols.{OPEN_PAREN, CLOSE_PAREN, OPEN_BRACKET, CLOSE_BRACKET, OPEN_BRACE, CLOSE_BRACE, LESS_THAN, GREATER_THAN};
-ghost use Rattle.weedle_parts.specs.ValueTrees.{parenthesized_tree, bracketed_tree, braced_tree, generics_tree, may_be_null_tree};
+ghost use Rattle.weedle_grammar.specs.Table.Symbols.{
+  OPEN_PAREN,
+  CLOSE_PAREN,
+  OPEN_BRACKET,
+  CLOSE_BRACKET,
+  OPEN_BRACE,
+  CLOSE_BRACE,
+  LESS_THAN,
+  GREATER_THAN,
+};
+ghost use Rattle.weedle_parts.specs.ValueTrees.{
+  parenthesized_tree,
+  bracketed_tree,
+  braced_tree,
+  generics_tree,
+  may_be_null_tree,
+};
 ghost use Rattle.weedle_build_base.specs.Fits.{fits_seq, bracket_fits, may_be_null_fits};
 
 use crate::at::At;

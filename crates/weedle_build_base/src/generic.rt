@@ -2,7 +2,13 @@
 
 ghost use Rattle.weedle_grammar.specs.Table.{row_of as row_of_rule, shape_of};
 ghost use Rattle.weedle_base.specs.Rules.{option_tree, items_tree};
-ghost use Rattle.weedle_build_base.specs.Fits.{fits_option, fits_many, fits_seq, then_fits, end_fits};
+ghost use Rattle.weedle_build_base.specs.Fits.{
+  fits_option,
+  fits_many,
+  fits_seq,
+  then_fits,
+  end_fits,
+};
 ghost use Rattle.weedle_build_base.specs.Tuples.{pair_tree, triple_tree};
 
 use crate::at::At;

@@ -2,9 +2,22 @@
 #![tactic(auto, using(crate::proofs::Finding::own_steps))]
 
 ghost use Rattle.std.specs.Prelude.{◌≡◌};
-ghost use Rattle.weedle_grammar.specs.Table.Leaves.{IDENTIFIER, DEC_LIT, HEX_LIT, OCT_LIT, FLOAT_VALUE_LIT, STRING_LIT};
+ghost use Rattle.weedle_grammar.specs.Table.Leaves.{
+  IDENTIFIER,
+  DEC_LIT,
+  HEX_LIT,
+  OCT_LIT,
+  FLOAT_VALUE_LIT,
+  STRING_LIT,
+};
 ghost use Rattle.weedle_parts.specs.ValueTrees.{identifier_tree};
-ghost use Rattle.weedle_literal.specs.LiteralTrees.{dec_tree, hex_tree, oct_tree, float_value_tree, string_tree};
+ghost use Rattle.weedle_literal.specs.LiteralTrees.{
+  dec_tree,
+  hex_tree,
+  oct_tree,
+  float_value_tree,
+  string_tree,
+};
 
 use crate::at::At;
 use crate::build::{Build, BuildResult};

@@ -2,8 +2,26 @@
 #![tactic(auto, using(crate::proofs::Finding::own_steps))]
 
 ghost use Rattle.std.specs.Prelude.{◌≡◌};
-ghost use Rattle.weedle_grammar.specs.Table.Literals.{BOOLEAN_LIT, INTEGER_LIT, FLOAT_LIT, EMPTY_ARRAY_LIT, EMPTY_DICTIONARY_LIT, DEFAULT_VALUE, CONST_VALUE, DEFAULT};
-ghost use Rattle.weedle_literal.specs.LiteralTrees.{boolean_tree, integer_tree, float_tree, empty_array_tree, empty_dictionary_tree, default_value_tree, const_value_tree, default_tree};
+ghost use Rattle.weedle_grammar.specs.Table.Literals.{
+  BOOLEAN_LIT,
+  INTEGER_LIT,
+  FLOAT_LIT,
+  EMPTY_ARRAY_LIT,
+  EMPTY_DICTIONARY_LIT,
+  DEFAULT_VALUE,
+  CONST_VALUE,
+  DEFAULT,
+};
+ghost use Rattle.weedle_literal.specs.LiteralTrees.{
+  boolean_tree,
+  integer_tree,
+  float_tree,
+  empty_array_tree,
+  empty_dictionary_tree,
+  default_value_tree,
+  const_value_tree,
+  default_tree,
+};
 
 use crate::alternatives::{alternative, choice};
 use crate::at::At;

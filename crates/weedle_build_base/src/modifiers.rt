@@ -2,8 +2,18 @@
 #![tactic(auto, using(crate::proofs::Finding::own_steps))]
 
 ghost use Rattle.std.specs.Prelude.{◌≡◌};
-ghost use Rattle.weedle_grammar.specs.Table.InterfaceMembers.{INHERITANCE, SPECIAL, STRINGIFIER_OR_INHERIT_OR_STATIC, STRINGIFIER_OR_STATIC};
-ghost use Rattle.weedle_modifier.specs.Trees.{inheritance_tree, special_tree, stringifier_or_inherit_or_static_tree, stringifier_or_static_tree};
+ghost use Rattle.weedle_grammar.specs.Table.InterfaceMembers.{
+  INHERITANCE,
+  SPECIAL,
+  STRINGIFIER_OR_INHERIT_OR_STATIC,
+  STRINGIFIER_OR_STATIC,
+};
+ghost use Rattle.weedle_modifier.specs.Trees.{
+  inheritance_tree,
+  special_tree,
+  stringifier_or_inherit_or_static_tree,
+  stringifier_or_static_tree,
+};
 
 use crate::alternatives::{alternative, choice};
 use crate::at::At;

@@ -2,8 +2,26 @@
 #![tactic(auto, using(crate::proofs::Finding::own_steps))]
 
 ghost use Rattle.std.specs.Prelude.{◌≡◌};
-ghost use Rattle.weedle_grammar.specs.Table.SimpleTypes.{LONG_LONG_TYPE, LONG_TYPE, SHORT_TYPE, INTEGER_TYPE, FLOAT_TYPE, DOUBLE_TYPE, FLOATING_POINT_TYPE, CONST_TYPE};
-ghost use Rattle.weedle_parts.specs.ValueTrees.{long_long_type_tree, long_type_tree, short_type_tree, integer_type_tree, float_type_tree, double_type_tree, floating_point_type_tree, const_type_tree};
+ghost use Rattle.weedle_grammar.specs.Table.SimpleTypes.{
+  LONG_LONG_TYPE,
+  LONG_TYPE,
+  SHORT_TYPE,
+  INTEGER_TYPE,
+  FLOAT_TYPE,
+  DOUBLE_TYPE,
+  FLOATING_POINT_TYPE,
+  CONST_TYPE,
+};
+ghost use Rattle.weedle_parts.specs.ValueTrees.{
+  long_long_type_tree,
+  long_type_tree,
+  short_type_tree,
+  integer_type_tree,
+  float_type_tree,
+  double_type_tree,
+  floating_point_type_tree,
+  const_type_tree,
+};
 
 use crate::alternatives::{alternative, choice};
 use crate::at::At;

@@ -5,10 +5,20 @@ ghost use Rattle.std.specs.Prelude.{◌≡◌};
 ghost use Rattle.weedle_build_base.specs.Fits.{bracket_fits, fits_seq};
 ghost use Rattle.weedle_build_types.specs.Fits.{many_fits};
 ghost use Rattle.weedle_grammar.specs.Table.{row_of as row_of_rule, shape_of};
-ghost use Rattle.weedle_grammar.specs.Table.Definitions.{CALLBACK_INTERFACE_DEFINITION, INTERFACE_DEFINITION, PARTIAL_INTERFACE_DEFINITION};
+ghost use Rattle.weedle_grammar.specs.Table.Definitions.{
+  CALLBACK_INTERFACE_DEFINITION,
+  INTERFACE_DEFINITION,
+  PARTIAL_INTERFACE_DEFINITION,
+};
 ghost use Rattle.weedle_grammar.specs.Table.InterfaceMembers.{INTERFACE_MEMBER};
 ghost use Rattle.weedle_grammar.specs.Table.Symbols.{CLOSE_BRACE, OPEN_BRACE};
-ghost use Rattle.weedle_interfaces.specs.Trees.{braced_interface_members_tree, callback_interface_definition_tree, interface_definition_tree, interface_member_tree, partial_interface_definition_tree};
+ghost use Rattle.weedle_interfaces.specs.Trees.{
+  braced_interface_members_tree,
+  callback_interface_definition_tree,
+  interface_definition_tree,
+  interface_member_tree,
+  partial_interface_definition_tree,
+};
 
 use crate::part::InterfacePart;
 use std::alloc::Global;

@@ -2,9 +2,28 @@
 #![tactic(auto, using(weedle_build_base::proofs::Finding::own_steps))]
 
 ghost use Rattle.std.specs.Prelude.{◌≡◌};
-ghost use Rattle.weedle_grammar.specs.Table.InterfaceMembers.{ASYNC_ITERABLE_INTERFACE_MEMBER, DOUBLE_TYPED_ASYNC_ITERABLE, DOUBLE_TYPED_ITERABLE, ITERABLE_INTERFACE_MEMBER, MAPLIKE_INTERFACE_MEMBER, SETLIKE_INTERFACE_MEMBER, SINGLE_TYPED_ASYNC_ITERABLE, SINGLE_TYPED_ITERABLE};
-ghost use Rattle.weedle_async_iterables.specs.Trees.{async_iterable_interface_member_tree, double_typed_async_iterable_tree, single_typed_async_iterable_tree};
-ghost use Rattle.weedle_iterables.specs.Trees.{double_typed_iterable_tree, iterable_interface_member_tree, maplike_interface_member_tree, setlike_interface_member_tree, single_typed_iterable_tree};
+ghost use Rattle.weedle_grammar.specs.Table.InterfaceMembers.{
+  ASYNC_ITERABLE_INTERFACE_MEMBER,
+  DOUBLE_TYPED_ASYNC_ITERABLE,
+  DOUBLE_TYPED_ITERABLE,
+  ITERABLE_INTERFACE_MEMBER,
+  MAPLIKE_INTERFACE_MEMBER,
+  SETLIKE_INTERFACE_MEMBER,
+  SINGLE_TYPED_ASYNC_ITERABLE,
+  SINGLE_TYPED_ITERABLE,
+};
+ghost use Rattle.weedle_async_iterables.specs.Trees.{
+  async_iterable_interface_member_tree,
+  double_typed_async_iterable_tree,
+  single_typed_async_iterable_tree,
+};
+ghost use Rattle.weedle_iterables.specs.Trees.{
+  double_typed_iterable_tree,
+  iterable_interface_member_tree,
+  maplike_interface_member_tree,
+  setlike_interface_member_tree,
+  single_typed_iterable_tree,
+};
 
 use crate::part::{MemberPart, OneType, TwoTypes};
 use std::alloc::Global;

@@ -2,8 +2,20 @@
 #![tactic(auto, using(weedle_build_base::proofs::Finding::own_steps))]
 
 ghost use Rattle.std.specs.Prelude.{◌≡◌};
-ghost use Rattle.weedle_grammar.specs.Table.InterfaceMembers.{ATTRIBUTE_INTERFACE_MEMBER, CONSTRUCTOR_INTERFACE_MEMBER, CONST_MEMBER, OPERATION_INTERFACE_MEMBER, STRINGIFIER_MEMBER};
-ghost use Rattle.weedle_members.specs.Trees.{attribute_interface_member_tree, const_member_tree, constructor_interface_member_tree, operation_interface_member_tree, stringifier_member_tree};
+ghost use Rattle.weedle_grammar.specs.Table.InterfaceMembers.{
+  ATTRIBUTE_INTERFACE_MEMBER,
+  CONSTRUCTOR_INTERFACE_MEMBER,
+  CONST_MEMBER,
+  OPERATION_INTERFACE_MEMBER,
+  STRINGIFIER_MEMBER,
+};
+ghost use Rattle.weedle_members.specs.Trees.{
+  attribute_interface_member_tree,
+  const_member_tree,
+  constructor_interface_member_tree,
+  operation_interface_member_tree,
+  stringifier_member_tree,
+};
 
 use crate::part::MemberPart;
 use std::alloc::Global;

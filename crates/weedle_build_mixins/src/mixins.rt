@@ -5,10 +5,24 @@ ghost use Rattle.std.specs.Prelude.{◌≡◌};
 ghost use Rattle.weedle_build_base.specs.Fits.{bracket_fits, fits_seq};
 ghost use Rattle.weedle_build_types.specs.Fits.{many_fits};
 ghost use Rattle.weedle_grammar.specs.Table.{row_of as row_of_rule, shape_of};
-ghost use Rattle.weedle_grammar.specs.Table.Definitions.{INTERFACE_MIXIN_DEFINITION, PARTIAL_INTERFACE_MIXIN_DEFINITION};
-ghost use Rattle.weedle_grammar.specs.Table.OtherMembers.{ATTRIBUTE_MIXIN_MEMBER, MIXIN_MEMBER, OPERATION_MIXIN_MEMBER};
+ghost use Rattle.weedle_grammar.specs.Table.Definitions.{
+  INTERFACE_MIXIN_DEFINITION,
+  PARTIAL_INTERFACE_MIXIN_DEFINITION,
+};
+ghost use Rattle.weedle_grammar.specs.Table.OtherMembers.{
+  ATTRIBUTE_MIXIN_MEMBER,
+  MIXIN_MEMBER,
+  OPERATION_MIXIN_MEMBER,
+};
 ghost use Rattle.weedle_grammar.specs.Table.Symbols.{CLOSE_BRACE, OPEN_BRACE};
-ghost use Rattle.weedle_mixins.specs.Trees.{attribute_mixin_member_tree, braced_mixin_members_tree, interface_mixin_definition_tree, mixin_member_tree, operation_mixin_member_tree, partial_interface_mixin_definition_tree};
+ghost use Rattle.weedle_mixins.specs.Trees.{
+  attribute_mixin_member_tree,
+  braced_mixin_members_tree,
+  interface_mixin_definition_tree,
+  mixin_member_tree,
+  operation_mixin_member_tree,
+  partial_interface_mixin_definition_tree,
+};
 
 use crate::part::MixinPart;
 use std::alloc::Global;

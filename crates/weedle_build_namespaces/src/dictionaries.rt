@@ -5,10 +5,18 @@ ghost use Rattle.std.specs.Prelude.{◌≡◌};
 ghost use Rattle.weedle_build_base.specs.Fits.{bracket_fits, fits_seq};
 ghost use Rattle.weedle_build_types.specs.Fits.{many_fits};
 ghost use Rattle.weedle_grammar.specs.Table.{row_of as row_of_rule, shape_of};
-ghost use Rattle.weedle_grammar.specs.Table.Definitions.{DICTIONARY_DEFINITION, PARTIAL_DICTIONARY_DEFINITION};
+ghost use Rattle.weedle_grammar.specs.Table.Definitions.{
+  DICTIONARY_DEFINITION,
+  PARTIAL_DICTIONARY_DEFINITION,
+};
 ghost use Rattle.weedle_grammar.specs.Table.OtherMembers.{DICTIONARY_MEMBER};
 ghost use Rattle.weedle_grammar.specs.Table.Symbols.{CLOSE_BRACE, OPEN_BRACE};
-ghost use Rattle.weedle_namespaces.specs.Trees.{braced_dictionary_members_tree, dictionary_definition_tree, dictionary_member_tree, partial_dictionary_definition_tree};
+ghost use Rattle.weedle_namespaces.specs.Trees.{
+  braced_dictionary_members_tree,
+  dictionary_definition_tree,
+  dictionary_member_tree,
+  partial_dictionary_definition_tree,
+};
 
 use crate::part::NamespacePart;
 use std::alloc::Global;

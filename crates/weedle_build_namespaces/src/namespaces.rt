@@ -5,10 +5,24 @@ ghost use Rattle.std.specs.Prelude.{◌≡◌};
 ghost use Rattle.weedle_build_base.specs.Fits.{bracket_fits, fits_seq};
 ghost use Rattle.weedle_build_types.specs.Fits.{many_fits};
 ghost use Rattle.weedle_grammar.specs.Table.{row_of as row_of_rule, shape_of};
-ghost use Rattle.weedle_grammar.specs.Table.Definitions.{NAMESPACE_DEFINITION, PARTIAL_NAMESPACE_DEFINITION};
-ghost use Rattle.weedle_grammar.specs.Table.OtherMembers.{ATTRIBUTE_NAMESPACE_MEMBER, NAMESPACE_MEMBER, OPERATION_NAMESPACE_MEMBER};
+ghost use Rattle.weedle_grammar.specs.Table.Definitions.{
+  NAMESPACE_DEFINITION,
+  PARTIAL_NAMESPACE_DEFINITION,
+};
+ghost use Rattle.weedle_grammar.specs.Table.OtherMembers.{
+  ATTRIBUTE_NAMESPACE_MEMBER,
+  NAMESPACE_MEMBER,
+  OPERATION_NAMESPACE_MEMBER,
+};
 ghost use Rattle.weedle_grammar.specs.Table.Symbols.{CLOSE_BRACE, OPEN_BRACE};
-ghost use Rattle.weedle_namespaces.specs.Trees.{attribute_namespace_member_tree, braced_namespace_members_tree, namespace_definition_tree, namespace_member_tree, operation_namespace_member_tree, partial_namespace_definition_tree};
+ghost use Rattle.weedle_namespaces.specs.Trees.{
+  attribute_namespace_member_tree,
+  braced_namespace_members_tree,
+  namespace_definition_tree,
+  namespace_member_tree,
+  operation_namespace_member_tree,
+  partial_namespace_definition_tree,
+};
 
 use crate::part::NamespacePart;
 use std::alloc::Global;

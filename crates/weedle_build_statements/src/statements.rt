@@ -2,9 +2,22 @@
 #![tactic(auto, using(weedle_build_base::proofs::Finding::own_steps))]
 
 ghost use Rattle.std.specs.Prelude.{◌≡◌};
-ghost use Rattle.weedle_grammar.specs.Table.Definitions.{CALLBACK_DEFINITION, ENUM_DEFINITION, IMPLEMENTS_DEFINITION, INCLUDES_STATEMENT_DEFINITION, TYPEDEF_DEFINITION};
+ghost use Rattle.weedle_grammar.specs.Table.Definitions.{
+  CALLBACK_DEFINITION,
+  ENUM_DEFINITION,
+  IMPLEMENTS_DEFINITION,
+  INCLUDES_STATEMENT_DEFINITION,
+  TYPEDEF_DEFINITION,
+};
 ghost use Rattle.weedle_grammar.specs.Table.OtherMembers.{ENUM_VARIANT};
-ghost use Rattle.weedle_statements.specs.Trees.{callback_definition_tree, enum_definition_tree, enum_variant_tree, implements_definition_tree, includes_statement_definition_tree, typedef_definition_tree};
+ghost use Rattle.weedle_statements.specs.Trees.{
+  callback_definition_tree,
+  enum_definition_tree,
+  enum_variant_tree,
+  implements_definition_tree,
+  includes_statement_definition_tree,
+  typedef_definition_tree,
+};
 
 use crate::part::{EnumValues, StatementPart};
 use std::alloc::Global;

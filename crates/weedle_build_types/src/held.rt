@@ -2,8 +2,20 @@
 #![tactic(auto, using(weedle_build_base::proofs::Finding::own_steps))]
 
 ghost use Rattle.std.specs.Prelude.{◌≡◌};
-ghost use Rattle.weedle_grammar.specs.Table.Types.{ATTRIBUTED_TYPE, EXTENDED_ATTRIBUTE_LIST, PARENTHESIZED_ARGUMENT_LIST, RETURN_TYPE, TYPE};
-ghost use Rattle.weedle_types.specs.Trees.{arguments_tree, attributed_type_tree, extended_attribute_list_tree, return_type_tree, type_tree};
+ghost use Rattle.weedle_grammar.specs.Table.Types.{
+  ATTRIBUTED_TYPE,
+  EXTENDED_ATTRIBUTE_LIST,
+  PARENTHESIZED_ARGUMENT_LIST,
+  RETURN_TYPE,
+  TYPE,
+};
+ghost use Rattle.weedle_types.specs.Trees.{
+  arguments_tree,
+  attributed_type_tree,
+  extended_attribute_list_tree,
+  return_type_tree,
+  type_tree,
+};
 
 use crate::types::arguments::arguments;
 use crate::types::attributes::extended_attribute_list;

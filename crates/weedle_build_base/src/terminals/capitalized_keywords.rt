@@ -3,7 +3,30 @@
 //! Written by tools/terminals.py.
 
 ghost use Rattle.std.specs.Prelude.{◌≡◌};
-ghost use Rattle.weedle_grammar.specs.Table.CapitalizedKeywords.{BYTE_STRING, DOM_STRING, FROZEN_ARRAY, INFINITY, NAN, USV_STRING, ARRAY_BUFFER, DATA_VIEW, INT8_ARRAY, INT16_ARRAY, INT32_ARRAY, UINT8_ARRAY, UINT16_ARRAY, UINT32_ARRAY, UINT8_CLAMPED_ARRAY, FLOAT32_ARRAY, FLOAT64_ARRAY, ARRAY_BUFFER_VIEW, BUFFER_SOURCE, PROMISE, ERROR, NEG_INFINITY};
+ghost use Rattle.weedle_grammar.specs.Table.CapitalizedKeywords.{
+  BYTE_STRING,
+  DOM_STRING,
+  FROZEN_ARRAY,
+  INFINITY,
+  NAN,
+  USV_STRING,
+  ARRAY_BUFFER,
+  DATA_VIEW,
+  INT8_ARRAY,
+  INT16_ARRAY,
+  INT32_ARRAY,
+  UINT8_ARRAY,
+  UINT16_ARRAY,
+  UINT32_ARRAY,
+  UINT8_CLAMPED_ARRAY,
+  FLOAT32_ARRAY,
+  FLOAT64_ARRAY,
+  ARRAY_BUFFER_VIEW,
+  BUFFER_SOURCE,
+  PROMISE,
+  ERROR,
+  NEG_INFINITY,
+};
 ghost use Rattle.weedle_base.specs.Rules.{mark_tree};
 
 use crate::at::At;

@@ -3,7 +3,34 @@
 //! Written by tools/terminals.py.
 
 ghost use Rattle.std.specs.Prelude.{◌≡◌};
-ghost use Rattle.weedle_grammar.specs.Table.Keywords.{ASYNC, ATTRIBUTE, CALLBACK, CONST, DELETER, DICTIONARY, ENUM, GETTER, INCLUDES, INHERIT, INTERFACE, ITERABLE, MAPLIKE, NAMESPACE, PARTIAL, REQUIRED, SETLIKE, SETTER, STATIC, STRINGIFIER, TYPEDEF, READ_ONLY, MIXIN, IMPLEMENTS, LEGACY_CALLER, CONSTRUCTOR};
+ghost use Rattle.weedle_grammar.specs.Table.Keywords.{
+  ASYNC,
+  ATTRIBUTE,
+  CALLBACK,
+  CONST,
+  DELETER,
+  DICTIONARY,
+  ENUM,
+  GETTER,
+  INCLUDES,
+  INHERIT,
+  INTERFACE,
+  ITERABLE,
+  MAPLIKE,
+  NAMESPACE,
+  PARTIAL,
+  REQUIRED,
+  SETLIKE,
+  SETTER,
+  STATIC,
+  STRINGIFIER,
+  TYPEDEF,
+  READ_ONLY,
+  MIXIN,
+  IMPLEMENTS,
+  LEGACY_CALLER,
+  CONSTRUCTOR,
+};
 ghost use Rattle.weedle_base.specs.Rules.{mark_tree};
 
 use crate::at::At;

@@ -3,7 +3,24 @@
 //! Written by tools/terminals.py.
 
 ghost use Rattle.std.specs.Prelude.{◌≡◌};
-ghost use Rattle.weedle_grammar.specs.Table.Symbols.{OPEN_PAREN, CLOSE_PAREN, OPEN_BRACKET, CLOSE_BRACKET, OPEN_BRACE, CLOSE_BRACE, COMMA, MINUS, DOT, ELLIPSIS, COLON, SEMI_COLON, LESS_THAN, ASSIGN, GREATER_THAN, Q_MARK};
+ghost use Rattle.weedle_grammar.specs.Table.Symbols.{
+  OPEN_PAREN,
+  CLOSE_PAREN,
+  OPEN_BRACKET,
+  CLOSE_BRACKET,
+  OPEN_BRACE,
+  CLOSE_BRACE,
+  COMMA,
+  MINUS,
+  DOT,
+  ELLIPSIS,
+  COLON,
+  SEMI_COLON,
+  LESS_THAN,
+  ASSIGN,
+  GREATER_THAN,
+  Q_MARK,
+};
 ghost use Rattle.weedle_base.specs.Rules.{mark_tree};
 
 use crate::at::At;

@@ -3,7 +3,28 @@
 //! Written by tools/terminals.py.
 
 ghost use Rattle.std.specs.Prelude.{◌≡◌};
-ghost use Rattle.weedle_grammar.specs.Table.Keywords.{OR, OPTIONAL, UNRESTRICTED, SYMBOL, ANY, BOOLEAN, BYTE, DOUBLE, FALSE, FLOAT, LONG, NULL, OBJECT, OCTET, SEQUENCE, SHORT, TRUE, UNSIGNED, UNDEFINED, RECORD};
+ghost use Rattle.weedle_grammar.specs.Table.Keywords.{
+  OR,
+  OPTIONAL,
+  UNRESTRICTED,
+  SYMBOL,
+  ANY,
+  BOOLEAN,
+  BYTE,
+  DOUBLE,
+  FALSE,
+  FLOAT,
+  LONG,
+  NULL,
+  OBJECT,
+  OCTET,
+  SEQUENCE,
+  SHORT,
+  TRUE,
+  UNSIGNED,
+  UNDEFINED,
+  RECORD,
+};
 ghost use Rattle.weedle_base.specs.Rules.{mark_tree};
 
 use crate::at::At;

@@ -1,7 +1,19 @@
 //! Arguments.
 
-ghost use Rattle.weedle_grammar.specs.Table.Types.{ARGUMENT, ARGUMENT_LIST, PARENTHESIZED_ARGUMENT_LIST, SINGLE_ARGUMENT, VARIADIC_ARGUMENT};
-ghost use Rattle.weedle_types.specs.Trees.{argument_list_tree, argument_tree, arguments_tree, single_argument_tree, variadic_argument_tree};
+ghost use Rattle.weedle_grammar.specs.Table.Types.{
+  ARGUMENT,
+  ARGUMENT_LIST,
+  PARENTHESIZED_ARGUMENT_LIST,
+  SINGLE_ARGUMENT,
+  VARIADIC_ARGUMENT,
+};
+ghost use Rattle.weedle_types.specs.Trees.{
+  argument_list_tree,
+  argument_tree,
+  arguments_tree,
+  single_argument_tree,
+  variadic_argument_tree,
+};
 ghost use Rattle.weedle_build_base.specs.Built.{Answers, Due};
 
 use super::attributes::attributes;

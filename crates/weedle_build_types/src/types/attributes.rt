@@ -1,7 +1,21 @@
 //! Attributes.
 
-ghost use Rattle.weedle_grammar.specs.Table.Types.{EXTENDED_ATTRIBUTE, EXTENDED_ATTRIBUTE_ARG_LIST, EXTENDED_ATTRIBUTE_LIST, EXTENDED_ATTRIBUTE_NAMED_ARG_LIST, LIST_EXTENDED_ATTRIBUTE_COMMA, OPT_EXTENDED_ATTRIBUTE_LIST};
-ghost use Rattle.weedle_types.specs.Trees.{attributes_tree, extended_attribute_arg_list_tree, extended_attribute_list_tree, extended_attribute_named_arg_list_tree, extended_attribute_tree, extended_attributes_tree};
+ghost use Rattle.weedle_grammar.specs.Table.Types.{
+  EXTENDED_ATTRIBUTE,
+  EXTENDED_ATTRIBUTE_ARG_LIST,
+  EXTENDED_ATTRIBUTE_LIST,
+  EXTENDED_ATTRIBUTE_NAMED_ARG_LIST,
+  LIST_EXTENDED_ATTRIBUTE_COMMA,
+  OPT_EXTENDED_ATTRIBUTE_LIST,
+};
+ghost use Rattle.weedle_types.specs.Trees.{
+  attributes_tree,
+  extended_attribute_arg_list_tree,
+  extended_attribute_list_tree,
+  extended_attribute_named_arg_list_tree,
+  extended_attribute_tree,
+  extended_attributes_tree,
+};
 ghost use Rattle.weedle_build_base.specs.Built.{Answers, Due};
 
 use super::arguments::arguments;

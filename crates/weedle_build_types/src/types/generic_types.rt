@@ -1,8 +1,28 @@
 //! Types over types in angle brackets.
 
 ghost use Rattle.weedle_parts.specs.ValueTrees.{generics_tree, may_be_null_tree};
-ghost use Rattle.weedle_grammar.specs.Table.Types.{FROZEN_ARRAY_TYPE, GENERICS_RECORD_TYPES, GENERICS_RETURN_TYPE, GENERICS_TYPE, MAY_BE_NULL_FROZEN_ARRAY_TYPE, MAY_BE_NULL_RECORD_TYPE, MAY_BE_NULL_SEQUENCE_TYPE, PROMISE_TYPE, RECORD_TYPE, RECORD_TYPES, SEQUENCE_TYPE};
-ghost use Rattle.weedle_types.specs.Trees.{boxed_return_type_tree, boxed_type_tree, frozen_array_type_tree, promise_type_tree, record_type_tree, record_types_tree, sequence_type_tree};
+ghost use Rattle.weedle_grammar.specs.Table.Types.{
+  FROZEN_ARRAY_TYPE,
+  GENERICS_RECORD_TYPES,
+  GENERICS_RETURN_TYPE,
+  GENERICS_TYPE,
+  MAY_BE_NULL_FROZEN_ARRAY_TYPE,
+  MAY_BE_NULL_RECORD_TYPE,
+  MAY_BE_NULL_SEQUENCE_TYPE,
+  PROMISE_TYPE,
+  RECORD_TYPE,
+  RECORD_TYPES,
+  SEQUENCE_TYPE,
+};
+ghost use Rattle.weedle_types.specs.Trees.{
+  boxed_return_type_tree,
+  boxed_type_tree,
+  frozen_array_type_tree,
+  promise_type_tree,
+  record_type_tree,
+  record_types_tree,
+  sequence_type_tree,
+};
 ghost use Rattle.weedle_build_base.specs.Built.{Answers, Due};
 
 use super::kinds::{record_key_type, return_type, type_};

@@ -1,7 +1,23 @@
 //! Types.
 
-ghost use Rattle.weedle_grammar.specs.Table.Types.{ATTRIBUTED_NON_ANY_TYPE, ATTRIBUTED_TYPE, NON_ANY_TYPE, RECORD_KEY_TYPE, RETURN_TYPE, SINGLE_TYPE, TYPE};
-ghost use Rattle.weedle_types.specs.Trees.{attributed_non_any_type_tree, attributed_type_tree, non_any_type_tree, record_key_type_tree, return_type_tree, single_type_tree, type_tree};
+ghost use Rattle.weedle_grammar.specs.Table.Types.{
+  ATTRIBUTED_NON_ANY_TYPE,
+  ATTRIBUTED_TYPE,
+  NON_ANY_TYPE,
+  RECORD_KEY_TYPE,
+  RETURN_TYPE,
+  SINGLE_TYPE,
+  TYPE,
+};
+ghost use Rattle.weedle_types.specs.Trees.{
+  attributed_non_any_type_tree,
+  attributed_type_tree,
+  non_any_type_tree,
+  record_key_type_tree,
+  return_type_tree,
+  single_type_tree,
+  type_tree,
+};
 ghost use Rattle.weedle_build_base.specs.Built.{Answers, Due};
 
 use super::attributes::attributes;

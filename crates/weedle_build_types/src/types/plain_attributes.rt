@@ -2,8 +2,18 @@
 #![tactic(auto, using(weedle_build_base::proofs::Finding::own_steps))]
 
 ghost use Rattle.std.specs.Prelude.{◌≡◌};
-ghost use Rattle.weedle_grammar.specs.Table.Types.{EXTENDED_ATTRIBUTE_IDENT, EXTENDED_ATTRIBUTE_IDENT_LIST, EXTENDED_ATTRIBUTE_NO_ARGS, IDENTIFIER_OR_STRING};
-ghost use Rattle.weedle_types.specs.Trees.{extended_attribute_ident_list_tree, extended_attribute_ident_tree, extended_attribute_no_args_tree, identifier_or_string_tree};
+ghost use Rattle.weedle_grammar.specs.Table.Types.{
+  EXTENDED_ATTRIBUTE_IDENT,
+  EXTENDED_ATTRIBUTE_IDENT_LIST,
+  EXTENDED_ATTRIBUTE_NO_ARGS,
+  IDENTIFIER_OR_STRING,
+};
+ghost use Rattle.weedle_types.specs.Trees.{
+  extended_attribute_ident_list_tree,
+  extended_attribute_ident_tree,
+  extended_attribute_no_args_tree,
+  identifier_or_string_tree,
+};
 
 use crate::held::Held;
 use std::alloc::Global;

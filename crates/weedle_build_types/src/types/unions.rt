@@ -2,8 +2,18 @@
 
 ghost use Rattle.std.specs.Prelude.{IfOk};
 ghost use Rattle.weedle_parts.specs.ValueTrees.{may_be_null_tree};
-ghost use Rattle.weedle_grammar.specs.Table.Types.{LIST_UNION_MEMBER_TYPE_OR, MAY_BE_NULL_UNION_TYPE, UNION_MEMBER_TYPE, UNION_TYPE};
-ghost use Rattle.weedle_types.specs.Trees.{attributed_non_any_type_tree, union_member_type_tree, union_member_types_tree, union_type_tree};
+ghost use Rattle.weedle_grammar.specs.Table.Types.{
+  LIST_UNION_MEMBER_TYPE_OR,
+  MAY_BE_NULL_UNION_TYPE,
+  UNION_MEMBER_TYPE,
+  UNION_TYPE,
+};
+ghost use Rattle.weedle_types.specs.Trees.{
+  attributed_non_any_type_tree,
+  union_member_type_tree,
+  union_member_types_tree,
+  union_type_tree,
+};
 ghost use Rattle.weedle_build_base.specs.Built.{Answers, Due};
 ghost use Rattle.weedle_build_types.specs.Steps.{Adds, KeepsAs};
 
