@@ -146,20 +146,9 @@ fn report_of<P: Report>(alloc: Global, text: &str) -> Result<(String, Status), R
 fn report_lent<P: Report>(alloc: Global, definitions: Definitions<'_>) -> Result<String, AllocError>
     ensures { IfOk result (λ report. string_bytes report ≡ list_report P.lines definitions.entry.items) }
 {
-    lend(
-        definitions,
-        |definitions: &Definitions<'_>| report_of_list::<P>(alloc, definitions),
-    )
-}
-
-/// The report of a list that is lent.
-fn report_of_list<P: Report>(
-    alloc: Global,
-    definitions: &Definitions<'_>,
-) -> Result<String, AllocError>
-    ensures { IfOk result (λ report. string_bytes report ≡ list_report P.lines definitions.now.items) }
-{
-    lines_of::<P>(alloc, definitions)
+    lend(definitions, move |definitions: &Definitions<'_>| {
+        lines_of::<P>(alloc, definitions)
+    })
 }
 
 /// Writes all the bytes, in as many writes as the writer needs.

@@ -58,7 +58,10 @@ fn is_outline(alloc: Global, list: &Definitions<'_>, said: &[Said]) -> Result<bo
 
 /// The same of a list that it lends.
 fn is_outline_of(alloc: Global, list: Definitions<'_>, said: &[Said]) -> Result<bool, AllocError> {
-    lend(list, |list: &Definitions<'_>| is_outline(alloc, list, said))
+    lend(
+        list,
+        move |list: &Definitions<'_>| is_outline(alloc, list, said),
+    )
 }
 
 /// Asserts that the outline of the text is this, or that memory is wanted.

@@ -11,7 +11,7 @@ use weedle_term::Comma;
 /// The interfaces of a text with their attributes, or from where on it can't be read.
 fn listing_of(alloc: Global, text: &str) -> Result<String, AllocError> {
     match parse_quick(alloc, text) {
-        Ok(definitions) => lend(definitions, |definitions: &Definitions<'_>| {
+        Ok(definitions) => lend(definitions, move |definitions: &Definitions<'_>| {
             interfaces_of(alloc, definitions)
         }),
         Err(Err::Error(left)) => {

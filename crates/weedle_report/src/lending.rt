@@ -15,13 +15,14 @@ ghost use Rattle.std.specs.Fn.{FnOnceReturnsAt};
 /// compute. Lent, it does:
 ///
 /// ```rust
-/// let count = lend(parse(alloc, text)?, |definitions: &Definitions<'_>| {
+/// let count = lend(parse(alloc, text)?, move |definitions: &Definitions<'_>| {
 ///     outline(alloc, definitions).map(|entries| entries.len())
 /// })?;
 /// ```
 ///
-/// The type of the closure's argument has to be written. What the closure answers can't borrow from what is
-/// lent, so what is done with the entries is done in the closure.
+/// The type of the closure's argument has to be written, and `move` where the closure uses something beside
+/// it, as `alloc` here. What the closure answers can't borrow from what is lent, so what is done with the
+/// entries is done in the closure.
 pub fn lend<T: Drop, R, F: FnOnce(&T) -> R>(owned: T, f: F) -> R
     requires { F.IsAlwaysCallable f }
 
