@@ -21,7 +21,7 @@ mod passes;
 
 use std::io;
 use weedle_rules::Ends;
-use weedle_texts::definitions;
+use weedle_testing::definitions;
 
 const SEED: u64 = 7;
 

@@ -2,11 +2,11 @@
 
 use std::alloc::Global;
 use std::test::Fail;
-use weedle_answers::{Unlike, reads, refuses};
 use weedle_interfaces::InterfaceMember;
 use weedle_mixins::mixin::MixinMember;
 use weedle_namespaces::dictionary::DictionaryMember;
 use weedle_namespaces::namespace::NamespaceMember;
+use weedle_testing::{Unlike, reads, refuses};
 
 /// What is read of each text, as members of an interface.
 fn reads_members<'a>(alloc: Global, rows: &[(&'a str, &str)]) -> Result<(), Unlike<'a>> {

@@ -1,12 +1,12 @@
 //! Each request for memory refused in turn: members and definitions.
 
 use std::test::Fail;
-use weedle_answers::Wanted;
 use weedle_idl::Definitions;
 use weedle_interfaces::InterfaceMember;
 use weedle_mixins::mixin::MixinMember;
 use weedle_namespaces::dictionary::DictionaryMember;
 use weedle_namespaces::namespace::NamespaceMember;
+use weedle_testing::Wanted;
 
 #[test]
 fn members_are_read_and_copied_or_want_memory(rt: HostRuntime) -> Result<(), Fail> {

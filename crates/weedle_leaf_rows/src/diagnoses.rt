@@ -8,10 +8,10 @@ ghost use Rattle.std.specs.Prelude.{◌≤◌, length};
 
 use std::alloc::{AllocError, Global};
 use std::test::Fail;
-use weedle_answers::Wanted;
 use weedle_diagnose::{Diagnosis, diagnose_from};
 use weedle_grammar::{Row, Rule, row_of};
 use weedle_rules::Ends;
+use weedle_testing::Wanted;
 
 /// What is said of a text whose definitions are read from this place on, which is at most its length.
 fn diagnosis_of(alloc: Global, text: &str, start: usize) -> Result<Diagnosis, AllocError>

@@ -2,13 +2,13 @@
 
 use crate::users::Fuse;
 use std::test::Fail;
-use weedle_answers::{fails_at, reads, reads_copied_up_to, reads_up_to, refuses};
 use weedle_base::Parse;
 use weedle_parts::common::{
     Braced, Bracketed, Generics, Identifier, Parenthesized, Punctuated, PunctuatedNonEmpty,
 };
 use weedle_parts::types::MayBeNull;
 use weedle_term::{Comma, Dot, SemiColon};
+use weedle_testing::{fails_at, reads, reads_copied_up_to, reads_up_to, refuses};
 
 #[test]
 fn a_separator_that_no_item_follows_is_given_back(rt: HostRuntime) -> Result<(), Fail> {

@@ -1,13 +1,13 @@
 //! Names, numbers, strings, docstrings and values.
 
 use std::test::Fail;
-use weedle_answers::{reads, reads_copied, reads_copied_up_to, reads_up_to, refuses};
 use weedle_literal::{
     BooleanLit, ConstValue, DecLit, Default, DefaultValue, EmptyDictionaryLit, FloatLit,
     FloatValueLit, HexLit, IntegerLit, OctLit, StringLit,
 };
 use weedle_parts::common::{Docstring, Identifier};
 use weedle_term::NegInfinity;
+use weedle_testing::{reads, reads_copied, reads_copied_up_to, reads_up_to, refuses};
 
 #[test]
 fn a_name_is_kept_without_its_underscore(rt: HostRuntime) -> Result<(), Fail> {

@@ -2,7 +2,6 @@
 
 use std::alloc::{AllocError, Global};
 use std::test::Fail;
-use weedle_answers::{Unlike, Wanted, reads_with_no_memory};
 use weedle_base::{TryClone, docstring, ident_tag, is_alphanum_underscore_dash, sp};
 use weedle_literal::{
     BooleanLit, ConstValue, DecLit, Default, DefaultValue, EmptyArrayLit, EmptyDictionaryLit,
@@ -17,6 +16,7 @@ use weedle_parts::types::{
     MayBeNull, ShortType,
 };
 use weedle_term::{Comma, Dot, Null, Or};
+use weedle_testing::{Unlike, Wanted, reads_with_no_memory};
 
 #[test]
 fn standard_types_are_read_or_want_memory(rt: HostRuntime) -> Result<(), Fail> {

@@ -2,9 +2,9 @@
 
 use std::alloc::Global;
 use std::test::Fail;
-use weedle_answers::{is_mismatch, reads_copied, reads_copied_up_to, refuses};
 use weedle_base::{Parse, docstring, ident_tag, is_alphanum_underscore_dash, sp};
 use weedle_term::{Dot, Ellipsis, Long, NegInfinity, OpenParen};
+use weedle_testing::{is_mismatch, reads_copied, reads_copied_up_to, refuses};
 
 #[test]
 fn trivia_is_comments_and_blanks(rt: HostRuntime) {

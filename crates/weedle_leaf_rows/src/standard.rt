@@ -3,9 +3,9 @@
 use crate::users::{Fuse, Nothing};
 use std::alloc::{AllocError, Global};
 use std::test::Fail;
-use weedle_answers::{fails_at, reads_copied, reads_copied_up_to, reads_up_to, refuses};
 use weedle_base::{Parse, TryClone};
 use weedle_term::{Comma, Dot, Or};
+use weedle_testing::{fails_at, reads_copied, reads_copied_up_to, reads_up_to, refuses};
 
 #[test]
 fn an_option_takes_nothing_where_its_value_is_refused(rt: HostRuntime) -> Result<(), Fail> {

@@ -4,9 +4,9 @@
 
 use std::alloc::Global;
 use std::process::Abort;
-use weedle_answers::Wanted;
 use weedle_base::Parse;
 use weedle_term::*;
+use weedle_testing::Wanted;
 
 /// Reads a terminal that stands between blanks and before `anything`: with all of it, and alone,
 /// with the blanks before it, with those behind it, and with both.

@@ -1,9 +1,9 @@
 //! Types of numbers and of constants.
 
 use std::test::Fail;
-use weedle_answers::{reads_copied, reads_copied_up_to, refuses};
 use weedle_parts::types::{ConstType, FloatingPointType, IntegerType, LongType, MayBeNull};
 use weedle_term::Long;
+use weedle_testing::{reads_copied, reads_copied_up_to, refuses};
 
 const LONG: IntegerType = IntegerType::Long(LongType {
     unsigned: None,

@@ -9,8 +9,8 @@ use weedle_base::Parse;
 use weedle_build::{Built, build_definitions};
 use weedle_idl::Definitions;
 use weedle_rules::Ends;
-use weedle_texts::examples::{CUT, TEXTS};
-use weedle_texts::{nested_attributes, repeated};
+use weedle_testing::examples::{CUT, TEXTS};
+use weedle_testing::{nested_attributes, repeated};
 
 /// A list, what is left behind it, and how many nodes its tree has.
 type Pass<'a, T> = (T, &'a str, u128);

@@ -5,11 +5,10 @@ ghost use Rattle.std.specs.Prelude.{◌≡◌};
 use std::alloc::{AllocError, Global};
 use std::process::Abort;
 use std::test::Fail;
-use weedle_answers::Wanted;
 use weedle_build::{Built, build_definitions};
 use weedle_rules::{Ends, RULES};
-use weedle_texts::examples::{KINDS, WINDOW};
-use weedle_texts::nested_attributes;
+use weedle_testing::examples::{KINDS, WINDOW};
+use weedle_testing::{Wanted, nested_text};
 
 /// Texts, how many definitions are read of each, and what is left, with ample memory.
 const TEXTS: [(&str, usize, &str); 6] = [
@@ -24,14 +23,6 @@ const TEXTS: [(&str, usize, &str); 6] = [
     ("enum E {};", 0, "enum E {};"),
     (KINDS, 14, ""),
 ];
-
-/// The 495 bytes of nested attributes, with ample memory unless a request is refused again.
-fn nested_text(alloc: Global, wanted: &mut Wanted) -> Result<String, AllocError> {
-    match wanted.given(nested_attributes(alloc, 39)) {
-        Some(text) => Ok(text),
-        None => nested_attributes(alloc, 39),
-    }
-}
 
 /// How many items a list has.
 fn length<T: Drop>(list: Vec<T>) -> usize {

@@ -7,7 +7,7 @@ use std::process::Abort;
 use std::test::Fail;
 use weedle::{Depths, Status, nesting, run};
 use weedle_nesting::suits_descent;
-use weedle_texts::{nested_attributes, repeated};
+use weedle_testing::{nested_attributes, repeated};
 
 const UNREAD: &str = "unread at byte 0\n";
 

@@ -7,7 +7,7 @@ use std::io::{ErrorKind, Write};
 use std::process::Abort;
 use std::test::Fail;
 use weedle::{Definitions, Entry, Err, RunFault, Status, lend, outline, parse, run_outline};
-use weedle_answers::Wanted;
+use weedle_testing::Wanted;
 
 /// A text, and what a run writes of it.
 const TEXT: &str = "///a\n/// b\ninterface A {};\nB includes C;";

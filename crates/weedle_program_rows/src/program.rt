@@ -4,7 +4,7 @@ use crate::streams::{failing_reader, short_reader, short_writer};
 use std::io::ErrorKind;
 use std::test::Fail;
 use weedle::{RunFault, Status, run};
-use weedle_texts::examples::{KINDS, WINDOW};
+use weedle_testing::examples::{KINDS, WINDOW};
 
 const REPORT_OF_WINDOW: &str = "interface Window\ndefinitions 1\n";
 

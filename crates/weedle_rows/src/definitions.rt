@@ -3,10 +3,10 @@
 use std::alloc::Global;
 use std::process::Abort;
 use std::test::Fail;
-use weedle_answers::{Unlike, reads_whole};
 use weedle_base::{Err, ErrorKind};
 use weedle_front::{Definitions, kind_of, name_of, parse};
-use weedle_texts::examples::{KINDS, WINDOW, WINDOW_IN_LINES};
+use weedle_testing::examples::{KINDS, WINDOW, WINDOW_IN_LINES};
+use weedle_testing::{Unlike, reads_whole};
 
 /// What both texts hold.
 const WINDOW_VALUE: &str = "\

@@ -5,8 +5,8 @@ use std::process::Abort;
 use std::test::Fail;
 use weedle_base::{Err, Error, ErrorKind, IResult, Parse};
 use weedle_front::{Definitions, parse, parse_by_descent, parse_quick};
-use weedle_texts::examples::TEXTS;
-use weedle_texts::{nested_attributes, repeated};
+use weedle_testing::examples::TEXTS;
+use weedle_testing::{nested_attributes, repeated};
 
 /// What a reader answers.
 type Answer<'a, T> = Result<T, Err<Error<&'a str>>>;

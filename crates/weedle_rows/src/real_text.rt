@@ -4,7 +4,7 @@ use crate::definitions::titles;
 use std::alloc::Global;
 use std::test::Fail;
 use weedle_front::parse;
-use weedle_texts::examples::SOUNDS;
+use weedle_testing::examples::SOUNDS;
 
 /// The third definition.
 const PLAYER_OPTIONS: &str = "\

@@ -2,7 +2,7 @@
 
 use std::alloc::Global;
 use std::test::Fail;
-use weedle_answers::{Unlike, reads, reads_up_to, refuses};
+use weedle_testing::{Unlike, reads, reads_up_to, refuses};
 use weedle_types::argument::{Argument, ArgumentList, SingleArgument};
 
 /// What is read of each text, as one argument.

@@ -2,7 +2,7 @@
 
 use std::alloc::Global;
 use std::test::Fail;
-use weedle_answers::{Unlike, reads, refuses};
+use weedle_testing::{Unlike, reads, refuses};
 use weedle_types::attribute::{ExtendedAttribute, ExtendedAttributeList};
 
 /// What is read of each text, as one attribute.

@@ -1,7 +1,7 @@
 //! Types that are one of several.
 
 use std::test::Fail;
-use weedle_answers::reads;
+use weedle_testing::reads;
 use weedle_types::types::{NonAnyType, RecordKeyType, ReturnType, SingleType};
 
 #[test]

@@ -1,11 +1,11 @@
 //! Types that hold no others, each alone.
 
 use std::test::Fail;
-use weedle_answers::reads_copied;
 use weedle_parts::types::{
     ConstType, DoubleType, FloatType, FloatingPointType, IntegerType, LongLongType, LongType,
     MayBeNull, ShortType,
 };
+use weedle_testing::reads_copied;
 
 #[test]
 fn a_number_has_its_type(rt: HostRuntime) -> Result<(), Fail> {

@@ -2,7 +2,7 @@
 
 use std::alloc::Global;
 use std::test::Fail;
-use weedle_answers::{Unlike, reads, reads_up_to, refuses};
+use weedle_testing::{Unlike, reads, reads_up_to, refuses};
 use weedle_types::types::{
     AttributedType, FrozenArrayType, PromiseType, RecordType, SequenceType, Type, UnionMemberType,
 };

@@ -1,8 +1,8 @@
 //! Each request for memory refused in turn: types, attributes and arguments.
 
 use std::test::Fail;
-use weedle_answers::{Wanted, reads_with_no_memory};
 use weedle_modifier::{Inheritance, Special, StringifierOrInheritOrStatic, StringifierOrStatic};
+use weedle_testing::{Wanted, reads_with_no_memory};
 use weedle_types::argument::{Argument, ArgumentList};
 use weedle_types::attribute::{
     ExtendedAttribute, ExtendedAttributeIdent, ExtendedAttributeList, ExtendedAttributeNoArgs,

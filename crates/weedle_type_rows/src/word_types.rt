@@ -3,13 +3,13 @@
 use std::alloc::{AllocError, Global};
 use std::process::Abort;
 use std::test::Fail;
-use weedle_answers::reads;
 use weedle_parts::types::MayBeNull;
 use weedle_term::{
     ArrayBuffer, ArrayBufferView, Boolean, BufferSource, Byte, ByteString, DOMString, DataView,
     Error, Float32Array, Float64Array, Int8Array, Int16Array, Int32Array, Object, Octet, Symbol,
     USVString, Uint8Array, Uint8ClampedArray, Uint16Array, Uint32Array,
 };
+use weedle_testing::reads;
 use weedle_types::types::NonAnyType;
 
 #[test]

@@ -4,29 +4,7 @@ use std::alloc::{AllocError, Global};
 use std::process::Abort;
 use std::test::Fail;
 use weedle_rules::{Cell, Ends, Narrow, READS, RULES, Rule, Wide};
-
-/// Attributes within attributes, as `[A([A(a... b)] a... b)] interface I {};`.
-fn nested(alloc: Global, levels: usize) -> Result<String, AllocError> {
-    let mut text = String::new(alloc);
-    for _ in 0..levels {
-        text.push_str("[A(")?;
-    }
-    text.push_str("[A(a... b")?;
-    for _ in 0..levels {
-        text.push_str(")] a... b")?;
-    }
-    text.push_str(")] interface I {};")?;
-    Ok(text)
-}
-
-/// The beginning of a comment, again and again.
-fn unclosed(alloc: Global) -> Result<String, AllocError> {
-    let mut text = String::new(alloc);
-    for _ in 0..1_000 {
-        text.push_str("/* ")?;
-    }
-    Ok(text)
-}
+use weedle_testing::{nested_attributes, repeated};
 
 #[test]
 fn definitions_end_where_the_grammar_says(rt: HostRuntime) -> Result<(), Fail> {
@@ -46,7 +24,7 @@ fn definitions_end_where_the_grammar_says(rt: HostRuntime) -> Result<(), Fail> {
 
 #[test]
 fn what_is_asked_changes_nothing(rt: HostRuntime) -> Result<(), Fail> {
-    let text = nested(rt.alloc(), 39)?;
+    let text = nested_attributes(rt.alloc(), 39)?;
     assert_eq!(rt; text.len(), 495);
     let ends = Ends::new(rt.alloc(), &text)?;
     let workings = ends.workings();
@@ -61,7 +39,7 @@ fn what_is_asked_changes_nothing(rt: HostRuntime) -> Result<(), Fail> {
 
 #[test]
 fn unclosed_comments_are_read_in_bounded_steps(rt: HostRuntime) -> Result<(), Fail> {
-    let text = unclosed(rt.alloc())?;
+    let text = repeated(rt.alloc(), "", "/* ", 1_000, "")?;
     let ends = Ends::new(rt.alloc(), &text)?;
     assert_eq!(rt; ends.end(Rule::DEFINITIONS, 0), Some(0));
     let workings = RULES as u128 * 3_001;

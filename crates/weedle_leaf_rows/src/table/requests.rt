@@ -3,9 +3,9 @@
 use std::alloc::Global;
 use std::process::Abort;
 use std::test::Fail;
-use weedle_answers::Wanted;
 use weedle_grammar::{Class, Row, holds, row_of};
 use weedle_rules::{Cell, Ends, Narrow, RULES, Rule, Wide};
+use weedle_testing::Wanted;
 
 /// Asserts what a table says of a text that is read up to its end.
 fn assert_looks(rt: &impl Abort, ends: &Ends<'_>, text: &str, is_narrow: bool) {

@@ -6,8 +6,8 @@ use std::process::Abort;
 use std::test::Fail;
 use weedle_front::parse_counted;
 use weedle_rules::{READS, RULES};
-use weedle_texts::examples::WINDOW;
-use weedle_texts::{nested_attributes, repeated};
+use weedle_testing::examples::WINDOW;
+use weedle_testing::{nested_attributes, repeated};
 
 /// What was done for a text of which this is the outcome.
 fn counts_of(rt: &impl Abort, alloc: Global, text: &str, outcome: Outcome<'_>) -> Counts {

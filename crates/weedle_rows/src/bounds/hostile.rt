@@ -4,10 +4,9 @@ use super::outcomes::{NOTHING, Outcome, assert_bounds, counted_outcome, outcome_
 use std::alloc::Global;
 use std::process::Abort;
 use std::test::Fail;
-use weedle_answers::reads_whole;
 use weedle_front::{Definition, Definitions, parse, parse_counted};
-use weedle_texts::examples::CUT;
-use weedle_texts::{nested_attributes, repeated};
+use weedle_testing::examples::CUT;
+use weedle_testing::{nested_attributes, reads_whole, repeated};
 
 /// Asserts that this is the outcome of the text, by `parse` and by `parse_counted`, within the bounds.
 fn assert_outcome(rt: &impl Abort, alloc: Global, text: &str, expected: Outcome<'_>) {

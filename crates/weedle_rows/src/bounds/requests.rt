@@ -4,10 +4,9 @@ use super::outcomes::{Counts, Outcome, assert_bounds, counted_outcome, outcome_o
 use std::alloc::{AllocError, Global};
 use std::process::Abort;
 use std::test::Fail;
-use weedle_answers::Wanted;
 use weedle_front::{parse, parse_counted};
-use weedle_texts::examples::{KINDS, WINDOW};
-use weedle_texts::nested_attributes;
+use weedle_testing::examples::{KINDS, WINDOW};
+use weedle_testing::{Wanted, nested_text};
 
 /// Texts, and what is read of each with ample memory.
 const TEXTS: [(&str, Outcome<'static>); 6] = [
@@ -27,14 +26,6 @@ const TEXTS: [(&str, Outcome<'static>); 6] = [
 
 /// The outcome of the nested attributes.
 const NESTED: Outcome<'static> = Outcome::Read(1, "interface", "I");
-
-/// The 495 bytes of nested attributes, with ample memory unless a request is refused again.
-fn nested_text(alloc: Global, wanted: &mut Wanted) -> Result<String, AllocError> {
-    match wanted.given(nested_attributes(alloc, 39)) {
-        Some(text) => Ok(text),
-        None => nested_attributes(alloc, 39),
-    }
-}
 
 /// Asserts that the text is read so or that memory is wanted, which is told with the text itself.
 fn assert_read(

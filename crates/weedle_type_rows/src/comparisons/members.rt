@@ -1,8 +1,8 @@
 //! The one member that has a default.
 
 use std::test::Fail;
-use weedle_answers::{Wanted, is_printed};
 use weedle_comparisons::members::default_stringifier;
+use weedle_testing::{Wanted, is_printed};
 
 #[test]
 fn no_default_of_a_stringifier_takes_memory(rt: HostRuntime) -> Result<(), Fail> {

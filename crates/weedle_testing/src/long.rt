@@ -1,5 +1,6 @@
 //! Longer texts, made of parts.
 
+use crate::requests::Wanted;
 use std::alloc::{AllocError, Global};
 
 /// Attributes within attributes, to so many levels, before an interface: `[A([A(a... b)] a... b)] interface I {};`
@@ -15,6 +16,14 @@ pub fn nested_attributes(alloc: Global, levels: usize) -> Result<String, AllocEr
     }
     text.push_str(")] interface I {};")?;
     Ok(text)
+}
+
+/// The 495 bytes of nested attributes to 39 levels, with ample memory unless a request is refused again.
+pub fn nested_text(alloc: Global, wanted: &mut Wanted) -> Result<String, AllocError> {
+    match wanted.given(nested_attributes(alloc, 39)) {
+        Some(text) => Ok(text),
+        None => nested_attributes(alloc, 39),
+    }
 }
 
 /// A text with a part of it so many times.
