@@ -94,7 +94,7 @@ module _ (law : SpellsValues DEFINITIONS definitions_tree definitions_spelling) 
   whole_texts (Failed e) d = tt
 
 -- what is left of a text is no longer than the text, and neither is the text itself
-pub answers_within : {raw : List ℕ} (r : Result (Vec Definition) (Fault (Error (Bor (List ℕ))))) → ParseAnswers raw r → IfErr r (IsWithin raw)
-answers_within (Ok v) d = tt
-answers_within (Failed (Stopped e)) d = d.within
-answers_within (Failed (Failure e)) d = omega (arith, ap length d.input)
+pub answers_within : (raw : List ℕ) (r : Result (Vec Definition) (Fault (Error (Bor (List ℕ))))) → ParseAnswers raw r → IfErr r (IsWithin raw)
+answers_within raw (Ok v) d = tt
+answers_within raw (Failed (Stopped e)) d = d.within
+answers_within raw (Failed (Failure e)) d = omega (arith, ap length d.input)

@@ -30,19 +30,26 @@ AppendsPart old new bytes = (n : ℕ) × (n < length bytes) × Appends old new (
 -- what a run does, by what is written of definitions, and by what the reader and the writer have before it and after it
 module _ (written : List Definition → List ℕ) (old_reader new_reader old_writer new_writer : Option (List ℕ)) where
   -- all that was read is a text, and its report is written
-  abbrev pub Reports : Status → Type 0
-  Reports status =
-      (text : List ℕ) × (report : List ℕ) × ReadsAll old_reader new_reader text
-      × IsUtf8 text × IsReport written text report status
-      × Appends old_writer new_writer report
+  pub record Reports (status : Status) : Type 0 where
+    pub text : List ℕ
+    pub report : List ℕ
+    pub reads : ReadsAll old_reader new_reader text
+    pub is_text : IsUtf8 text
+    pub is_report : IsReport written text report status
+    pub writes : Appends old_writer new_writer report
 
   -- all that was read is a text, and a part of its report is written
-  abbrev pub ReportsPart : Type 0
-  ReportsPart =
-      (text : List ℕ) × (report : List ℕ) × (status : Status) × ReadsAll old_reader new_reader text
-      × IsUtf8 text × IsReport written text report status
-      × AppendsPart old_writer new_writer report
+  pub record ReportsPart : Type 0 where
+    pub text : List ℕ
+    pub report : List ℕ
+    pub status : Status
+    pub reads : ReadsAll old_reader new_reader text
+    pub is_text : IsUtf8 text
+    pub is_report : IsReport written text report status
+    pub writes : AppendsPart old_writer new_writer report
 
 -- all that was read is no text
-abbrev pub ReadsNoText : Option (List ℕ) → Option (List ℕ) → Type 0
-ReadsNoText old new = (bytes : List ℕ) × ReadsAll old new bytes × (¬ IsUtf8 bytes)
+pub record ReadsNoText (old new : Option (List ℕ)) : Type 0 where
+  pub bytes : List ℕ
+  pub reads : ReadsAll old new bytes
+  pub no_text : ¬ IsUtf8 bytes

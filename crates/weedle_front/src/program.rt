@@ -57,16 +57,22 @@ pub fn run<R: Read, W: Write>(
     writer: &mut W,
 ) -> Result<Status, RunFault>
     // All that was read is a text, and its report is written.
-    ensures ok { IfOk result (Reports whole_report (R.remaining reader.old) (R.remaining reader.new) (W.contents writer.old) (W.contents writer.new)) }
+    ensures ok { IfOk result (Reports whole_report
+        (R.remaining reader.old) (R.remaining reader.new)
+        (W.contents writer.old) (W.contents writer.new)) }
 
     // All that was read is no text.
-    ensures not_utf8 { IsErrOf result RunFault.NotUtf8 → ReadsNoText (R.remaining reader.old) (R.remaining reader.new) }
+    ensures not_utf8 { IsErrOf result RunFault.NotUtf8
+        → ReadsNoText (R.remaining reader.old) (R.remaining reader.new) }
 
     // All that was read is a text, and a part of its report is written.
-    ensures output { IsErrOf result RunFault.Output → ReportsPart whole_report (R.remaining reader.old) (R.remaining reader.new) (W.contents writer.old) (W.contents writer.new) }
+    ensures output { IsErrOf result RunFault.Output → ReportsPart whole_report
+        (R.remaining reader.old) (R.remaining reader.new)
+        (W.contents writer.old) (W.contents writer.new) }
 
     // No other fault writes anything.
-    ensures unwritten { IfErr result (λ fault. fault ≢ RunFault.Output → Keeps (W.contents writer.old) (W.contents writer.new)) }
+    ensures unwritten { IfErr result (λ fault. fault ≢ RunFault.Output
+        → Keeps (W.contents writer.old) (W.contents writer.new)) }
 {
     run_with::<Titles, R, W>(alloc, reader, writer)
 }
@@ -82,16 +88,22 @@ pub fn run_outline<R: Read, W: Write>(
     writer: &mut W,
 ) -> Result<Status, RunFault>
     // All that was read is a text, and its report is written.
-    ensures ok { IfOk result (Reports outline_report (R.remaining reader.old) (R.remaining reader.new) (W.contents writer.old) (W.contents writer.new)) }
+    ensures ok { IfOk result (Reports outline_report
+        (R.remaining reader.old) (R.remaining reader.new)
+        (W.contents writer.old) (W.contents writer.new)) }
 
     // All that was read is no text.
-    ensures not_utf8 { IsErrOf result RunFault.NotUtf8 → ReadsNoText (R.remaining reader.old) (R.remaining reader.new) }
+    ensures not_utf8 { IsErrOf result RunFault.NotUtf8
+        → ReadsNoText (R.remaining reader.old) (R.remaining reader.new) }
 
     // All that was read is a text, and a part of its report is written.
-    ensures output { IsErrOf result RunFault.Output → ReportsPart outline_report (R.remaining reader.old) (R.remaining reader.new) (W.contents writer.old) (W.contents writer.new) }
+    ensures output { IsErrOf result RunFault.Output → ReportsPart outline_report
+        (R.remaining reader.old) (R.remaining reader.new)
+        (W.contents writer.old) (W.contents writer.new) }
 
     // No other fault writes anything.
-    ensures unwritten { IfErr result (λ fault. fault ≢ RunFault.Output → Keeps (W.contents writer.old) (W.contents writer.new)) }
+    ensures unwritten { IfErr result (λ fault. fault ≢ RunFault.Output
+        → Keeps (W.contents writer.old) (W.contents writer.new)) }
 {
     run_with::<Outlines, R, W>(alloc, reader, writer)
 }
@@ -102,10 +114,16 @@ fn run_with<P: Report, R: Read, W: Write>(
     reader: &mut R,
     writer: &mut W,
 ) -> Result<Status, RunFault>
-    ensures ok { IfOk result (Reports (list_report P.lines) (R.remaining reader.old) (R.remaining reader.new) (W.contents writer.old) (W.contents writer.new)) }
-    ensures not_utf8 { IsErrOf result RunFault.NotUtf8 → ReadsNoText (R.remaining reader.old) (R.remaining reader.new) }
-    ensures output { IsErrOf result RunFault.Output → ReportsPart (list_report P.lines) (R.remaining reader.old) (R.remaining reader.new) (W.contents writer.old) (W.contents writer.new) }
-    ensures unwritten { IfErr result (λ fault. fault ≢ RunFault.Output → Keeps (W.contents writer.old) (W.contents writer.new)) }
+    ensures ok { IfOk result (Reports (list_report P.lines)
+        (R.remaining reader.old) (R.remaining reader.new)
+        (W.contents writer.old) (W.contents writer.new)) }
+    ensures not_utf8 { IsErrOf result RunFault.NotUtf8
+        → ReadsNoText (R.remaining reader.old) (R.remaining reader.new) }
+    ensures output { IsErrOf result RunFault.Output → ReportsPart (list_report P.lines)
+        (R.remaining reader.old) (R.remaining reader.new)
+        (W.contents writer.old) (W.contents writer.new) }
+    ensures unwritten { IfErr result (λ fault. fault ≢ RunFault.Output
+        → Keeps (W.contents writer.old) (W.contents writer.new)) }
 {
     let mut bytes = Vec::new(alloc);
     reader.read_to_end(&mut bytes).map_err(input_fault)?;

@@ -7,17 +7,22 @@ use std::fmt::Display;
 use std::test::Fail;
 use weedle::{Err, Error, ErrorKind, RunFault, Status, at_byte, parse_quick, run};
 
+/// How many items a list has.
+fn length<T: Drop>(list: Vec<T>) -> usize {
+    list.len()
+}
+
 /// How many definitions a text has. The error owns nothing of the text, and says the byte.
 fn count_in(alloc: Global, text: &str) -> anyhow::Result<usize> {
     match parse_quick(alloc, text) {
-        Ok(definitions) => Ok(definitions.len()),
+        Ok(definitions) => Ok(length(definitions)),
         Err(fault) => Err(anyhow::Error::from(at_byte(text, fault))),
     }
 }
 
 /// The same of a text that lives as long as the program. The error shows what is left of it.
 fn count_or_show(alloc: Global, text: &'static str) -> anyhow::Result<usize> {
-    Ok(parse_quick(alloc, text)?.len())
+    Ok(length(parse_quick(alloc, text)?))
 }
 
 /// Runs the program over a text.

@@ -13,4 +13,4 @@ returns-in-Ok-clause-pieces c =
     whole_texts c.definitions-2.ensures _ _ (read_answers _ (descended c.definitions.ensures c.in-Ok.ensures) _ c.whole.ensures)
 
 pub returns-in-Ok-clause-within : goal.returns-in-Ok-clause-within
-returns-in-Ok-clause-within c = answers_within _ (read_answers _ (descended c.definitions.ensures c.in-Ok.ensures) _ c.whole.ensures)
+returns-in-Ok-clause-within c = answers_within _ _ (read_answers _ (descended c.definitions.ensures c.in-Ok.ensures) _ c.whole.ensures)

@@ -13,4 +13,4 @@ returns-in-Ok-build_definitions-clause-pieces c =
     whole_texts c.definitions.ensures _ _ (read_answers _ (built c.in-Ok-build_definitions.ensures) _ c.whole.ensures)
 
 pub returns-in-Ok-build_definitions-clause-within : goal.returns-in-Ok-build_definitions-clause-within
-returns-in-Ok-build_definitions-clause-within c = answers_within _ (read_answers _ (built c.in-Ok-build_definitions.ensures) _ c.whole.ensures)
+returns-in-Ok-build_definitions-clause-within c = answers_within _ _ (read_answers _ (built c.in-Ok-build_definitions.ensures) _ c.whole.ensures)
