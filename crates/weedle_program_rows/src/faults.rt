@@ -14,10 +14,7 @@ fn length<T: Drop>(list: Vec<T>) -> usize {
 
 /// How many definitions a text has. The error owns nothing of the text, and says the byte.
 fn count_in(alloc: Global, text: &str) -> anyhow::Result<usize> {
-    match parse_quick(alloc, text) {
-        Ok(definitions) => Ok(length(definitions)),
-        Err(fault) => Err(anyhow::Error::from(at_byte(text, fault))),
-    }
+    Ok(length(parse_quick(alloc, text).map_err(|fault| at_byte(text, fault))?))
 }
 
 /// The same of a text that lives as long as the program. The error shows what is left of it.

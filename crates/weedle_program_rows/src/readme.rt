@@ -3,7 +3,7 @@
 use std::alloc::{AllocError, Global};
 use std::test::Fail;
 use weedle::interface::InterfaceMember;
-use weedle::{Definition, Definitions, Err, lend, parse_quick};
+use weedle::{Definition, Definitions, Err, at_byte, lend, parse_quick};
 use weedle_base::{IResult, Parse};
 use weedle_parts::common::{Identifier, Punctuated};
 use weedle_term::Comma;
@@ -14,11 +14,8 @@ fn listing_of(alloc: Global, text: &str) -> Result<String, AllocError> {
         Ok(definitions) => lend(definitions, move |definitions: &Definitions<'_>| {
             interfaces_of(alloc, definitions)
         }),
-        Err(Err::Error(left)) => {
-            let place = text.len() - left.input.len();
-            format!(in alloc; "unread from byte {place} on\n")
-        }
         Err(Err::Failure(_)) => Err(AllocError),
+        Err(left) => format!(in alloc; "{}\n", at_byte(text, left)),
     }
 }
 
