@@ -6,7 +6,7 @@ use std::io;
 use std::io::{ErrorKind, Write};
 use std::process::Abort;
 use std::test::Fail;
-use weedle::{Definitions, Err, RunFault, Status, lend, outline, parse, run_outline};
+use weedle::{Definitions, Entry, Err, RunFault, Status, lend, outline, parse, run_outline};
 use weedle_testing::Wanted;
 
 /// A text, and what a run writes of it.
@@ -42,53 +42,34 @@ const REPORTS: [(&str, Status, &str); 7] = [
 ];
 
 /// What an outline says of a definition: its kind, its name and its docstring.
-type Said<'d, 'a> = (&'static str, &'a str, Option<&'d str>);
+type Said = (&'static str, &'static str, Option<&'static str>);
 
-/// Adds a line that says this.
-fn push_said(text: &mut String, (kind, name, docstring): Said<'_, '_>) -> Result<(), AllocError> {
-    writeln!(text, "{kind} {name} {docstring:?}")
+/// Whether the entries say this, in this order.
+fn are_said(entries: &[Entry<'_, '_>], said: &[Said]) -> bool {
+    entries.len() == said.len()
+        && entries.iter().zip(said).all(|(entry, said)| (entry.kind, entry.name, entry.docstring)
+            == *said)
 }
 
-/// A line for each of these.
-fn text_of(alloc: Global, all_said: &[Said<'_, '_>]) -> Result<String, AllocError> {
-    let mut text = String::new(alloc);
-    for said in all_said {
-        push_said(&mut text, *said)?;
-    }
-    Ok(text)
-}
-
-/// The same of the outline of a list.
-fn text_of_outline(alloc: Global, list: &Definitions<'_>) -> Result<String, AllocError> {
-    let mut text = String::new(alloc);
-    for entry in &outline(alloc, list)? {
-        push_said(&mut text, (entry.kind, entry.name, entry.docstring))?;
-    }
-    Ok(text)
+/// Whether this is the outline of the list.
+fn is_outline(alloc: Global, list: &Definitions<'_>, said: &[Said]) -> Result<bool, AllocError> {
+    Ok(are_said(&outline(alloc, list)?, said))
 }
 
 /// The same of a list that it lends.
-fn text_lent(alloc: Global, list: Definitions<'_>) -> Result<String, AllocError> {
+fn is_outline_of(alloc: Global, list: Definitions<'_>, said: &[Said]) -> Result<bool, AllocError> {
     lend(
-        list,
-        move |list: &Definitions<'_>| text_of_outline(alloc, list),
+        (list, said),
+        move |(list, said): &(Definitions<'_>, &[Said])| is_outline(alloc, list, said),
     )
 }
 
 /// Asserts that the outline of the text is this, or that memory is wanted.
-fn assert_outlined(
-    rt: &impl Abort,
-    alloc: Global,
-    wanted: &mut Wanted,
-    text: &str,
-    said: &[Said<'_, '_>],
-) {
+fn assert_outlined(rt: &impl Abort, alloc: Global, wanted: &mut Wanted, text: &str, said: &[Said]) {
     match parse(alloc, text) {
         Ok(list) => {
-            let made = wanted.given(text_lent(alloc, list));
-            let expected = wanted.given(text_of(alloc, said));
-            if let (Some(made), Some(expected)) = (made, expected) {
-                assert_eq!(rt; made, expected, "of {text:?}");
+            if let Some(is_said) = wanted.given(is_outline_of(alloc, list, said)) {
+                assert!(rt; is_said, "of {text:?}");
             }
         }
         Err(Err::Failure(_)) => wanted.count(),

@@ -21,8 +21,17 @@ ghost use Rattle.std.specs.Fn.{FnOnceReturnsAt};
 /// ```
 ///
 /// The type of the closure's argument has to be written, and `move` where the closure uses something beside
-/// it, as `alloc` here. What the closure answers can't borrow from what is lent, so what is done with the
-/// entries is done in the closure.
+/// it, as `alloc` here. A closure that holds a reference is again more than the prover can compute: what it
+/// refers to is lent too, as a pair.
+///
+/// ```rust
+/// let is_there = lend((definitions, name), |(definitions, name): &(Definitions<'_>, &str)| {
+///     has_interface(definitions, name)
+/// });
+/// ```
+///
+/// What the closure answers can't borrow from what is lent, so what is done with the entries is done in the
+/// closure.
 pub fn lend<T: Drop, R, F: FnOnce(&T) -> R>(owned: T, f: F) -> R
     requires { F.IsAlwaysCallable f }
 
