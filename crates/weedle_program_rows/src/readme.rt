@@ -7,7 +7,6 @@ use weedle::{Definition, Definitions, Err, at_byte, lend, parse_quick};
 use weedle_base::{IResult, Parse};
 use weedle_parts::common::{Identifier, Punctuated};
 use weedle_term::Comma;
-use weedle_testing::examples::WINDOW;
 
 /// The interfaces of a text with their attributes, or from where on it can't be read.
 fn listing_of(alloc: Global, text: &str) -> Result<String, AllocError> {
@@ -45,7 +44,10 @@ fn count(alloc: Global, text: &str) -> IResult<&str, usize> {
 #[test]
 fn interfaces_are_listed_with_their_attributes(rt: HostRuntime) -> Result<(), Fail> {
     let table = [
-        (WINDOW, "Window\n  sessionStorage\n"),
+        (
+            "[Exposed=Window] interface Window : EventTarget { readonly attribute Storage sessionStorage; };",
+            "Window\n  sessionStorage\n",
+        ),
         (
             "interface A { attribute long x; void f(); attribute long y; }; B includes C; interface D {};",
             "A\n  x\n  y\nD\n",
