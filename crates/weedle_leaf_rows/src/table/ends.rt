@@ -4,6 +4,7 @@ use std::alloc::{AllocError, Global};
 use std::process::Abort;
 use std::test::Fail;
 use weedle_rules::{Cell, Ends, Narrow, READS, RULES, Rule, Wide};
+use weedle_testing::examples::TEXTS;
 use weedle_testing::{nested_attributes, repeated};
 
 #[test]
@@ -64,24 +65,8 @@ fn cells_give_back_what_they_hold(rt: HostRuntime) {
     assert_eq!(rt; Wide::pack(Some(usize::MAX)).unpack(), Some(usize::MAX));
 }
 
-/// The texts of the worked examples.
-const TEXTS: [&str; 100] = [
-    "",
-    "  ",
-    "interface Window { readonly attribute Storage sessionStorage; };",
-    "\n    interface Window {\n        readonly attribute Storage sessionStorage;\n    };\n",
-    "interface A {}; // end",
-    "interface A {};interface B {}",
-    "// c",
-    "// c\n",
-    "interface mixin {};",
-    "interface mixin M {};",
-    "interface includes B;",
-    "interface A { ///d\n attribute long x; };",
-    "interface A { ///d\n void f(); };",
-    "interface A { attribute long x; };",
-    "interface A { readonly attribute x; };",
-    "interface A {};\ninterface _B {};",
+/// Texts of the worked examples that single types are given.
+const PARTS: [&str; 66] = [
     "DOMStringMap",
     "longé",
     "record<DOMString?, short>",
@@ -101,8 +86,6 @@ const TEXTS: [&str; 100] = [
     "-0",
     ",x",
     ";;",
-    "enum E {\"a\",\"b\",};",
-    "enum E {};",
     "///a\n ///b\nx",
     "///a\r\nx",
     "///a",
@@ -113,11 +96,6 @@ const TEXTS: [&str; 100] = [
     "1e3",
     "5.",
     "+Infinity",
-    "/*/*/interface A {};",
-    "/*/interface A {};",
-    "/**/interface A {};",
-    "// c\n///d\ninterface A {};",
-    "interface A {}; // c\n///d\ninterface B {};",
     "(  anything",
     "  -Infinity  ",
     "long-x",
@@ -132,10 +110,6 @@ const TEXTS: [&str; 100] = [
     "const long X = 0x;",
     "readonly attribute long x;",
     "required x;",
-    "callback F = undefined (long x);",
-    "interface É {};",
-    "interface A {};\nenum E {\"a\"};",
-    "A includes B;",
     "// a\n/* b */ c",
     " //x",
     "- Infinity",
@@ -158,17 +132,7 @@ const TEXTS: [&str; 100] = [
     "getter any (long i);",
     "///d\nconst long X = 0;",
     "stringifier readonly attribute long x;",
-    "/*a*/enum/*b*/E/*c*/{/*d*/\"a\"/*e*/,/*f*/}/*g*/;/*h*/",
-    "interface A {}; /* x */ /*",
-    "interface A {};\n// é\nenum E {\"é\"};\n",
-    "enum E {\"日本\"};",
-    "interface A {};\n///d\n",
-    "///a\n// c\n///b\ninterface A {};",
     "dictionary D { ///d\n long x = 5; };",
-    "callback C = undefined ();\ncallback interface D {};\ninterface E {};\ninterface mixin F {};\n\
-     namespace G {};\ndictionary H {};\npartial interface I {};\npartial interface mixin J {};\n\
-     partial dictionary K {};\npartial namespace L {};\nenum M {\"m\"};\ntypedef long N;\n\
-     O includes P;\nQ implements R;",
 ];
 
 /// Asserts that a table of narrow cells and one of wide cells say the same of the text.
@@ -195,10 +159,10 @@ fn assert_tables_agree(rt: &impl Abort, alloc: Global, text: &str) -> Result<(),
 #[test]
 fn narrow_and_wide_cells_say_the_same(rt: HostRuntime) -> Result<(), Fail> {
     let alloc = rt.alloc();
-    for text in TEXTS {
+    for text in TEXTS.iter().chain(&PARTS) {
         assert_tables_agree(&rt, alloc, text)?;
     }
-    assert_tables_agree(&rt, alloc, &nested(alloc, 39)?)?;
-    assert_tables_agree(&rt, alloc, &unclosed(alloc)?)?;
+    assert_tables_agree(&rt, alloc, &nested_attributes(alloc, 39)?)?;
+    assert_tables_agree(&rt, alloc, &repeated(alloc, "", "/* ", 1_000, "")?)?;
     Ok(())
 }
