@@ -1,5 +1,5 @@
 -- What is said of the rest is said of the text.
-use Rattle.std.proofs.Common.{◌≡◌, ◌<◌, ◌≤◌, ◌+◌, ◌-◌, ◌∙◌, ℕ, List, length, drop, ap, sym, refl, subst, arith}
+use Rattle.std.proofs.Common.{◌≡◌, ◌≤◌, ◌+◌, ◌-◌, ◌∙◌, ℕ, List, length, drop, ap, refl, subst, arith}
 use Rattle.std.proofs.lemmas.List.{length-drop}
 use Rattle.std.proofs.lemmas.Str.{IsCharBoundary-from_rest, IsCharBoundary-start}
 use Rattle.std.specs.Global.{Vec}
@@ -8,7 +8,6 @@ use Rattle.weedle_diagnose.specs.Diagnosis.{IsDiagnosis}
 use Rattle.weedle_explain.specs.Refusal.{IsFurthest, IsRefusal, IsRest}
 use Rattle.weedle_explain.specs.Words.{AreWords}
 use Rattle.weedle_explain.specs.declared.expected.Expected.{Expected}
-use Rattle.weedle_explain.specs.declared.refusal.Refusal.{Refusal}
 use Rattle.weedle_front.specs.Whole.{IsLeft}
 
 -- what a diagnosis from the front of a text says, in words

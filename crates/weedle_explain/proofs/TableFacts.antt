@@ -1,6 +1,6 @@
 -- What the grammar's rows without parts are, by a look at each.
 use Rattle.std.proofs.Common.{◌≡◌, ◌<◌, ℕ, List, [], ◌∷◌, Bool, true, false, refl, sym, ap, ◌∙◌, subst, get_or, zero, suc, arith}
-use Rattle.std.specs.Prelude.{◌==◌, ◌&&◌, ◌||◌, not, nat_lt, IsUtf8}
+use Rattle.std.specs.Prelude.{◌&&◌, ◌||◌, not, IsUtf8}
 use Rattle.std.proofs.lemmas.Str.{IsUtf8-from_ascii}
 use borrow.Author.Tests.{ltb-true}
 use Rattle.weedle_explain.specs.Words.{has_word, is_left_out, is_named, may_fail}
@@ -14,7 +14,7 @@ use Rattle.weedle_grammar.specs.declared.class.Class.{Class}
 use Rattle.weedle_grammar.specs.declared.row.Row as rows
 use Rattle.weedle_grammar.specs.declared.row.Row.TheVariants as code
 use Rattle.std.specs.Borrow.{Bor}
-use Rattle.weedle_grammar.specs.Rows.{Row, Bytes, OneOf, NotNext, Run, Past}
+use Rattle.weedle_grammar.specs.Rows.{Row, Bytes, OneOf}
 use Rattle.weedle_grammar.specs.Table.{row_of, table}
 
 -- the row has a text or a class of its own

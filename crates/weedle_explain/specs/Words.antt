@@ -4,7 +4,7 @@ use Rattle.std.specs.List.{Contains, list_any, list_all}
 use Rattle.weedle_explain.specs.declared.expected.Expected.{Expected}
 use Rattle.weedle_explain.specs.declared.expected.Expected.TheVariants as word
 use Rattle.weedle_explain.specs.declared.starts.TheConstants.{NAMES, TYPES, TYPES_BUT_ANY, CONST_TYPES, DEFAULT_VALUES, CONST_VALUES}
-use Rattle.weedle_grammar.specs.Rows.{Row, Bytes, OneOf, NotNext, Run, Past}
+use Rattle.weedle_grammar.specs.Rows.{Row, Bytes, OneOf, NotNext, Past}
 use Rattle.weedle_grammar.specs.Table.{row_of}
 use Rattle.weedle_grammar.specs.Table.Keywords.{NOT_NEXT_NAME}
 use Rattle.weedle_grammar.specs.Table.Leaves.{PAST_LF}
