@@ -1,4 +1,4 @@
-//! Tests of the program, of outlines, of what errors say, and of the README's examples.
+//! Tests of the program, of outlines, of what errors and refusals say, and of the README's examples.
 #![tactic(auto)]
 
 #[cfg(test)]
@@ -11,6 +11,8 @@ mod outline;
 mod program;
 #[cfg(test)]
 mod readme;
+#[cfg(test)]
+mod refusals;
 #[cfg(test)]
 mod streams;
 #[cfg(test)]

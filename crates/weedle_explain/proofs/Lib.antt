@@ -1,0 +1,3 @@
+pub mod TableFacts
+pub mod WordFacts
+pub mod RefusalFacts

@@ -1,0 +1,45 @@
+-- What is said of the rest is said of the text.
+use Rattle.std.proofs.Common.{◌≡◌, ◌≤◌, ◌+◌, ◌-◌, ◌∙◌, ℕ, List, length, drop, ap, refl, subst, arith}
+use Rattle.std.proofs.lemmas.List.{length-drop}
+use Rattle.std.proofs.lemmas.Str.{IsCharBoundary-from_rest, IsCharBoundary-start}
+use Rattle.std.specs.Global.{Vec}
+use Rattle.std.specs.Prelude.{IsUtf8}
+use Rattle.weedle_diagnose.specs.Diagnosis.{IsDiagnosis}
+use Rattle.weedle_explain.specs.Refusal.{IsFurthest, IsRefusal, IsRest}
+use Rattle.weedle_explain.specs.Words.{AreWords}
+use Rattle.weedle_explain.specs.declared.expected.Expected.{Expected}
+use Rattle.weedle_front.specs.Whole.{IsLeft}
+
+-- what a diagnosis from the front of a text says, in words
+pub furthest_is : {text rules : List ℕ} {place : ℕ} {words : List Expected} → IsUtf8 text → IsDiagnosis text 0 place rules → AreWords rules words → IsFurthest text place words
+furthest_is {text} {rules} utf8 diagnosed words =
+    record { rules = rules; diagnosed = diagnosed; said = words; boundary = diagnosed.boundary utf8 (IsCharBoundary-start text utf8) }
+
+module _ {raw rest : List ℕ} (h : IsRest raw rest) where
+  -- the rest stands behind what is read
+  rest_is : rest ≡ drop (length raw - length rest) raw
+  unfolding IsLeft
+  rest_is =
+      let is = h.left.3 in
+      let short : length rest ≡ length raw - h.left.1 = ap length is ∙ length-drop h.left.1 raw in
+      let end : h.left.1 ≡ length raw - length rest = omega (arith, short, h.nonempty) in
+      is ∙ ap (λ n. drop n raw) end
+
+  -- of what is furthest in the rest, the refusal
+  pub refused : {furthest : ℕ} {words : Vec Expected} → IsFurthest rest furthest words.items
+      → IsRefusal raw (record { start = length raw - length rest; place = (length raw - length rest) + furthest; expected = words })
+  refused {furthest} {words} found =
+      let start = length raw - length rest in
+      let F : List ℕ → Type 0 = λ text. IsFurthest text furthest words.items in
+      let L : List ℕ → Type 0 = λ text. IsLeft raw text in
+      let before : start ≤ length raw = omega arith in
+      let here : IsFurthest (drop start raw) furthest words.items = subst F rest_is found in
+      record {
+        refused = h.refused;
+        left = subst L rest_is h.left;
+        nonempty = omega (arith, h.nonempty, h.within);
+        furthest = furthest;
+        found = here;
+        place = refl;
+        boundary = IsCharBoundary-from_rest raw start furthest before here.boundary;
+      }

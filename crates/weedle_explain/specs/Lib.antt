@@ -1,0 +1,3 @@
+pub mod Position
+pub mod Words
+pub mod Refusal

@@ -1,0 +1,44 @@
+-- What is said of a text: nothing, where the grammar reads it whole, and else where and why it is refused.
+use Rattle.std.specs.Borrow.{Bor}
+use Rattle.std.specs.Prelude.{◌≡◌, ◌+◌, ◌<◌, ◌≤◌, ℕ, List, length, drop, Option, Some, None, IsCharBoundary}
+use Rattle.weedle_diagnose.specs.Diagnosis.{IsDiagnosis}
+use Rattle.weedle_explain.specs.Words.{AreWords}
+use Rattle.weedle_explain.specs.declared.expected.Expected.{Expected}
+use Rattle.weedle_explain.specs.declared.refusal.Refusal.{Refusal}
+use Rattle.weedle_front.specs.Whole.{IsWhole, IsLeft}
+use Rattle.weedle_idl.specs.declared.definition.Definition.{Definition}
+
+-- of a text that is read from its front on: the furthest place at which something is unmet, where a character begins or the text ends, and the words for what is unmet there
+pub record IsFurthest (text : List ℕ) (place : ℕ) (words : List Expected) : Type 0 where
+  pub rules : List ℕ
+  pub diagnosed : IsDiagnosis text 0 place rules
+  pub said : AreWords rules words
+  pub boundary : IsCharBoundary text place
+
+-- the text is refused: the grammar leaves what stands from `start` on, and of that the place and the words tell
+pub record IsRefusal (raw : List ℕ) (refusal : Refusal) : Type 0 where
+  pub refused : (definitions : List Definition) → ¬ IsWhole raw definitions
+  pub left : IsLeft raw (drop refusal.start raw)
+  pub nonempty : refusal.start < length raw
+  pub furthest : ℕ
+  pub found : IsFurthest (drop refusal.start raw) furthest refusal.expected.items
+  pub place : refusal.place ≡ refusal.start + furthest
+  -- a character of the whole text begins at the place, or the text ends there
+  pub boundary : IsCharBoundary raw refusal.place
+
+-- None where the grammar reads the whole text as some list, and else a refusal
+abbrev pub Explains : List ℕ → Option Refusal → Type 0
+Explains raw None = (definitions : List Definition) × IsWhole raw definitions
+Explains raw (Some refusal) = IsRefusal raw refusal
+
+-- what the grammar leaves of a text, if that is something
+pub record IsRest (raw rest : List ℕ) : Type 0 where
+  pub refused : (definitions : List Definition) → ¬ IsWhole raw definitions
+  pub left : IsLeft raw rest
+  pub nonempty : 0 < length rest
+  pub within : length rest ≤ length raw
+
+-- None where the grammar reads the whole text as some list, and else what it leaves
+abbrev pub IsUnreadRest : List ℕ → Option (Bor (List ℕ)) → Type 0
+IsUnreadRest raw None = (definitions : List Definition) × IsWhole raw definitions
+IsUnreadRest raw (Some rest) = IsRest raw rest.now

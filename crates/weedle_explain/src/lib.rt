@@ -1,0 +1,25 @@
+//! Why a text is refused, in words: what would have been read, and at which line and column.
+//!
+//! ```rust
+//! use weedle_explain::{explain, position_of};
+//!
+//! let text = "interface A {\n  readonly attribute long x\n};";
+//! if let Some(refusal) = explain(rt.alloc(), text)? {
+//!     let position = position_of(text, refusal.place);
+//!     println!(rt; "a.webidl:{position}: {refusal}")?;
+//! }
+//! ```
+//!
+//! It prints ``a.webidl:3:1: expected `;` ``.
+#![tactic(auto)]
+
+mod expected;
+mod position;
+mod refusal;
+mod starts;
+mod words;
+
+pub use expected::Expected;
+pub use position::{Position, position_of};
+pub use refusal::{Refusal, explain};
+pub use weedle_grammar::Class;
