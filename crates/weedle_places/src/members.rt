@@ -19,7 +19,13 @@ ghost use Rattle.weedle_grammar.specs.Table.Definitions.{DEFINITION};
 ghost use Rattle.weedle_grammar.specs.View.{numbers_of};
 ghost use Rattle.weedle_places.specs.declared.span.Span.{Span as TheSpan};
 ghost use Rattle.weedle_places.specs.Items.{EndsAt, AreItems};
-ghost use Rattle.weedle_places.specs.Members.{member_of as the_member_of, AreMembers, FitsFirst, HasMembers, choices_in};
+ghost use Rattle.weedle_places.specs.Members.{
+  member_of as the_member_of,
+  AreMembers,
+  FitsFirst,
+  HasMembers,
+  choices_in,
+};
 
 use crate::items::items;
 use crate::span::Span;
@@ -55,7 +61,8 @@ fn member_of(part: Rule) -> Option<Rule>
 fn kind_at(ends: &Ends<'_>, place: usize) -> Option<Rule>
     requires within { place ≤ length ends.now.text }
     requires fits { (e : ℕ) × EndsAt ends.now.text DEFINITION place e }
-    ensures { MatchOption result ⊥ (λ kind. FitsFirst ends.now.text (choices_in (the_row_of DEFINITION)) place kind) }
+    ensures { MatchOption result ⊥
+        (λ kind. FitsFirst ends.now.text (choices_in (the_row_of DEFINITION)) place kind) }
 {
     let Row::First(kinds) = row_of(Rule::DEFINITION) else {
         return None;
@@ -73,8 +80,11 @@ fn kind_at(ends: &Ends<'_>, place: usize) -> Option<Rule>
 /// The members in braces among the parts of a definition.
 fn braced_at(ends: &Ends<'_>, parts: Parts, place: usize) -> Option<Braced>
     requires within { place ≤ length ends.now.text }
-    requires reads { (pieces : List Piece) × ReadsSeq webidl ends.now.text (numbers_of parts) place (Some pieces) }
-    ensures are { MatchOption result (AreMembers ends.now.text (numbers_of parts) place []) (λ b. (ms : List TheSpan) → AreItems ends.now.text b.member b.start ms → AreMembers ends.now.text (numbers_of parts) place ms) }
+    requires reads { (pieces : List Piece)
+        × ReadsSeq webidl ends.now.text (numbers_of parts) place (Some pieces) }
+    ensures are { MatchOption result (AreMembers ends.now.text (numbers_of parts) place [])
+        (λ b. (ms : List TheSpan) → AreItems ends.now.text b.member b.start ms
+        → AreMembers ends.now.text (numbers_of parts) place ms) }
     ensures within { IfSome result (λ b. b.start ≤ length ends.now.text) }
     ensures repeated { IfSome result (λ b. (list : ℕ) × (the_row_of list ≡ Many b.member)) }
 {

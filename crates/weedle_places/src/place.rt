@@ -53,7 +53,8 @@ fn definitions(alloc: Global, ends: &Ends<'_>) -> Result<Vec<Place>, AllocError>
 /// It asks for memory for the answer alone.
 pub fn places_of(alloc: Global, ends: &Ends<'_>) -> Result<Option<Vec<Place>>, AllocError>
     ensures whole { IfOk result (λ found. IsSome found ↔ IsWhole ends.now.text) }
-    ensures are { IfOk result (λ found. IfSome found (λ places. ArePlaces ends.now.text 0 places.items)) }
+    ensures are { IfOk result
+        (λ found. IfSome found (λ places. ArePlaces ends.now.text 0 places.items)) }
 {
     if !is_whole(ends) {
         return Ok(None);
@@ -62,19 +63,20 @@ pub fn places_of(alloc: Global, ends: &Ends<'_>) -> Result<Option<Vec<Place>>, A
     Ok(Some(found))
 }
 
-/// Where each definition of the text and each of its members stand, or None where the text isn't read
-/// whole.
+/// Where each definition of the text and each of its members stand, or None where the text isn't
+/// read whole.
 ///
-/// In `enum E { "a" }; interface A {};` one definition stands from 0 to 16, and one from 16 to 31: the
-/// blank between them belongs to what stands before it. The empty text has none; of `interface A {` the
-/// answer is None.
+/// In `enum E { "a" }; interface A {};` one definition stands from 0 to 16, and one from 16 to 31:
+/// the blank between them belongs to what stands before it. The empty text has none; of
+/// `interface A {` the answer is None.
 ///
 /// It asks for memory for a table of ends, as `Ends::new` says, and for the answer. Where that is
-/// refused, the answer is an error. Each member is gone over once; there is no recursion, however
-/// deep the text nests.
+/// refused, the answer is an error. Beside the table each member is gone over once; there is no
+/// recursion, however deep the text nests.
 pub fn places(alloc: Global, raw: &str) -> Result<Option<Vec<Place>>, AllocError>
     ensures whole { IfOk result (λ found. IsSome found ↔ IsWhole raw.now) }
-    ensures are { IfOk result (λ found. IfSome found (λ places. ArePlaces raw.now 0 places.items)) }
+    ensures are { IfOk result
+        (λ found. IfSome found (λ places. ArePlaces raw.now 0 places.items)) }
 {
     let ends = Ends::new(alloc, raw)?;
     places_of(alloc, &ends)
