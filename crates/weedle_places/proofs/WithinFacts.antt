@@ -1,0 +1,84 @@
+-- Members lie within their definition.
+use Rattle.std.proofs.Common.{◌≡◌, ℕ, ◌≤◌, List, [], ◌∷◌, Option, Some, None, refl, sym, subst, arith}
+use Rattle.std.specs.Prelude.{All, MatchOption}
+use Rattle.std.proofs.lemmas.List.Elements.{All-nil, All-cons}
+use Rattle.weedle_grammar.specs.Rows.{Row, Bytes, OneOf, NotNext, Run, Past, Seq, First, Opt, Many, ListOf, List1, Tail, If}
+use Rattle.weedle_grammar.specs.Table.{webidl, row_of}
+use Rattle.weedle_grammar.specs.Table.Symbols.{OPEN_BRACE, CLOSE_BRACE}
+use Rattle.weedle_grammar.specs.Table.Definitions.{DEFINITION}
+use Rattle.weedle_grammar.proofs.Exists.{seq_grows}
+use Rattle.weedle_places.specs.declared.span.Span.{Span}
+use Rattle.weedle_places.specs.Items.{EndsAt, AreItems}
+use Rattle.weedle_places.specs.Members.{member_of, AreMembers, HasMembers, parts_in}
+use Rattle.weedle_places.proofs.OutcomeFacts.{one_end, ends_after, list_on}
+use Rattle.weedle_places.proofs.KindFacts.{kind_ends}
+use Rattle.weedle_places.proofs.MemberFacts.{AreReadTo, first_to, read_to, braced}
+
+-- all spans lie between the two places
+abbrev pub AreWithin : ℕ → ℕ → List Span → Type 0
+AreWithin from to ms = All (λ m. (from ≤ m.start) × (m.end ≤ to)) ms
+
+-- a span lies between them
+abbrev LiesWithin : ℕ → ℕ → Span → Type 0
+LiesWithin from to m = (from ≤ m.start) × (m.end ≤ to)
+
+module _ (text : List ℕ) (from to : ℕ) where
+  none_within : (ms : List Span) → ms ≡ [] → AreWithin from to ms
+  none_within ms e = subst (AreWithin from to) (sym e) (All-nil (LiesWithin from to))
+
+  items_within : (l y q z : ℕ) (ms : List Span) → row_of l ≡ Many y → AreItems text y q ms → EndsAt text l q z → from ≤ q → z ≤ to → AreWithin from to ms
+  items_within l y q z [] is a d h k = All-nil (LiesWithin from to)
+  items_within l y q z (s ∷ ss) is a d h k =
+      let start : s.start ≡ q = a.0 in
+      let after : q ≤ s.end = ends_after a.1 in
+      let on = list_on text l y q z is d s.end a.1 in
+      let behind : s.end ≤ z = ends_after on in
+      All-cons (LiesWithin from to) s ss (omega arith, omega arith) (items_within l y s.end z ss is a.2 on (omega arith) k)
+
+  to_last : (rs : List ℕ) (p : ℕ) → AreReadTo text rs p to → p ≤ to
+  to_last rs p d = let g = seq_grows webidl text d.1 in omega (arith, g, d.2)
+
+  part_within : (r : ℕ) (rs : List ℕ) (p : ℕ) (ms : List Span) (o : Option ℕ) → member_of r ≡ o
+      → MatchOption o ((e : ℕ) × EndsAt text r p e × AreMembers text rs e ms) (λ y. (q : ℕ) × EndsAt text OPEN_BRACE p q × AreItems text y q ms)
+      → AreReadTo text (r ∷ rs) p to → from ≤ p
+      → ((q : ℕ) → AreMembers text rs q ms → AreReadTo text rs q to → from ≤ q → AreWithin from to ms) → AreWithin from to ms
+  part_within r rs p ms None m a d h others =
+      let f = first_to text r rs p to d in
+      let same : f.0 ≡ a.0 = one_end a.1 f.1 in
+      let after : p ≤ a.0 = ends_after a.1 in
+      others a.0 a.2 (subst (λ q. AreReadTo text rs q to) same f.2) (omega arith)
+  part_within r rs p ms (Some y) m a d h others =
+      let b = braced r y m in
+      let f = first_to text r rs p to d in
+      let last : f.0 ≤ to = to_last rs f.0 f.2 in
+      let brace = first_to text OPEN_BRACE (b.list ∷ CLOSE_BRACE ∷ []) p f.0 (read_to text r p f.0 _ b.is f.1) in
+      let same : brace.0 ≡ a.0 = one_end a.1 brace.1 in
+      let members = first_to text b.list (CLOSE_BRACE ∷ []) brace.0 f.0 brace.2 in
+      let close = first_to text CLOSE_BRACE [] members.0 f.0 members.2 in
+      let after : p ≤ a.0 = ends_after a.1 in
+      let shut : members.0 ≤ close.0 = ends_after close.1 in
+      let done : close.0 ≤ f.0 = (let g = seq_grows webidl text close.2.1 in omega (arith, g, close.2.2)) in
+      items_within b.list y a.0 members.0 ms b.is_list a.2 (subst (λ q. EndsAt text b.list q members.0) same members.1) (omega arith) (omega arith)
+
+  parts_within : (rs : List ℕ) (p : ℕ) (ms : List Span) → AreMembers text rs p ms → AreReadTo text rs p to → from ≤ p → AreWithin from to ms
+  parts_within [] p ms a d h = none_within ms a
+  parts_within (r ∷ rs) p ms a d h = part_within r rs p ms (member_of r) refl a d h (λ q. parts_within rs q ms)
+
+  row_within : (a p : ℕ) (ms : List Span) (row : Row) → row_of a ≡ row → AreMembers text (parts_in row) p ms → EndsAt text a p to → from ≤ p → AreWithin from to ms
+  row_within a p ms (Seq parts) is m d h = parts_within parts p ms m (read_to text a p to parts is d) h
+  row_within a p ms (Bytes b) is m d h = none_within ms m
+  row_within a p ms (OneOf c) is m d h = none_within ms m
+  row_within a p ms (NotNext c) is m d h = none_within ms m
+  row_within a p ms (Run c) is m d h = none_within ms m
+  row_within a p ms (Past b) is m d h = none_within ms m
+  row_within a p ms (First c) is m d h = none_within ms m
+  row_within a p ms (Opt x) is m d h = none_within ms m
+  row_within a p ms (Many x) is m d h = none_within ms m
+  row_within a p ms (ListOf x t) is m d h = none_within ms m
+  row_within a p ms (List1 x t) is m d h = none_within ms m
+  row_within a p ms (Tail x t) is m d h = none_within ms m
+  row_within a p ms (If c k y) is m d h = none_within ms m
+
+-- the members of a definition lie between its start and its end
+pub members_within : (text : List ℕ) (p e : ℕ) (ms : List Span) → HasMembers text p ms → EndsAt text DEFINITION p e → AreWithin p e ms
+members_within text p e ms h d = row_within text p e h.kind p ms (row_of h.kind) refl h.are (kind_ends text p h.kind e h.fits d) (omega arith)

@@ -1,0 +1,22 @@
+-- Where the definitions of a text stand.
+use Rattle.std.specs.Prelude.{◌≡◌, ◌≤◌, ℕ, List, [], ◌∷◌, length, All}
+use Rattle.weedle_grammar.specs.Table.Definitions.{DEFINITION, DEFINITIONS}
+use Rattle.weedle_places.specs.declared.place.Place.{Place}
+use Rattle.weedle_places.specs.Items.{EndsAt}
+use Rattle.weedle_places.specs.Members.{HasMembers}
+
+-- the grammar reads the whole text as definitions
+abbrev pub IsWhole : List ℕ → Type 0
+IsWhole text = EndsAt text DEFINITIONS 0 (length text)
+
+-- a definition is read from the start of its span to its end, and these are its members
+pub record IsPlace (text : List ℕ) (place : Place) : Type 0 where
+  pub reads : EndsAt text DEFINITION place.span.start place.span.end
+  pub members : HasMembers text place.span.start place.members.items
+  -- each of them lies within it
+  pub within : All (λ m. (place.span.start ≤ m.start) × (m.end ≤ place.span.end)) place.members.items
+
+-- definitions from p to the end of the text, each of which begins where the one before ends
+abbrev pub ArePlaces : List ℕ → ℕ → List Place → Type 0
+ArePlaces text p [] = p ≡ length text
+ArePlaces text p (d ∷ ds) = (d.span.start ≡ p) × IsPlace text d × ArePlaces text d.span.end ds
