@@ -38,5 +38,6 @@ pub use weedle_idl::{
     PartialDictionaryDefinition, PartialInterfaceDefinition, PartialInterfaceMixinDefinition,
     PartialNamespaceDefinition, TypedefDefinition, dictionary, interface, mixin, namespace,
 };
+pub use weedle_places::{Place, Span, places};
 pub use weedle_term as term;
 pub use weedle_types::{argument, attribute};
