@@ -1,5 +1,5 @@
-//! Tests of the grammar's rows, the table of ends, diagnoses, scanners, terminals, standard types,
-//! generic parts and leaves: worked examples whose answers come from outside.
+//! Tests of the grammar's rows, the table of ends, diagnoses, places, scanners, terminals, standard
+//! types, generic parts and leaves: worked examples whose answers come from outside.
 #![tactic(auto)]
 
 #[cfg(test)]
@@ -8,6 +8,8 @@ mod diagnoses;
 mod generic_parts;
 #[cfg(test)]
 mod leaves;
+#[cfg(test)]
+mod places;
 #[cfg(test)]
 mod requests;
 #[cfg(test)]
