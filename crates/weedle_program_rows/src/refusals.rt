@@ -228,7 +228,7 @@ fn positions_begin_at_one(rt: HostRuntime) -> Result<(), Fail> {
     Ok(())
 }
 
-/// The longest text that is cut at each place; a longer one is cut at each eighth.
+/// The longest text that is cut at each place; a longer one is cut at each sixty-fourth.
 const SHORT: usize = 300;
 
 /// Every text of the examples, and its cuts.
@@ -238,7 +238,7 @@ fn each_refusal_has_words(rt: HostRuntime) -> Result<(), Fail> {
     for text in TEXTS {
         assert_words(&rt, alloc, text)?;
         for (at, _) in text.char_indices() {
-            if text.len() <= SHORT || at % 8 == 0 {
+            if text.len() <= SHORT || at % 64 == 0 {
                 assert_words(&rt, alloc, &text[..at])?;
             }
         }
