@@ -3,7 +3,7 @@ use Rattle.std.proofs.Common.{All, ◌≡◌, ℕ, ◌+◌, ◌*◌, ◌<◌, �
 use Rattle.std.proofs.lemmas.List.{length-append}
 use Rattle.std.proofs.lemmas.List.Elements.{All-nil, All-cons, All-head, All-tail, All-append}
 use Rattle.std.proofs.lemmas.List.Sums.{fold-append, sum_by-cons, sum_by-le, sum_by_push}
-use Rattle.weedle_rules.specs.TableOfEnds.{greatest, AreCounts, IsAmount}
+use Rattle.weedle_rules.specs.TableOfEnds.{AreCounts, IsAmount}
 
 -- one working-out more is closed
 pub one_more : (k : ℕ) (counts : List ℕ) (w v reads most count : ℕ) → AreCounts k counts w reads most → 0 < count → count ≤ k → v ≡ w + 1
