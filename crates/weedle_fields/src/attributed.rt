@@ -21,8 +21,8 @@ pub fn attributes_and_three<'a, A: Parse<'a>, B: Parse<'a>, C: Parse<'a>>(
     Ok((rest, (attributes, first, second, third)))
 }
 
-/// Reads attributes where they stand, and then four others, as the name, the word, the name and the `;`
-/// of `[A] Request includes Body;`. Where one of the four isn't there it is a mismatch.
+/// Reads attributes where they stand, and then four others, as the name, the word, the name and
+/// the `;` of `[A] Request includes Body;`. Where one of the four isn't there it is a mismatch.
 pub fn attributes_and_four<'a, A: Parse<'a>, B: Parse<'a>, C: Parse<'a>, D: Parse<'a>>(
     alloc: Global,
     input: &'a str,
@@ -34,8 +34,9 @@ pub fn attributes_and_four<'a, A: Parse<'a>, B: Parse<'a>, C: Parse<'a>, D: Pars
     Ok((rest, (attributes, first, second, third, fourth)))
 }
 
-/// Reads attributes where they stand, and then five others, as the two words, the name, the members and
-/// the `;` of `[A] partial interface B {};`. Where one of the five isn't there it is a mismatch.
+/// Reads attributes where they stand, and then five others, as the two words, the name, the
+/// members and the `;` of `[A] partial interface B {};`. Where one of the five isn't there it is a
+/// mismatch.
 pub fn attributes_and_five<
     'a,
     A: Parse<'a>,
@@ -54,9 +55,9 @@ pub fn attributes_and_five<
     Ok((rest, (attributes, first, second, third, fourth, fifth)))
 }
 
-/// Reads attributes where they stand, and then six others, as the word, the name, the `=`, the type, the
-/// arguments and the `;` of `[A] callback F = undefined (long x);`. Where one of the six isn't there it is
-/// a mismatch.
+/// Reads attributes where they stand, and then six others, as the word, the name, the `=`, the
+/// type, the arguments and the `;` of `[A] callback F = undefined (long x);`. Where one of the six
+/// isn't there it is a mismatch.
 pub fn attributes_and_six<
     'a,
     A: Parse<'a>,
