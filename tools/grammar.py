@@ -23,8 +23,9 @@ import sys
 from pathlib import Path
 
 from description.names import upper  # for terminals.py too, as the names of the terminals below
-from description.rules import SECTIONS, parts_of
-from description.webidl import CAPITALIZED, KEYWORDS, NUMBER, RULES, SCANNED, SYMBOLS
+from description.webidl import (
+    CAPITALIZED, KEYWORDS, NUMBER, RULES, SCANNED, SECTIONS, SYMBOLS, parts_of,
+)
 
 GRAMMAR = Path("crates/weedle_grammar")
 ENDS = Path("crates/weedle_rules")

@@ -6,8 +6,12 @@ number is its place in that order.
 
 from description.names import upper
 from description.rules import (
-    SECTIONS, bracketed, first, many, may_be_null, not_next, one_of, opt, past, punctuated, rule, run, section, seq, text_bytes,
+    BY_CONTENT, BY_NAME, SECTIONS, bracketed, first, many, may_be_null, not_next, one_of, opt, parts_of, past,
+    punctuated, rule, run, section, seq, text_bytes,
 )
+
+# What the grammar is asked for, too.
+__all__ = "BY_CONTENT BY_NAME CAPITALIZED KEYWORDS NUMBER RULES SCANNED SECTIONS SYMBOLS parts_of".split()
 
 # Trivia.
 section("Trivia", "Trivia: line comments, blanks and block comments.")
