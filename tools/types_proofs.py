@@ -15,8 +15,10 @@ Run it from the top of the repository.
 import re
 from pathlib import Path
 
-CRATES = Path("crates")
-OUT = CRATES / "weedle_types" / "proofs"
+from description.imports import Names, home_of, use
+
+TOP = Path(".")
+OUT = TOP / "crates" / "weedle_types" / "proofs"
 GROWS = "(Unit {0})"
 
 # A part is a terminal or leaf by its type, Opt of one, Nullable of one, Call of a function of the group, or
@@ -650,85 +652,32 @@ def measures():
     return lines
 
 
-# Imports: every name is looked up in the files that say it.
+# Imports.
 
-
-def declared():
-    """the types of the crates, with the modules that the logic has for them"""
-    found = {}
-    for crate in ("weedle_base", "weedle_term", "weedle_parts", "weedle_literal", "weedle_types"):
-        source = CRATES / crate / "src"
-        for path in sorted(source.rglob("*.rt")):
-            module = ".".join(path.relative_to(source).with_suffix("").parts)
-            for name in re.findall(r"^pub (?:struct|enum) (\w+)", path.read_text(), re.M):
-                logic = "«Type»" if name == "Type" else name
-                key = "ErrorKeyword" if name == "Error" and crate == "weedle_term" else logic
-                found[key] = (f"Rattle.{crate}.specs.declared.{module}.{logic}", logic)
-    return found
-
-
-def stated():
-    """the public definitions and lemmas of the crates, with their modules"""
-    found = {}
-    for crate in ("weedle_grammar", "weedle_base", "weedle_term", "weedle_parts", "weedle_literal", "weedle_types"):
-        # (what the grammar's own crate proves of its table is cited by no answer)
-        for folder in ("specs",) if crate == "weedle_grammar" else ("specs", "proofs"):
-            for path in sorted((CRATES / crate / folder).glob("*.antt")) + sorted((CRATES / crate / folder / "Table").glob("*.antt")):
-                if path.name == "Lib.antt" or path.stem in WRITTEN:
-                    continue
-                module = ".".join(("Rattle", crate, folder) + path.relative_to(CRATES / crate / folder).with_suffix("").parts)
-                for name in re.findall(r"^ *(?:abbrev |unfoldable )?pub (?:ruleset |record )?([\w-]+)", path.read_text(), re.M):
-                    found.setdefault(name, module)
-    return found
-
-
-WRITTEN = [f"{family}Rules" for family in FAMILIES] + ["PlainTypeRules"]
-# variables, which no file states
-BOUND = {"end", "first", "next", "one", "pushed", "rest", "x"}
+CRATES = ["weedle_grammar", "weedle_base", "weedle_term", "weedle_parts", "weedle_literal", "weedle_types"]
 STANDARD = {
-    "Rattle.std.proofs.Common": ("refl", "inl", "inr", "sym", "ap", "arith", "rules", "Global", "◌∙◌"),
-    "Rattle.std.specs.Borrow": ("Bor",),
-    "Rattle.std.specs.Global": ("Box", "Vec"),
-    "Rattle.std.specs.Prelude": ("ℕ", "List", "[]", "Option", "Some", "None", "Bool", "length", "◌∷◌", "◌≡◌", "◌⊎◌", "◌++◌", "◌≤◌", "◌+◌", "◌*◌"),
-    "Rattle.std.specs.Str": ("IsUtf8",),
-    "Rattle.weedle_grammar.specs.Trees": ("Tree", "Node", "Alt"),
-    "denote.Shadow": ("shadow",),
-    "denote.Text": ("Utf8",),
+    "Rattle.std.proofs.Common": "Global Vec ap arith inl inr refl rules sym ◌∙◌".split(),
+    "Rattle.std.specs.Borrow": ["Bor"],
+    "Rattle.std.specs.Global": ["Box", "Vec"],
+    "Rattle.std.specs.Prelude": "Bool List None Option Some [] length ℕ ◌*◌ ◌++◌ ◌+◌ ◌∷◌ ◌≡◌ ◌≤◌ ◌⊎◌".split(),
+    "Rattle.std.specs.Str": ["IsUtf8"],
+    "Rattle.weedle_grammar.specs.Trees": ["Alt", "Node", "Tree"],
+    "denote.Shadow": ["shadow"],
+    "denote.Text": ["Utf8"],
 }
+# variables, which no file states
+BOUND = "end first next one pushed rest x".split()
+NAMES = Names(TOP, CRATES, STANDARD, BOUND)
+ENUM = re.compile(r"\((\w+)-(\w+)")
 
 
 def imports(text, more=()):
-    words = set(re.findall(r"(?<![.\w-])[\w«»'-]+", re.sub(r"--.*", "", text))) - BOUND
-    local = set(re.findall(r"^(?:abbrev )?pub (?:ruleset )?([\w-]+)|^(?:abbrev )?([\w-]+) :", text, re.M))
-    local = {name for pair in local for name in pair}
-    wanted = {}
-    for module, names in STANDARD.items():
-        for name in names:
-            symbol = name.strip("◌")
-            if (symbol in text) if name.startswith("◌") or name == "[]" else (name in words):
-                # a `Vec` whose allocator is named is that of proofs
-                named = name == "Vec" and "Global" in words
-                wanted.setdefault("Rattle.std.proofs.Common" if named else module, set()).add(name)
-    for name, (module, logic) in declared().items():
-        if name == "Err" or name not in words:
-            continue
-        wanted.setdefault(module, set()).add(logic if logic == name else f"{logic} as {name}")
-    for shown, module in (("Type", "types.«Type»"), ("SingleType", "formers.SingleType"), ("RecordKeyType", "formers.RecordKeyType"),
-                          ("ReturnType", "formers.ReturnType"), ("UnionMemberType", "types.UnionMemberType"), ("NonAnyType", "types.NonAnyType"),
-                          ("ExtendedAttribute", "attribute.ExtendedAttribute"), ("Argument", "argument.Argument")):
-        for name in set(re.findall(rf"\({shown}-(\w+)", text)):
-            wanted.setdefault(f"Rattle.weedle_types.specs.declared.{module}.TheVariants", set()).add(f"{name} as {shown}-{name}")
-    if "Fault" in words:
-        wanted.setdefault("Rattle.weedle_base.specs.declared.fault.Err", set()).add("Err as Fault")
-    for name, said in (("Recoverable", "Error as Recoverable"), ("Failure", "Failure")):
-        if name in words:
-            wanted.setdefault("Rattle.weedle_base.specs.declared.fault.Err.TheVariants", set()).add(said)
-    known = {name for names in STANDARD.values() for name in names} | set(declared())
-    for name, module in stated().items():
-        if name in words and name not in local and name not in known:
-            wanted.setdefault(module, set()).add(name)
-    lines = [f"use {module}.{{{', '.join(sorted(names))}}}" for module, names in wanted.items()]
-    return sorted(lines + list(more))
+    variants = {}
+    for enum_, name in ENUM.findall(text):
+        variants.setdefault(enum_, set()).add(f"{name} as {enum_}-{name}")
+    enums = {it.name: it for it in NAMES.types.values() if it.is_enum}
+    lines = [use(f"{home_of(enums[name])}.TheVariants", sorted(names)) for name, names in variants.items() if name in enums]
+    return NAMES.uses(text, [*lines, *more])
 
 
 def write(path, about, lines, more=()):

@@ -6,7 +6,7 @@ whose row says what the declaration does.
 """
 
 from description.declarations import Type, declared_by
-from description.names import upper
+from description.names import logic, upper
 from description.webidl import BY_CONTENT, BY_NAME
 
 # The crates whose types are read, lowest first.
@@ -57,6 +57,17 @@ class Declared:
         while not type_.module and type_.name in self.aliases:
             type_ = self.aliases[type_.name].parts[0].type
         return type_
+
+    def is_copied(self, type_):
+        """Whether values of a type hold no memory."""
+        declaration = self.types.get(self.expanded(type_).name)
+        return bool(declaration) and declaration.is_copied
+
+    def logic_type(self, type_):
+        """A type in the words of the logic, in brackets where it has arguments."""
+        type_ = self.expanded(type_)
+        shown = " ".join([logic(type_.name), *map(self.logic_type, type_.arguments)])
+        return f"({shown})" if type_.arguments else shown
 
     def rule_of(self, type_):
         """The name of the rule that reads a type."""
