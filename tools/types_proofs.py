@@ -15,7 +15,7 @@ Run it from the top of the repository.
 import re
 from pathlib import Path
 
-from description.functions import functions_of
+from description.functions import TREE_LAWS, functions_of
 from description.imports import Names, home_of, use
 from description.names import snake, upper
 from description.readings import Declared
@@ -126,20 +126,6 @@ TABLE = {it.name: entry_of(it) for it in FUNCTIONS if it.rule}
 LEAF_TREES = {name: f"{snake(name)}_tree" for name, it in DECLARED.types.items() if it.parts}
 # the leaves that ask for memory
 GROWING = {name for name, it in DECLARED.types.items() if not it.is_copied}
-
-# where a variant's tree isn't that of its value by computing: the lemma that says so
-TREE_LAWS = {
-    ("type_", "Single"): "single_type_of",
-    ("type_", "Union"): "union_of",
-    ("non_any_type", "Promise"): "promise_of",
-    ("non_any_type", "RecordType"): "record_of",
-    ("union_member_type", "Single"): "member_single_of",
-    ("union_member_type", "Union"): "member_union_of",
-    ("extended_attribute", "ArgList"): "arg_list_of",
-    ("extended_attribute", "NamedArgList"): "named_arg_list_of",
-    ("argument", "Single"): "argument_single_of",
-    ("argument", "Variadic"): "argument_variadic_of",
-}
 
 # Terms.
 

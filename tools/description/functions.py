@@ -1,7 +1,6 @@
 """Functions that read or build the types that hold one another, written by hand: what each is of.
 
-Their signatures and contracts say it. A function of a rule gives a type, as the rule's tree; one
-that reads some of an enum's variants says from which number on.
+Their signatures and contracts say it.
 """
 
 import re
@@ -18,14 +17,30 @@ OWN = re.compile(rf"Answers (?:\(own |table\.now\.text )(\w+) {TREE} ")
 SOME = re.compile(r"Answers \(members (\w+)_rules (\d+) (\w+) ")
 
 
-class Function:
-    """A function: its name, the file that it stands in, the Type that it gives, rule and tree."""
+# Where a variant's tree isn't that of its value by computing: the lemma that says so.
+TREE_LAWS = {
+    ("type_", "Single"): "single_type_of",
+    ("type_", "Union"): "union_of",
+    ("non_any_type", "Promise"): "promise_of",
+    ("non_any_type", "RecordType"): "record_of",
+    ("union_member_type", "Single"): "member_single_of",
+    ("union_member_type", "Union"): "member_union_of",
+    ("extended_attribute", "ArgList"): "arg_list_of",
+    ("extended_attribute", "NamedArgList"): "named_arg_list_of",
+    ("argument", "Single"): "argument_single_of",
+    ("argument", "Variadic"): "argument_variadic_of",
+}
 
-    def __init__(self, name, file, type_, contract):
+
+class Function:
+    """A function: its name and file, the Type that it gives, and that type's rule and tree.
+
+    One that reads some of an enum's variants has no rule, and the number of the first of them.
+    """
+
+    def __init__(self, name, file, type_, rule=None, tree=None, first=None):
         self.name, self.file, self.type = name, file, type_of(type_)
-        own, some = OWN.search(contract), SOME.search(contract)
-        self.rule, self.tree = own.groups() if own else (None, None)
-        self.first = int(some[2]) if some else None
+        self.rule, self.tree, self.first = rule, tree, first
 
 
 def functions_of(folder, files):
@@ -33,4 +48,6 @@ def functions_of(folder, files):
     for file in files:
         text = (folder / f"{file}.rt").read_text(encoding="utf-8")
         for name, _, type_, contract in FUNCTION.findall(text):
-            yield Function(name, file, type_, contract)
+            own, some = OWN.search(contract), SOME.search(contract)
+            told = own.groups() if own else (None, None, int(some[2])) if some else ()
+            yield Function(name, file, type_, *told)

@@ -47,6 +47,15 @@ def use(module, names):
     return f"use {module}.{{{', '.join(names)}}}"
 
 
+def uses_of(root, text, modules):
+    """The lines for what a text names of these modules, in their order."""
+    words = set(WORD.findall(text))
+    for module in modules:
+        path = Path(root, "crates", *module.split(".")[1:]).with_suffix(".antt")
+        if found := words & set(STATED.findall(path.read_text(encoding="utf-8"))):
+            yield use(module, sorted(found))
+
+
 class Names:
     """Where names stand. `standard` has those of the standard library, module by module, in the
     order in which they are written; `bound` has variables, which no file states."""
@@ -70,8 +79,8 @@ class Names:
             is_other = (module == "Rattle.std.proofs.Common") != ("Global" in words)
             found = []
             for name in names:
-                symbol = name.strip("◌")
-                is_there = symbol in text if symbol != name or name == "[]" else name in words
+                sign = name.strip("◌")
+                is_there = sign in text if sign != name or name == "[]" else name in words
                 if is_there and not (name == "Vec" and is_other):
                     found.append(name)
             if found:
