@@ -152,7 +152,9 @@ def use_lines(text, items):
     for item in items:
         types = " ".join([item.name, *(part.text for part in item.parts)])
         for name in set(TYPE_NAME.findall(types)) - set(PRELUDE):
-            path = "super" if name in declared else paths[name]
+            path = "super" if name in declared else paths.get(name)
+            if not path:
+                raise Unfit(f"{name} is held by {item.name}, and no `use` brings it in")
             wanted.setdefault(path, set()).add(name)
     order = sorted(wanted, key=lambda path: (path != "super", path != "crate", path))
     return "".join(use_line(path, wanted[path]) for path in order)

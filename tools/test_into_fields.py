@@ -206,6 +206,11 @@ class IntoFieldsTest(unittest.TestCase):
         self.assertEqual(said[0], "crates/low/src/member.rt lacks the line `mod into_fields;`")
         self.assertFalse(is_well)
 
+    def test_a_type_that_nothing_brings_in_is_refused(self):
+        (self.source / "member.rt").write_text(MODULE.replace("use leaves::Word;\n", ""))
+        with self.assertRaisesRegex(Unfit, "Word is held by Member"):
+            into_fields.run(self.root)
+
     def test_a_crate_that_is_not_there_is_refused(self):
         with mock.patch.object(into_fields, "CRATES", ["high"]):
             with self.assertRaisesRegex(Unfit, "there is no folder"):

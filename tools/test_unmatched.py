@@ -5,7 +5,6 @@
 """
 
 import unittest
-from pathlib import Path
 
 import unmatched
 from description.declarations import declared_by, declared_in

@@ -1,0 +1,1 @@
+"""What types_proofs.py and idl_proofs.py write, of parts that declarations and contracts say."""
