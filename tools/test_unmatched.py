@@ -91,6 +91,11 @@ class Fields(unittest.TestCase):
         rows = self.one("The `=`.", "The `=`, where it stands.")
         self.assertIn("says otherwise whether it may be absent", rows[0])
 
+    def test_docs_of_structs(self):
+        rows = self.one("/// A callback,", "/// A docstring may stand before it. A callback,")
+        why = "the doc says otherwise whether it has OPT_DOCSTRING: a docstring may stand before it"
+        self.assertEqual(rows, [f"{CALLBACK_AT}: {why}"])
+
     def test_a_type_without_a_rule_and_a_rule_without_a_type(self):
         rows = found("pub struct Lone {\n    pub a: Or,\n}\n")
         self.assertEqual(rows, ["weedle_x: Lone: no rule has the name LONE"])

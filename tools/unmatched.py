@@ -13,7 +13,8 @@ symbol's field is that of the terminal, and each word in a variant's name is one
 
 Docs are held against the rows where they give productions: at the front of the doc of a variant or
 a field, as in "`[attributes] type name;`, also without `[attributes]`." A field's doc has to say
-where it stands if it may be absent.
+where it stands if it may be absent; a struct's doc, whether a docstring may stand before it and
+whether it may lack a name.
 
 It prints a line `CRATE: TYPE.PART: ..` for each difference that EXCEPTIONS doesn't name, and one
 for each exception that there is no more. The status is 0 where it prints nothing, or else 1.
@@ -36,6 +37,8 @@ EXCEPTIONS = {
     "weedle_types: UnionMemberType.Single": "weedle2 has this name, for a type that is no union",
 }
 TEXTS = ("String", "&")
+# What a struct's doc says of a part that may be absent.
+SAID = {"OPT_DOCSTRING": "a docstring may stand before it", "OPT_IDENTIFIER": "may lack a name"}
 # The shapes of what is a part of a leaf: no type is read by such a rule.
 PARTIAL = ("Silent", "Line")
 
@@ -89,6 +92,13 @@ def unmatched_names(declaration, part, name):
         yield from unlike(part.doc, held.name)
 
 
+def unmatched_doc(declaration, parts):
+    """What a struct's doc says of its parts that isn't so."""
+    for part, said in SAID.items() if not declaration.is_enum else ():
+        if (part in parts) != (said in declaration.doc.lower()):
+            yield "", f"the doc says otherwise whether it has {part}: {said}"
+
+
 def unmatched_in(declared, declaration):
     """The parts of a declaration that differ from its rule, and how they do."""
     rule = BY_NAME.get(upper(declaration.name))
@@ -106,6 +116,7 @@ def unmatched_in(declared, declaration):
             yield "", f"{rule.name} keeps one text, and it holds something else"
     else:
         yield from unmatched_parts(declared, declaration, rule)
+        yield from unmatched_doc(declaration, parts_of(rule.row))
 
 
 def unmatched(declared):
