@@ -1,5 +1,5 @@
 #!/usr/bin/env python3
-"""Finds what the gate can say without a proof: files that are stale, and fields without a doc line.
+"""Finds what the gate can say without a proof: stale files, and types that aren't the grammar's.
 
     python3 tools/check.py
 
@@ -7,7 +7,8 @@ Files below crates/ that a script writes name it at their heads, as `Written by 
 In a copy of the repository all of them are removed, each script of WRITERS is run, and what was
 written is laid out by `rt fmt`. Then the copy has to hold the very files of the repository.
 Beside that it is looked whether each public field and each variant has a doc line
-(tools/undocumented.py), and whether each wrong body that is tried by hand still applies
+(tools/undocumented.py), whether the types are declared as the grammar has them
+(tools/unmatched.py), and whether each wrong body that is tried by hand still applies
 (tools/try_edits.py --check).
 
 It prints a line for each file that is stale, for each that no script writes though it says so, and
@@ -30,7 +31,7 @@ TOP = Path(__file__).resolve().parent.parent
 # The scripts that write files below crates/.
 WRITERS = "grammar terminals types_proofs build_types_proofs idl_proofs into_fields".split()
 # What is looked at where it stands.
-LOOKS = (["undocumented.py"], ["try_edits.py", "--check"])
+LOOKS = (["undocumented.py"], ["unmatched.py"], ["try_edits.py", "--check"])
 WRITTEN = re.compile(r"[Ww]ritten by (tools/\w+\.py)")
 # A head is short; further down a file may speak of scripts.
 HEAD_LINES = 3

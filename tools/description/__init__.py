@@ -1,0 +1,1 @@
+"""What the scripts know of the types: the grammar's rows, and the declarations."""

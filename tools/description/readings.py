@@ -1,0 +1,119 @@
+"""Which rule of the grammar reads a type, by the declarations of the types.
+
+A type without parameters is read by the rule that has its name, as `ConstMember` by
+`CONST_MEMBER`. What has arguments, as `Option<Default>` or `Generics<Type>`, is read by the rule
+whose row says what the declaration does.
+"""
+
+from description.declarations import Type, declared_by
+from description.names import upper
+from description.webidl import BY_CONTENT, BY_NAME
+
+# The crates whose types are read, lowest first.
+CRATES = [
+    f"weedle_{name}"
+    for name in (
+        "term parts literal types modifier members iterables async_iterables interfaces mixins "
+        "namespaces statements idl"
+    ).split()
+]
+
+
+class Unread(Exception):
+    """Why no rule reads a type, in one line."""
+
+
+def name_of(row, shape="Plain"):
+    """The name of the rule that has this row and shape."""
+    if (row, shape) not in BY_CONTENT:
+        raise Unread(f"no rule has the row {shown(row)}")
+    return BY_CONTENT[row, shape]
+
+
+def shown(row):
+    """A row as it is written: `Seq A B`."""
+    parts = [part if isinstance(part, str) else " ".join(part) for part in map(plain, row[1:])]
+    return " ".join([row[0], *parts])
+
+
+def plain(part):
+    return str(part) if isinstance(part, int) else part
+
+
+class Declared:
+    """The declarations of some crates."""
+
+    def __init__(self, declarations):
+        self.types, self.aliases = {}, {}
+        for it in declarations:
+            (self.aliases if it.kind == "type" else self.types)[it.name] = it
+
+    @classmethod
+    def of(cls, root, crates=None):
+        return cls(it for crate in crates or CRATES for it in declared_by(root, crate))
+
+    def expanded(self, type_):
+        """A type without an alias at its front."""
+        while not type_.module and type_.name in self.aliases:
+            type_ = self.aliases[type_.name].parts[0].type
+        return type_
+
+    def rule_of(self, type_):
+        """The name of the rule that reads a type."""
+        type_ = self.expanded(type_)
+        reader = getattr(self, f"rule_of_{READERS.get(type_.name, 'declared')}")
+        return reader(type_, *type_.arguments)
+
+    def rule_of_tuple(self, type_, *items):
+        return name_of(("Seq", tuple(map(self.rule_of, items))))
+
+    def rule_of_box(self, type_, item):
+        return self.rule_of(item)
+
+    def rule_of_option(self, type_, item):
+        return name_of(("Opt", self.rule_of(item)))
+
+    def rule_of_vec(self, type_, item):
+        return name_of(("Many", self.rule_of(item)))
+
+    def rule_of_list(self, type_, item, separator):
+        item, separator = self.rule_of(item), self.rule_of(separator)
+        return name_of(("List", item, name_of(("Tail", item, separator))))
+
+    def rule_of_filled_list(self, type_, item, separator):
+        item, separator = self.rule_of(item), self.rule_of(separator)
+        items = name_of(("List1", item, name_of(("Tail", item, separator))))
+        return name_of(("Seq", (items, name_of(("Opt", separator)))), "Inner")
+
+    def rule_of_declared(self, type_, *arguments):
+        declaration = self.types.get(type_.name)
+        if not declaration:
+            raise Unread(f"no type {type_.name} is declared")
+        if declaration.parameters:
+            return name_of(self.row_of(declaration, arguments))
+        if upper(type_.name) not in BY_NAME:
+            raise Unread(f"no rule has the name {upper(type_.name)}")
+        return upper(type_.name)
+
+    def row_of(self, declaration, arguments=()):
+        """The row of a type as it is declared, of one with parameters over these arguments."""
+        given = dict(zip(declaration.parameters, arguments))
+        rules = tuple(self.rule_of(placed(part.type, given)) for part in declaration.parts)
+        return ("First" if declaration.is_enum else "Seq", rules)
+
+
+READERS = {
+    "()": "tuple",
+    "Box": "box",
+    "Option": "option",
+    "Vec": "vec",
+    "Punctuated": "list",
+    "PunctuatedNonEmpty": "filled_list",
+}
+
+
+def placed(type_, given):
+    """A type with these types in place of its parameters."""
+    if type_.name in given:
+        return given[type_.name]
+    return Type(type_.name, [placed(it, given) for it in type_.arguments], type_.module)

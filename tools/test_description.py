@@ -1,0 +1,150 @@
+#!/usr/bin/env python3
+"""Tests how declarations and doc lines are read, over made-up text, in a second.
+
+    python3 tools/test_description.py
+"""
+
+import unittest
+
+from description.declarations import declared_in, type_of
+from description.names import snake, upper
+from description.productions import forms, productions, unlike
+from description.readings import Declared, Unread
+
+TEXT = """//! A file.
+
+use a::B;
+
+/// A pair, as `[a, b]` or `{`.
+/// It has two lines.
+#[cycle(types)]
+#[derive(Debug, Clone, Copy)]
+pub struct Pair<'a, T> {
+    /// The first (of two, as `<`.
+    pub first: Option<Vec<(T, Comma)>>,
+    // none
+    pub second: a::B<'a, T>,
+}
+
+impl<T> Drop for Pair<'_, T> {
+    fn drop(self) {}
+}
+
+#[derive(Debug)]
+pub struct Name<'a>(pub &'a str, pub Box<Pair<'a, Or>>);
+pub struct Or;
+pub(crate) struct Hidden { pub a: Or }
+
+/// One of two.
+pub enum Either<'a> {
+    /// `or`.
+    Or(Or),
+    None,
+}
+pub type Names<'a> = Vec<Name<'a>>;
+"""
+
+
+TYPES = """
+pub struct Braced<T> {
+    pub open_brace: OpenBrace,
+    pub body: T,
+    pub close_brace: CloseBrace,
+}
+pub type Names<'a> = Punctuated<Identifier<'a>, Comma>;
+"""
+
+
+class Declarations(unittest.TestCase):
+    def setUp(self):
+        self.found = {it.name: it for it in declared_in(TEXT)}
+
+    def test_public_types_in_their_order(self):
+        self.assertEqual(list(self.found), ["Pair", "Name", "Or", "Either", "Names"])
+        kinds = [it.kind for it in self.found.values()]
+        self.assertEqual(kinds, ["struct", "struct", "struct", "enum", "type"])
+
+    def test_a_struct(self):
+        pair = self.found["Pair"]
+        self.assertEqual((pair.parameters, pair.is_copied, pair.is_dropped), (["T"], True, True))
+        self.assertEqual(pair.doc, "A pair, as `[a, b]` or `{`. It has two lines.")
+        parts = [(it.name, it.text, it.doc) for it in pair.parts]
+        first = ("first", "Option<Vec<(T, Comma)>>", "The first (of two, as `<`.")
+        self.assertEqual(parts, [first, ("second", "a::B<'a, T>", "")])
+        self.assertEqual(repr(pair.fields), "{'first': Option<Vec<(T, Comma)>>, 'second': B<T>}")
+
+    def test_fields_without_names(self):
+        parts = [(it.name, repr(it.type)) for it in self.found["Name"].parts]
+        self.assertEqual(parts, [("0", "&<str>"), ("1", "Box<Pair<Or>>")])
+        self.assertFalse(self.found["Name"].is_copied)
+        self.assertEqual(self.found["Or"].parts, [])
+
+    def test_variants(self):
+        parts = [(it.name, it.text, it.doc) for it in self.found["Either"].parts]
+        self.assertEqual(parts, [("Or", "Or", "`or`."), ("None", None, "")])
+
+    def test_an_alias(self):
+        self.assertEqual(repr(self.found["Names"].parts[0].type), "Vec<Name>")
+
+    def test_types(self):
+        self.assertEqual(type_of("x::y::Z<'a>").module, "x::y")
+        self.assertEqual(type_of("(A, B<C, D>)"), type_of("(A,B<C,D>)"))
+        self.assertEqual(repr(type_of("&'a mut T<'a>")), "&<T>")
+
+
+class Names(unittest.TestCase):
+    def test_names_of_rules(self):
+        rules = [upper(it) for it in ("DOMString", "NaN", "Int8Array")]
+        self.assertEqual(rules, ["DOM_STRING", "NAN", "INT8_ARRAY"])
+        self.assertEqual(snake("ConstMember"), "const_member")
+
+
+class Readings(unittest.TestCase):
+    def setUp(self):
+        words = "OpenBrace CloseBrace Comma Identifier Default Long".split()
+        text = TYPES + "".join(f"pub struct {it};\n" for it in words)
+        self.declared = Declared(declared_in(text))
+
+    def rule(self, text):
+        return self.declared.rule_of(type_of(text))
+
+    def test_rules_of_types(self):
+        self.assertEqual(self.rule("Option<Default<'a>>"), "OPT_DEFAULT")
+        self.assertEqual(self.rule("Box<Default<'a>>"), "DEFAULT")
+        self.assertEqual(self.rule("(Long, Long)"), "LONG_LONG")
+        self.assertEqual(self.rule("Names<'a>"), "IDENTIFIER_LIST")
+
+    def test_what_no_rule_reads(self):
+        for text in ("Option<Long>", "Braced<Long>", "Lone"):
+            self.assertRaises(Unread, self.rule, text)
+
+
+class Productions(unittest.TestCase):
+    def test_the_front_of_a_doc_line(self):
+        told = productions("`a b` or `c`, also without `b`.")
+        self.assertEqual(told, (["a b", "c"], ", also without `b`."))
+        self.assertEqual(productions("`any`, or another type, as `long?`.")[0], ["any"])
+        self.assertEqual(productions("The words `async` and `iterable`.")[0], ["async iterable"])
+        told = productions("The word `a`, `b` or `c`, where one stands.")
+        self.assertEqual(told, (["a", "b", "c"], ", where one stands."))
+        self.assertEqual(productions("A type, as `long`."), ([], "A type, as `long`."))
+
+    def test_forms(self):
+        self.assertEqual(forms("DEFAULT"), {("=", "value")})
+        self.assertEqual(forms("OPT_UNSIGNED"), {(), ("unsigned",)})
+        self.assertEqual(forms("FLOAT_TYPE"), {("float",), ("unrestricted", "float")})
+        self.assertIn(("(", "type", "or", "type", ")"), forms("UNION_TYPE"))
+
+    def test_one_that_is_shown_both_ways(self):
+        doc = (
+            "`[attributes] type name` or `[attributes] optional type name = value`, the latter "
+            "also without `= value`."
+        )
+        self.assertEqual(list(unlike(doc, "SINGLE_ARGUMENT", "`[attributes]`")), [])
+        doc = "`[attributes] type name`, also without `[attributes]`."
+        names = [text.split()[0] for text in unlike(doc, "SINGLE_ARGUMENT")]
+        self.assertEqual(names, ["OPTIONAL", "DEFAULT"])
+
+
+if __name__ == "__main__":
+    unittest.main()

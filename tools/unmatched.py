@@ -1,0 +1,147 @@
+#!/usr/bin/env python3
+"""Finds where the declared types and the grammar's rows differ.
+
+    python3 tools/unmatched.py
+
+The types are those of the crates that read (tools/description/readings.py), the rows those of
+tools/description/webidl.py. A struct has to have the parts of its rule's row as its fields, an
+enum the alternatives as its variants, in their order; what may be absent has to be an `Option`,
+and only that. A rule that keeps a text is that of a struct with one text, and the rule of a
+terminal that of a struct with nothing. A `type` is read by the rule that has its name, where one
+has. A rule with a doc line has a type, but for parts of leaves. The name of a keyword's or a
+symbol's field is that of the terminal, and each word in a variant's name is one of its rule's.
+
+Docs are held against the rows where they give productions: at the front of the doc of a variant or
+a field, as in "`[attributes] type name;`, also without `[attributes]`." A field's doc has to say
+where it stands if it may be absent.
+
+It prints a line `CRATE: TYPE.PART: ..` for each difference that EXCEPTIONS doesn't name, and one
+for each exception that there is no more. The status is 0 where it prints nothing, or else 1.
+"""
+
+import sys
+from itertools import zip_longest
+from pathlib import Path
+
+from description.names import upper
+from description.productions import said_of_all, unlike
+from description.readings import Declared, Unread
+from description.webidl import BY_NAME
+
+TOP = Path(__file__).resolve().parent.parent
+# What may differ, and why.
+EXCEPTIONS = {
+    "weedle_literal: BooleanLit": "it holds which of the two words was read, and no terminal",
+    "weedle_statements: ImplementsDefinition.includes": "weedle2 has this name for it",
+    "weedle_types: UnionMemberType.Single": "weedle2 has this name, for a type that is no union",
+}
+TEXTS = ("String", "&")
+# The shapes of what is a part of a leaf: no type is read by such a rule.
+PARTIAL = ("Silent", "Line")
+
+
+def parts_of(row):
+    """The parts of a rule that a type has to have, in their order."""
+    if row[0] == "If":
+        return row[1] + (row[3],)
+    return row[1] if row[0] in ("Seq", "First") else ()
+
+
+def read_by(declared, part):
+    """The rule of a part, or why none reads it."""
+    try:
+        return declared.rule_of(part.type), None
+    except Unread as why:
+        return None, why
+
+
+def unmatched_parts(declared, declaration, rule):
+    """Where fields or variants aren't the parts of the row, one by one."""
+    for part, wanted in zip_longest(declaration.parts, parts_of(rule.row)):
+        if not part:
+            yield "", f"lacks {wanted}, which {rule.name} reads"
+            continue
+        found, why = read_by(declared, part)
+        if why or found != wanted:
+            has = f"{rule.name} has {wanted or 'no more parts'}"
+            yield part.name, f"{why or 'is read by ' + found}, and {has}"
+        else:
+            yield from ((part.name, text) for text in unmatched_names(declaration, part, found))
+
+
+def letters(name):
+    return name.replace("_", "").lower()
+
+
+def unmatched_names(declaration, part, name):
+    """Where a name isn't that of what stands there, or the doc says otherwise what does."""
+    rule = BY_NAME[name]
+    held = BY_NAME[rule.row[1]] if rule.row[0] == "Opt" else rule
+    if declaration.is_enum:
+        if not set(upper(part.name).strip("_").split("_")) <= set(name.split("_")):
+            yield f"the name isn't of {name}"
+        yield from unlike(part.doc, name, said_of_all(declaration.doc))
+    elif not part.name.isdigit():
+        if held.shape == "Marked" and letters(part.name) != letters(held.name):
+            yield f"the name isn't that of {held.name}"
+        if ("where" in part.doc.split(".")[0].split()) != (held is not rule):
+            yield f"the doc says otherwise whether it may be absent: {part.doc}"
+        yield from unlike(part.doc, held.name)
+
+
+def unmatched_in(declared, declaration):
+    """The parts of a declaration that differ from its rule, and how they do."""
+    rule = BY_NAME.get(upper(declaration.name))
+    if declaration.kind == "type":
+        found, why = read_by(declared, declaration.parts[0])
+        if rule and found != rule.name:
+            yield "", f"{why or 'is read by ' + found}, and not by {rule.name}"
+    elif not rule:
+        yield "", f"no rule has the name {upper(declaration.name)}"
+    elif rule.shape == "Marked":
+        if declaration.parts:
+            yield "", f"{rule.name} is a terminal's, and it has parts"
+    elif rule.shape != "Plain":
+        if [part.type.name in TEXTS for part in declaration.parts] != [True]:
+            yield "", f"{rule.name} keeps one text, and it holds something else"
+    else:
+        yield from unmatched_parts(declared, declaration, rule)
+
+
+def unmatched(declared):
+    """A line for each difference, with the type and the part that it is of."""
+    for declaration in [*declared.types.values(), *declared.aliases.values()]:
+        if not declaration.parameters:
+            for part, text in unmatched_in(declared, declaration):
+                type_ = f"{declaration.crate}: {declaration.name}"
+                place = type_ + f".{part}" * bool(part)
+                yield {type_, place}, f"{place}: {text}"
+
+
+def typeless(declared):
+    """A line for each rule with a doc line and a tree of its own that no type has."""
+    names = {upper(name) for name in [*declared.types, *declared.aliases]}
+    for rule in BY_NAME.values():
+        if rule.doc and rule.shape not in PARTIAL and rule.name not in names:
+            yield {rule.name}, f"weedle_grammar: {rule.name}: no type has the name of this rule"
+
+
+def found_in(declared, exceptions):
+    """The lines to print: differences that are no exceptions, and exceptions that aren't needed."""
+    rows = [*unmatched(declared), *typeless(declared)]
+    yield from (row for places, row in rows if not places & set(exceptions))
+    needed = set().union(*(places for places, _ in rows))
+    for place in exceptions:
+        if place not in needed:
+            yield f"{place}: no exception is needed any more"
+
+
+def main():
+    rows = list(found_in(Declared.of(TOP), EXCEPTIONS))
+    if rows:
+        print(*rows, sep="\n")
+    return 1 if rows else 0
+
+
+if __name__ == "__main__":
+    sys.exit(main())
