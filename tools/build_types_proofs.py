@@ -1,98 +1,82 @@
 #!/usr/bin/env python3
 """Writes proofs of the functions of crates/weedle_build_types/src/types, which are written by hand.
 
-STRUCTS, ENUMS and LISTS say of each function which rule it is and what its parts are, in their order. From this
-follow, in crates/weedle_build_types/proofs/types/+group, what falls from call to call and the goals that no search
-finds: that each part is due where the ones before it were built, and that the whole was built.
+Which rule a function is of, its contract says; what its parts are, in their order, the declaration of its type.
+From this follow, in crates/weedle_build_types/proofs/types/+group, what falls from call to call and the goals that
+no search finds: that each part is due where the ones before it were built, and that the whole was built.
 
 Run it from the top of the repository.
 """
 from pathlib import Path
 
-OUT = Path("crates/weedle_build_types/proofs/types/+group")
+from description.functions import TREE_LAWS, Function, functions_of
+from description.imports import use, uses_of
+from description.names import snake
+from description.readings import Declared
+from description.webidl import BY_NAME
+
+TOP = Path(".")
+CRATE = TOP / "crates/weedle_build_types"
+OUT = CRATE / "proofs/types/+group"
 HEAD = "-- Written by tools/build_types_proofs.py."
 
 # A part is a field's name, how it is built, and by which rule or function: a Word by its rule, an Optional part
 # by its rule and its item's, a Call of a function of the group, and a Held one of a value that goes into a box.
 WORD, OPTIONAL, CALL, HELD = "word", "optional", "call", "held"
+FILES = ("kinds", "generic_types", "unions", "attributes", "arguments")
+# The function that puts a value into a list, and gives none.
+ADDING = Function("add_union_member_type", "unions", "UnionMemberType", "UNION_MEMBER_TYPE", "union_member_type_tree")
+# What fields without names are called in a body.
+NUMBERED = {"record_types": ("key", "comma", "value")}
+# The functions of enums where the search needs the laws of the trees.
+NEEDY = ("type_", "non_any_type", "extended_attribute", "argument")
 
-STRUCTS = {
-    ("kinds", "attributed_type"): ("ATTRIBUTED_TYPE", [("attributes", CALL, "attributes"), ("type_", CALL, "type_")]),
-    ("kinds", "attributed_non_any_type"): (
-        "ATTRIBUTED_NON_ANY_TYPE", [("attributes", CALL, "attributes"), ("type_", CALL, "non_any_type")]),
-    ("generic_types", "promise_type"): (
-        "PROMISE_TYPE", [("promise", WORD, "PROMISE"), ("generics", CALL, "generics_return_type")]),
-    ("generic_types", "generics_return_type"): ("GENERICS_RETURN_TYPE", [
-        ("open_angle", WORD, "LESS_THAN"), ("body", HELD, "return_type"), ("close_angle", WORD, "GREATER_THAN")]),
-    ("generic_types", "sequence_type"): (
-        "SEQUENCE_TYPE", [("sequence", WORD, "SEQUENCE"), ("generics", CALL, "generics_type")]),
-    ("generic_types", "frozen_array_type"): (
-        "FROZEN_ARRAY_TYPE", [("frozen_array", WORD, "FROZEN_ARRAY"), ("generics", CALL, "generics_type")]),
-    ("generic_types", "generics_type"): ("GENERICS_TYPE", [
-        ("open_angle", WORD, "LESS_THAN"), ("body", HELD, "type_"), ("close_angle", WORD, "GREATER_THAN")]),
-    ("generic_types", "record_type"): (
-        "RECORD_TYPE", [("record_", WORD, "RECORD"), ("generics", CALL, "generics_record_types")]),
-    ("generic_types", "generics_record_types"): ("GENERICS_RECORD_TYPES", [
-        ("open_angle", WORD, "LESS_THAN"), ("body", CALL, "record_types"), ("close_angle", WORD, "GREATER_THAN")]),
-    ("generic_types", "record_types"): (
-        "RECORD_TYPES", [("key", HELD, "record_key_type"), ("comma", WORD, "COMMA"), ("value", HELD, "type_")]),
-    ("generic_types", "nullable_sequence_type"): (
-        "MAY_BE_NULL_SEQUENCE_TYPE", [("type_", CALL, "sequence_type"), ("q_mark", OPTIONAL, "OPT_Q_MARK")]),
-    ("generic_types", "nullable_frozen_array_type"): (
-        "MAY_BE_NULL_FROZEN_ARRAY_TYPE", [("type_", CALL, "frozen_array_type"), ("q_mark", OPTIONAL, "OPT_Q_MARK")]),
-    ("generic_types", "nullable_record_type"): (
-        "MAY_BE_NULL_RECORD_TYPE", [("type_", CALL, "record_type"), ("q_mark", OPTIONAL, "OPT_Q_MARK")]),
-    ("unions", "union_type"): ("UNION_TYPE", [
-        ("open_paren", WORD, "OPEN_PAREN"), ("body", CALL, "union_member_types"), ("close_paren", WORD, "CLOSE_PAREN")]),
-    ("unions", "nullable_union_type"): (
-        "MAY_BE_NULL_UNION_TYPE", [("type_", CALL, "union_type"), ("q_mark", OPTIONAL, "OPT_Q_MARK")]),
-    ("attributes", "extended_attribute_list"): ("EXTENDED_ATTRIBUTE_LIST", [
-        ("open_bracket", WORD, "OPEN_BRACKET"), ("body", CALL, "extended_attributes"),
-        ("close_bracket", WORD, "CLOSE_BRACKET")]),
-    ("attributes", "extended_attribute_arg_list"): (
-        "EXTENDED_ATTRIBUTE_ARG_LIST", [("identifier", WORD, "IDENTIFIER"), ("args", CALL, "arguments")]),
-    ("attributes", "extended_attribute_named_arg_list"): ("EXTENDED_ATTRIBUTE_NAMED_ARG_LIST", [
-        ("lhs_identifier", WORD, "IDENTIFIER"), ("assign", WORD, "ASSIGN"), ("rhs_identifier", WORD, "IDENTIFIER"),
-        ("args", CALL, "arguments")]),
-    ("arguments", "variadic_argument"): ("VARIADIC_ARGUMENT", [
-        ("attributes", CALL, "attributes"), ("type_", CALL, "type_"), ("ellipsis", WORD, "ELLIPSIS"),
-        ("identifier", WORD, "IDENTIFIER")]),
-    ("arguments", "arguments"): ("PARENTHESIZED_ARGUMENT_LIST", [
-        ("open_paren", WORD, "OPEN_PAREN"), ("body", CALL, "argument_list"), ("close_paren", WORD, "CLOSE_PAREN")]),
-}
+DECLARED = Declared.of(TOP)
+FUNCTIONS = sorted([*functions_of(CRATE / "src/types", FILES), ADDING], key=lambda it: FILES.index(it.file))
+BUILT_BY = {DECLARED.whole(it.type): it for it in FUNCTIONS}
 
-# An arm is its number, the function of the group that builds it, and the law of its tree, where the search needs it.
-ENUMS = {
-    ("kinds", "type_"): ("TYPE", [(0, "single_type", "single_type_of"), (1, "nullable_union_type", "union_of")]),
-    ("kinds", "single_type"): ("SINGLE_TYPE", [(1, "non_any_type", None)]),
-    ("kinds", "non_any_type"): ("NON_ANY_TYPE", [
-        (0, "promise_type", "promise_of"), (9, "nullable_sequence_type", "refl"),
-        (26, "nullable_frozen_array_type", "refl"), (27, "nullable_record_type", "record_of")]),
-    ("kinds", "record_key_type"): ("RECORD_KEY_TYPE", [(3, "non_any_type", None)]),
-    ("kinds", "return_type"): ("RETURN_TYPE", [(1, "type_", None)]),
-    ("unions", "add_union_member_type"): ("UNION_MEMBER_TYPE", [
-        (0, "attributed_non_any_type", None), (1, "nullable_union_type", None)]),
-    ("attributes", "extended_attribute"): ("EXTENDED_ATTRIBUTE", [
-        (0, "extended_attribute_arg_list", "arg_list_of"),
-        (1, "extended_attribute_named_arg_list", "named_arg_list_of")]),
-    ("arguments", "argument"): ("ARGUMENT", [
-        (0, "single_argument", "argument_single_of"), (1, "variadic_argument", "argument_variadic_of")]),
-}
 
-# A list is its rule, those of its items and of what stands between, the type of the items and the function that builds
-# one: an item of a union it puts into the list itself.
-LISTS = {
-    ("unions", "union_member_types"): (
-        "LIST_UNION_MEMBER_TYPE_OR", "UNION_MEMBER_TYPE", "OR", "union_member_type", "add_union_member_type"),
-    ("attributes", "extended_attributes"): (
-        "LIST_EXTENDED_ATTRIBUTE_COMMA", "EXTENDED_ATTRIBUTE", "COMMA", "extended_attribute", "extended_attribute"),
-    ("arguments", "argument_list"): ("ARGUMENT_LIST", "ARGUMENT", "COMMA", "argument", "argument"),
-}
+def of_kind(kind):
+    """The functions whose rules have rows of a kind, with their types."""
+    return [(it, DECLARED.expanded(it.type)) for it in FUNCTIONS if BY_NAME[it.rule].row[0] == kind]
 
-OTHERS = {("attributes", "attributes"): "OPT_EXTENDED_ATTRIBUTE_LIST", ("arguments", "single_argument"): "SINGLE_ARGUMENT"}
+
+def part_of(field, type_):
+    """How a field is built."""
+    is_held = type_.name == "Box"
+    if is_held:
+        type_, = type_.arguments
+    if DECLARED.whole(type_) in BUILT_BY:
+        return field, HELD if is_held else CALL, BUILT_BY[DECLARED.whole(type_)].name
+    return field, OPTIONAL if type_.name == "Option" else WORD, DECLARED.rule_of(type_)
+
+
+def fields_of(function, type_):
+    names, types = zip(*DECLARED.parts_of(type_))
+    return [part_of(*it) for it in zip(NUMBERED.get(function.name, names), types)]
+
+
+def arms_of(function, type_):
+    """The number, the function and the law of each variant that a function of the group builds."""
+    for number, (variant, held) in enumerate(DECLARED.parts_of(type_)):
+        if DECLARED.whole(held) in BUILT_BY:
+            law = TREE_LAWS.get((function.name, variant), "refl") if function.name in NEEDY else None
+            yield number, BUILT_BY[DECLARED.whole(held)].name, law
+
+
+def list_of(function, type_):
+    """A list's rule, those of its items and of what stands between, its items' type and what builds one."""
+    row, item = BY_NAME[function.rule].row, type_.arguments[0]
+    return function.rule, row[1], BY_NAME[row[2]].row[2], snake(item.name), BUILT_BY[DECLARED.whole(item)].name
+
+
+STRUCTS = {(it.file, it.name): (it.rule, fields_of(it, type_)) for it, type_ in of_kind("Seq")}
+ENUMS = {(it.file, it.name): (it.rule, list(arms_of(it, type_))) for it, type_ in of_kind("First")}
+LISTS = {(it.file, it.name): list_of(it, type_) for it, type_ in of_kind("List")}
+OTHERS = {(it.file, it.name): it.rule for kind in ("Opt", "If") for it, _ in of_kind(kind)}
 # What takes nothing where it isn't there.
-MAY_BE_EMPTY = ("attributes", "argument_list", "union_member_types", "extended_attributes")
-TREES = {"return_type": "return_type_tree", "type_": "type_tree", "record_key_type": "record_key_type_tree"}
+MAY_BE_EMPTY = [it.name for kind in ("Opt", "List") for it, _ in of_kind(kind)]
+TREES = {it.name: it.tree for it in FUNCTIONS}
 
 
 def answer(name, text):
@@ -234,15 +218,7 @@ def rules():
 
 
 def invariants():
-    names = sorted({r for _, _, r in rules()} | {v[1] for v in LISTS.values()})
-    out = ["-- Each call builds from a later place, or from the same place by a rule of a smaller number.", "--", HEAD,
-           "use Rattle.std.proofs.Common.{ℕ, ◌+◌, ◌-◌, ◌*◌, length, map}",
-           "use Rattle.weedle_grammar.specs.Bound.{rule_count}",
-           "use Rattle.weedle_grammar.specs.Table.Keywords.{OR}", "use Rattle.weedle_grammar.specs.Table.Symbols.{COMMA}",
-           f"use Rattle.weedle_grammar.specs.Table.Types.{{{', '.join(names)}}}",
-           f"use Rattle.weedle_types.specs.Trees.{{{', '.join(sorted(v[3] + '_tree' for v in LISTS.values()))}}}",
-           "use Rattle.weedle_build_base.proofs.Separated.{Listing}",
-           "use Rattle.weedle_build_types.proofs.types.+group.Given as goal", ""]
+    out = []
     for module, name, rule in rules():
         goal = f"decreases-{module}::{name}"
         out += [f"abbrev pub {goal} : goal.{goal}",
@@ -258,24 +234,7 @@ def invariants():
 
 
 def answers():
-    out = ["-- Each part is due where the ones before it were built, and the whole is built of its parts.", "--", HEAD,
-           "use Rattle.std.proofs.Common.{refl, arith, ap}",
-           "use Rattle.weedle_grammar.specs.Table.SimpleTypes.{OPT_Q_MARK}",
-           "use Rattle.weedle_grammar.specs.Table.Types.{OPT_DEFAULT, OPT_OPTIONAL}",
-           "use Rattle.weedle_types.specs.Trees.{argument_tree, extended_attribute_tree, record_key_type_tree, "
-           "return_type_tree, type_tree, union_member_type_tree}",
-           "use Rattle.weedle_build_types.proofs.Calls.{behind, builds_as, kept, listing_behind, not_before, option_of, place_of, rest_of_if}",
-           "use Rattle.weedle_build_types.proofs.Conditions.{if_due, if_not_there, if_there}",
-           "use Rattle.weedle_types.proofs.TreeLaws.{arg_list_of, argument_single_of, argument_variadic_of, "
-           "named_arg_list_of, promise_of, record_of, single_type_of, union_of}",
-           "use Rattle.weedle_build_base.proofs.Choices.{chosen}",
-           "use Rattle.weedle_build_base.proofs.Finding.{absent, present}",
-           "use Rattle.weedle_build_base.proofs.Repeats.{map_push}",
-           "use Rattle.weedle_build_base.proofs.Options.{option_none, option_some}",
-           "use Rattle.weedle_build_base.proofs.Separated.{behind_boundary, behind_due, due_list, list_built, list_empty, "
-           "listing_back, listing_end, listing_next, listing_start}",
-           "use Rattle.weedle_build_base.proofs.Sequences.{front, next, node, rest_of_row, run_more, run_one}",
-           "use Rattle.weedle_build_types.proofs.types.+group.Goals as goal", ""]
+    out = []
     for (module, name), (rule, parts) in STRUCTS.items():
         out += struct(module, name, rule, parts)
     for (module, name), (rule, arms) in ENUMS.items():
@@ -285,10 +244,35 @@ def answers():
     return "\n".join(out + others())
 
 
+# What the files name, module by module, in the order in which they bring them in.
+TABLE = "Rattle.weedle_grammar.specs.Table"
+BASE, OWN, TYPES = "Rattle.weedle_build_base.proofs", "Rattle.weedle_build_types.proofs", "Rattle.weedle_types"
+MODULES = {
+    "Invariants": [
+        "Rattle.weedle_grammar.specs.Bound", f"{TABLE}.Keywords", f"{TABLE}.Symbols", f"{TABLE}.Types",
+        f"{TYPES}.specs.Trees", f"{BASE}.Separated",
+    ],
+    "Answers": [
+        f"{TABLE}.SimpleTypes", f"{TABLE}.Types", f"{TYPES}.specs.Trees", f"{OWN}.Calls", f"{OWN}.Conditions",
+        f"{TYPES}.proofs.TreeLaws", f"{BASE}.Choices", f"{BASE}.Finding", f"{BASE}.Repeats", f"{BASE}.Options",
+        f"{BASE}.Separated", f"{BASE}.Sequences",
+    ],
+}
+STANDARD = {"Invariants": "ℕ ◌+◌ ◌-◌ ◌*◌ length map".split(), "Answers": ["refl", "arith", "ap"]}
+
+
+def write(name, about, body, goals):
+    lines = [f"-- {about}", "--", HEAD, use("Rattle.std.proofs.Common", STANDARD[name])]
+    lines += [*uses_of(TOP, body, MODULES[name]), f"use {OWN}.types.+group.{goals} as goal"]
+    (OUT / f"{name}.antt").write_text("\n".join([*lines, "", body]))
+
+
 def main():
     OUT.mkdir(parents=True, exist_ok=True)
-    (OUT / "Invariants.antt").write_text(invariants())
-    (OUT / "Answers.antt").write_text(answers())
+    about = "Each call builds from a later place, or from the same place by a rule of a smaller number."
+    write("Invariants", about, invariants(), "Given")
+    about = "Each part is due where the ones before it were built, and the whole is built of its parts."
+    write("Answers", about, answers(), "Goals")
     print(f"{len(rules())} functions")
 
 

@@ -24,6 +24,9 @@ import sys
 from pathlib import Path
 
 from crates import Unfit
+from description.declarations import declared_in
+from description.layout import COLUMNS, filled, tall, use_line
+from description.names import snake
 
 TOP = Path(__file__).resolve().parent.parent
 CRATES = (
@@ -36,60 +39,31 @@ HEAD = """//! Taking apart what the module above declares, by move.
 //!
 //! Written by tools/into_fields.py.
 """
-COLUMNS = 100
 # How wide `rt fmt` leaves the names of a pattern, and the parts of a tuple, on one line. Where a
 # tuple is wider, parts of WORD_COLUMNS at most fill their lines, and others have a line each.
 PATTERN_COLUMNS = 18
 TUPLE_COLUMNS = 60
 WORD_COLUMNS = 10
 
-ITEM = re.compile(r"^pub (struct|enum) (\w+)<'a> \{\n(.*?)^\}", re.M | re.S)
-DECLARED = re.compile(r"^pub (?:struct|enum|type) (\w+)", re.M)
-DROP = re.compile(r"^impl Drop for (\w+)", re.M)
-FIELD = re.compile(r"^    pub (\w+): (.+),$", re.M)
-VARIANT = re.compile(r"^    (\w+)\((.+)\),$", re.M)
 USE = re.compile(r"^use ([^;]+);", re.M)
 TYPE_NAME = re.compile(r"\b[A-Z]\w*")
 PRELUDE = ("Option", "Vec")
 
 
-class Item:
-    """A struct or an enum: its name, and each field or variant with its type, in order."""
-
-    def __init__(self, kind, name, body):
-        self.is_enum, self.name = kind == "enum", name
-        self.parts = (VARIANT if self.is_enum else FIELD).findall(body)
-
-    def text(self):
-        """The `impl` with its methods."""
-        if self.is_enum:
-            methods = "\n".join(into_variant(self, *it) for it in self.parts)
-        else:
-            methods = into_fields(self)
-        return f"impl<'a> {self.name}<'a> {{\n{methods}}}\n"
+def methods(item):
+    """The `impl` of a struct or an enum with its methods."""
+    parts = [(part.name, part.text) for part in item.parts]
+    if item.is_enum:
+        text = "\n".join(into_variant(item, *it) for it in parts)
+    else:
+        text = into_fields(item, parts)
+    return f"impl<'a> {item.name}<'a> {{\n{text}}}\n"
 
 
 def listed(words):
     """Words of code as a list in a sentence."""
     words = [f"`{word}`" for word in words]
     return " and ".join([", ".join(words[:-1]), words[-1]] if words[1:] else words)
-
-
-def filled(words, indent, prefix=""):
-    """Words in lines that are as full as COLUMNS lets them be."""
-    lines = [indent + prefix + words[0]]
-    for word in words[1:]:
-        if len(lines[-1]) + 1 + len(word) > COLUMNS:
-            lines.append(indent + prefix + word)
-        else:
-            lines[-1] += " " + word
-    return "\n".join(lines) + "\n"
-
-
-def tall(before, parts, after, indent):
-    """Parts between brackets, one on a line."""
-    rows = "".join(f"{indent}    {part},\n" for part in parts)
-    return f"{indent}{before}\n{rows}{indent}{after}\n"
 
 
 def tuple_of(parts):
@@ -129,9 +103,9 @@ def answer(names):
     return tall("(", names, ")", " " * 8)
 
 
-def into_fields(item):
+def into_fields(item, parts):
     """The method that gives a struct's fields."""
-    names, types = zip(*item.parts)
+    names, types = zip(*parts)
     doc = f"Its {'field' if len(names) == 1 else 'fields, in order'}: {listed(names)}."
     return (
         filled(doc.split(), "    ", "/// ")
@@ -142,10 +116,6 @@ def into_fields(item):
         + answer(names)
         + "    }\n"
     )
-
-
-def snake(name):
-    return re.sub(r"\B(?=[A-Z])", "_", name).lower()
 
 
 def into_variant(item, variant, held):
@@ -176,19 +146,11 @@ def imported(text):
     return paths
 
 
-def use_line(path, names):
-    names = sorted(names)
-    line = f"use {path}::{names[0] if len(names) == 1 else '{' + ', '.join(names) + '}'};\n"
-    if len(line) <= COLUMNS + 1:
-        return line
-    return f"use {path}::{{\n" + filled([f"{name}," for name in names], "    ") + "};\n"
-
-
 def use_lines(text, items):
     """What the methods of these items name, brought in."""
-    declared, paths, wanted = set(DECLARED.findall(text)), imported(text), {}
+    declared, paths, wanted = {it.name for it in declared_in(text)}, imported(text), {}
     for item in items:
-        types = " ".join([item.name, *(type_ for _, type_ in item.parts)])
+        types = " ".join([item.name, *(part.text for part in item.parts)])
         for name in set(TYPE_NAME.findall(types)) - set(PRELUDE):
             path = "super" if name in declared else paths[name]
             wanted.setdefault(path, set()).add(name)
@@ -198,9 +160,7 @@ def use_lines(text, items):
 
 def taken_apart(text):
     """The items of a module whose values get methods here."""
-    dropped = DROP.findall(text)
-    items = [Item(*it) for it in ITEM.findall(text)]
-    return [it for it in items if it.name in dropped]
+    return [it for it in declared_in(text) if it.is_dropped]
 
 
 def file_text(text):
@@ -210,7 +170,7 @@ def file_text(text):
         return None
     words = "◌≡◌, ◌↔◌" if any(item.is_enum for item in items) else "◌≡◌"
     ghost = f"ghost use Rattle.std.specs.Prelude.{{{words}}};\n"
-    return "\n".join([HEAD, ghost, use_lines(text, items), *(item.text() for item in items)])
+    return "\n".join([HEAD, ghost, use_lines(text, items), *map(methods, items)])
 
 
 def files_of(root):

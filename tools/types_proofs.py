@@ -1,8 +1,8 @@
 #!/usr/bin/env python3
 """Writes proofs of the functions of crates/weedle_types/src/reading, which are written by hand.
 
-TABLE says of each function which rule it is and what its parts are, in their order. From this follow, in
-crates/weedle_types/proofs:
+Which rule a function is of, and what its tree is, its contract says; what its parts are, in their order, the
+declaration of its type. From this follow, in crates/weedle_types/proofs:
 
 - NAMERules.antt for each family NAME of functions: what the answers of the parts say of the rule, and for each
   function the ruleset that its attribute names;
@@ -15,8 +15,15 @@ Run it from the top of the repository.
 import re
 from pathlib import Path
 
-CRATES = Path("crates")
-OUT = CRATES / "weedle_types" / "proofs"
+from description.functions import TREE_LAWS, functions_of
+from description.imports import Names, home_of, use
+from description.names import snake, upper
+from description.readings import Declared
+from description.webidl import BY_NAME
+
+TOP = Path(".")
+CRATE = TOP / "crates" / "weedle_types"
+OUT = CRATE / "proofs"
 GROWS = "(Unit {0})"
 
 # A part is a terminal or leaf by its type, Opt of one, Nullable of one, Call of a function of the group, or
@@ -39,204 +46,88 @@ class Piece(str):
     pass
 
 
-def struct(family, type_, rule, tree, *fields, boxed=()):
-    return dict(kind="struct", family=family, type=type_, rule=rule, tree=tree, fields=fields, boxed=boxed)
-
-
-def enum(family, type_, rule, tree, *arms):
-    return dict(kind="enum", family=family, type=type_, rule=rule, tree=tree, arms=arms)
-
-
-def listed(family, type_, rule, tail, tree, item, separator, more):
-    return dict(kind="list", family=family, type=type_, rule=rule, tail=tail, tree=tree, item=item,
-                separator=separator, more=more)
-
-
-TYPES, GENERIC, UNIONS, ATTRIBUTES, ARGUMENTS = "Type", "GenericType", "Union", "Attribute", "Argument"
+# the files of src/reading: what the proofs of their functions are named by, and what they say of themselves
 FAMILIES = {
-    TYPES: "Types, and what follows from the answers of their parts.",
-    GENERIC: "Types over types in angle brackets, and what follows from the answers of their parts.",
-    UNIONS: "Unions, and what follows from the answers of their parts.",
-    ATTRIBUTES: "Attributes, and what follows from the answers of their parts.",
-    ARGUMENTS: "Arguments, and what follows from the answers of their parts.",
+    "types": ("Type", "Types, and what follows from the answers of their parts."),
+    "generic_types": (
+        "GenericType", "Types over types in angle brackets, and what follows from the answers of their parts."),
+    "unions": ("Union", "Unions, and what follows from the answers of their parts."),
+    "attributes": ("Attribute", "Attributes, and what follows from the answers of their parts."),
+    "arguments": ("Argument", "Arguments, and what follows from the answers of their parts."),
+}
+# the functions of plain_types.rt that read variants of NonAnyType by others
+JOINED_OF = {
+    "before_sequence": ("numbers", "strings"),
+    "after_sequence": ("objects", "signed_arrays", "unsigned_arrays", "float_arrays"),
 }
 
-# the file of src/reading that has the functions of a family, by which the cycle's goals are named
-FILES = {TYPES: "types", GENERIC: "generic_types", UNIONS: "unions", ATTRIBUTES: "attributes", ARGUMENTS: "arguments"}
-
-# the public names of types that are made of others, in the logic's words
-ALIASES = {
-    "Type": "«Type»",
-    "SingleType": "SingleType NonAnyType",
-    "RecordKeyType": "RecordKeyType NonAnyType",
-    "RecordType": "RecordType RecordTypes",
-    "ReturnType": "ReturnType «Type»",
-    "PromiseType": "PromiseType (ReturnType «Type»)",
-    "FrozenArrayType": "FrozenArrayType «Type»",
-    "SequenceType": "SequenceType «Type»",
-    "UnionType": "Parenthesized (Punctuated UnionMemberType Or)",
-    "ExtendedAttributeList": "Bracketed (Punctuated ExtendedAttribute Comma)",
-    "ArgumentList": "Punctuated Argument Comma",
-}
+DECLARED = Declared.of(TOP)
+FUNCTIONS = list(functions_of(CRATE / "src" / "reading", FAMILIES))
+PLAIN = {it.name: it for it in functions_of(CRATE / "src" / "reading", ["plain_types"])}
+READ_BY = {DECLARED.whole(it.type): it.name for it in FUNCTIONS if it.rule}
 
 
-def screaming(name):
-    name = re.sub(r"(?<=[a-z0-9])(?=[A-Z])", "_", name)
-    return re.sub(r"(?<=[A-Z])(?=[A-Z][a-z])", "_", name).upper()
+def part_of(type_):
+    """how a type is read where it is a part"""
+    if type_.name == "Box":
+        return part_of(*type_.arguments)
+    if DECLARED.whole(type_) in READ_BY:
+        return Call(READ_BY[DECLARED.whole(type_)])
+    kind = {"Option": Opt, "MayBeNull": Nullable}.get(type_.name)
+    return kind(type_.arguments[0].name) if kind else type_.name
 
 
-def own_enum(family, type_, tree, *arms):
-    return enum(family, type_, screaming(type_), tree, *arms)
+def pieces():
+    """the functions of plain_types.rt: the number of the first variant, and the variants with what may be null"""
+    variants = [(name, part_of(type_)) for name, type_ in DECLARED.parts_of(PLAIN["numbers"].type)]
+    own = [it for it in PLAIN.values() if it.name not in JOINED_OF]
+    ends = {it.first for it in own} | {k for k, (_, part) in enumerate(variants) if isinstance(part, Call)}
+    return {it.name: (it.first, variants[it.first:min(end for end in ends if end > it.first)]) for it in own}
 
 
-def generic(type_, word, field, body):
-    tree = screaming(type_).lower() + "_tree"
-    return struct(GENERIC, type_, screaming(type_), tree, (field, word), ("generics", Call(body)))
+PIECES = pieces()
+JOINED = {name: (PLAIN[name].first, names) for name, names in JOINED_OF.items()}
 
 
-def angle(type_, rule, tree, body, boxed=()):
-    return struct(GENERIC, f"Generics<{type_}>", rule, f"(generics_tree {tree})",
-                  ("open_angle", "LessThan"), ("body", Call(body)), ("close_angle", "GreaterThan"), boxed=boxed)
+def arms_of(function):
+    """the variants of an enum: those that a function of plain_types.rt reads are one arm"""
+    joined = {it.first: name for name, it in PLAIN.items() if name in JOINED and it.type == function.type}
+    arms, read = [], 0
+    for k, (variant, type_) in enumerate(DECLARED.parts_of(function.type)):
+        if k in joined:
+            arms.append((None, Piece(joined[k])))
+            read = k + sum(len(PIECES[name][1]) for name in JOINED_OF[joined[k]])
+        if k >= read:
+            arms.append((variant, part_of(type_)))
+    return tuple(arms)
 
 
-def nullable(family, type_):
-    inner = screaming(type_).lower()
-    return struct(family, f"MayBeNull<{type_}>", f"MAY_BE_NULL_{screaming(type_)}", f"(may_be_null_tree {inner}_tree)",
-                  ("type_", Call(inner)), ("q_mark", Opt("QMark")))
+def entry_of(function):
+    """what the proofs want to know of a function"""
+    row, type_ = BY_NAME[function.rule].row, DECLARED.expanded(function.type)
+    entry = dict(kind=KINDS[row[0]], file=function.file, type=function.type, rule=function.rule, tree=function.tree)
+    if row[0] == "First":
+        return entry | dict(arms=arms_of(function))
+    if row[0] == "Opt":
+        return entry | dict(inner=part_of(*type_.arguments))
+    if row[0] == "List":
+        item, separator = type_.arguments
+        more = next(it.name for it in FUNCTIONS if not it.rule and it.type.arguments == (item,))
+        return entry | dict(item=part_of(item), separator=separator.name, tail=row[2], more=more)
+    parts = DECLARED.parts_of(type_)[:len(row[1])]
+    boxed = tuple(name for name, part in parts if part.name == "Box")
+    return entry | dict(fields=tuple((name, part_of(part)) for name, part in parts), boxed=boxed)
 
 
-def enclosed(family, type_, rule, tree, opening, closing, field, body):
-    return struct(family, type_, rule, tree, (f"open_{field}", opening), ("body", Call(body)), (f"close_{field}", closing))
-
-
-TABLE = {
-    "type_": own_enum(TYPES, "Type", "type_tree", ("Single", Call("single_type")), ("Union", Call("nullable_union_type"))),
-    "single_type": own_enum(TYPES, "SingleType", "single_type_tree", ("Any", "Any"), ("NonAny", Call("non_any_type"))),
-    "non_any_type": own_enum(
-        TYPES, "NonAnyType", "non_any_type_tree",
-        ("Promise", Call("promise_type")),
-        (None, Piece("before_sequence")),
-        ("Sequence", Call("nullable_sequence_type")),
-        (None, Piece("after_sequence")),
-        ("FrozenArrayType", Call("nullable_frozen_array_type")),
-        ("RecordType", Call("nullable_record_type")),
-        ("Identifier", Nullable("Identifier")),
-    ),
-    "record_key_type": own_enum(TYPES, "RecordKeyType", "record_key_type_tree", ("Byte", "ByteString"), ("DOM", "DOMString"),
-                                ("USV", "USVString"), ("NonAny", Call("non_any_type"))),
-    "return_type": own_enum(TYPES, "ReturnType", "return_type_tree", ("Undefined", "Undefined"), ("Type_", Call("type_"))),
-    "attributed_type": struct(TYPES, "AttributedType", "ATTRIBUTED_TYPE", "attributed_type_tree",
-                              ("attributes", Call("attributes")), ("type_", Call("type_"))),
-    "attributed_non_any_type": struct(TYPES, "AttributedNonAnyType", "ATTRIBUTED_NON_ANY_TYPE", "attributed_non_any_type_tree",
-                                      ("attributes", Call("attributes")), ("type_", Call("non_any_type"))),
-    "sequence_type": generic("SequenceType", "Sequence", "sequence", "generics_type"),
-    "frozen_array_type": generic("FrozenArrayType", "FrozenArray", "frozen_array", "generics_type"),
-    "promise_type": generic("PromiseType", "Promise", "promise", "generics_return_type"),
-    "record_type": generic("RecordType", "Record", "record_", "generics_record_types"),
-    "nullable_sequence_type": nullable(GENERIC, "SequenceType"),
-    "nullable_frozen_array_type": nullable(GENERIC, "FrozenArrayType"),
-    "nullable_record_type": nullable(GENERIC, "RecordType"),
-    "generics_type": angle("Box<Type>", "GENERICS_TYPE", "boxed_type_tree", "type_", boxed=("body",)),
-    "generics_return_type": angle("Box<ReturnType>", "GENERICS_RETURN_TYPE", "boxed_return_type_tree", "return_type", boxed=("body",)),
-    "generics_record_types": angle("RecordTypes", "GENERICS_RECORD_TYPES", "record_types_tree", "record_types"),
-    "record_types": struct(GENERIC, "RecordTypes", "RECORD_TYPES", "record_types_tree",
-                           ("0", Call("record_key_type")), ("1", "Comma"), ("2", Call("type_")), boxed=("0", "2")),
-    "union_type": enclosed(UNIONS, "UnionType", "UNION_TYPE", "union_type_tree", "OpenParen", "CloseParen", "paren", "union_member_types"),
-    "nullable_union_type": nullable(UNIONS, "UnionType"),
-    "union_member_type": own_enum(UNIONS, "UnionMemberType", "union_member_type_tree",
-                                  ("Single", Call("attributed_non_any_type")), ("Union", Call("nullable_union_type"))),
-    "union_member_types": listed(UNIONS, "Punctuated<UnionMemberType, Or>", "LIST_UNION_MEMBER_TYPE_OR", "TAIL_UNION_MEMBER_TYPE_OR",
-                                 "union_member_types_tree", "union_member_type", "Or", "more_union_member_types"),
-    "attributes": dict(kind="option", family=ATTRIBUTES, type="Option<ExtendedAttributeList>", rule="OPT_EXTENDED_ATTRIBUTE_LIST",
-                       tree="(option_tree extended_attribute_list_tree)", inner="extended_attribute_list"),
-    "extended_attribute_list": enclosed(ATTRIBUTES, "ExtendedAttributeList", "EXTENDED_ATTRIBUTE_LIST", "extended_attribute_list_tree",
-                                        "OpenBracket", "CloseBracket", "bracket", "extended_attributes"),
-    "extended_attribute": own_enum(
-        ATTRIBUTES, "ExtendedAttribute", "extended_attribute_tree",
-        ("ArgList", Call("extended_attribute_arg_list")),
-        ("NamedArgList", Call("extended_attribute_named_arg_list")),
-        ("IdentList", "ExtendedAttributeIdentList"),
-        ("Ident", "ExtendedAttributeIdent"),
-        ("NoArgs", "ExtendedAttributeNoArgs"),
-    ),
-    "extended_attribute_arg_list": struct(ATTRIBUTES, "ExtendedAttributeArgList", "EXTENDED_ATTRIBUTE_ARG_LIST",
-                                          "extended_attribute_arg_list_tree", ("identifier", "Identifier"), ("args", Call("arguments"))),
-    "extended_attribute_named_arg_list": struct(
-        ATTRIBUTES, "ExtendedAttributeNamedArgList", "EXTENDED_ATTRIBUTE_NAMED_ARG_LIST", "extended_attribute_named_arg_list_tree",
-        ("lhs_identifier", "Identifier"), ("assign", "Assign"), ("rhs_identifier", "Identifier"), ("args", Call("arguments"))),
-    "extended_attributes": listed(ATTRIBUTES, "Punctuated<ExtendedAttribute, Comma>", "LIST_EXTENDED_ATTRIBUTE_COMMA",
-                                  "TAIL_EXTENDED_ATTRIBUTE_COMMA", "extended_attributes_tree", "extended_attribute", "Comma",
-                                  "more_extended_attributes"),
-    "argument": own_enum(ARGUMENTS, "Argument", "argument_tree", ("Single", Call("single_argument")), ("Variadic", Call("variadic_argument"))),
-    "single_argument": dict(kind="if", family=ARGUMENTS, type="SingleArgument", rule="SINGLE_ARGUMENT", tree="single_argument_tree",
-                            fields=(("attributes", Call("attributes")), ("optional", Opt("Optional")),
-                                    ("type_", Call("attributed_type")), ("identifier", "Identifier"))),
-    "variadic_argument": struct(ARGUMENTS, "VariadicArgument", "VARIADIC_ARGUMENT", "variadic_argument_tree",
-                                ("attributes", Call("attributes")), ("type_", Call("type_")), ("ellipsis", "Ellipsis"),
-                                ("identifier", "Identifier")),
-    "arguments": enclosed(ARGUMENTS, "ParenthesizedArgumentList", "PARENTHESIZED_ARGUMENT_LIST", "arguments_tree",
-                          "OpenParen", "CloseParen", "paren", "argument_list"),
-    "argument_list": listed(ARGUMENTS, "Punctuated<Argument, Comma>", "ARGUMENT_LIST", "TAIL_ARGUMENT_COMMA", "argument_list_tree",
-                            "argument", "Comma", "more_arguments"),
-}
-
-# the functions of plain_types.rt: the number of the first variant, and the variants with what may be null
-PIECES = {
-    "numbers": (1, (("Integer", "IntegerType"), ("FloatingPoint", "FloatingPointType"), "Boolean", "Byte")),
-    "strings": (5, ("Octet", "ByteString", "DOMString", "USVString")),
-    "objects": (10, ("Object", "Symbol", "Error", "ArrayBuffer")),
-    "signed_arrays": (14, ("DataView", "Int8Array", "Int16Array", "Int32Array")),
-    "unsigned_arrays": (18, ("Uint8Array", "Uint16Array", "Uint32Array", "Uint8ClampedArray")),
-    "float_arrays": (22, ("Float32Array", "Float64Array", "ArrayBufferView", "BufferSource")),
-}
-JOINED = {
-    "before_sequence": (1, ("numbers", "strings")),
-    "after_sequence": (10, ("objects", "signed_arrays", "unsigned_arrays", "float_arrays")),
-}
+KINDS = {"Seq": "struct", "First": "enum", "Opt": "option", "List": "list", "If": "if"}
+TABLE = {it.name: entry_of(it) for it in FUNCTIONS if it.rule}
 
 # the trees of the leaves; a terminal's is a mark
-LEAF_TREES = {name: screaming(name).lower() + "_tree" for name in
-              ("Identifier", "IntegerType", "FloatingPointType", "ExtendedAttributeIdentList", "ExtendedAttributeIdent",
-               "ExtendedAttributeNoArgs")}
-# the one leaf that asks for memory
-GROWING = {"ExtendedAttributeIdentList"}
-
-# where a variant's tree isn't that of its value by computing: the lemma that says so
-TREE_LAWS = {
-    ("type_", "Single"): "single_type_of",
-    ("type_", "Union"): "union_of",
-    ("non_any_type", "Promise"): "promise_of",
-    ("non_any_type", "RecordType"): "record_of",
-    ("union_member_type", "Single"): "member_single_of",
-    ("union_member_type", "Union"): "member_union_of",
-    ("extended_attribute", "ArgList"): "arg_list_of",
-    ("extended_attribute", "NamedArgList"): "named_arg_list_of",
-    ("argument", "Single"): "argument_single_of",
-    ("argument", "Variadic"): "argument_variadic_of",
-}
+LEAF_TREES = {name: f"{snake(name)}_tree" for name, it in DECLARED.types.items() if it.parts}
+# the leaves that ask for memory
+GROWING = {name for name, it in DECLARED.types.items() if not it.is_copied}
 
 # Terms.
-
-
-def grouped(text):
-    return f"({text})" if " " in text and not text.startswith("(") else text
-
-
-def logic_type(text):
-    """a type of the program in the logic's words"""
-    found = re.fullmatch(r"(\w+)<(.*)>", text)
-    if not found:
-        return ALIASES.get(text, text)
-    parts, depth, part = [], 0, ""
-    for c in found.group(2):
-        depth += {"<": 1, ">": -1}.get(c, 0)
-        if c == "," and depth == 0:
-            parts.append(part)
-            part = ""
-        else:
-            part += c
-    parts.append(part)
-    return " ".join([found.group(1)] + [grouped(logic_type(p.strip())) for p in parts])
 
 
 def folded(operation, items):
@@ -280,39 +171,39 @@ def reading(part):
     if isinstance(part, Piece):
         return f"(members {part}_rules {JOINED[part][0]} non_any_type_tree ⊥)"
     if isinstance(part, Opt):
-        return f"(option_reading (mark {screaming(part)}))"
+        return f"(option_reading (mark {upper(part)}))"
     if isinstance(part, Nullable):
         return f"(may_be_null_reading {reading(str(part))})"
     if part in LEAF_TREES:
-        return f"(own {screaming(part)} {LEAF_TREES[part]} {GROWS if part in GROWING else '⊥'})"
-    return f"(mark {screaming(part)})"
+        return f"(own {upper(part)} {LEAF_TREES[part]} {GROWS if part in GROWING else '⊥'})"
+    return f"(mark {upper(part)})"
 
 
 def still(part):
     """that a leaf reads what its rule does"""
     if part in LEAF_TREES:
-        return f"(own_rule {screaming(part)} {LEAF_TREES[part]} {GROWS if part in GROWING else '⊥'})"
-    return f"(mark_rule {screaming(part)})"
+        return f"(own_rule {upper(part)} {LEAF_TREES[part]} {GROWS if part in GROWING else '⊥'})"
+    return f"(mark_rule {upper(part)})"
 
 
 def rule(part):
     if isinstance(part, Call):
         return owned(part)
     if isinstance(part, Opt):
-        return f"(still_rule (option_rule {still(str(part))} OPT_{screaming(part)} refl refl))"
+        return f"(still_rule (option_rule {still(str(part))} OPT_{upper(part)} refl refl))"
     if isinstance(part, Nullable):
-        return f"(still_rule (may_be_null_rule {still(str(part))} MAY_BE_NULL_{screaming(part)} refl refl))"
+        return f"(still_rule (may_be_null_rule {still(str(part))} MAY_BE_NULL_{upper(part)} refl refl))"
     return still(part) if part in GROWING else f"(still_rule {still(part)})"
 
 
 def value_type(part):
     if isinstance(part, Call):
-        return grouped(logic_type(TABLE[part]["type"]))
+        return DECLARED.logic_type(TABLE[part]["type"])
     if isinstance(part, Piece):
         return "NonAnyType"
     if isinstance(part, (Opt, Nullable)):
         return f"({'Option' if isinstance(part, Opt) else 'MayBeNull'} {part})"
-    return grouped(logic_type(part))
+    return part
 
 
 def tree(part):
@@ -357,7 +248,7 @@ def struct_rules(name):
     names = [f"e{f}" for f in boxed]
     same = f"(rw {names[0] if len(names) == 1 else '(' + ', '.join(names) + ')'} refl)" if names else "refl"
     lines = parts_of(name, "×", "pair_reading", [p for _, p in fields])
-    lines += [f"pub {name}_got : {TEXT}{held} (x : {logic_type(entry['type'])}) → Got {name}_parts s {tupled(values)} rest{premises} → Got ({whole}) s x rest",
+    lines += [f"pub {name}_got : {TEXT}{held} (x : {DECLARED.logic_text(entry['type'])}) → Got {name}_parts s {tupled(values)} rest{premises} → Got ({whole}) s x rest",
               f"{name}_got x h{''.join(' ' + n for n in names)} = got_rule {by} x h {same}", "",
               f"pub {name}_fault : {FAULT} → Faults {name}_parts s e → Faults ({whole}) s e",
               f"{name}_fault h = fault_rule {by} h", ""]
@@ -380,7 +271,7 @@ def numbers_of(arms):
 
 def enum_rules(name):
     entry = TABLE[name]
-    arms, whole, shown = entry["arms"], own(name, False), entry["type"]
+    arms, whole, shown = entry["arms"], own(name, False), entry["type"].name
     parts, numbers, count = [p for _, p in arms], numbers_of(arms), len(arms)
     first = f"(first_last {numbers[-1]} {rule(parts[-1])})"
     for k in reversed(range(count - 1)):
@@ -406,7 +297,7 @@ def enum_rules(name):
 def option_rules(name):
     entry = TABLE[name]
     inner, whole = own(entry["inner"]), own(name, False)
-    item = grouped(logic_type(TABLE[entry["inner"]]["type"]))
+    item = DECLARED.logic_type(TABLE[entry["inner"]]["type"])
     by = f"(option_rule {owned(entry['inner'])} {entry['rule']} refl refl) {entry['tree']}"
     return [f"pub {name}_some : {TEXT} {{v : {item}}} → Got {inner} s v rest → Got ({whole}) s (Some v) rest",
             f"{name}_some h = got_rule {by} _ (direct_some _ h) refl", "",
@@ -419,7 +310,7 @@ def option_rules(name):
 def if_rules(name):
     """a single argument: its default is read where `optional` was"""
     entry = TABLE[name]
-    whole, type_, by = own(name, False), entry["type"], f"{name}_parts default_reading is_optional None"
+    whole, type_, by = own(name, False), entry["type"].name, f"{name}_parts default_reading is_optional None"
     parts = [p for _, p in entry["fields"]]
     values = between("×", [value_type(p) for p in parts])
     asked = f"(asked_last {rule(parts[-1])})"
@@ -448,18 +339,18 @@ def item_of(name):
     """of a list: its item's type, its item's reading, its separator's reading"""
     entry = TABLE[name]
     separator = entry["separator"]
-    return grouped(logic_type(TABLE[entry["item"]]["type"])), own(entry["item"]), f"(mark {{V = {separator}}} {screaming(separator)})"
+    return DECLARED.logic_type(TABLE[entry["item"]]["type"]), own(entry["item"]), f"(mark {{V = {separator}}} {upper(separator)})"
 
 
 def list_rules(name):
     entry = TABLE[name]
-    whole, type_ = own(name, False), logic_type(entry["type"])
+    whole, type_ = own(name, False), DECLARED.logic_text(entry["type"])
     item, one, mark = item_of(name)
     seen, known, items = "(λ p. p.list.items)", "(λ p. Unit {0})", f"(λ (l : Vec {item}). l.items)"
     after = f"(after_first {one} {mark} {items} v)"
     by = f"{name}_rule {entry['tree']}"
     return [f"{name}_rule : IsRule (punctuated_reading {one} {mark} {seen} {known}) {entry['rule']} {entry['tree']} {GROWS}",
-            f"{name}_rule = punctuated_rule {owned(entry['item'])} (still_rule (mark_rule {screaming(entry['separator'])})) {entry['tail']} refl refl {seen} {known} {entry['rule']} refl refl tt", "",
+            f"{name}_rule = punctuated_rule {owned(entry['item'])} (still_rule (mark_rule {upper(entry['separator'])})) {entry['tail']} refl refl {seen} {known} {entry['rule']} refl refl tt", "",
             f"pub {name}_none : {REFUSED} (x : {type_}) → Faults {one} s f → f ≡ Recoverable e → IsUtf8 s → x.list.items ≡ [] → Got ({whole}) s x s",
             f"{name}_none {{s = s}} x h i u e = got_rule {by} x (got_none {one} {mark} {seen} {known} {items} s x u (refused_by _ h i) e tt) refl", "",
             f"pub {name}_some : {{s rest end : List ℕ}} {{v : {item}}} (x : {type_}) → Got {one} s v rest → Got {after} rest x.list end → Got ({whole}) s x end",
@@ -470,10 +361,6 @@ def list_rules(name):
             f"{name}_fault h i = fault_rule {by} (list_stop _ _ _ _ h i)", ""] + ruleset(name, [f"{name}_none", f"{name}_some", f"{name}_after", f"{name}_fault"])
 
 
-def variant(member):
-    return member if isinstance(member, tuple) else (member, member)
-
-
 def keyword(text):
     """the terminal `Error` under another name than that of a fault's"""
     return "ErrorKeyword" if text == "Error" else text
@@ -482,10 +369,10 @@ def keyword(text):
 def piece_rules(name):
     start, members = PIECES[name]
     count = len(members)
-    types = [variant(m)[1] for m in members]
+    types = [str(part) for _, part in members]
     values = [f"(MayBeNull {keyword(t)})" for t in types]
-    read = [f"(may_be_null_reading {reading(t) if t in LEAF_TREES else f'(mark {{V = {keyword(t)}}} {screaming(t)})'})" for t in types]
-    ruled = [f"(may_be_null_rule {still(t)} MAY_BE_NULL_{screaming(t)} refl refl)" for t in types]
+    read = [f"(may_be_null_reading {reading(t) if t in LEAF_TREES else f'(mark {{V = {keyword(t)}}} {upper(t)})'})" for t in types]
+    ruled = [f"(may_be_null_rule {still(t)} MAY_BE_NULL_{upper(t)} refl refl)" for t in types]
     first = f"(first_last {start + count - 1} {ruled[-1]})"
     for k in reversed(range(count - 1)):
         first = f"(first_more {start + k} {ruled[k]} {first})"
@@ -493,8 +380,8 @@ def piece_rules(name):
     whole = f"(members {name}_rules {start} non_any_type_tree ⊥)"
     lines = [f"-- `{name}`", f"abbrev {name}_parts : Reading {between('⊎', values)}", f"{name}_parts = {folded('choice_reading', read)}", "",
              f"{name}_first : IsFirst {name}_parts {name}_rules {start} {folded('choice_tree', trees)} ⊥", f"{name}_first = {first}", ""]
-    for k, member in enumerate(members):
-        made = f"(NonAnyType-{variant(member)[0]} v)"
+    for k, (variant, _) in enumerate(members):
+        made = f"(NonAnyType-{variant} v)"
         lines += [f"pub {name}_got_{k} : {TEXT} {{v : {values[k]}}} → Got {name}_parts s {injected(k, count)} rest → Got {whole} s {made} rest",
                   f"{name}_got_{k} {{v = v}} h = got_members {name}_first non_any_type_tree {made} h refl", ""]
     lines += [f"pub {name}_fault : {FAULT} → Faults {name}_parts s e → Faults {whole} s e", f"{name}_fault h = fault_members {name}_first non_any_type_tree h", ""]
@@ -524,7 +411,7 @@ def joined_rules(name):
 def path(name):
     """a function of the cycle, or the one for the items after the first, as the goals name it"""
     entry = TABLE.get(name) or next(e for e in TABLE.values() if e.get("more") == name)
-    return f"{FILES[entry['family']]}::{name}"
+    return f"{entry['file']}::{name}"
 
 
 def labels(calls):
@@ -650,85 +537,32 @@ def measures():
     return lines
 
 
-# Imports: every name is looked up in the files that say it.
+# Imports.
 
-
-def declared():
-    """the types of the crates, with the modules that the logic has for them"""
-    found = {}
-    for crate in ("weedle_base", "weedle_term", "weedle_parts", "weedle_literal", "weedle_types"):
-        source = CRATES / crate / "src"
-        for path in sorted(source.rglob("*.rt")):
-            module = ".".join(path.relative_to(source).with_suffix("").parts)
-            for name in re.findall(r"^pub (?:struct|enum) (\w+)", path.read_text(), re.M):
-                logic = "«Type»" if name == "Type" else name
-                key = "ErrorKeyword" if name == "Error" and crate == "weedle_term" else logic
-                found[key] = (f"Rattle.{crate}.specs.declared.{module}.{logic}", logic)
-    return found
-
-
-def stated():
-    """the public definitions and lemmas of the crates, with their modules"""
-    found = {}
-    for crate in ("weedle_grammar", "weedle_base", "weedle_term", "weedle_parts", "weedle_literal", "weedle_types"):
-        # (what the grammar's own crate proves of its table is cited by no answer)
-        for folder in ("specs",) if crate == "weedle_grammar" else ("specs", "proofs"):
-            for path in sorted((CRATES / crate / folder).glob("*.antt")) + sorted((CRATES / crate / folder / "Table").glob("*.antt")):
-                if path.name == "Lib.antt" or path.stem in WRITTEN:
-                    continue
-                module = ".".join(("Rattle", crate, folder) + path.relative_to(CRATES / crate / folder).with_suffix("").parts)
-                for name in re.findall(r"^ *(?:abbrev |unfoldable )?pub (?:ruleset |record )?([\w-]+)", path.read_text(), re.M):
-                    found.setdefault(name, module)
-    return found
-
-
-WRITTEN = [f"{family}Rules" for family in FAMILIES] + ["PlainTypeRules"]
-# variables, which no file states
-BOUND = {"end", "first", "next", "one", "pushed", "rest", "x"}
+CRATES = ["weedle_grammar", "weedle_base", "weedle_term", "weedle_parts", "weedle_literal", "weedle_types"]
 STANDARD = {
-    "Rattle.std.proofs.Common": ("refl", "inl", "inr", "sym", "ap", "arith", "rules", "Global", "◌∙◌"),
-    "Rattle.std.specs.Borrow": ("Bor",),
-    "Rattle.std.specs.Global": ("Box", "Vec"),
-    "Rattle.std.specs.Prelude": ("ℕ", "List", "[]", "Option", "Some", "None", "Bool", "length", "◌∷◌", "◌≡◌", "◌⊎◌", "◌++◌", "◌≤◌", "◌+◌", "◌*◌"),
-    "Rattle.std.specs.Str": ("IsUtf8",),
-    "Rattle.weedle_grammar.specs.Trees": ("Tree", "Node", "Alt"),
-    "denote.Shadow": ("shadow",),
-    "denote.Text": ("Utf8",),
+    "Rattle.std.proofs.Common": "Global Vec ap arith inl inr refl rules sym ◌∙◌".split(),
+    "Rattle.std.specs.Borrow": ["Bor"],
+    "Rattle.std.specs.Global": ["Box", "Vec"],
+    "Rattle.std.specs.Prelude": "Bool List None Option Some [] length ℕ ◌*◌ ◌++◌ ◌+◌ ◌∷◌ ◌≡◌ ◌≤◌ ◌⊎◌".split(),
+    "Rattle.std.specs.Str": ["IsUtf8"],
+    "Rattle.weedle_grammar.specs.Trees": ["Alt", "Node", "Tree"],
+    "denote.Shadow": ["shadow"],
+    "denote.Text": ["Utf8"],
 }
+# variables, which no file states
+BOUND = "end first next one pushed rest x".split()
+NAMES = Names(TOP, CRATES, STANDARD, BOUND)
+ENUM = re.compile(r"\((\w+)-(\w+)")
 
 
 def imports(text, more=()):
-    words = set(re.findall(r"(?<![.\w-])[\w«»'-]+", re.sub(r"--.*", "", text))) - BOUND
-    local = set(re.findall(r"^(?:abbrev )?pub (?:ruleset )?([\w-]+)|^(?:abbrev )?([\w-]+) :", text, re.M))
-    local = {name for pair in local for name in pair}
-    wanted = {}
-    for module, names in STANDARD.items():
-        for name in names:
-            symbol = name.strip("◌")
-            if (symbol in text) if name.startswith("◌") or name == "[]" else (name in words):
-                # a `Vec` whose allocator is named is that of proofs
-                named = name == "Vec" and "Global" in words
-                wanted.setdefault("Rattle.std.proofs.Common" if named else module, set()).add(name)
-    for name, (module, logic) in declared().items():
-        if name == "Err" or name not in words:
-            continue
-        wanted.setdefault(module, set()).add(logic if logic == name else f"{logic} as {name}")
-    for shown, module in (("Type", "types.«Type»"), ("SingleType", "formers.SingleType"), ("RecordKeyType", "formers.RecordKeyType"),
-                          ("ReturnType", "formers.ReturnType"), ("UnionMemberType", "types.UnionMemberType"), ("NonAnyType", "types.NonAnyType"),
-                          ("ExtendedAttribute", "attribute.ExtendedAttribute"), ("Argument", "argument.Argument")):
-        for name in set(re.findall(rf"\({shown}-(\w+)", text)):
-            wanted.setdefault(f"Rattle.weedle_types.specs.declared.{module}.TheVariants", set()).add(f"{name} as {shown}-{name}")
-    if "Fault" in words:
-        wanted.setdefault("Rattle.weedle_base.specs.declared.fault.Err", set()).add("Err as Fault")
-    for name, said in (("Recoverable", "Error as Recoverable"), ("Failure", "Failure")):
-        if name in words:
-            wanted.setdefault("Rattle.weedle_base.specs.declared.fault.Err.TheVariants", set()).add(said)
-    known = {name for names in STANDARD.values() for name in names} | set(declared())
-    for name, module in stated().items():
-        if name in words and name not in local and name not in known:
-            wanted.setdefault(module, set()).add(name)
-    lines = [f"use {module}.{{{', '.join(sorted(names))}}}" for module, names in wanted.items()]
-    return sorted(lines + list(more))
+    variants = {}
+    for enum_, name in ENUM.findall(text):
+        variants.setdefault(enum_, set()).add(f"{name} as {enum_}-{name}")
+    enums = {it.name: it for it in NAMES.types.values() if it.is_enum}
+    lines = [use(f"{home_of(enums[name])}.TheVariants", sorted(names)) for name, names in variants.items() if name in enums]
+    return NAMES.uses(text, [*lines, *more])
 
 
 def write(path, about, lines, more=()):
@@ -745,10 +579,10 @@ def main():
     kinds = dict(struct=struct_rules, enum=enum_rules, option=option_rules, list=list_rules)
     kinds["if"] = if_rules
     cited = {}
-    for family, about in FAMILIES.items():
+    for file, (family, about) in FAMILIES.items():
         lines = []
         for name, entry in TABLE.items():
-            if entry["family"] == family:
+            if entry["file"] == file:
                 lines += [f"-- `{name}`"] + kinds[entry["kind"]](name)
         write(f"{family}Rules.antt", about, lines)
         cited.update({n: f"{family}Rules" for n in re.findall(r"^pub ([\w-]+) :", "\n".join(lines), re.M)})

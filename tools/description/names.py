@@ -14,3 +14,8 @@ def upper(name):
 def snake(name):
     """The same in small letters: `const_member`."""
     return upper(name).lower()
+
+
+def logic(name):
+    """A type's name in the logic, where `Type` is a word."""
+    return f"«{name}»" if name == "Type" else name

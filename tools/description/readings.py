@@ -6,7 +6,7 @@ whose row says what the declaration does.
 """
 
 from description.declarations import Type, declared_by
-from description.names import upper
+from description.names import logic, upper
 from description.webidl import BY_CONTENT, BY_NAME
 
 # The crates whose types are read, lowest first.
@@ -58,6 +58,33 @@ class Declared:
             type_ = self.aliases[type_.name].parts[0].type
         return type_
 
+    def is_copied(self, type_):
+        """Whether values of a type hold no memory."""
+        declaration = self.types.get(self.expanded(type_).name)
+        return bool(declaration) and declaration.is_copied
+
+    def whole(self, type_):
+        """A type without an alias in it."""
+        type_ = self.expanded(type_)
+        return Type(type_.name, map(self.whole, type_.arguments), type_.module)
+
+    def parts_of(self, type_):
+        """The names of a type's fields or variants, with their types over its arguments."""
+        type_ = self.expanded(type_)
+        declaration = self.types[type_.name]
+        given = dict(zip(declaration.parameters, type_.arguments))
+        return [(part.name, placed(part.type, given)) for part in declaration.parts]
+
+    def logic_text(self, type_):
+        """A type in the words of the logic."""
+        type_ = self.expanded(type_)
+        return " ".join([logic(type_.name), *map(self.logic_type, type_.arguments)])
+
+    def logic_type(self, type_):
+        """The same, in brackets where it has arguments."""
+        text = self.logic_text(type_)
+        return f"({text})" if " " in text else text
+
     def rule_of(self, type_):
         """The name of the rule that reads a type."""
         type_ = self.expanded(type_)
@@ -90,16 +117,15 @@ class Declared:
         if not declaration:
             raise Unread(f"no type {type_.name} is declared")
         if declaration.parameters:
-            return name_of(self.row_of(declaration, arguments))
+            return name_of(self.row_of(type_))
         if upper(type_.name) not in BY_NAME:
             raise Unread(f"no rule has the name {upper(type_.name)}")
         return upper(type_.name)
 
-    def row_of(self, declaration, arguments=()):
-        """The row of a type as it is declared, of one with parameters over these arguments."""
-        given = dict(zip(declaration.parameters, arguments))
-        rules = tuple(self.rule_of(placed(part.type, given)) for part in declaration.parts)
-        return ("First" if declaration.is_enum else "Seq", rules)
+    def row_of(self, type_):
+        """The row of a struct or an enum as it is declared, over its arguments."""
+        rules = tuple(self.rule_of(part) for _, part in self.parts_of(type_))
+        return ("First" if self.types[type_.name].is_enum else "Seq", rules)
 
 
 READERS = {
