@@ -67,8 +67,8 @@ NESTED = {rule for rule in ROWS if rule in reached(rule)}
 class Maker:
     """Texts of one seed, in their order."""
 
-    def __init__(self, seed):
-        self.random, self.fuel = random.Random(seed), 0
+    def __init__(self, seed, comments=True):
+        self.random, self.comments, self.fuel = random.Random(seed), comments, 0
 
     def text(self):
         """Up to four definitions."""
@@ -133,7 +133,7 @@ class Maker:
 
     def trivia(self):
         chance = self.random.random()
-        return "" if chance < 0.7 else " " if chance < 0.9 else self.random.choice(TRIVIA)
+        return "" if chance < 0.7 else " " if chance < 0.9 or not self.comments else self.random.choice(TRIVIA)
 
     def name(self):
         chance = self.random.random()

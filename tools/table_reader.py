@@ -139,7 +139,8 @@ class Reading:
         return None
 
     def read_opt(self, row, place):
-        return self.at(row[1], place) or (place, ABSENT)
+        got = self.at(row[1], place)
+        return (got[0], Held("Some", [got[1]])) if got else (place, ABSENT)
 
     def read_many(self, row, place):
         items = []

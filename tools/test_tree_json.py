@@ -10,7 +10,7 @@ import unittest
 from unittest import mock
 
 import tree_json
-from tree_json import NoTree, definition_of, plain, read
+from tree_json import NoTree, debug, definition_of, plain, read
 
 INCLUDES = (
     'IncludesStatement(IncludesStatementDefinition { attributes: None, lhs_identifier: Identifier("A"), '
@@ -59,6 +59,11 @@ class Values(unittest.TestCase):
         self.assertEqual(read("A { b: C }"), read("A { b: C }"))
         for other in ("D { b: C }", "A { b: D }", "A { c: C }", "A(C)", "C", "(C)"):
             self.assertNotEqual(read("A { b: C }"), read(other), other)
+
+    def test_a_value_as_its_text_again(self):
+        texts = ["RecordTypes(Byte(ByteString), (Long, Long), Some(QMark))", r'[StringLit("a\"\\b\nc"), BooleanLit(true), None, 1]']
+        for text in [INCLUDES, *texts]:
+            self.assertEqual(debug(read(text)), text)
 
     def test_no_debug_text(self):
         for text in ("", "A {", "A { b }", "A { b: C, b: C }", "A(B", "[A B]", "A B", '"a', "?"):

@@ -48,7 +48,7 @@ class Unit(str):
 
 
 class Held:
-    """A name with what stands between its parentheses, as `Identifier("A")`; a tuple has no name."""
+    """A name with what stands between its parentheses, as `Identifier("A")` or `Some(QMark)`; a tuple has no name."""
 
     def __init__(self, name, values):
         self.name, self.values = name, values
@@ -120,8 +120,7 @@ class Reader:
         if self.take("{"):
             return Struct(name, self.fields())
         if self.take("("):
-            values = self.values(")")
-            return values[0] if name == "Some" and len(values) == 1 else Held(name, values)
+            return Held(name, self.values(")"))
         return {"None": None, "true": True, "false": False}.get(name, Unit(name))
 
     def value(self):
@@ -162,6 +161,21 @@ def read(text):
     return value
 
 
+def debug(value):
+    """The `Debug` text of a value, whose strings have no characters that are escaped but quotes, backslashes and LFs."""
+    if isinstance(value, Struct):
+        return f"{value.name} {{ {', '.join(f'{name}: {debug(field)}' for name, field in value.fields.items())} }}"
+    if isinstance(value, Held):
+        return f"{value.name or ''}({', '.join(map(debug, value.values))})"
+    if isinstance(value, list):
+        return f"[{', '.join(map(debug, value))}]"
+    if isinstance(value, Unit) or value is None:
+        return str(value)
+    if isinstance(value, str):
+        return '"' + value.replace("\\", "\\\\").replace('"', '\\"').replace("\n", "\\n") + '"'
+    return json.dumps(value)
+
+
 def plain(value):
     """A value of what json.dumps takes."""
     if isinstance(value, Struct):
@@ -170,6 +184,8 @@ def plain(value):
         values = [plain(it) for it in value.values]
         if value.name is None:
             return values
+        if value.name == "Some":
+            return values[0]
         return {value.name: values[0] if len(values) == 1 else values}
     if isinstance(value, list):
         return [plain(it) for it in value]
