@@ -15,6 +15,7 @@ mod parts_of_definitions;
 mod types;
 
 use crate::definitions::titles;
+use std::alloc::Global;
 use std::process::Abort;
 use std::test::Fail;
 use weedle_front::{Definitions, parse_quick};
@@ -24,8 +25,7 @@ use weedle_testing::{is_printed, reads_up_to, reads_whole};
 type Row = (&'static str, &'static str, &'static str);
 
 /// Asserts that each text is read whole, as these definitions.
-fn assert_all_read(rt: &HostRuntime, rows: &[Row]) -> Result<(), Fail> {
-    let alloc = rt.alloc();
+fn assert_all_read(rt: &impl Abort, alloc: Global, rows: &[Row]) -> Result<(), Fail> {
     for (text, kinds, value) in rows {
         reads_whole::<Definitions<'_>>(alloc, text, parse_quick(alloc, text), value)?;
         assert!(rt; is_printed(&titles(alloc, text)?, kinds), "of {text:?}");
@@ -35,15 +35,16 @@ fn assert_all_read(rt: &HostRuntime, rows: &[Row]) -> Result<(), Fail> {
 
 #[test]
 fn reads_what_weedle2_reads(rt: HostRuntime) -> Result<(), Fail> {
-    assert_all_read(&rt, definitions::ROWS.as_slice())?;
-    assert_all_read(&rt, parts_of_definitions::ROWS.as_slice())?;
-    assert_all_read(&rt, callbacks_to_enums::ROWS.as_slice())?;
-    assert_all_read(&rt, interface_members::ROWS.as_slice())?;
-    assert_all_read(&rt, operations::ROWS.as_slice())?;
-    assert_all_read(&rt, iterations::ROWS.as_slice())?;
-    assert_all_read(&rt, other_members::ROWS.as_slice())?;
-    assert_all_read(&rt, types::ROWS.as_slice())?;
-    assert_all_read(&rt, attributes::ROWS.as_slice())?;
+    let alloc = rt.alloc();
+    assert_all_read(&rt, alloc, definitions::ROWS.as_slice())?;
+    assert_all_read(&rt, alloc, parts_of_definitions::ROWS.as_slice())?;
+    assert_all_read(&rt, alloc, callbacks_to_enums::ROWS.as_slice())?;
+    assert_all_read(&rt, alloc, interface_members::ROWS.as_slice())?;
+    assert_all_read(&rt, alloc, operations::ROWS.as_slice())?;
+    assert_all_read(&rt, alloc, iterations::ROWS.as_slice())?;
+    assert_all_read(&rt, alloc, other_members::ROWS.as_slice())?;
+    assert_all_read(&rt, alloc, types::ROWS.as_slice())?;
+    assert_all_read(&rt, alloc, attributes::ROWS.as_slice())?;
     Ok(())
 }
 
