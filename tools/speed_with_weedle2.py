@@ -5,9 +5,9 @@
         [--port PATH] [--list PATH] [--weedle2 PATH]
 
 Build first weedle_check and weedle_list (`rt run` in their crates) and the program of compare/
-(its README.md says how). With `--port ''` it measures weedle2 alone. The texts are one of about so
-many bytes of mixed definitions, made of the seed, and of each FOLDER one of its files that weedle2 reads
-whole, joined. Of each text it prints
+(its README.md says how). With `--port ''` it measures weedle2 alone. The texts are one of about BYTES
+bytes of mixed definitions, made of the seed by mixed_text.py, and of each FOLDER its files that weedle2 reads
+whole, joined to one. Of each text it prints
 
 - nanoseconds a byte: of weedle2 the median of N readings in one process; of the port what
   `weedle_check --time` prints, reader by reader;
@@ -29,24 +29,9 @@ import tempfile
 from pathlib import Path
 
 from compare_with_weedle2 import LIST, PORT, WEEDLE2, NoUse, files_of, output_of
-from random_texts import Maker
+from mixed_text import Mixed
 
 MORE = 10
-# How many texts are made at a time.
-TOGETHER = 500
-
-
-def made_text(weedle2, seed, size):
-    """Definitions without comments, to about so many bytes, of texts that weedle2 reads whole."""
-    maker, texts, bytes_made = Maker(seed, comments=False), [], 0
-    while bytes_made < size:
-        with tempfile.TemporaryDirectory() as room:
-            files = [Path(room) / f"{number}.webidl" for number in range(TOGETHER)]
-            for file in files:
-                file.write_text(maker.text(), encoding="utf-8")
-            texts += [file.read_text(encoding="utf-8") for file in whole_of(weedle2, files)]
-        bytes_made = sum(len(text.encode()) + 1 for text in texts)
-    return "\n".join(texts) + "\n"
 
 
 def whole_of(weedle2, files):
@@ -121,7 +106,7 @@ def arguments():
 
 
 def main(wanted):
-    measure(f"definitions made of seed {wanted.seed}", made_text(wanted.weedle2, wanted.seed, wanted.size), wanted)
+    measure(f"definitions made of seed {wanted.seed}", Mixed(wanted.seed).text(wanted.size), wanted)
     for folder in wanted.folder:
         measure(f"the files of {folder}", joined_text(wanted.weedle2, folder), wanted)
 

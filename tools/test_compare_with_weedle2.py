@@ -102,7 +102,7 @@ class Names(unittest.TestCase):
     def test_strings_of_rust(self):
         self.assertEqual(unescaped(r'a\n\"\\\u{feff}' + "\\\n    b"), 'a\n"\\\ufeffb')
         for text in ('a "b"\n\\', "word " * 50, "a  b   " * 30, "x" * 200):
-            self.assertEqual(unescaped(quoted(text, "        ").strip()[1:-1]), text)
+            self.assertEqual(unescaped(quoted(text)), text)
 
 
 class Texts(unittest.TestCase):

@@ -24,10 +24,17 @@ FOLDER = Path(__file__).resolve().parent.parent / "crates/weedle_rows/src/weedle
 COLUMNS = 96
 HEAD = """//! {about}
 //!
-//! Written by tools/weedle2_rows.py: texts, and what weedle2 5.0.0 answers of them, in the port's names.
+//! Written by tools/weedle2_rows.py: texts, and what weedle2 5.0.0 answers of them, in the
+//! port's names. All stand in one text, of which the prover makes less work than of a table.
+
+/// How many rows there are.
+pub const COUNT: usize = {count};
+
+/// {doc}
+pub const ROWS: &str = "\\
 """
-WHOLE_DOC = "/// A text, the kinds and names of its definitions, and their values, both as they are printed."
-LEFT_DOC = "/// A text, what is left of it, and the values of the definitions before, as they are printed."
+WHOLE_DOC = "Each row a text, the kinds and names of its definitions, and their values, both as they are printed."
+LEFT_DOC = "Each row a text, what is left of it, and the values of the definitions before, as they are printed."
 
 
 class Disagree(Exception):
@@ -57,28 +64,28 @@ def titles(values):
     return f"[{', '.join(pairs)}]"
 
 
-def quoted(text, indent):
-    """A string of Rust, on lines of at most COLUMNS where it has blanks to end them at."""
+def quoted(text):
+    """A text in a string of Rust, on lines of at most COLUMNS where it has blanks to end them at."""
     escapes = {"\\": "\\\\", '"': '\\"', "\n": "\\n", "\r": "\\r", "\t": "\\t"}
-    text = '"' + "".join(escapes.get(character, character) for character in text) + '"'
-    lines, room = [], COLUMNS - len(indent)
-    while len(text) > room:
-        end = text.rfind(" ", 1, room - 2)
+    text, lines = "".join(escapes.get(character, character) for character in text), []
+    while len(text) > COLUMNS:
+        end = text.rfind(" ", 1, COLUMNS - 1)
         while end > 0 and text[end + 1] == " ":
             end = text.rfind(" ", 1, end)
         if end < 1:
             break
         lines.append(text[:end + 1] + "\\")
         text = text[end + 1:]
-    return f"\n{indent} ".join([*lines, text])
+    return "\n".join([*lines, text])
 
 
-def file_text(about, doc, rows):
-    indent = " " * 8
-    out = [HEAD.format(about=about), doc, f"pub const ROWS: [(&str, &str, &str); {len(rows)}] = ["]
+def file_text(about, doc, names, rows):
+    """The file of rows; the parts of each stand behind these names."""
+    out = HEAD.format(about=about, doc=doc, count=len(rows))
     for row in rows:
-        out += ["    ("] + [f"{indent}{quoted(part, indent)}," for part in row] + ["    ),"]
-    return "\n".join([*out, "];"]) + "\n"
+        for name, part in zip(names, row, strict=True):
+            out += f"\\n\\\n{name}: {quoted(part)}"
+    return out + '";\n'
 
 
 def texts_of(lines):
@@ -104,9 +111,9 @@ def left_rows(program, lines):
 def main(program):
     files = {}
     for name, (about, lines) in WHOLE.items():
-        files[name] = file_text(about, WHOLE_DOC, list(whole_rows(program, lines)))
+        files[name] = file_text(about, WHOLE_DOC, ("text", "list", "tree"), list(whole_rows(program, lines)))
     name, about, lines = LEFT
-    files[name] = file_text(about, LEFT_DOC, list(left_rows(program, lines)))
+    files[name] = file_text(about, LEFT_DOC, ("text", "rest", "tree"), list(left_rows(program, lines)))
     FOLDER.mkdir(exist_ok=True)
     for name, text in files.items():
         (FOLDER / f"{name}.rt").write_text(text, encoding="utf-8")
