@@ -38,6 +38,7 @@ from pathlib import Path
 from random_texts import Maker
 from table_reader import CHANGED, Table
 from tree_json import Held, Struct, definition_of, read
+from weedle2_texts import LEFT, WHOLE
 
 TOP = Path(__file__).resolve().parent.parent
 PORT = TOP / "crates/weedle_check/out/weedle_check"
@@ -186,11 +187,13 @@ def explanation(text, port, weedle2):
 
 # The texts.
 def worked_texts():
-    """Each string of the tests."""
+    """Each string of the tests, and each text of weedle2_texts.py."""
     for crate in TESTS.split():
         for file in sorted((TOP / "crates" / crate / "src").rglob("*.rt")):
-            for text in STRING.findall(file.read_text(encoding="utf-8")):
-                yield unescaped(text)
+            if file.parent.name != "weedle2":
+                yield from map(unescaped, STRING.findall(file.read_text(encoding="utf-8")))
+    for lines in [*(lines for _, lines in WHOLE.values()), LEFT[2]]:
+        yield from map(unescaped, lines.strip().split("\n"))
 
 
 def unescaped(text):
