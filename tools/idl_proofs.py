@@ -18,8 +18,8 @@ from terminals import FILES as TERMINALS
 
 CRATES = Path("crates")
 HEAD = "Written by tools/idl_proofs.py."
-# Structs of so many fields have the answers of their `parse` written out: the search took too long for a chain of `?`.
-LONG = 7
+# The structs that are read by one call of `weedle_fields`: how many fields there are up to the attributes, and behind them.
+BY_ONE_CALL = ((1, 3), (1, 4), (1, 5), (1, 6), (2, 4), (2, 5), (2, 6))
 GROWS = "(Unit {0})"
 # What is read by a function of its own.
 ALONE = ("attributes_reading", "async_iterable_reading", "optional_arguments_reading", "enum_values_reading")
@@ -415,18 +415,19 @@ abbrev {name}_view : {t.name} → {types}
 
 def steps(t):
     name = snake(t.name)
-    parts = "part_steps, " if isinstance(t, Struct) and len(calls(t)) > 1 else ""
+    parts = "part_steps, " if isinstance(t, Struct) and has_calls(t) else ""
     return f"""-- what the search for the proof of its `parse` uses
 pub ruleset {name}_steps = ({parts}{name}_got, {name}_fault)
 """
 
 
-def calls(t):
-    """The fields of a struct as its `parse` reads them: the last ones as nested pairs, those before by a call each."""
+def has_calls(t):
+    """Whether the `parse` of a struct makes several calls: where not, it reads all its fields by one."""
     alone = [k for k, (field, part) in enumerate(t.fields)
              if part.reading in ALONE or field == "docstring" and t.fields[1][0] == "attributes"]
-    first = max(alone, default=-1) + 1
-    return [[field] for field, _ in t.fields[:first]] + [[field for field, _ in t.fields[first:]]]
+    last = max(alone, default=-1)
+    is_attributes = last >= 0 and t.fields[last][0] == "attributes"
+    return last >= 0 and not (is_attributes and (last + 1, len(t.fields) - last - 1) in BY_ONE_CALL)
 
 
 def piece(t, name, first, variants):
@@ -536,24 +537,6 @@ def answers(t, file):
     (folder / "Answers.antt").write_text("\n".join(out) + "\n")
 
 
-def struct_answers(t, file):
-    """The answers of a long struct's `parse`."""
-    name = snake(t.name)
-    read = ["c.in_ok-rest.ensures"] + [f"c.in_ok-rest-{k}.ensures" for k in range(2, len(calls(t)) + 1)]
-    pairs = nested(read, lambda a, b: f"(got_pair _ _ {a} {b})")
-    path = f"{file.module}.{t.name}Parse.parse"
-    folder = file.proofs / path.replace(".", "/")
-    folder.mkdir(parents=True, exist_ok=True)
-    (folder / "Answers.antt").write_text(f"""-- Parts one after another. {HEAD}
-use {BASE}.proofs.Steps.{{got_pair}}
-use Rattle.{file.crate}.proofs.{file.name}.{{{name}_got}}
-use Rattle.{file.crate}.proofs.{path}.Goals as goal
-
-pub returns : goal.returns
-returns c = {name}_got _ {pairs}
-""")
-
-
 def write(file):
     texts = [struct(t) if isinstance(t, Struct) else joined(t) if t.pieces else enum(t) for t in file.types]
     body = "\n".join(texts + [steps(t) for t in file.types if isinstance(t, Struct) or not t.pieces])
@@ -563,8 +546,6 @@ def write(file):
     for t in file.types:
         if isinstance(t, Enum) and t.pieces:
             answers(t, file)
-        if isinstance(t, Struct) and len(t.fields) >= LONG:
-            struct_answers(t, file)
 
 
 def main():

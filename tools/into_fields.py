@@ -7,10 +7,8 @@ A type with an `impl Drop` can be taken apart only below the module that declare
 MODULE of CRATES that declares such types gets a file MODULE/into_fields.rt beside it, with
 
 - `into_fields` for each struct that has an `impl Drop`: all its fields, in their order;
-- for each variant of the enums ENUMS a method as `into_interface`: what the variant holds, where
-  the value is that variant.
-
-The other enums of members have none: each method costs the gate some seconds.
+- for each variant of each enum that has one, a method as `into_interface`: what the variant holds,
+  where the value is that variant.
 
 The files have the layout of `rt fmt`. The line `mod into_fields;` of MODULE.rt is written by hand.
 The script prints the files that it writes, and where such a line is missing. With --check it prints
@@ -32,7 +30,6 @@ CRATES = (
     "weedle_members weedle_iterables weedle_async_iterables weedle_interfaces weedle_mixins "
     "weedle_namespaces weedle_statements weedle_idl"
 ).split()
-ENUMS = ("Definition", "InterfaceMember")
 OUT = "into_fields"
 MOD = f"mod {OUT};\n"
 HEAD = """//! Taking apart what the module above declares, by move.
@@ -203,7 +200,7 @@ def taken_apart(text):
     """The items of a module whose values get methods here."""
     dropped = DROP.findall(text)
     items = [Item(*it) for it in ITEM.findall(text)]
-    return [it for it in items if it.name in (ENUMS if it.is_enum else dropped)]
+    return [it for it in items if it.name in dropped]
 
 
 def file_text(text):

@@ -54,6 +54,12 @@ pub enum Definition<'a> {
 impl Drop for Definition<'_> {
     fn drop(self) {}
 }
+
+/// One that a pattern takes apart.
+pub enum Either<'a> {
+    Label(Label<'a>),
+    Member(Word),
+}
 """
 WRITTEN = """//! Taking apart what the module above declares, by move.
 //!

@@ -1,17 +1,16 @@
 -- Some rule without parts is tried and fails.
-use Rattle.std.proofs.Common.{◌≡◌, inl, inr, ℕ, zero, suc, ◌<◌, ◌≤◌, List, [], ◌∷◌, length, Bool, true, false, ◌&&◌, Option, Some, None, refl, sym, subst, ap, ◌∙◌, arith}
+use Rattle.std.proofs.Common.{◌≡◌, inl, inr, ℕ, ◌<◌, ◌≤◌, List, [], ◌∷◌, length, Bool, true, false, Option, Some, None, refl, sym, subst, ap, ◌∙◌, arith}
 use Rattle.weedle_grammar.specs.Bound.{rule_count}
 use Rattle.weedle_grammar.specs.Rows.{Row, First, Many, Tail}
-use Rattle.weedle_grammar.specs.Entry.{Entry, entry_at}
 use Rattle.weedle_grammar.specs.Trees.{Tree, Outcome, Fails, Gives}
 use Rattle.weedle_grammar.specs.Meaning.{Piece, piece, Raw, Breaks, Yields, ReadsBy, ReadsRow, ReadsSeq, ReadsFirst, by_row, by_bytes, by_one, by_not_next, by_run, by_past, by_seq, by_first, by_opt, many_end, many_stuck, many_more, list_none, list_more, list1_fails, list1_more, tail_end, tail_stuck, tail_back, tail_more, if_fails, if_absent, if_present, seq_end, seq_fails, seq_more, first_none, first_here, first_next, shaped, together, raw_of, opted, before, with_piece, last_end}
-use Rattle.weedle_grammar.specs.Table.{webidl, table, row_of}
+use Rattle.weedle_grammar.specs.Table.{webidl, row_of}
 use Rattle.weedle_grammar.specs.Table.Definitions.{DEFINITIONS, DEFINITION}
-use Rattle.weedle_grammar.proofs.Leaves.{both}
 use Rattle.weedle_grammar.proofs.Takes.{takes}
 use Rattle.weedle_grammar.proofs.Checked.{rank, ranked}
 use Rattle.weedle_grammar.proofs.Exists.{advances, has_outcome}
 use Rattle.weedle_grammar.proofs.Inversion.{at_row}
+use Rattle.weedle_rules.proofs.RowTests.{row_passes}
 use Rattle.weedle_diagnose.specs.Tries.{Tries, TriesInTurn, TriesByChoice, RowTries, Tried, at_first, by, has_no_parts, IsUnmet}
 use Rattle.weedle_diagnose.proofs.LaterFacts.{tries_later}
 
@@ -23,23 +22,8 @@ blames (Many x) = takes x
 blames (Tail x s) = takes s
 blames _ = true
 
-abbrev pub all_blame : List Entry → Bool
-all_blame [] = true
-all_blame (e ∷ es) = blames e.row && all_blame es
-
-all_blame_here : all_blame table ≡ true
-all_blame_here = refl
-
-as_many : length table ≡ rule_count
-as_many = refl
-
-blame_at : (es : List Entry) (r : ℕ) → all_blame es ≡ true → r < length es → blames (entry_at es r).row ≡ true
-blame_at [] r h l = absurd (omega arith)
-blame_at (e ∷ es) zero h l = (both _ _ h).0
-blame_at (e ∷ es) (suc r) h l = blame_at es r (both _ _ h).1 (omega arith)
-
 blame : {r : ℕ} {row : Row} → r < rule_count → row_of r ≡ row → blames row ≡ true
-blame {r} l e = subst (λ row. blames row ≡ true) e (blame_at table r all_blame_here (omega (arith, as_many)))
+blame l e = row_passes blames refl l e
 
 -- what comes to nothing
 together_breaks : (p : ℕ) (o : Option (List Piece)) → together p o ≡ Breaks → o ≡ None

@@ -1,7 +1,6 @@
 -- What a rule tries lies behind its place, or is a rule of a smaller number at it.
 use Rattle.std.proofs.Common.{◌≡◌, inl, inr, ℕ, ◌<◌, ◌≤◌, List, [], ◌∷◌, length, Bool, true, ◌&&◌, refl, subst, sym, arith}
 use Rattle.std.specs.Prelude.{nat_lt, ◌||◌}
-use borrow.Author.Tests.{ltb-true}
 use Rattle.weedle_grammar.specs.Bound.{rule_count}
 use Rattle.weedle_grammar.specs.Rows.{Row, Bytes, OneOf, NotNext, Run, Past, Seq, First, Opt, Many, ListOf, List1, Tail, If}
 use Rattle.weedle_grammar.specs.Entry.{are_rules}
@@ -15,7 +14,9 @@ use Rattle.weedle_grammar.proofs.Checked.{rank, ranked}
 use Rattle.weedle_grammar.proofs.Entries.{passes}
 use Rattle.weedle_grammar.proofs.Exists.{grows, stays_inside, advances, seq_grows, seq_stays_inside, seq_advances}
 use Rattle.weedle_rules.proofs.RowEnds.{is_before}
-use Rattle.weedle_diagnose.specs.Tries.{EndsAt, TriesInTurn, TriesByChoice, RowTries, Tries}
+use Rattle.weedle_rules.proofs.PartEnds.{below}
+use Rattle.weedle_rules.specs.Outcomes.{EndsAt}
+use Rattle.weedle_diagnose.specs.Tries.{TriesInTurn, TriesByChoice, RowTries, Tries}
 use Rattle.weedle_diagnose.specs.Marks.{HasBit}
 
 -- the numbers in a row are those of rules
@@ -36,9 +37,6 @@ names_rules (Past b) = true
 
 named : (r : ℕ) → names_rules (row_of r) ≡ true
 named = passes (λ r e. names_rules e.row) (λ n r. refl) refl
-
-below : (a b : ℕ) → nat_lt a b ≡ true → a < b
-below a b h = omega (arith, ltb-true)
 
 pub record IsLater (text : List ℕ) (r p x q : ℕ) : Type 0 where
   pub low : x < rule_count

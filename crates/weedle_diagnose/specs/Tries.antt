@@ -1,18 +1,10 @@
 -- Which rules are tried at which places, where definitions are read from a place on.
 use Rattle.std.specs.Prelude.{◌≡◌, ◌≢◌, ◌⊎◌, ℕ, Bool, true, false, List, [], ◌∷◌, Some}
 use Rattle.weedle_grammar.specs.Rows.{Row, Bytes, OneOf, NotNext, Run, Past, Seq, First, Opt, Many, ListOf, List1, Tail, If}
-use Rattle.weedle_grammar.specs.Trees.{Tree, Fails, Gives}
 use Rattle.weedle_grammar.specs.Meaning.{Piece, ReadsSeq, gave_some, last_end}
-use Rattle.weedle_grammar.specs.Table.{webidl, row_of, Reads}
+use Rattle.weedle_grammar.specs.Table.{webidl, row_of}
 use Rattle.weedle_grammar.specs.Table.Definitions.{DEFINITIONS}
-
--- rule r ends at e, where it is read from p
-abbrev pub EndsAt : List ℕ → ℕ → ℕ → ℕ → Type 0
-EndsAt text r p e = (ts : List Tree) × Reads text r p (Gives ts e)
-
--- rule r fails at p
-abbrev pub FailsAt : List ℕ → ℕ → ℕ → Type 0
-FailsAt text r p = Reads text r p Fails
+use Rattle.weedle_rules.specs.Outcomes.{EndsAt, FailsAt}
 
 -- rule x at q is rule r at p
 abbrev pub SameAttempt : ℕ → ℕ → ℕ → ℕ → Type 0

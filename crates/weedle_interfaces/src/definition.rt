@@ -20,12 +20,14 @@ mod into_fields;
 use crate::BracedInterfaceMembers;
 use std::alloc::{AllocError, Global};
 use weedle_base::{IResult, Parse, TryClone};
+use weedle_fields::{
+    attributes_and_five, docstring_attributes_and_five, docstring_attributes_and_six,
+};
 use weedle_modifier::Inheritance;
 use weedle_parts::common::{Docstring, Identifier};
 use weedle_term::{Callback, Interface, Partial, SemiColon};
 use weedle_types::attribute::ExtendedAttributeList;
 use weedle_types::copies::{copy_attributes, copy_docstring};
-use weedle_types::parts::attributes;
 
 /// A callback interface, as `callback interface A {};`. A docstring may stand before it.
 #[derive(Debug, PartialEq, Eq, PartialOrd, Ord, Hash)]
@@ -68,23 +70,36 @@ impl<'a> Parse<'a> for CallbackInterfaceDefinition<'a> {
     ghost reading = { own CALLBACK_INTERFACE_DEFINITION callback_interface_definition_tree (Unit {0}) };
 
     fn parse(alloc: Global, input: &'a str) -> IResult<&'a str, Self> {
-        let (rest, docstring) = Option::parse(alloc, input)?;
-        let (rest, attributes) = attributes(alloc, rest)?;
-        let (rest, (callback, (interface, (identifier, (inheritance, (members, semi_colon)))))) =
-            Parse::parse(alloc, rest)?;
-        Ok((
-            rest,
-            CallbackInterfaceDefinition {
-                docstring,
-                attributes,
-                callback,
-                interface,
-                identifier,
-                inheritance,
-                members,
-                semi_colon,
-            },
-        ))
+        match docstring_attributes_and_six(alloc, input) {
+            Ok(
+                (
+                    rest,
+                    (
+                        docstring,
+                        attributes,
+                        callback,
+                        interface,
+                        identifier,
+                        inheritance,
+                        members,
+                        semi_colon,
+                    ),
+                ),
+            ) => Ok((
+                rest,
+                CallbackInterfaceDefinition {
+                    docstring,
+                    attributes,
+                    callback,
+                    interface,
+                    identifier,
+                    inheritance,
+                    members,
+                    semi_colon,
+                },
+            )),
+            Err(error) => Err(error),
+        }
     }
 
     ghost lawful = { own_lawful CALLBACK_INTERFACE_DEFINITION callback_interface_definition_tree (Unit {0}) };
@@ -147,23 +162,34 @@ impl<'a> Parse<'a> for InterfaceDefinition<'a> {
     ghost reading = { own INTERFACE_DEFINITION interface_definition_tree (Unit {0}) };
 
     fn parse(alloc: Global, input: &'a str) -> IResult<&'a str, Self> {
-        let (rest, docstring) = Option::parse(alloc, input)?;
-        let (rest, attributes) = attributes(alloc, rest)?;
-        let (rest, (interface, (identifier, (inheritance, (members, semi_colon))))) = Parse::parse(
-            alloc, rest,
-        )?;
-        Ok((
-            rest,
-            InterfaceDefinition {
-                docstring,
-                attributes,
-                interface,
-                identifier,
-                inheritance,
-                members,
-                semi_colon,
-            },
-        ))
+        match docstring_attributes_and_five(alloc, input) {
+            Ok(
+                (
+                    rest,
+                    (
+                        docstring,
+                        attributes,
+                        interface,
+                        identifier,
+                        inheritance,
+                        members,
+                        semi_colon,
+                    ),
+                ),
+            ) => Ok((
+                rest,
+                InterfaceDefinition {
+                    docstring,
+                    attributes,
+                    interface,
+                    identifier,
+                    inheritance,
+                    members,
+                    semi_colon,
+                },
+            )),
+            Err(error) => Err(error),
+        }
     }
 
     ghost lawful = { own_lawful INTERFACE_DEFINITION interface_definition_tree (Unit {0}) };
@@ -222,21 +248,20 @@ impl<'a> Parse<'a> for PartialInterfaceDefinition<'a> {
     ghost reading = { own PARTIAL_INTERFACE_DEFINITION partial_interface_definition_tree (Unit {0}) };
 
     fn parse(alloc: Global, input: &'a str) -> IResult<&'a str, Self> {
-        let (rest, attributes) = attributes(alloc, input)?;
-        let (rest, (partial, (interface, (identifier, (members, semi_colon))))) = Parse::parse(
-            alloc, rest,
-        )?;
-        Ok((
-            rest,
-            PartialInterfaceDefinition {
-                attributes,
-                partial,
-                interface,
-                identifier,
-                members,
-                semi_colon,
-            },
-        ))
+        match attributes_and_five(alloc, input) {
+            Ok((rest, (attributes, partial, interface, identifier, members, semi_colon))) => Ok((
+                rest,
+                PartialInterfaceDefinition {
+                    attributes,
+                    partial,
+                    interface,
+                    identifier,
+                    members,
+                    semi_colon,
+                },
+            )),
+            Err(error) => Err(error),
+        }
     }
 
     ghost lawful = { own_lawful PARTIAL_INTERFACE_DEFINITION partial_interface_definition_tree (Unit {0}) };

@@ -3,7 +3,6 @@ use Rattle.std.proofs.Common.{refl}
 use Rattle.std.specs.Borrow.{Bor}
 use Rattle.std.specs.Prelude.{ℕ, List, [], ◌∷◌, Option}
 use Rattle.weedle_base.proofs.RuleFacts.{fault_rule, got_rule, mark, mark_rule, seq_last, seq_next, seq_rule}
-use Rattle.weedle_base.proofs.Steps.{part_steps}
 use Rattle.weedle_base.specs.Generic.{option_reading, pair_reading}
 use Rattle.weedle_base.specs.Own.{own}
 use Rattle.weedle_base.specs.Reading.{Faults, Got, Reading}
@@ -58,7 +57,7 @@ pub setlike_interface_member_fault : {s : List ℕ} {e : Fault (Error (Bor (List
 setlike_interface_member_fault h = fault_rule setlike_interface_member_rule setlike_interface_member_tree h
 
 -- what the search for the proof of its `parse` uses
-pub ruleset maplike_interface_member_steps = (part_steps, maplike_interface_member_got, maplike_interface_member_fault)
+pub ruleset maplike_interface_member_steps = (maplike_interface_member_got, maplike_interface_member_fault)
 
 -- what the search for the proof of its `parse` uses
-pub ruleset setlike_interface_member_steps = (part_steps, setlike_interface_member_got, setlike_interface_member_fault)
+pub ruleset setlike_interface_member_steps = (setlike_interface_member_got, setlike_interface_member_fault)

@@ -5,7 +5,6 @@ use Rattle.std.specs.Prelude.{ℕ, List, [], ◌∷◌}
 use Rattle.weedle_base.proofs.ChoiceFacts.{choice_tree, first_last, first_more, first_rule}
 use Rattle.weedle_base.proofs.ChoiceSteps.{first_seen}
 use Rattle.weedle_base.proofs.RuleFacts.{fault_rule, got_rule, mark, own_rule, seq_last, seq_next, seq_rule}
-use Rattle.weedle_base.proofs.Steps.{part_steps}
 use Rattle.weedle_base.specs.Choices.{choice_view}
 use Rattle.weedle_base.specs.Generic.{choice_reading, pair_reading, seen_reading}
 use Rattle.weedle_base.specs.Own.{own}
@@ -84,10 +83,10 @@ pub iterable_interface_member_fault : {s : List ℕ} {e : Fault (Error (Bor (Lis
 iterable_interface_member_fault h = fault_rule iterable_interface_member_rule iterable_interface_member_tree h
 
 -- what the search for the proof of its `parse` uses
-pub ruleset single_typed_iterable_steps = (part_steps, single_typed_iterable_got, single_typed_iterable_fault)
+pub ruleset single_typed_iterable_steps = (single_typed_iterable_got, single_typed_iterable_fault)
 
 -- what the search for the proof of its `parse` uses
-pub ruleset double_typed_iterable_steps = (part_steps, double_typed_iterable_got, double_typed_iterable_fault)
+pub ruleset double_typed_iterable_steps = (double_typed_iterable_got, double_typed_iterable_fault)
 
 -- what the search for the proof of its `parse` uses
 pub ruleset iterable_interface_member_steps = (iterable_interface_member_got, iterable_interface_member_fault)

@@ -17,11 +17,11 @@ mod into_fields;
 
 use std::alloc::{AllocError, Global};
 use weedle_base::{IResult, Parse, TryClone};
+use weedle_fields::attributes_and_four;
 use weedle_parts::common::Generics;
 use weedle_term::{Comma, Maplike, ReadOnly, SemiColon, Setlike};
 use weedle_types::attribute::ExtendedAttributeList;
 use weedle_types::copies::{copy_attributes, copy_one_type, copy_two_types};
-use weedle_types::parts::attributes;
 use weedle_types::types::AttributedType;
 
 /// A map, as `readonly maplike<DOMString, long>;`.
@@ -57,18 +57,19 @@ impl<'a> Parse<'a> for MaplikeInterfaceMember<'a> {
     ghost reading = { own MAPLIKE_INTERFACE_MEMBER maplike_interface_member_tree (Unit {0}) };
 
     fn parse(alloc: Global, input: &'a str) -> IResult<&'a str, Self> {
-        let (rest, attributes) = attributes(alloc, input)?;
-        let (rest, (readonly, (maplike, (generics, semi_colon)))) = Parse::parse(alloc, rest)?;
-        Ok((
-            rest,
-            MaplikeInterfaceMember {
-                attributes,
-                readonly,
-                maplike,
-                generics,
-                semi_colon,
-            },
-        ))
+        match attributes_and_four(alloc, input) {
+            Ok((rest, (attributes, readonly, maplike, generics, semi_colon))) => Ok((
+                rest,
+                MaplikeInterfaceMember {
+                    attributes,
+                    readonly,
+                    maplike,
+                    generics,
+                    semi_colon,
+                },
+            )),
+            Err(error) => Err(error),
+        }
     }
 
     ghost lawful = { own_lawful MAPLIKE_INTERFACE_MEMBER maplike_interface_member_tree (Unit {0}) };
@@ -122,18 +123,19 @@ impl<'a> Parse<'a> for SetlikeInterfaceMember<'a> {
     ghost reading = { own SETLIKE_INTERFACE_MEMBER setlike_interface_member_tree (Unit {0}) };
 
     fn parse(alloc: Global, input: &'a str) -> IResult<&'a str, Self> {
-        let (rest, attributes) = attributes(alloc, input)?;
-        let (rest, (readonly, (setlike, (generics, semi_colon)))) = Parse::parse(alloc, rest)?;
-        Ok((
-            rest,
-            SetlikeInterfaceMember {
-                attributes,
-                readonly,
-                setlike,
-                generics,
-                semi_colon,
-            },
-        ))
+        match attributes_and_four(alloc, input) {
+            Ok((rest, (attributes, readonly, setlike, generics, semi_colon))) => Ok((
+                rest,
+                SetlikeInterfaceMember {
+                    attributes,
+                    readonly,
+                    setlike,
+                    generics,
+                    semi_colon,
+                },
+            )),
+            Err(error) => Err(error),
+        }
     }
 
     ghost lawful = { own_lawful SETLIKE_INTERFACE_MEMBER setlike_interface_member_tree (Unit {0}) };

@@ -20,11 +20,11 @@ mod into_fields;
 use std::alloc::{AllocError, Global};
 use weedle_base::Choice::{self, First, Second};
 use weedle_base::{IResult, Parse, TryClone};
+use weedle_fields::attributes_and_three;
 use weedle_parts::common::Generics;
 use weedle_term::{Comma, Iterable, SemiColon};
 use weedle_types::attribute::ExtendedAttributeList;
 use weedle_types::copies::{copy_attributes, copy_one_type, copy_two_types};
-use weedle_types::parts::attributes;
 use weedle_types::types::AttributedType;
 
 /// An iteration over values, as `iterable<long>;`.
@@ -56,17 +56,18 @@ impl<'a> Parse<'a> for SingleTypedIterable<'a> {
     ghost reading = { own SINGLE_TYPED_ITERABLE single_typed_iterable_tree (Unit {0}) };
 
     fn parse(alloc: Global, input: &'a str) -> IResult<&'a str, Self> {
-        let (rest, attributes) = attributes(alloc, input)?;
-        let (rest, (iterable, (generics, semi_colon))) = Parse::parse(alloc, rest)?;
-        Ok((
-            rest,
-            SingleTypedIterable {
-                attributes,
-                iterable,
-                generics,
-                semi_colon,
-            },
-        ))
+        match attributes_and_three(alloc, input) {
+            Ok((rest, (attributes, iterable, generics, semi_colon))) => Ok((
+                rest,
+                SingleTypedIterable {
+                    attributes,
+                    iterable,
+                    generics,
+                    semi_colon,
+                },
+            )),
+            Err(error) => Err(error),
+        }
     }
 
     ghost lawful = { own_lawful SINGLE_TYPED_ITERABLE single_typed_iterable_tree (Unit {0}) };
@@ -117,17 +118,18 @@ impl<'a> Parse<'a> for DoubleTypedIterable<'a> {
     ghost reading = { own DOUBLE_TYPED_ITERABLE double_typed_iterable_tree (Unit {0}) };
 
     fn parse(alloc: Global, input: &'a str) -> IResult<&'a str, Self> {
-        let (rest, attributes) = attributes(alloc, input)?;
-        let (rest, (iterable, (generics, semi_colon))) = Parse::parse(alloc, rest)?;
-        Ok((
-            rest,
-            DoubleTypedIterable {
-                attributes,
-                iterable,
-                generics,
-                semi_colon,
-            },
-        ))
+        match attributes_and_three(alloc, input) {
+            Ok((rest, (attributes, iterable, generics, semi_colon))) => Ok((
+                rest,
+                DoubleTypedIterable {
+                    attributes,
+                    iterable,
+                    generics,
+                    semi_colon,
+                },
+            )),
+            Err(error) => Err(error),
+        }
     }
 
     ghost lawful = { own_lawful DOUBLE_TYPED_ITERABLE double_typed_iterable_tree (Unit {0}) };

@@ -3,7 +3,6 @@ use Rattle.std.proofs.Common.{refl}
 use Rattle.std.specs.Borrow.{Bor}
 use Rattle.std.specs.Prelude.{ℕ, List, [], ◌∷◌, Option}
 use Rattle.weedle_base.proofs.RuleFacts.{fault_rule, got_rule, mark, mark_rule, own_rule, seq_last, seq_next, seq_rule, still_rule}
-use Rattle.weedle_base.proofs.Steps.{part_steps}
 use Rattle.weedle_base.specs.Generic.{option_reading, pair_reading}
 use Rattle.weedle_base.specs.Own.{own}
 use Rattle.weedle_base.specs.Reading.{Faults, Got, Reading}
@@ -46,4 +45,4 @@ pub attribute_interface_member_fault : {s : List ℕ} {e : Fault (Error (Bor (Li
 attribute_interface_member_fault h = fault_rule attribute_interface_member_rule attribute_interface_member_tree h
 
 -- what the search for the proof of its `parse` uses
-pub ruleset attribute_interface_member_steps = (part_steps, attribute_interface_member_got, attribute_interface_member_fault)
+pub ruleset attribute_interface_member_steps = (attribute_interface_member_got, attribute_interface_member_fault)

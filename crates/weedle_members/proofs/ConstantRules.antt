@@ -3,7 +3,6 @@ use Rattle.std.proofs.Common.{refl}
 use Rattle.std.specs.Borrow.{Bor}
 use Rattle.std.specs.Prelude.{ℕ, List, [], ◌∷◌}
 use Rattle.weedle_base.proofs.RuleFacts.{fault_rule, got_rule, mark, own_rule, seq_last, seq_next, seq_rule, still_rule}
-use Rattle.weedle_base.proofs.Steps.{part_steps}
 use Rattle.weedle_base.specs.Generic.{pair_reading}
 use Rattle.weedle_base.specs.Own.{own}
 use Rattle.weedle_base.specs.Reading.{Faults, Got, Reading}
@@ -47,4 +46,4 @@ pub const_member_fault : {s : List ℕ} {e : Fault (Error (Bor (List ℕ)))} →
 const_member_fault h = fault_rule const_member_rule const_member_tree h
 
 -- what the search for the proof of its `parse` uses
-pub ruleset const_member_steps = (part_steps, const_member_got, const_member_fault)
+pub ruleset const_member_steps = (const_member_got, const_member_fault)

@@ -68,4 +68,4 @@ operation_interface_member_fault h = fault_rule operation_interface_member_rule 
 pub ruleset constructor_interface_member_steps = (part_steps, constructor_interface_member_got, constructor_interface_member_fault)
 
 -- what the search for the proof of its `parse` uses
-pub ruleset operation_interface_member_steps = (part_steps, operation_interface_member_got, operation_interface_member_fault)
+pub ruleset operation_interface_member_steps = (operation_interface_member_got, operation_interface_member_fault)

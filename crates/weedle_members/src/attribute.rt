@@ -11,12 +11,12 @@ mod into_fields;
 
 use std::alloc::{AllocError, Global};
 use weedle_base::{IResult, Parse, TryClone};
+use weedle_fields::attributes_and_six;
 use weedle_modifier::StringifierOrInheritOrStatic;
 use weedle_parts::common::Identifier;
 use weedle_term::{Attribute, ReadOnly, SemiColon};
 use weedle_types::attribute::ExtendedAttributeList;
 use weedle_types::copies::copy_attributes;
-use weedle_types::parts::attributes;
 use weedle_types::types::AttributedType;
 
 /// An attribute of an interface, as `static readonly attribute long x;`. No docstring may stand before
@@ -58,21 +58,23 @@ impl<'a> Parse<'a> for AttributeInterfaceMember<'a> {
     ghost reading = { own ATTRIBUTE_INTERFACE_MEMBER attribute_interface_member_tree (Unit {0}) };
 
     fn parse(alloc: Global, input: &'a str) -> IResult<&'a str, Self> {
-        let (rest, attributes) = attributes(alloc, input)?;
-        let (rest, (modifier, (readonly, (attribute, (type_, (identifier, semi_colon)))))) =
-            Parse::parse(alloc, rest)?;
-        Ok((
-            rest,
-            AttributeInterfaceMember {
-                attributes,
-                modifier,
-                readonly,
-                attribute,
-                type_,
-                identifier,
-                semi_colon,
-            },
-        ))
+        match attributes_and_six(alloc, input) {
+            Ok(
+                (rest, (attributes, modifier, readonly, attribute, type_, identifier, semi_colon)),
+            ) => Ok((
+                rest,
+                AttributeInterfaceMember {
+                    attributes,
+                    modifier,
+                    readonly,
+                    attribute,
+                    type_,
+                    identifier,
+                    semi_colon,
+                },
+            )),
+            Err(error) => Err(error),
+        }
     }
 
     ghost lawful = { own_lawful ATTRIBUTE_INTERFACE_MEMBER attribute_interface_member_tree (Unit {0}) };

@@ -11,13 +11,13 @@ mod into_fields;
 
 use std::alloc::{AllocError, Global};
 use weedle_base::{IResult, Parse, TryClone};
+use weedle_fields::attributes_and_six;
 use weedle_literal::ConstValue;
 use weedle_parts::common::Identifier;
 use weedle_parts::types::ConstType;
 use weedle_term::{Assign, Const, SemiColon};
 use weedle_types::attribute::ExtendedAttributeList;
 use weedle_types::copies::copy_attributes;
-use weedle_types::parts::attributes;
 
 /// A constant, as `const long X = 5;`. No docstring may stand before it.
 #[derive(Debug, PartialEq, Eq, PartialOrd, Ord, Hash)]
@@ -57,21 +57,26 @@ impl<'a> Parse<'a> for ConstMember<'a> {
     ghost reading = { own CONST_MEMBER const_member_tree (Unit {0}) };
 
     fn parse(alloc: Global, input: &'a str) -> IResult<&'a str, Self> {
-        let (rest, attributes) = attributes(alloc, input)?;
-        let (rest, (const_, (const_type, (identifier, (assign, (const_value, semi_colon)))))) =
-            Parse::parse(alloc, rest)?;
-        Ok((
-            rest,
-            ConstMember {
-                attributes,
-                const_,
-                const_type,
-                identifier,
-                assign,
-                const_value,
-                semi_colon,
-            },
-        ))
+        match attributes_and_six(alloc, input) {
+            Ok(
+                (
+                    rest,
+                    (attributes, const_, const_type, identifier, assign, const_value, semi_colon),
+                ),
+            ) => Ok((
+                rest,
+                ConstMember {
+                    attributes,
+                    const_,
+                    const_type,
+                    identifier,
+                    assign,
+                    const_value,
+                    semi_colon,
+                },
+            )),
+            Err(error) => Err(error),
+        }
     }
 
     ghost lawful = { own_lawful CONST_MEMBER const_member_tree (Unit {0}) };

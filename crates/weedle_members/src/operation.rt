@@ -17,6 +17,7 @@ mod into_fields;
 
 use std::alloc::{AllocError, Global};
 use weedle_base::{IResult, Parse, TryClone};
+use weedle_fields::docstring_attributes_and_six;
 use weedle_modifier::{Special, StringifierOrStatic};
 use weedle_parts::common::{Docstring, Identifier};
 use weedle_term::{Constructor, SemiColon};
@@ -134,23 +135,36 @@ impl<'a> Parse<'a> for OperationInterfaceMember<'a> {
     ghost reading = { own OPERATION_INTERFACE_MEMBER operation_interface_member_tree (Unit {0}) };
 
     fn parse(alloc: Global, input: &'a str) -> IResult<&'a str, Self> {
-        let (rest, docstring) = Option::parse(alloc, input)?;
-        let (rest, attributes) = attributes(alloc, rest)?;
-        let (rest, (modifier, (special, (return_type, (identifier, (args, semi_colon)))))) =
-            Parse::parse(alloc, rest)?;
-        Ok((
-            rest,
-            OperationInterfaceMember {
-                docstring,
-                attributes,
-                modifier,
-                special,
-                return_type,
-                identifier,
-                args,
-                semi_colon,
-            },
-        ))
+        match docstring_attributes_and_six(alloc, input) {
+            Ok(
+                (
+                    rest,
+                    (
+                        docstring,
+                        attributes,
+                        modifier,
+                        special,
+                        return_type,
+                        identifier,
+                        args,
+                        semi_colon,
+                    ),
+                ),
+            ) => Ok((
+                rest,
+                OperationInterfaceMember {
+                    docstring,
+                    attributes,
+                    modifier,
+                    special,
+                    return_type,
+                    identifier,
+                    args,
+                    semi_colon,
+                },
+            )),
+            Err(error) => Err(error),
+        }
     }
 
     ghost lawful = { own_lawful OPERATION_INTERFACE_MEMBER operation_interface_member_tree (Unit {0}) };

@@ -3,7 +3,6 @@ use Rattle.std.proofs.Common.{refl}
 use Rattle.std.specs.Borrow.{Bor}
 use Rattle.std.specs.Prelude.{ℕ, List, [], ◌∷◌}
 use Rattle.weedle_base.proofs.RuleFacts.{fault_rule, got_rule, mark, own_rule, seq_last, seq_next, seq_rule, still_rule}
-use Rattle.weedle_base.proofs.Steps.{part_steps}
 use Rattle.weedle_base.specs.Generic.{pair_reading}
 use Rattle.weedle_base.specs.Own.{own}
 use Rattle.weedle_base.specs.Reading.{Faults, Got, Reading}
@@ -62,7 +61,7 @@ pub partial_interface_mixin_definition_fault : {s : List ℕ} {e : Fault (Error 
 partial_interface_mixin_definition_fault h = fault_rule partial_interface_mixin_definition_rule partial_interface_mixin_definition_tree h
 
 -- what the search for the proof of its `parse` uses
-pub ruleset interface_mixin_definition_steps = (part_steps, interface_mixin_definition_got, interface_mixin_definition_fault)
+pub ruleset interface_mixin_definition_steps = (interface_mixin_definition_got, interface_mixin_definition_fault)
 
 -- what the search for the proof of its `parse` uses
-pub ruleset partial_interface_mixin_definition_steps = (part_steps, partial_interface_mixin_definition_got, partial_interface_mixin_definition_fault)
+pub ruleset partial_interface_mixin_definition_steps = (partial_interface_mixin_definition_got, partial_interface_mixin_definition_fault)

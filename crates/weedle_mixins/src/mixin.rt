@@ -23,13 +23,13 @@ use crate::copies::copy_mixin_members;
 use std::alloc::{AllocError, Global};
 use weedle_base::Choice::{self, First, Second};
 use weedle_base::{IResult, Parse, TryClone};
+use weedle_fields::{attributes_and_five, attributes_and_six};
 use weedle_members::{ConstMember, StringifierMember};
 use weedle_parts::common::Identifier;
 use weedle_term::{Attribute, CloseBrace, OpenBrace, ReadOnly, SemiColon, Stringifier};
 use weedle_types::argument::ParenthesizedArgumentList;
 use weedle_types::attribute::ExtendedAttributeList;
 use weedle_types::copies::copy_attributes;
-use weedle_types::parts::attributes;
 use weedle_types::types::{AttributedType, ReturnType};
 
 /// The members of a mixin, one after another, as `long f(); long g();`; none included.
@@ -125,21 +125,22 @@ impl<'a> Parse<'a> for OperationMixinMember<'a> {
     ghost reading = { own OPERATION_MIXIN_MEMBER operation_mixin_member_tree (Unit {0}) };
 
     fn parse(alloc: Global, input: &'a str) -> IResult<&'a str, Self> {
-        let (rest, attributes) = attributes(alloc, input)?;
-        let (rest, (stringifier, (return_type, (identifier, (args, semi_colon))))) = Parse::parse(
-            alloc, rest,
-        )?;
-        Ok((
-            rest,
-            OperationMixinMember {
-                attributes,
-                stringifier,
-                return_type,
-                identifier,
-                args,
-                semi_colon,
-            },
-        ))
+        match attributes_and_five(alloc, input) {
+            Ok((rest, (attributes, stringifier, return_type, identifier, args, semi_colon))) => Ok(
+                (
+                    rest,
+                    OperationMixinMember {
+                        attributes,
+                        stringifier,
+                        return_type,
+                        identifier,
+                        args,
+                        semi_colon,
+                    },
+                ),
+            ),
+            Err(error) => Err(error),
+        }
     }
 
     ghost lawful = { own_lawful OPERATION_MIXIN_MEMBER operation_mixin_member_tree (Unit {0}) };
@@ -200,21 +201,26 @@ impl<'a> Parse<'a> for AttributeMixinMember<'a> {
     ghost reading = { own ATTRIBUTE_MIXIN_MEMBER attribute_mixin_member_tree (Unit {0}) };
 
     fn parse(alloc: Global, input: &'a str) -> IResult<&'a str, Self> {
-        let (rest, attributes) = attributes(alloc, input)?;
-        let (rest, (stringifier, (readonly, (attribute, (type_, (identifier, semi_colon)))))) =
-            Parse::parse(alloc, rest)?;
-        Ok((
-            rest,
-            AttributeMixinMember {
-                attributes,
-                stringifier,
-                readonly,
-                attribute,
-                type_,
-                identifier,
-                semi_colon,
-            },
-        ))
+        match attributes_and_six(alloc, input) {
+            Ok(
+                (
+                    rest,
+                    (attributes, stringifier, readonly, attribute, type_, identifier, semi_colon),
+                ),
+            ) => Ok((
+                rest,
+                AttributeMixinMember {
+                    attributes,
+                    stringifier,
+                    readonly,
+                    attribute,
+                    type_,
+                    identifier,
+                    semi_colon,
+                },
+            )),
+            Err(error) => Err(error),
+        }
     }
 
     ghost lawful = { own_lawful ATTRIBUTE_MIXIN_MEMBER attribute_mixin_member_tree (Unit {0}) };

@@ -18,11 +18,11 @@ mod into_fields;
 use crate::mixin::BracedMixinMembers;
 use std::alloc::{AllocError, Global};
 use weedle_base::{IResult, Parse, TryClone};
+use weedle_fields::{attributes_and_five, attributes_and_six};
 use weedle_parts::common::Identifier;
 use weedle_term::{Interface, Mixin, Partial, SemiColon};
 use weedle_types::attribute::ExtendedAttributeList;
 use weedle_types::copies::copy_attributes;
-use weedle_types::parts::attributes;
 
 /// A mixin, as `interface mixin A {};`. No docstring may stand before it.
 #[derive(Debug, PartialEq, Eq, PartialOrd, Ord, Hash)]
@@ -59,21 +59,20 @@ impl<'a> Parse<'a> for InterfaceMixinDefinition<'a> {
     ghost reading = { own INTERFACE_MIXIN_DEFINITION interface_mixin_definition_tree (Unit {0}) };
 
     fn parse(alloc: Global, input: &'a str) -> IResult<&'a str, Self> {
-        let (rest, attributes) = attributes(alloc, input)?;
-        let (rest, (interface, (mixin, (identifier, (members, semi_colon))))) = Parse::parse(
-            alloc, rest,
-        )?;
-        Ok((
-            rest,
-            InterfaceMixinDefinition {
-                attributes,
-                interface,
-                mixin,
-                identifier,
-                members,
-                semi_colon,
-            },
-        ))
+        match attributes_and_five(alloc, input) {
+            Ok((rest, (attributes, interface, mixin, identifier, members, semi_colon))) => Ok((
+                rest,
+                InterfaceMixinDefinition {
+                    attributes,
+                    interface,
+                    mixin,
+                    identifier,
+                    members,
+                    semi_colon,
+                },
+            )),
+            Err(error) => Err(error),
+        }
     }
 
     ghost lawful = { own_lawful INTERFACE_MIXIN_DEFINITION interface_mixin_definition_tree (Unit {0}) };
@@ -134,21 +133,22 @@ impl<'a> Parse<'a> for PartialInterfaceMixinDefinition<'a> {
     ghost reading = { own PARTIAL_INTERFACE_MIXIN_DEFINITION partial_interface_mixin_definition_tree (Unit {0}) };
 
     fn parse(alloc: Global, input: &'a str) -> IResult<&'a str, Self> {
-        let (rest, attributes) = attributes(alloc, input)?;
-        let (rest, (partial, (interface, (mixin, (identifier, (members, semi_colon)))))) =
-            Parse::parse(alloc, rest)?;
-        Ok((
-            rest,
-            PartialInterfaceMixinDefinition {
-                attributes,
-                partial,
-                interface,
-                mixin,
-                identifier,
-                members,
-                semi_colon,
-            },
-        ))
+        match attributes_and_six(alloc, input) {
+            Ok((rest, (attributes, partial, interface, mixin, identifier, members, semi_colon))) =>
+                Ok((
+                    rest,
+                    PartialInterfaceMixinDefinition {
+                        attributes,
+                        partial,
+                        interface,
+                        mixin,
+                        identifier,
+                        members,
+                        semi_colon,
+                    },
+                )),
+            Err(error) => Err(error),
+        }
     }
 
     ghost lawful = { own_lawful PARTIAL_INTERFACE_MIXIN_DEFINITION partial_interface_mixin_definition_tree (Unit {0}) };

@@ -3,7 +3,6 @@ use Rattle.std.proofs.Common.{refl}
 use Rattle.std.specs.Borrow.{Bor}
 use Rattle.std.specs.Prelude.{ℕ, List, [], ◌∷◌, Option}
 use Rattle.weedle_base.proofs.RuleFacts.{fault_rule, got_rule, mark, option_rule, own_rule, seq_last, seq_next, seq_rule, still_rule}
-use Rattle.weedle_base.proofs.Steps.{part_steps}
 use Rattle.weedle_base.specs.Generic.{option_reading, pair_reading}
 use Rattle.weedle_base.specs.Own.{own}
 use Rattle.weedle_base.specs.Reading.{Faults, Got, Reading}
@@ -65,7 +64,7 @@ pub partial_dictionary_definition_fault : {s : List ℕ} {e : Fault (Error (Bor 
 partial_dictionary_definition_fault h = fault_rule partial_dictionary_definition_rule partial_dictionary_definition_tree h
 
 -- what the search for the proof of its `parse` uses
-pub ruleset dictionary_definition_steps = (part_steps, dictionary_definition_got, dictionary_definition_fault)
+pub ruleset dictionary_definition_steps = (dictionary_definition_got, dictionary_definition_fault)
 
 -- what the search for the proof of its `parse` uses
-pub ruleset partial_dictionary_definition_steps = (part_steps, partial_dictionary_definition_got, partial_dictionary_definition_fault)
+pub ruleset partial_dictionary_definition_steps = (partial_dictionary_definition_got, partial_dictionary_definition_fault)

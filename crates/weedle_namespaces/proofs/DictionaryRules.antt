@@ -4,7 +4,6 @@ use Rattle.std.specs.Borrow.{Bor}
 use Rattle.std.specs.Global.{Vec}
 use Rattle.std.specs.Prelude.{ℕ, List, [], ◌∷◌, Option}
 use Rattle.weedle_base.proofs.RuleFacts.{fault_rule, got_rule, mark, mark_rule, option_rule, own_rule, seq_last, seq_next, seq_rule, still_rule}
-use Rattle.weedle_base.proofs.Steps.{part_steps}
 use Rattle.weedle_base.specs.Generic.{option_reading, pair_reading}
 use Rattle.weedle_base.specs.Own.{own}
 use Rattle.weedle_base.specs.Reading.{Faults, Got, Reading}
@@ -67,7 +66,7 @@ pub braced_dictionary_members_fault : {s : List ℕ} {e : Fault (Error (Bor (Lis
 braced_dictionary_members_fault h = fault_rule braced_dictionary_members_rule braced_dictionary_members_tree h
 
 -- what the search for the proof of its `parse` uses
-pub ruleset dictionary_member_steps = (part_steps, dictionary_member_got, dictionary_member_fault)
+pub ruleset dictionary_member_steps = (dictionary_member_got, dictionary_member_fault)
 
 -- what the search for the proof of its `parse` uses
 pub ruleset braced_dictionary_members_steps = (braced_dictionary_members_got, braced_dictionary_members_fault)

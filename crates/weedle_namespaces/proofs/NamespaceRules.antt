@@ -6,7 +6,6 @@ use Rattle.std.specs.Prelude.{ℕ, List, [], ◌∷◌, Option}
 use Rattle.weedle_base.proofs.ChoiceFacts.{choice_tree, first_last, first_more, first_rule}
 use Rattle.weedle_base.proofs.ChoiceSteps.{first_seen}
 use Rattle.weedle_base.proofs.RuleFacts.{fault_rule, got_rule, mark, option_rule, own_rule, seq_last, seq_next, seq_rule, still_rule}
-use Rattle.weedle_base.proofs.Steps.{part_steps}
 use Rattle.weedle_base.specs.Choices.{choice_view}
 use Rattle.weedle_base.specs.Generic.{choice_reading, option_reading, pair_reading, seen_reading}
 use Rattle.weedle_base.specs.Own.{own}
@@ -112,10 +111,10 @@ pub braced_namespace_members_fault : {s : List ℕ} {e : Fault (Error (Bor (List
 braced_namespace_members_fault h = fault_rule braced_namespace_members_rule braced_namespace_members_tree h
 
 -- what the search for the proof of its `parse` uses
-pub ruleset operation_namespace_member_steps = (part_steps, operation_namespace_member_got, operation_namespace_member_fault)
+pub ruleset operation_namespace_member_steps = (operation_namespace_member_got, operation_namespace_member_fault)
 
 -- what the search for the proof of its `parse` uses
-pub ruleset attribute_namespace_member_steps = (part_steps, attribute_namespace_member_got, attribute_namespace_member_fault)
+pub ruleset attribute_namespace_member_steps = (attribute_namespace_member_got, attribute_namespace_member_fault)
 
 -- what the search for the proof of its `parse` uses
 pub ruleset namespace_member_steps = (namespace_member_got, namespace_member_fault)

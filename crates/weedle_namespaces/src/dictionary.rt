@@ -18,12 +18,12 @@ mod into_fields;
 use crate::copies::copy_dictionary_members;
 use std::alloc::{AllocError, Global};
 use weedle_base::{IResult, Parse, TryClone};
+use weedle_fields::docstring_attributes_and_five;
 use weedle_literal::Default;
 use weedle_parts::common::{Docstring, Identifier};
 use weedle_term::{CloseBrace, OpenBrace, Required, SemiColon};
 use weedle_types::attribute::ExtendedAttributeList;
 use weedle_types::copies::{copy_attributes, copy_docstring};
-use weedle_types::parts::attributes;
 use weedle_types::types::Type;
 
 /// The members of a dictionary, one after another, as `long x; long y = 5;`; none included.
@@ -121,23 +121,22 @@ impl<'a> Parse<'a> for DictionaryMember<'a> {
     ghost reading = { own DICTIONARY_MEMBER dictionary_member_tree (Unit {0}) };
 
     fn parse(alloc: Global, input: &'a str) -> IResult<&'a str, Self> {
-        let (rest, docstring) = Option::parse(alloc, input)?;
-        let (rest, attributes) = attributes(alloc, rest)?;
-        let (rest, (required, (type_, (identifier, (default, semi_colon))))) = Parse::parse(
-            alloc, rest,
-        )?;
-        Ok((
-            rest,
-            DictionaryMember {
-                docstring,
-                attributes,
-                required,
-                type_,
-                identifier,
-                default,
-                semi_colon,
-            },
-        ))
+        match docstring_attributes_and_five(alloc, input) {
+            Ok((rest, (docstring, attributes, required, type_, identifier, default, semi_colon))) =>
+                Ok((
+                    rest,
+                    DictionaryMember {
+                        docstring,
+                        attributes,
+                        required,
+                        type_,
+                        identifier,
+                        default,
+                        semi_colon,
+                    },
+                )),
+            Err(error) => Err(error),
+        }
     }
 
     ghost lawful = { own_lawful DICTIONARY_MEMBER dictionary_member_tree (Unit {0}) };

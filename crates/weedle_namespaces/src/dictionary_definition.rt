@@ -18,12 +18,12 @@ mod into_fields;
 use crate::dictionary::BracedDictionaryMembers;
 use std::alloc::{AllocError, Global};
 use weedle_base::{IResult, Parse, TryClone};
+use weedle_fields::{attributes_and_five, docstring_attributes_and_five};
 use weedle_modifier::Inheritance;
 use weedle_parts::common::{Docstring, Identifier};
 use weedle_term::{Dictionary, Partial, SemiColon};
 use weedle_types::attribute::ExtendedAttributeList;
 use weedle_types::copies::{copy_attributes, copy_docstring};
-use weedle_types::parts::attributes;
 
 /// A dictionary, as `dictionary A : B { long x = 5; };`. A docstring may stand before it.
 #[derive(Debug, PartialEq, Eq, PartialOrd, Ord, Hash)]
@@ -63,23 +63,34 @@ impl<'a> Parse<'a> for DictionaryDefinition<'a> {
     ghost reading = { own DICTIONARY_DEFINITION dictionary_definition_tree (Unit {0}) };
 
     fn parse(alloc: Global, input: &'a str) -> IResult<&'a str, Self> {
-        let (rest, docstring) = Option::parse(alloc, input)?;
-        let (rest, attributes) = attributes(alloc, rest)?;
-        let (rest, (dictionary, (identifier, (inheritance, (members, semi_colon))))) = Parse::parse(
-            alloc, rest,
-        )?;
-        Ok((
-            rest,
-            DictionaryDefinition {
-                docstring,
-                attributes,
-                dictionary,
-                identifier,
-                inheritance,
-                members,
-                semi_colon,
-            },
-        ))
+        match docstring_attributes_and_five(alloc, input) {
+            Ok(
+                (
+                    rest,
+                    (
+                        docstring,
+                        attributes,
+                        dictionary,
+                        identifier,
+                        inheritance,
+                        members,
+                        semi_colon,
+                    ),
+                ),
+            ) => Ok((
+                rest,
+                DictionaryDefinition {
+                    docstring,
+                    attributes,
+                    dictionary,
+                    identifier,
+                    inheritance,
+                    members,
+                    semi_colon,
+                },
+            )),
+            Err(error) => Err(error),
+        }
     }
 
     ghost lawful = { own_lawful DICTIONARY_DEFINITION dictionary_definition_tree (Unit {0}) };
@@ -138,21 +149,20 @@ impl<'a> Parse<'a> for PartialDictionaryDefinition<'a> {
     ghost reading = { own PARTIAL_DICTIONARY_DEFINITION partial_dictionary_definition_tree (Unit {0}) };
 
     fn parse(alloc: Global, input: &'a str) -> IResult<&'a str, Self> {
-        let (rest, attributes) = attributes(alloc, input)?;
-        let (rest, (partial, (dictionary, (identifier, (members, semi_colon))))) = Parse::parse(
-            alloc, rest,
-        )?;
-        Ok((
-            rest,
-            PartialDictionaryDefinition {
-                attributes,
-                partial,
-                dictionary,
-                identifier,
-                members,
-                semi_colon,
-            },
-        ))
+        match attributes_and_five(alloc, input) {
+            Ok((rest, (attributes, partial, dictionary, identifier, members, semi_colon))) => Ok((
+                rest,
+                PartialDictionaryDefinition {
+                    attributes,
+                    partial,
+                    dictionary,
+                    identifier,
+                    members,
+                    semi_colon,
+                },
+            )),
+            Err(error) => Err(error),
+        }
     }
 
     ghost lawful = { own_lawful PARTIAL_DICTIONARY_DEFINITION partial_dictionary_definition_tree (Unit {0}) };

@@ -23,12 +23,12 @@ use crate::copies::copy_namespace_members;
 use std::alloc::{AllocError, Global};
 use weedle_base::Choice::{self, First, Second};
 use weedle_base::{IResult, Parse, TryClone};
+use weedle_fields::{docstring_attributes_and_five, docstring_attributes_and_four};
 use weedle_parts::common::{Docstring, Identifier};
 use weedle_term::{Attribute, CloseBrace, OpenBrace, ReadOnly, SemiColon};
 use weedle_types::argument::ParenthesizedArgumentList;
 use weedle_types::attribute::ExtendedAttributeList;
 use weedle_types::copies::{copy_attributes, copy_docstring};
-use weedle_types::parts::attributes;
 use weedle_types::types::{AttributedType, ReturnType};
 
 /// The members of a namespace, one after another, as `long f(); long g();`; none included.
@@ -124,20 +124,20 @@ impl<'a> Parse<'a> for OperationNamespaceMember<'a> {
     ghost reading = { own OPERATION_NAMESPACE_MEMBER operation_namespace_member_tree (Unit {0}) };
 
     fn parse(alloc: Global, input: &'a str) -> IResult<&'a str, Self> {
-        let (rest, docstring) = Option::parse(alloc, input)?;
-        let (rest, attributes) = attributes(alloc, rest)?;
-        let (rest, (return_type, (identifier, (args, semi_colon)))) = Parse::parse(alloc, rest)?;
-        Ok((
-            rest,
-            OperationNamespaceMember {
-                docstring,
-                attributes,
-                return_type,
-                identifier,
-                args,
-                semi_colon,
-            },
-        ))
+        match docstring_attributes_and_four(alloc, input) {
+            Ok((rest, (docstring, attributes, return_type, identifier, args, semi_colon))) => Ok((
+                rest,
+                OperationNamespaceMember {
+                    docstring,
+                    attributes,
+                    return_type,
+                    identifier,
+                    args,
+                    semi_colon,
+                },
+            )),
+            Err(error) => Err(error),
+        }
     }
 
     ghost lawful = { own_lawful OPERATION_NAMESPACE_MEMBER operation_namespace_member_tree (Unit {0}) };
@@ -199,23 +199,23 @@ impl<'a> Parse<'a> for AttributeNamespaceMember<'a> {
     ghost reading = { own ATTRIBUTE_NAMESPACE_MEMBER attribute_namespace_member_tree (Unit {0}) };
 
     fn parse(alloc: Global, input: &'a str) -> IResult<&'a str, Self> {
-        let (rest, docstring) = Option::parse(alloc, input)?;
-        let (rest, attributes) = attributes(alloc, rest)?;
-        let (rest, (readonly, (attribute, (type_, (identifier, semi_colon))))) = Parse::parse(
-            alloc, rest,
-        )?;
-        Ok((
-            rest,
-            AttributeNamespaceMember {
-                docstring,
-                attributes,
-                readonly,
-                attribute,
-                type_,
-                identifier,
-                semi_colon,
-            },
-        ))
+        match docstring_attributes_and_five(alloc, input) {
+            Ok(
+                (rest, (docstring, attributes, readonly, attribute, type_, identifier, semi_colon)),
+            ) => Ok((
+                rest,
+                AttributeNamespaceMember {
+                    docstring,
+                    attributes,
+                    readonly,
+                    attribute,
+                    type_,
+                    identifier,
+                    semi_colon,
+                },
+            )),
+            Err(error) => Err(error),
+        }
     }
 
     ghost lawful = { own_lawful ATTRIBUTE_NAMESPACE_MEMBER attribute_namespace_member_tree (Unit {0}) };

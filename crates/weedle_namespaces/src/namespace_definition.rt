@@ -18,11 +18,11 @@ mod into_fields;
 use crate::namespace::BracedNamespaceMembers;
 use std::alloc::{AllocError, Global};
 use weedle_base::{IResult, Parse, TryClone};
+use weedle_fields::{attributes_and_five, docstring_attributes_and_four};
 use weedle_parts::common::{Docstring, Identifier};
 use weedle_term::{Namespace, Partial, SemiColon};
 use weedle_types::attribute::ExtendedAttributeList;
 use weedle_types::copies::{copy_attributes, copy_docstring};
-use weedle_types::parts::attributes;
 
 /// A namespace, as `namespace A { long f(); };`. A docstring may stand before it.
 #[derive(Debug, PartialEq, Eq, PartialOrd, Ord, Hash)]
@@ -59,20 +59,22 @@ impl<'a> Parse<'a> for NamespaceDefinition<'a> {
     ghost reading = { own NAMESPACE_DEFINITION namespace_definition_tree (Unit {0}) };
 
     fn parse(alloc: Global, input: &'a str) -> IResult<&'a str, Self> {
-        let (rest, docstring) = Option::parse(alloc, input)?;
-        let (rest, attributes) = attributes(alloc, rest)?;
-        let (rest, (namespace, (identifier, (members, semi_colon)))) = Parse::parse(alloc, rest)?;
-        Ok((
-            rest,
-            NamespaceDefinition {
-                docstring,
-                attributes,
-                namespace,
-                identifier,
-                members,
-                semi_colon,
-            },
-        ))
+        match docstring_attributes_and_four(alloc, input) {
+            Ok((rest, (docstring, attributes, namespace, identifier, members, semi_colon))) => Ok(
+                (
+                    rest,
+                    NamespaceDefinition {
+                        docstring,
+                        attributes,
+                        namespace,
+                        identifier,
+                        members,
+                        semi_colon,
+                    },
+                ),
+            ),
+            Err(error) => Err(error),
+        }
     }
 
     ghost lawful = { own_lawful NAMESPACE_DEFINITION namespace_definition_tree (Unit {0}) };
@@ -130,21 +132,20 @@ impl<'a> Parse<'a> for PartialNamespaceDefinition<'a> {
     ghost reading = { own PARTIAL_NAMESPACE_DEFINITION partial_namespace_definition_tree (Unit {0}) };
 
     fn parse(alloc: Global, input: &'a str) -> IResult<&'a str, Self> {
-        let (rest, attributes) = attributes(alloc, input)?;
-        let (rest, (partial, (namespace, (identifier, (members, semi_colon))))) = Parse::parse(
-            alloc, rest,
-        )?;
-        Ok((
-            rest,
-            PartialNamespaceDefinition {
-                attributes,
-                partial,
-                namespace,
-                identifier,
-                members,
-                semi_colon,
-            },
-        ))
+        match attributes_and_five(alloc, input) {
+            Ok((rest, (attributes, partial, namespace, identifier, members, semi_colon))) => Ok((
+                rest,
+                PartialNamespaceDefinition {
+                    attributes,
+                    partial,
+                    namespace,
+                    identifier,
+                    members,
+                    semi_colon,
+                },
+            )),
+            Err(error) => Err(error),
+        }
     }
 
     ghost lawful = { own_lawful PARTIAL_NAMESPACE_DEFINITION partial_namespace_definition_tree (Unit {0}) };

@@ -3,7 +3,8 @@ use Rattle.std.proofs.Common.{◌≡◌, ℕ, ◌≤◌, List, [], ◌∷◌, �
 use Rattle.weedle_rules.specs.Cells.{HasEnd}
 use Rattle.weedle_places.specs.declared.span.Span.{Span}
 use Rattle.weedle_places.specs.Items.{AreItems}
-use Rattle.weedle_places.proofs.OutcomeFacts.{it_ends, it_fails, ends_inside}
+use Rattle.weedle_rules.proofs.OutcomeFacts.{it_ends, it_fails}
+use Rattle.weedle_places.proofs.OutcomeFacts.{ends_inside}
 
 -- a span
 abbrev pub span : ℕ → ℕ → Span

@@ -8,9 +8,9 @@ use Rattle.weedle_grammar.specs.Table.Definitions.{DEFINITION}
 use Rattle.weedle_rules.specs.Cells.{HasEnd, end_of}
 use Rattle.weedle_rules.proofs.RowEnds.{row_ends, raw_of_end, raw_end}
 use Rattle.weedle_grammar.proofs.Inversion.{of_first, of_choice}
-use Rattle.weedle_places.specs.Items.{EndsAt}
+use Rattle.weedle_rules.specs.Outcomes.{EndsAt}
 use Rattle.weedle_places.specs.Members.{FitsFirst, choices_in}
-use Rattle.weedle_places.proofs.OutcomeFacts.{it_ends, it_fails, not_both, has_end}
+use Rattle.weedle_rules.proofs.OutcomeFacts.{it_ends, it_fails, not_both, has_end}
 
 -- some of these alternatives fits
 abbrev pub SomeFits : List ℕ → List ℕ → ℕ → Type 0

@@ -12,9 +12,11 @@ use Rattle.weedle_grammar.proofs.Inversion.{of_parts, of_seq}
 use Rattle.weedle_rules.specs.Cells.{HasEnd}
 use Rattle.weedle_rules.proofs.RowEnds.{row_ends, raw_end}
 use Rattle.weedle_places.specs.declared.span.Span.{Span}
-use Rattle.weedle_places.specs.Items.{EndsAt, FailsAt, AreItems}
+use Rattle.weedle_rules.specs.Outcomes.{EndsAt, FailsAt}
+use Rattle.weedle_places.specs.Items.{AreItems}
 use Rattle.weedle_places.specs.Members.{member_of, AreMembers}
-use Rattle.weedle_places.proofs.OutcomeFacts.{it_ends, it_fails, not_both, has_end, one_end, ends_inside}
+use Rattle.weedle_rules.proofs.OutcomeFacts.{it_ends, it_fails, not_both, has_end, one_end}
+use Rattle.weedle_places.proofs.OutcomeFacts.{ends_inside}
 
 -- a list of members in braces
 pub record IsBraced (r y : ℕ) : Type 0 where

@@ -1,41 +1,18 @@
--- One outcome of a rule at a place, from the table of ends; repetitions.
-use Rattle.std.proofs.Common.{◌≡◌, inl, inr, ℕ, ◌<◌, ◌≤◌, List, length, Bool, true, Some, None, refl, subst, ◌∙◌, ap}
+-- Where the end of a rule lies; repetitions.
+use Rattle.std.proofs.Common.{◌≡◌, inl, inr, ℕ, ◌<◌, ◌≤◌, List, length, Bool, true, Some, refl, subst, ◌∙◌, ap}
 use Rattle.weedle_grammar.specs.Rows.{Row, Many}
-use Rattle.weedle_grammar.specs.Trees.{Tree, Fails, Gives}
 use Rattle.weedle_grammar.specs.Meaning.{ReadsRow}
 use Rattle.weedle_grammar.specs.Table.{webidl, row_of}
-use Rattle.weedle_rules.specs.Cells.{HasEnd}
 use Rattle.weedle_grammar.proofs.Takes.{takes}
 use Rattle.weedle_grammar.proofs.Checked.{rank, ranked}
 use Rattle.weedle_grammar.proofs.Entries.{passes}
 use Rattle.weedle_grammar.proofs.Exists.{grows, stays_inside, advances}
 use Rattle.weedle_grammar.proofs.Inversion.{of_many}
-use Rattle.weedle_grammar.proofs.Unique.{one_outcome}
-use Rattle.weedle_rules.proofs.RowEnds.{gave, failed, RowEnds, row_ends, rule_ends, raw_end, before_end}
-use Rattle.weedle_places.specs.Items.{EndsAt, FailsAt}
-
-one_place : (q e : ℕ) (ts us : List Tree) → Gives ts e ≡ Gives us q → e ≡ q
-one_place q e ts us h = cc
-
-never : (e : ℕ) (ts : List Tree) → Gives ts e ≡ Fails → ⊥
-never e ts h = cc
+use Rattle.weedle_rules.proofs.RowEnds.{RowEnds, row_ends, rule_ends, raw_end, before_end}
+use Rattle.weedle_rules.specs.Outcomes.{EndsAt, FailsAt}
+use Rattle.weedle_rules.proofs.OutcomeFacts.{it_ends, has_end, one_end, not_both}
 
 module _ {text : List ℕ} {r p : ℕ} where
-  pub it_ends : {q : ℕ} → HasEnd text r p (Some q) → EndsAt text r p q
-  it_ends h = gave h
-
-  pub it_fails : HasEnd text r p None → FailsAt text r p
-  it_fails h = failed h
-
-  pub has_end : {q : ℕ} → EndsAt text r p q → HasEnd text r p (Some q)
-  has_end {q} h = record { outcome = Gives h.0 q; reads = h.1; is = refl }
-
-  pub one_end : {q e : ℕ} → EndsAt text r p q → EndsAt text r p e → e ≡ q
-  one_end h k = one_place _ _ _ _ (one_outcome k.1 h.1 refl)
-
-  pub not_both : {e : ℕ} → FailsAt text r p → EndsAt text r p e → ⊥
-  not_both h k = never _ _ (one_outcome k.1 h refl)
-
   pub ends_inside : {q : ℕ} → EndsAt text r p q → p ≤ length text → q ≤ length text
   ends_inside h l = stays_inside webidl text h.1 l
 

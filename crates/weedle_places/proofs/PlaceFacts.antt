@@ -6,10 +6,11 @@ use Rattle.weedle_grammar.specs.Table.Definitions.{DEFINITION, DEFINITIONS}
 use Rattle.weedle_rules.specs.Cells.{HasEnd}
 use Rattle.weedle_places.proofs.WithinFacts.{AreWithin, members_within}
 use Rattle.weedle_places.specs.declared.place.Place.{Place}
-use Rattle.weedle_places.specs.Items.{EndsAt}
+use Rattle.weedle_rules.specs.Outcomes.{EndsAt}
 use Rattle.weedle_places.specs.Members.{HasMembers}
 use Rattle.weedle_places.specs.Places.{IsWhole, ArePlaces}
-use Rattle.weedle_places.proofs.OutcomeFacts.{it_ends, it_fails, list_on, list_stops, ends_inside}
+use Rattle.weedle_rules.proofs.OutcomeFacts.{it_ends, it_fails}
+use Rattle.weedle_places.proofs.OutcomeFacts.{list_on, list_stops, ends_inside}
 
 -- the definitions so far; those from `at` on complete them
 pub record Going (text : List ℕ) (found : List Place) (at : ℕ) : Type 0 where

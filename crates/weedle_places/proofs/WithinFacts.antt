@@ -8,9 +8,11 @@ use Rattle.weedle_grammar.specs.Table.Symbols.{OPEN_BRACE, CLOSE_BRACE}
 use Rattle.weedle_grammar.specs.Table.Definitions.{DEFINITION}
 use Rattle.weedle_grammar.proofs.Exists.{seq_grows}
 use Rattle.weedle_places.specs.declared.span.Span.{Span}
-use Rattle.weedle_places.specs.Items.{EndsAt, AreItems}
+use Rattle.weedle_rules.specs.Outcomes.{EndsAt}
+use Rattle.weedle_places.specs.Items.{AreItems}
 use Rattle.weedle_places.specs.Members.{member_of, AreMembers, HasMembers, parts_in}
-use Rattle.weedle_places.proofs.OutcomeFacts.{one_end, ends_after, list_on}
+use Rattle.weedle_rules.proofs.OutcomeFacts.{one_end}
+use Rattle.weedle_places.proofs.OutcomeFacts.{ends_after, list_on}
 use Rattle.weedle_places.proofs.KindFacts.{kind_ends}
 use Rattle.weedle_places.proofs.MemberFacts.{AreReadTo, first_to, read_to, braced}
 

@@ -7,7 +7,8 @@ use Rattle.weedle_grammar.specs.Table.InterfaceMembers.{INTERFACE_MEMBER, BRACED
 use Rattle.weedle_grammar.specs.Table.OtherMembers.{MIXIN_MEMBER, BRACED_MIXIN_MEMBERS, NAMESPACE_MEMBER, BRACED_NAMESPACE_MEMBERS, DICTIONARY_MEMBER, BRACED_DICTIONARY_MEMBERS}
 use Rattle.weedle_grammar.specs.Table.Definitions.{DEFINITION}
 use Rattle.weedle_places.specs.declared.span.Span.{Span}
-use Rattle.weedle_places.specs.Items.{EndsAt, FailsAt, AreItems}
+use Rattle.weedle_rules.specs.Outcomes.{EndsAt, FailsAt}
+use Rattle.weedle_places.specs.Items.{AreItems}
 
 -- the rule of the members that a list in braces holds; None of a rule that is no such list
 abbrev pub member_of : ℕ → Option ℕ

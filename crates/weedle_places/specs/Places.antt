@@ -2,7 +2,7 @@
 use Rattle.std.specs.Prelude.{◌≡◌, ◌≤◌, ℕ, List, [], ◌∷◌, length, All}
 use Rattle.weedle_grammar.specs.Table.Definitions.{DEFINITION, DEFINITIONS}
 use Rattle.weedle_places.specs.declared.place.Place.{Place}
-use Rattle.weedle_places.specs.Items.{EndsAt}
+use Rattle.weedle_rules.specs.Outcomes.{EndsAt}
 use Rattle.weedle_places.specs.Members.{HasMembers}
 
 -- the grammar reads the whole text as definitions

@@ -18,7 +18,8 @@ ghost use Rattle.weedle_grammar.specs.Table.{webidl, row_of as the_row_of};
 ghost use Rattle.weedle_grammar.specs.Table.Definitions.{DEFINITION};
 ghost use Rattle.weedle_grammar.specs.View.{numbers_of};
 ghost use Rattle.weedle_places.specs.declared.span.Span.{Span as TheSpan};
-ghost use Rattle.weedle_places.specs.Items.{EndsAt, AreItems};
+ghost use Rattle.weedle_rules.specs.Outcomes.{EndsAt};
+ghost use Rattle.weedle_places.specs.Items.{AreItems};
 ghost use Rattle.weedle_places.specs.Members.{
   member_of as the_member_of,
   AreMembers,

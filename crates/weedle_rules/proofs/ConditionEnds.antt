@@ -116,7 +116,7 @@ module _ (G : Grammar) (text : List ℕ) where
     if_start r k y p parts e l = record { onward = λ e b h. h; after = omega arith; within = l; low = λ h. (both _ _ (low_row G text takes ranked e)).0 }
 
     pub if_known : (r k p x q : ℕ) (parts rest : List ℕ) (n : Note) → AlongIf takes r k p parts (x ∷ rest) n q → x < rule_count → cell_number (length text) x q < cell_number (length text) r p
-    if_known r k p x q parts rest n a l = is_before p q x r (length text) a.after a.within l (λ h. below G text takes ranked x r (both _ _ (a.low h)).0)
+    if_known r k p x q parts rest n a l = is_before p q x r (length text) a.after a.within l (λ h. below x r (both _ _ (a.low h)).0)
 
     pub if_step : (r k p x q e : ℕ) (parts rest : List ℕ) (n n' : Note) → AlongIf takes r k p parts (x ∷ rest) n q → EndsBy G text x q (Some e)
         → ((ts : List Tree) → ReadsBy G text x q (Gives ts e) → note_after n (is_present ts) ≡ n') → AlongIf takes r k p parts rest n' e
@@ -157,7 +157,7 @@ module _ (G : Grammar) (text : List ℕ) where
         by None d i = cc
         by (Some ps) d i = elim (one_of _ _ (both _ _ (low_row G text takes ranked e)).1) [
           | inl t ↦ absurd (let m : p < last_end p ps = seq_advances G text (λ r. r) takes ranked d t in let n : q ≡ last_end p ps = cc in omega arith)
-          | inr t ↦ below G text takes ranked y r t
+          | inr t ↦ below y r t
         ]
 
 -- what is noted of part k before part i

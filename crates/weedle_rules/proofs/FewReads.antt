@@ -1,15 +1,15 @@
 -- How many looks a row takes at most.
-use Rattle.std.proofs.Common.{◌≡◌, ℕ, zero, suc, ◌<◌, List, [], ◌∷◌, length, get_or, Bool, true, false, refl, subst, arith}
+use Rattle.std.proofs.Common.{◌≡◌, ℕ, suc, ◌<◌, List, [], ◌∷◌, length, get_or, Bool, true, false, refl, arith}
 use Rattle.std.specs.Prelude.{◌&&◌, nat_lt}
 use borrow.Author.Tests.{ltb-true}
 use Rattle.weedle_grammar.specs.Rows.{Row, Bytes, OneOf, NotNext, Run, Past, Seq, First, Opt, Many, ListOf, List1, Tail, If}
-use Rattle.weedle_grammar.specs.Entry.{Entry, entry_at}
-use Rattle.weedle_grammar.specs.Table.{table, row_of, shape_of}
+use Rattle.weedle_grammar.specs.Table.{row_of, shape_of}
 use Rattle.weedle_grammar.specs.Meaning.{Shape, Silent, Marked, Kept, Line, Joined, Inner, Plain}
 use Rattle.weedle_grammar.proofs.Takes.{takes}
 use Rattle.weedle_grammar.specs.Bound.{rule_count}
 use Rattle.weedle_rules.specs.Bound.{most_reads}
 use Rattle.weedle_grammar.proofs.Leaves.{both}
+use Rattle.weedle_rules.proofs.RowTests.{row_passes}
 
 -- one at least, and fewer than so many
 abbrev pub is_some_below : ℕ → List ℕ → Bool
@@ -38,24 +38,9 @@ is_small (First parts) = is_some_below (suc most_reads) parts
 is_small (If parts k y) = is_some_below most_reads parts && (nat_lt k (length parts) && switches (row_of (get_or parts k 0)) (shape_of (get_or parts k 0)))
 is_small _ = true
 
-abbrev pub all_small : List Entry → Bool
-all_small [] = true
-all_small (e ∷ es) = is_small e.row && all_small es
-
-small_at : (es : List Entry) (r : ℕ) → all_small es ≡ true → r < length es → is_small (entry_at es r).row ≡ true
-small_at [] r h l = absurd (omega arith)
-small_at (e ∷ es) zero h l = (both _ _ h).0
-small_at (e ∷ es) (suc r) h l = small_at es r (both _ _ h).1 (omega arith)
-
-all_small_here : all_small table ≡ true
-all_small_here = refl
-
-as_many : length table ≡ rule_count
-as_many = refl
-
 -- each row of the grammar is small
 pub small : {r : ℕ} {row : Row} → r < rule_count → row_of r ≡ row → is_small row ≡ true
-small {r} l e = subst (λ row. is_small row ≡ true) e (small_at table r all_small_here (omega (arith, as_many)))
+small l e = row_passes is_small refl l e
 
 some_below : (k : ℕ) (xs : List ℕ) → is_some_below k xs ≡ true → (0 < length xs) × (length xs < k)
 some_below k [] h = cc

@@ -12,6 +12,9 @@ use Rattle.weedle_grammar.proofs.Leaves.{both, one_of}
 use Rattle.weedle_grammar.proofs.Exists.{grows, stays_inside, advances}
 use Rattle.weedle_rules.proofs.RowEnds.{is_before, piece_end, SeqEnds, FirstEnds, gave, failed}
 
+pub below : (a b : ℕ) → nat_lt a b ≡ true → a < b
+below a b h = omega (arith, ltb-true)
+
 module _ (G : Grammar) (text : List ℕ) where
   -- a choice that is being tried: the alternatives from i on decide
   pub record Trying (takes : ℕ → Bool) (r : ℕ) (parts rest : List ℕ) (i p : ℕ) : Type 0 where
@@ -44,9 +47,6 @@ module _ (G : Grammar) (text : List ℕ) where
   along_ends takes r p q parts a = a.onward (Some q) (record { pieces = Some []; reads = seq_end refl; is = refl })
 
   module _ (takes : ℕ → Bool) (ranked : (r : ℕ) → is_ranked (λ r. r) takes r (G.row r) ≡ true) where
-    pub below : (a b : ℕ) → nat_lt a b ≡ true → a < b
-    below a b h = omega (arith, ltb-true)
-
     -- what the row reads first has a smaller number
     pub low_row : {r : ℕ} {row : Row} → G.row r ≡ row → is_low (λ r. r) takes r row ≡ true
     low_row {r} e = subst (λ row. is_low (λ r. r) takes r row ≡ true) e (both _ _ (ranked r)).0

@@ -4,7 +4,6 @@ use Rattle.std.specs.Prelude.{IfSome}
 use Rattle.std.proofs.lemmas.List.{get_or-map, get_or-take, map-append, length-append, length-map, length-set, length-take-le, take-append-le, take_more_set}
 use Rattle.std.proofs.Math.Seq.{get_or-append_seam}
 use Rattle.std.proofs.Math.ListN.{get_or-append}
-use Rattle.std.proofs.Math.Nat.{max-le}
 use Rattle.std.proofs.lemmas.Bool.{cases_lt}
 use Rattle.weedle_grammar.specs.Bound.{rule_count}
 use Rattle.weedle_rules.specs.Bound.{most_reads}
@@ -15,6 +14,7 @@ use Rattle.weedle_rules.specs.TableOfEnds.{IsCounted}
 use Rattle.weedle_rules.specs.ReaderView.{cells_of, known_of, AreRows, IsReader}
 use Rattle.weedle_rules.proofs.CellRows.{cells_length, cells_get, cells_set, set_even, push_even, cells_push}
 use Rattle.weedle_grammar.proofs.Exists.{stays_inside}
+use Rattle.weedle_rules.proofs.CountFacts.{one_more}
 
 outcome_within : (text : List ℕ) (r p : ℕ) (o : Outcome) → Reads text r p o → p ≤ length text → (g : ℕ) → length text ≤ g → IfSome (end_of o) (λ q. q ≤ g)
 outcome_within text r p Fails d l g h = tt
@@ -96,9 +96,8 @@ module _ {C : Type 0} (stands : C → Option ℕ) where
         room = h.room;
         few = omega arith;
         right = subst (AllRight text) (sym (lays_known rows row w (omega (arith, h.laid)))) h.right;
-        looked = h.looked;
-        bounded = h.bounded;
-        most_bounded = h.most_bounded;
+        counts = h.counts;
+        counted = h.counted;
         open_cell = λ o. omega (arith, h.open_cell o);
       }
 
@@ -115,16 +114,15 @@ module _ {C : Type 0} (stands : C → Option ℕ) where
         room = h.room;
         few = h.few;
         right = h.right;
-        looked = h.looked;
-        bounded = h.bounded;
-        most_bounded = h.most_bounded;
+        counts = h.counts;
+        counted = h.counted;
         open_cell = λ o. omega (arith, known_length rows h.even w h.laid);
       }
 
   pub reader_counts : (greatest : ℕ) (text : List ℕ) (rows : List (List C)) (capacity before w reads most : ℕ) (is_open : Bool)
       → IsReader stands greatest text rows capacity before w reads most is_open → IsCounted most_reads (known_of stands w rows) w reads most
   reader_counts greatest text rows capacity before w reads most is_open h =
-      record { each = sym (known_length rows h.even w h.laid); looked = h.looked; bounded = h.bounded; most_bounded = h.most_bounded }
+      record { each = sym (known_length rows h.even w h.laid); counts = h.counts; counted = h.counted }
 
   -- the cell that is worked out is the next of the last row
   pub closes_at : (greatest : ℕ) (text : List ℕ) (rows : List (List C)) (capacity before w reads most rule place filled : ℕ)
@@ -166,8 +164,7 @@ module _ {C : Type 0} (stands : C → Option ℕ) where
         room = h.room;
         few = omega (arith, h.few);
         right = subst (AllRight text) (sym (closes_known greatest text rows capacity before w v reads most i j row c e h last wn at is ve)) a;
-        looked = omega (arith, h.looked);
-        bounded = omega (arith, h.bounded);
-        most_bounded = max-le h.most_bounded few;
+        counts = h.counts ++ count ∷ [];
+        counted = one_more most_reads h.counts w v reads most count h.counted looked few ve;
         open_cell = λ f. cc;
       }

@@ -5,6 +5,7 @@ use Rattle.std.specs.List.{flat_map}
 use Rattle.weedle_grammar.specs.Bound.{rule_count}
 use Rattle.weedle_rules.specs.Bound.{most_reads}
 use Rattle.weedle_rules.specs.Cells.{AllRight}
+use Rattle.weedle_rules.specs.TableOfEnds.{AreCounts}
 
 -- the cells of the rows, row by row
 abbrev pub cells_of : {C : Type 0} → List (List C) → List C
@@ -31,9 +32,8 @@ pub record IsReader {C : Type 0} (stands : C → Option ℕ) (greatest : ℕ) (t
   pub few : length rows ≤ length text + 1
   -- each known cell is its rule's end, or its failure, at its place
   pub right : AllRight text (known_of stands workings rows)
-  -- each closed working-out looked once at least, and `most_reads` times at most
-  pub looked : workings ≤ reads
-  pub bounded : reads ≤ most_reads * workings
-  pub most_bounded : most ≤ most_reads
+  -- how many reads each closed working-out took
+  pub counts : List ℕ
+  pub counted : AreCounts most_reads counts workings reads most
   -- while a working-out is open, its cell is laid out
   pub open_cell : is_open ≡ true → workings < length rows * rule_count

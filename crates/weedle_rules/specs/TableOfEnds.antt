@@ -1,5 +1,5 @@
 -- A table of ends.
-use Rattle.std.specs.Prelude.{◌≡◌, ◌≤◌, ◌+◌, ◌*◌, ℕ, Bool, List, length, Option}
+use Rattle.std.specs.Prelude.{◌≡◌, ◌≤◌, ◌+◌, ◌*◌, max, ℕ, Bool, List, length, sum, fold, All, Option}
 use Rattle.weedle_grammar.specs.Bound.{rule_count}
 use Rattle.weedle_rules.specs.Bound.{most_reads}
 use Rattle.weedle_rules.specs.Cells.{AllRight}
@@ -11,18 +11,33 @@ pub record TableOfEnds : Type 0 where
   pub known : List (Option ℕ)
   -- how many cells were worked out
   pub workings : ℕ
-  -- how many reads that took, and at most one of them
+  -- how many reads that took, and how many the one that took most
   pub reads : ℕ
   pub most : ℕ
   -- whether its cells are narrow
   pub narrow : Bool
 
+-- the greatest number of a list, and 0 of none
+abbrev pub greatest : List ℕ → ℕ
+greatest ns = fold max 0 ns
+
+-- so many reads one working-out may take, where k are allowed
+abbrev pub IsAmount : ℕ → ℕ → Type 0
+IsAmount k n = (1 ≤ n) × (n ≤ k)
+
+-- of workings-out that took so many reads each, in this order: how many they are, the sum of the reads, and the greatest
+pub record AreCounts (k : ℕ) (counts : List ℕ) (workings reads most : ℕ) : Type 0 where
+  pub each : All (IsAmount k) counts
+  pub workings_are : workings ≡ length counts
+  pub reads_are : reads ≡ sum counts
+  pub most_is : most ≡ greatest counts
+
 -- what always holds of the counts, where a working-out may take k reads
 pub record IsCounted (k : ℕ) (known : List (Option ℕ)) (workings reads most : ℕ) : Type 0 where
   pub each : workings ≡ length known
-  pub looked : workings ≤ reads
-  pub bounded : reads ≤ k * workings
-  pub most_bounded : most ≤ k
+  -- how many reads the working-out of each known cell took
+  pub counts : List ℕ
+  pub counted : AreCounts k counts workings reads most
 
 -- the whole table of a text
 pub record IsTableOf (t : TableOfEnds) (text : List ℕ) : Type 0 where

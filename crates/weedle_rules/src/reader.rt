@@ -149,6 +149,8 @@ impl<'a, C: Cell> Reader<'a, C> {
     pub(crate) fn recall(&self)
         ensures right { AllRight self.now.text self.now.known }
         ensures counted { IsCounted READS self.now.known self.now.workings self.now.reads self.now.most }
+        ensures looked { self.now.workings ≤ self.now.reads }
+        ensures bounded { self.now.reads ≤ READS * self.now.workings }
     {
         let _ = &self.filled;
     }

@@ -3,7 +3,6 @@ use Rattle.std.proofs.Common.{refl}
 use Rattle.std.specs.Borrow.{Bor}
 use Rattle.std.specs.Prelude.{ℕ, List, [], ◌∷◌}
 use Rattle.weedle_base.proofs.RuleFacts.{fault_rule, got_rule, mark, own_rule, seq_last, seq_next, seq_rule, still_rule}
-use Rattle.weedle_base.proofs.Steps.{part_steps}
 use Rattle.weedle_base.specs.Generic.{pair_reading}
 use Rattle.weedle_base.specs.Own.{own}
 use Rattle.weedle_base.specs.Reading.{Faults, Got, Reading}
@@ -46,4 +45,4 @@ pub callback_definition_fault : {s : List ℕ} {e : Fault (Error (Bor (List ℕ)
 callback_definition_fault h = fault_rule callback_definition_rule callback_definition_tree h
 
 -- what the search for the proof of its `parse` uses
-pub ruleset callback_definition_steps = (part_steps, callback_definition_got, callback_definition_fault)
+pub ruleset callback_definition_steps = (callback_definition_got, callback_definition_fault)

@@ -3,7 +3,6 @@ use Rattle.std.proofs.Common.{refl}
 use Rattle.std.specs.Borrow.{Bor}
 use Rattle.std.specs.Prelude.{ℕ, List, [], ◌∷◌}
 use Rattle.weedle_base.proofs.RuleFacts.{fault_rule, got_rule, mark, own_rule, seq_last, seq_next, seq_rule, still_rule}
-use Rattle.weedle_base.proofs.Steps.{part_steps}
 use Rattle.weedle_base.specs.Generic.{pair_reading}
 use Rattle.weedle_base.specs.Own.{own}
 use Rattle.weedle_base.specs.Reading.{Faults, Got, Reading}
@@ -58,7 +57,7 @@ pub implements_definition_fault : {s : List ℕ} {e : Fault (Error (Bor (List �
 implements_definition_fault h = fault_rule implements_definition_rule implements_definition_tree h
 
 -- what the search for the proof of its `parse` uses
-pub ruleset includes_statement_definition_steps = (part_steps, includes_statement_definition_got, includes_statement_definition_fault)
+pub ruleset includes_statement_definition_steps = (includes_statement_definition_got, includes_statement_definition_fault)
 
 -- what the search for the proof of its `parse` uses
-pub ruleset implements_definition_steps = (part_steps, implements_definition_got, implements_definition_fault)
+pub ruleset implements_definition_steps = (implements_definition_got, implements_definition_fault)

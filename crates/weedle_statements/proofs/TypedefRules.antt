@@ -3,7 +3,6 @@ use Rattle.std.proofs.Common.{refl}
 use Rattle.std.specs.Borrow.{Bor}
 use Rattle.std.specs.Prelude.{ℕ, List, [], ◌∷◌}
 use Rattle.weedle_base.proofs.RuleFacts.{fault_rule, got_rule, mark, own_rule, seq_last, seq_next, seq_rule, still_rule}
-use Rattle.weedle_base.proofs.Steps.{part_steps}
 use Rattle.weedle_base.specs.Generic.{pair_reading}
 use Rattle.weedle_base.specs.Own.{own}
 use Rattle.weedle_base.specs.Reading.{Faults, Got, Reading}
@@ -43,4 +42,4 @@ pub typedef_definition_fault : {s : List ℕ} {e : Fault (Error (Bor (List ℕ))
 typedef_definition_fault h = fault_rule typedef_definition_rule typedef_definition_tree h
 
 -- what the search for the proof of its `parse` uses
-pub ruleset typedef_definition_steps = (part_steps, typedef_definition_got, typedef_definition_fault)
+pub ruleset typedef_definition_steps = (typedef_definition_got, typedef_definition_fault)

@@ -11,12 +11,12 @@ mod into_fields;
 
 use std::alloc::{AllocError, Global};
 use weedle_base::{IResult, Parse, TryClone};
+use weedle_fields::attributes_and_six;
 use weedle_parts::common::Identifier;
 use weedle_term::{Assign, Callback, SemiColon};
 use weedle_types::argument::ParenthesizedArgumentList;
 use weedle_types::attribute::ExtendedAttributeList;
 use weedle_types::copies::copy_attributes;
-use weedle_types::parts::attributes;
 use weedle_types::types::ReturnType;
 
 /// A callback, as `callback F = undefined (long x);`. No docstring may stand before it.
@@ -57,21 +57,26 @@ impl<'a> Parse<'a> for CallbackDefinition<'a> {
     ghost reading = { own CALLBACK_DEFINITION callback_definition_tree (Unit {0}) };
 
     fn parse(alloc: Global, input: &'a str) -> IResult<&'a str, Self> {
-        let (rest, attributes) = attributes(alloc, input)?;
-        let (rest, (callback, (identifier, (assign, (return_type, (arguments, semi_colon)))))) =
-            Parse::parse(alloc, rest)?;
-        Ok((
-            rest,
-            CallbackDefinition {
-                attributes,
-                callback,
-                identifier,
-                assign,
-                return_type,
-                arguments,
-                semi_colon,
-            },
-        ))
+        match attributes_and_six(alloc, input) {
+            Ok(
+                (
+                    rest,
+                    (attributes, callback, identifier, assign, return_type, arguments, semi_colon),
+                ),
+            ) => Ok((
+                rest,
+                CallbackDefinition {
+                    attributes,
+                    callback,
+                    identifier,
+                    assign,
+                    return_type,
+                    arguments,
+                    semi_colon,
+                },
+            )),
+            Err(error) => Err(error),
+        }
     }
 
     ghost lawful = { own_lawful CALLBACK_DEFINITION callback_definition_tree (Unit {0}) };

@@ -17,11 +17,11 @@ mod into_fields;
 
 use std::alloc::{AllocError, Global};
 use weedle_base::{IResult, Parse, TryClone};
+use weedle_fields::attributes_and_four;
 use weedle_parts::common::Identifier;
 use weedle_term::{Implements, Includes, SemiColon};
 use weedle_types::attribute::ExtendedAttributeList;
 use weedle_types::copies::copy_attributes;
-use weedle_types::parts::attributes;
 
 /// The use of a mixin by an interface, as `A includes B;`. No docstring may stand before it.
 #[derive(Debug, PartialEq, Eq, PartialOrd, Ord, Hash)]
@@ -55,20 +55,19 @@ impl<'a> Parse<'a> for IncludesStatementDefinition<'a> {
     ghost reading = { own INCLUDES_STATEMENT_DEFINITION includes_statement_definition_tree (Unit {0}) };
 
     fn parse(alloc: Global, input: &'a str) -> IResult<&'a str, Self> {
-        let (rest, attributes) = attributes(alloc, input)?;
-        let (rest, (lhs_identifier, (includes, (rhs_identifier, semi_colon)))) = Parse::parse(
-            alloc, rest,
-        )?;
-        Ok((
-            rest,
-            IncludesStatementDefinition {
-                attributes,
-                lhs_identifier,
-                includes,
-                rhs_identifier,
-                semi_colon,
-            },
-        ))
+        match attributes_and_four(alloc, input) {
+            Ok((rest, (attributes, lhs_identifier, includes, rhs_identifier, semi_colon))) => Ok((
+                rest,
+                IncludesStatementDefinition {
+                    attributes,
+                    lhs_identifier,
+                    includes,
+                    rhs_identifier,
+                    semi_colon,
+                },
+            )),
+            Err(error) => Err(error),
+        }
     }
 
     ghost lawful = { own_lawful INCLUDES_STATEMENT_DEFINITION includes_statement_definition_tree (Unit {0}) };
@@ -122,20 +121,21 @@ impl<'a> Parse<'a> for ImplementsDefinition<'a> {
     ghost reading = { own IMPLEMENTS_DEFINITION implements_definition_tree (Unit {0}) };
 
     fn parse(alloc: Global, input: &'a str) -> IResult<&'a str, Self> {
-        let (rest, attributes) = attributes(alloc, input)?;
-        let (rest, (lhs_identifier, (implements, (rhs_identifier, semi_colon)))) = Parse::parse(
-            alloc, rest,
-        )?;
-        Ok((
-            rest,
-            ImplementsDefinition {
-                attributes,
-                lhs_identifier,
-                includes: implements,
-                rhs_identifier,
-                semi_colon,
-            },
-        ))
+        match attributes_and_four(alloc, input) {
+            Ok((rest, (attributes, lhs_identifier, implements, rhs_identifier, semi_colon))) => Ok(
+                (
+                    rest,
+                    ImplementsDefinition {
+                        attributes,
+                        lhs_identifier,
+                        includes: implements,
+                        rhs_identifier,
+                        semi_colon,
+                    },
+                ),
+            ),
+            Err(error) => Err(error),
+        }
     }
 
     ghost lawful = { own_lawful IMPLEMENTS_DEFINITION implements_definition_tree (Unit {0}) };

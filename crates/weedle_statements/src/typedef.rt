@@ -11,11 +11,11 @@ mod into_fields;
 
 use std::alloc::{AllocError, Global};
 use weedle_base::{IResult, Parse, TryClone};
+use weedle_fields::attributes_and_four;
 use weedle_parts::common::Identifier;
 use weedle_term::{SemiColon, Typedef};
 use weedle_types::attribute::ExtendedAttributeList;
 use weedle_types::copies::copy_attributes;
-use weedle_types::parts::attributes;
 use weedle_types::types::AttributedType;
 
 /// A name for a type, as `typedef long A;`. No docstring may stand before it.
@@ -50,18 +50,19 @@ impl<'a> Parse<'a> for TypedefDefinition<'a> {
     ghost reading = { own TYPEDEF_DEFINITION typedef_definition_tree (Unit {0}) };
 
     fn parse(alloc: Global, input: &'a str) -> IResult<&'a str, Self> {
-        let (rest, attributes) = attributes(alloc, input)?;
-        let (rest, (typedef, (type_, (identifier, semi_colon)))) = Parse::parse(alloc, rest)?;
-        Ok((
-            rest,
-            TypedefDefinition {
-                attributes,
-                typedef,
-                type_,
-                identifier,
-                semi_colon,
-            },
-        ))
+        match attributes_and_four(alloc, input) {
+            Ok((rest, (attributes, typedef, type_, identifier, semi_colon))) => Ok((
+                rest,
+                TypedefDefinition {
+                    attributes,
+                    typedef,
+                    type_,
+                    identifier,
+                    semi_colon,
+                },
+            )),
+            Err(error) => Err(error),
+        }
     }
 
     ghost lawful = { own_lawful TYPEDEF_DEFINITION typedef_definition_tree (Unit {0}) };

@@ -2,9 +2,9 @@
 //!
 //! Written by tools/into_fields.py.
 
-ghost use Rattle.std.specs.Prelude.{◌≡◌};
+ghost use Rattle.std.specs.Prelude.{◌≡◌, ◌↔◌};
 
-use super::{DoubleTypedAsyncIterable, SingleTypedAsyncIterable};
+use super::{AsyncIterableInterfaceMember, DoubleTypedAsyncIterable, SingleTypedAsyncIterable};
 use weedle_parts::common::Generics;
 use weedle_term::{Async, Comma, Iterable, SemiColon};
 use weedle_types::argument::ParenthesizedArgumentList;
@@ -68,5 +68,29 @@ impl<'a> DoubleTypedAsyncIterable<'a> {
             semi_colon,
         } = self;
         (attributes, async_iterable, generics, args, semi_colon)
+    }
+}
+
+impl<'a> AsyncIterableInterfaceMember<'a> {
+    /// What it holds where it is `AsyncIterableInterfaceMember::Single`, and else None.
+    pub fn into_single(self) -> Option<SingleTypedAsyncIterable<'a>>
+        ensures { (held : SingleTypedAsyncIterable)
+            → result ≡ Some held ↔ self.entry ≡ AsyncIterableInterfaceMember.Single held }
+    {
+        match self {
+            AsyncIterableInterfaceMember::Single(held) => Some(held),
+            _ => None,
+        }
+    }
+
+    /// What it holds where it is `AsyncIterableInterfaceMember::Double`, and else None.
+    pub fn into_double(self) -> Option<DoubleTypedAsyncIterable<'a>>
+        ensures { (held : DoubleTypedAsyncIterable)
+            → result ≡ Some held ↔ self.entry ≡ AsyncIterableInterfaceMember.Double held }
+    {
+        match self {
+            AsyncIterableInterfaceMember::Double(held) => Some(held),
+            _ => None,
+        }
     }
 }

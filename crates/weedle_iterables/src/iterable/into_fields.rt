@@ -2,9 +2,9 @@
 //!
 //! Written by tools/into_fields.py.
 
-ghost use Rattle.std.specs.Prelude.{◌≡◌};
+ghost use Rattle.std.specs.Prelude.{◌≡◌, ◌↔◌};
 
-use super::{DoubleTypedIterable, SingleTypedIterable};
+use super::{DoubleTypedIterable, IterableInterfaceMember, SingleTypedIterable};
 use weedle_parts::common::Generics;
 use weedle_term::{Comma, Iterable, SemiColon};
 use weedle_types::attribute::ExtendedAttributeList;
@@ -61,5 +61,29 @@ impl<'a> DoubleTypedIterable<'a> {
             semi_colon,
         } = self;
         (attributes, iterable, generics, semi_colon)
+    }
+}
+
+impl<'a> IterableInterfaceMember<'a> {
+    /// What it holds where it is `IterableInterfaceMember::Single`, and else None.
+    pub fn into_single(self) -> Option<SingleTypedIterable<'a>>
+        ensures { (held : SingleTypedIterable)
+            → result ≡ Some held ↔ self.entry ≡ IterableInterfaceMember.Single held }
+    {
+        match self {
+            IterableInterfaceMember::Single(held) => Some(held),
+            _ => None,
+        }
+    }
+
+    /// What it holds where it is `IterableInterfaceMember::Double`, and else None.
+    pub fn into_double(self) -> Option<DoubleTypedIterable<'a>>
+        ensures { (held : DoubleTypedIterable)
+            → result ≡ Some held ↔ self.entry ≡ IterableInterfaceMember.Double held }
+    {
+        match self {
+            IterableInterfaceMember::Double(held) => Some(held),
+            _ => None,
+        }
     }
 }

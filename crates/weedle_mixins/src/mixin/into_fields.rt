@@ -2,9 +2,12 @@
 //!
 //! Written by tools/into_fields.py.
 
-ghost use Rattle.std.specs.Prelude.{◌≡◌};
+ghost use Rattle.std.specs.Prelude.{◌≡◌, ◌↔◌};
 
-use super::{AttributeMixinMember, BracedMixinMembers, MixinMembers, OperationMixinMember};
+use super::{
+    AttributeMixinMember, BracedMixinMembers, MixinMember, MixinMembers, OperationMixinMember,
+};
+use weedle_members::{ConstMember, StringifierMember};
 use weedle_parts::common::Identifier;
 use weedle_term::{Attribute, CloseBrace, OpenBrace, ReadOnly, SemiColon, Stringifier};
 use weedle_types::argument::ParenthesizedArgumentList;
@@ -108,5 +111,51 @@ impl<'a> AttributeMixinMember<'a> {
             identifier,
             semi_colon,
         )
+    }
+}
+
+impl<'a> MixinMember<'a> {
+    /// What it holds where it is `MixinMember::Const`, and else None.
+    pub fn into_const(self) -> Option<ConstMember<'a>>
+        ensures { (held : ConstMember)
+            → result ≡ Some held ↔ self.entry ≡ MixinMember.Const held }
+    {
+        match self {
+            MixinMember::Const(held) => Some(held),
+            _ => None,
+        }
+    }
+
+    /// What it holds where it is `MixinMember::Operation`, and else None.
+    pub fn into_operation(self) -> Option<OperationMixinMember<'a>>
+        ensures { (held : OperationMixinMember)
+            → result ≡ Some held ↔ self.entry ≡ MixinMember.Operation held }
+    {
+        match self {
+            MixinMember::Operation(held) => Some(held),
+            _ => None,
+        }
+    }
+
+    /// What it holds where it is `MixinMember::Attribute`, and else None.
+    pub fn into_attribute(self) -> Option<AttributeMixinMember<'a>>
+        ensures { (held : AttributeMixinMember)
+            → result ≡ Some held ↔ self.entry ≡ MixinMember.Attribute held }
+    {
+        match self {
+            MixinMember::Attribute(held) => Some(held),
+            _ => None,
+        }
+    }
+
+    /// What it holds where it is `MixinMember::Stringifier`, and else None.
+    pub fn into_stringifier(self) -> Option<StringifierMember<'a>>
+        ensures { (held : StringifierMember)
+            → result ≡ Some held ↔ self.entry ≡ MixinMember.Stringifier held }
+    {
+        match self {
+            MixinMember::Stringifier(held) => Some(held),
+            _ => None,
+        }
     }
 }

@@ -2,10 +2,11 @@
 //!
 //! Written by tools/into_fields.py.
 
-ghost use Rattle.std.specs.Prelude.{◌≡◌};
+ghost use Rattle.std.specs.Prelude.{◌≡◌, ◌↔◌};
 
 use super::{
-    AttributeNamespaceMember, BracedNamespaceMembers, NamespaceMembers, OperationNamespaceMember,
+    AttributeNamespaceMember, BracedNamespaceMembers, NamespaceMember, NamespaceMembers,
+    OperationNamespaceMember,
 };
 use weedle_parts::common::{Docstring, Identifier};
 use weedle_term::{Attribute, CloseBrace, OpenBrace, ReadOnly, SemiColon};
@@ -104,5 +105,29 @@ impl<'a> AttributeNamespaceMember<'a> {
         (
             docstring, attributes, readonly, attribute, type_, identifier, semi_colon,
         )
+    }
+}
+
+impl<'a> NamespaceMember<'a> {
+    /// What it holds where it is `NamespaceMember::Operation`, and else None.
+    pub fn into_operation(self) -> Option<OperationNamespaceMember<'a>>
+        ensures { (held : OperationNamespaceMember)
+            → result ≡ Some held ↔ self.entry ≡ NamespaceMember.Operation held }
+    {
+        match self {
+            NamespaceMember::Operation(held) => Some(held),
+            _ => None,
+        }
+    }
+
+    /// What it holds where it is `NamespaceMember::Attribute`, and else None.
+    pub fn into_attribute(self) -> Option<AttributeNamespaceMember<'a>>
+        ensures { (held : AttributeNamespaceMember)
+            → result ≡ Some held ↔ self.entry ≡ NamespaceMember.Attribute held }
+    {
+        match self {
+            NamespaceMember::Attribute(held) => Some(held),
+            _ => None,
+        }
     }
 }

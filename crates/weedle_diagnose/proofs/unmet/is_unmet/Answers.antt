@@ -1,5 +1,6 @@
 use Rattle.std.proofs.Common.{refl, sym, ◌∙◌}
-use Rattle.weedle_diagnose.proofs.OutcomeFacts.{no_failure, it_fails, never_so}
+use Rattle.weedle_rules.proofs.OutcomeFacts.{it_fails}
+use Rattle.weedle_diagnose.proofs.OutcomeFacts.{no_failure, never_so}
 use Rattle.weedle_diagnose.proofs.MarkingFacts.{tried_is}
 use Rattle.weedle_diagnose.proofs.unmet.is_unmet.Goals as goal
 

@@ -1,5 +1,6 @@
 use Rattle.std.proofs.Common.{◌<◌, ◌≤◌, length, arith}
-use Rattle.weedle_places.proofs.OutcomeFacts.{takes_bytes, it_ends, ends_behind, ends_inside}
+use Rattle.weedle_rules.proofs.OutcomeFacts.{it_ends}
+use Rattle.weedle_places.proofs.OutcomeFacts.{takes_bytes, ends_behind, ends_inside}
 use Rattle.weedle_places.proofs.ItemFacts.{one_more, finish}
 use Rattle.weedle_places.proofs.items.items.Goals as goal
 

@@ -1,5 +1,6 @@
 use Rattle.std.proofs.Common.{◌<◌, ◌≤◌, length, refl, arith}
-use Rattle.weedle_places.proofs.OutcomeFacts.{it_ends, ends_behind, ends_inside}
+use Rattle.weedle_rules.proofs.OutcomeFacts.{it_ends}
+use Rattle.weedle_places.proofs.OutcomeFacts.{ends_behind, ends_inside}
 use Rattle.weedle_places.proofs.PlaceFacts.{one_more, finish}
 use Rattle.weedle_places.proofs.place.definitions.Goals as goal
 

@@ -1,5 +1,5 @@
 use Rattle.std.proofs.Common.{refl, inl, inr}
-use Rattle.weedle_diagnose.proofs.OutcomeFacts.{it_ends}
+use Rattle.weedle_rules.proofs.OutcomeFacts.{it_ends}
 use Rattle.weedle_diagnose.proofs.LaterFacts.{still_in, in_text}
 use Rattle.weedle_diagnose.proofs.AddingFacts.{none_follows, one_follows}
 use Rattle.weedle_diagnose.proofs.tries.items.listed.Goals as goal

@@ -1,5 +1,5 @@
 use Rattle.std.proofs.Common.{refl, inl, inr}
-use Rattle.weedle_diagnose.proofs.OutcomeFacts.{it_ends}
+use Rattle.weedle_rules.proofs.OutcomeFacts.{it_ends}
 use Rattle.weedle_diagnose.proofs.LaterFacts.{row_in, still_in}
 use Rattle.weedle_diagnose.proofs.AddingFacts.{many_ended, many_stuck, many_went_on}
 use Rattle.weedle_diagnose.proofs.tries.items.many.Goals as goal

@@ -1,5 +1,5 @@
 use Rattle.std.proofs.Common.{refl, inl, inr}
-use Rattle.weedle_diagnose.proofs.OutcomeFacts.{it_ends}
+use Rattle.weedle_rules.proofs.OutcomeFacts.{it_ends}
 use Rattle.weedle_diagnose.proofs.LaterFacts.{row_in, still_in, in_text}
 use Rattle.weedle_diagnose.proofs.AddingFacts.{tail_ended, tail_stuck, tail_gave_back, tail_went_on}
 use Rattle.weedle_diagnose.proofs.tries.items.tail.Goals as goal

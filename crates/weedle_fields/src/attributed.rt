@@ -1,0 +1,81 @@
+//! Attributes and what stands behind them.
+
+ghost use Rattle.weedle_base.specs.Generic.{pair_reading};
+ghost use Rattle.weedle_fields.specs.Fields.{AnswersInPairs, attributes_then};
+
+use std::alloc::Global;
+use weedle_base::{IResult, Parse};
+use weedle_types::attribute::ExtendedAttributeList;
+use weedle_types::parts::attributes;
+
+/// Reads attributes where they stand, and then three others, as the word, the types and the `;` of
+/// `[A] iterable<long>;`. Where one of the three isn't there it is a mismatch.
+pub fn attributes_and_three<'a, A: Parse<'a>, B: Parse<'a>, C: Parse<'a>>(
+    alloc: Global,
+    input: &'a str,
+) -> IResult<&'a str, (Option<ExtendedAttributeList<'a>>, A, B, C)>
+    ensures { AnswersInPairs (attributes_then (pair_reading A.reading (pair_reading B.reading C.reading))) (λ v. (v.0, (v.1, (v.2, v.3)))) input.now result }
+{
+    let (rest, attributes) = attributes(alloc, input)?;
+    let (rest, (first, (second, third))) = Parse::parse(alloc, rest)?;
+    Ok((rest, (attributes, first, second, third)))
+}
+
+/// Reads attributes where they stand, and then four others, as the name, the word, the name and
+/// the `;` of `[A] Request includes Body;`. Where one of the four isn't there it is a mismatch.
+pub fn attributes_and_four<'a, A: Parse<'a>, B: Parse<'a>, C: Parse<'a>, D: Parse<'a>>(
+    alloc: Global,
+    input: &'a str,
+) -> IResult<&'a str, (Option<ExtendedAttributeList<'a>>, A, B, C, D)>
+    ensures { AnswersInPairs (attributes_then (pair_reading A.reading (pair_reading B.reading (pair_reading C.reading D.reading)))) (λ v. (v.0, (v.1, (v.2, (v.3, v.4))))) input.now result }
+{
+    let (rest, attributes) = attributes(alloc, input)?;
+    let (rest, (first, (second, (third, fourth)))) = Parse::parse(alloc, rest)?;
+    Ok((rest, (attributes, first, second, third, fourth)))
+}
+
+/// Reads attributes where they stand, and then five others, as the two words, the name, the
+/// members and the `;` of `[A] partial interface B {};`. Where one of the five isn't there it is a
+/// mismatch.
+pub fn attributes_and_five<
+    'a,
+    A: Parse<'a>,
+    B: Parse<'a>,
+    C: Parse<'a>,
+    D: Parse<'a>,
+    E: Parse<'a>,
+>(
+    alloc: Global,
+    input: &'a str,
+) -> IResult<&'a str, (Option<ExtendedAttributeList<'a>>, A, B, C, D, E)>
+    ensures { AnswersInPairs (attributes_then (pair_reading A.reading (pair_reading B.reading (pair_reading C.reading (pair_reading D.reading E.reading))))) (λ v. (v.0, (v.1, (v.2, (v.3, (v.4, v.5)))))) input.now result }
+{
+    let (rest, attributes) = attributes(alloc, input)?;
+    let (rest, (first, (second, (third, (fourth, fifth))))) = Parse::parse(alloc, rest)?;
+    Ok((rest, (attributes, first, second, third, fourth, fifth)))
+}
+
+/// Reads attributes where they stand, and then six others, as the word, the name, the `=`, the
+/// type, the arguments and the `;` of `[A] callback F = undefined (long x);`. Where one of the six
+/// isn't there it is a mismatch.
+pub fn attributes_and_six<
+    'a,
+    A: Parse<'a>,
+    B: Parse<'a>,
+    C: Parse<'a>,
+    D: Parse<'a>,
+    E: Parse<'a>,
+    F: Parse<'a>,
+>(
+    alloc: Global,
+    input: &'a str,
+) -> IResult<&'a str, (Option<ExtendedAttributeList<'a>>, A, B, C, D, E, F)>
+    ensures { AnswersInPairs (attributes_then (pair_reading A.reading (pair_reading B.reading (pair_reading C.reading (pair_reading D.reading (pair_reading E.reading F.reading)))))) (λ v. (v.0, (v.1, (v.2, (v.3, (v.4, (v.5, v.6))))))) input.now result }
+{
+    let (rest, attributes) = attributes(alloc, input)?;
+    let (rest, (first, (second, (third, (fourth, (fifth, sixth)))))) = Parse::parse(alloc, rest)?;
+    Ok((
+        rest,
+        (attributes, first, second, third, fourth, fifth, sixth),
+    ))
+}

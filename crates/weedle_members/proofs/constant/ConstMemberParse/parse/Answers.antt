@@ -1,7 +1,0 @@
--- Parts one after another. Written by tools/idl_proofs.py.
-use Rattle.weedle_base.proofs.Steps.{got_pair}
-use Rattle.weedle_members.proofs.ConstantRules.{const_member_got}
-use Rattle.weedle_members.proofs.constant.ConstMemberParse.parse.Goals as goal
-
-pub returns : goal.returns
-returns c = const_member_got _ (got_pair _ _ c.in_ok-rest.ensures c.in_ok-rest-2.ensures)

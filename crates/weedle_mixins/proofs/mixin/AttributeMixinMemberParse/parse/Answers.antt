@@ -1,7 +1,0 @@
--- Parts one after another. Written by tools/idl_proofs.py.
-use Rattle.weedle_base.proofs.Steps.{got_pair}
-use Rattle.weedle_mixins.proofs.MixinRules.{attribute_mixin_member_got}
-use Rattle.weedle_mixins.proofs.mixin.AttributeMixinMemberParse.parse.Goals as goal
-
-pub returns : goal.returns
-returns c = attribute_mixin_member_got _ (got_pair _ _ c.in_ok-rest.ensures c.in_ok-rest-2.ensures)
