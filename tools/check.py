@@ -8,7 +8,8 @@ In a copy of the repository all of them are removed, each script of WRITERS is r
 written is laid out by `rt fmt`. Then the copy has to hold the very files of the repository.
 Beside that it is looked whether each public field and each variant has a doc line
 (tools/undocumented.py), whether the types are declared as the grammar has them
-(tools/unmatched.py), and whether each wrong body that is tried by hand still applies
+(tools/unmatched.py), whether each conversion of a member does no more than to put it into its
+variant (tools/conversions.py), and whether each wrong body that is tried by hand still applies
 (tools/try_edits.py --check).
 
 It prints a line for each file that is stale, for each that no script writes though it says so, and
@@ -31,7 +32,7 @@ TOP = Path(__file__).resolve().parent.parent
 # The scripts that write files below crates/.
 WRITERS = "grammar terminals types_proofs build_types_proofs idl_proofs into_fields".split()
 # What is looked at where it stands.
-LOOKS = (["undocumented.py"], ["unmatched.py"], ["try_edits.py", "--check"])
+LOOKS = (["undocumented.py"], ["unmatched.py"], ["conversions.py"], ["try_edits.py", "--check"])
 WRITTEN = re.compile(r"[Ww]ritten by (tools/\w+\.py)")
 # A head is short; further down a file may speak of scripts.
 HEAD_LINES = 3
