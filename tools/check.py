@@ -5,10 +5,12 @@
 
 Files below crates/ that a script writes name it at their heads, as `Written by tools/grammar.py`.
 In a copy of the repository all of them are removed, each script of WRITERS is run, and what was
-written is laid out by `rt fmt`. Then the copy has to hold the very files of the repository.
+written is laid out by `rt fmt`. Then the copy has to hold the very files of the repository. What is
+written from another program's answers, FROM_OUTSIDE, is left as it is.
 Beside that it is looked whether each public field and each variant has a doc line
 (tools/undocumented.py), whether the types are declared as the grammar has them
-(tools/unmatched.py), and whether each wrong body that is tried by hand still applies
+(tools/unmatched.py), whether each conversion of a member does no more than to put it into its
+variant (tools/conversions.py), and whether each wrong body that is tried by hand still applies
 (tools/try_edits.py --check).
 
 It prints a line for each file that is stale, for each that no script writes though it says so, and
@@ -30,8 +32,10 @@ from crates import Unfit, copy_crate, files_of, read_lines
 TOP = Path(__file__).resolve().parent.parent
 # The scripts that write files below crates/.
 WRITERS = "grammar terminals types_proofs build_types_proofs idl_proofs into_fields".split()
+# What these write comes from programs that the gate hasn't, as weedle2's answers: it is left as it is.
+FROM_OUTSIDE = ("tools/weedle2_rows.py",)
 # What is looked at where it stands.
-LOOKS = (["undocumented.py"], ["unmatched.py"], ["try_edits.py", "--check"])
+LOOKS = (["undocumented.py"], ["unmatched.py"], ["conversions.py"], ["try_edits.py", "--check"])
 WRITTEN = re.compile(r"[Ww]ritten by (tools/\w+\.py)")
 # A head is short; further down a file may speak of scripts.
 HEAD_LINES = 3
@@ -50,9 +54,9 @@ def sources(root):
 
 
 def writers(files):
-    """The script that each file names at its head, by the file's path."""
+    """The script that each file names at its head, by the path, where the gate can run that script."""
     found = {path: writer_in(data.decode(errors="replace")) for path, data in files.items()}
-    return {path: script for path, script in found.items() if script}
+    return {it: script for it, script in found.items() if script and script not in FROM_OUTSIDE}
 
 
 def copy(root, into):

@@ -1,4 +1,7 @@
 //! Members of interfaces, mixins, namespaces and dictionaries.
+//!
+//! The values are those that weedle2 prints, in the port's names. A constant of `0x`, which it reads, is refused
+//! here, by hand from the grammar.
 
 use std::alloc::Global;
 use std::test::Fail;

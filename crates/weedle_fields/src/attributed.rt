@@ -1,12 +1,25 @@
 //! Attributes and what stands behind them.
 
 ghost use Rattle.weedle_base.specs.Generic.{pair_reading};
+ghost use Rattle.weedle_base.specs.Reading.{Answers};
 ghost use Rattle.weedle_fields.specs.Fields.{AnswersInPairs, attributes_then};
 
 use std::alloc::Global;
 use weedle_base::{IResult, Parse};
 use weedle_types::attribute::ExtendedAttributeList;
 use weedle_types::parts::attributes;
+
+/// Reads attributes where they stand, and then others as pairs within pairs.
+fn attributes_and<'a, R: Parse<'a>>(
+    alloc: Global,
+    input: &'a str,
+) -> IResult<&'a str, (Option<ExtendedAttributeList<'a>>, R)>
+    ensures { Answers (attributes_then R.reading) input.now result }
+{
+    let (rest, attributes) = attributes(alloc, input)?;
+    let (rest, others) = R::parse(alloc, rest)?;
+    Ok((rest, (attributes, others)))
+}
 
 /// Reads attributes where they stand, and then three others, as the word, the types and the `;` of
 /// `[A] iterable<long>;`. Where one of the three isn't there it is a mismatch.
@@ -16,8 +29,7 @@ pub fn attributes_and_three<'a, A: Parse<'a>, B: Parse<'a>, C: Parse<'a>>(
 ) -> IResult<&'a str, (Option<ExtendedAttributeList<'a>>, A, B, C)>
     ensures { AnswersInPairs (attributes_then (pair_reading A.reading (pair_reading B.reading C.reading))) (λ v. (v.0, (v.1, (v.2, v.3)))) input.now result }
 {
-    let (rest, attributes) = attributes(alloc, input)?;
-    let (rest, (first, (second, third))) = Parse::parse(alloc, rest)?;
+    let (rest, (attributes, (first, (second, third)))) = attributes_and(alloc, input)?;
     Ok((rest, (attributes, first, second, third)))
 }
 
@@ -29,8 +41,7 @@ pub fn attributes_and_four<'a, A: Parse<'a>, B: Parse<'a>, C: Parse<'a>, D: Pars
 ) -> IResult<&'a str, (Option<ExtendedAttributeList<'a>>, A, B, C, D)>
     ensures { AnswersInPairs (attributes_then (pair_reading A.reading (pair_reading B.reading (pair_reading C.reading D.reading)))) (λ v. (v.0, (v.1, (v.2, (v.3, v.4))))) input.now result }
 {
-    let (rest, attributes) = attributes(alloc, input)?;
-    let (rest, (first, (second, (third, fourth)))) = Parse::parse(alloc, rest)?;
+    let (rest, (attributes, (first, (second, (third, fourth))))) = attributes_and(alloc, input)?;
     Ok((rest, (attributes, first, second, third, fourth)))
 }
 
@@ -50,8 +61,9 @@ pub fn attributes_and_five<
 ) -> IResult<&'a str, (Option<ExtendedAttributeList<'a>>, A, B, C, D, E)>
     ensures { AnswersInPairs (attributes_then (pair_reading A.reading (pair_reading B.reading (pair_reading C.reading (pair_reading D.reading E.reading))))) (λ v. (v.0, (v.1, (v.2, (v.3, (v.4, v.5)))))) input.now result }
 {
-    let (rest, attributes) = attributes(alloc, input)?;
-    let (rest, (first, (second, (third, (fourth, fifth))))) = Parse::parse(alloc, rest)?;
+    let (rest, (attributes, (first, (second, (third, (fourth, fifth)))))) = attributes_and(
+        alloc, input,
+    )?;
     Ok((rest, (attributes, first, second, third, fourth, fifth)))
 }
 
@@ -72,8 +84,9 @@ pub fn attributes_and_six<
 ) -> IResult<&'a str, (Option<ExtendedAttributeList<'a>>, A, B, C, D, E, F)>
     ensures { AnswersInPairs (attributes_then (pair_reading A.reading (pair_reading B.reading (pair_reading C.reading (pair_reading D.reading (pair_reading E.reading F.reading)))))) (λ v. (v.0, (v.1, (v.2, (v.3, (v.4, (v.5, v.6))))))) input.now result }
 {
-    let (rest, attributes) = attributes(alloc, input)?;
-    let (rest, (first, (second, (third, (fourth, (fifth, sixth)))))) = Parse::parse(alloc, rest)?;
+    let (rest, (attributes, (first, (second, (third, (fourth, (fifth, sixth))))))) = attributes_and(
+        alloc, input,
+    )?;
     Ok((
         rest,
         (attributes, first, second, third, fourth, fifth, sixth),

@@ -1,4 +1,6 @@
 //! Brackets, lists with separators and what may be null.
+//!
+//! The values are those that weedle2 prints, in the port's names.
 
 use crate::users::Fuse;
 use std::test::Fail;

@@ -1,4 +1,6 @@
 //! The scanners, and terminals that stand beside others.
+//!
+//! Of terminals the values are those that weedle2 prints; of the scanners they are by hand, from the grammar.
 
 use std::alloc::Global;
 use std::test::Fail;

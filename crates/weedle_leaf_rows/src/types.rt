@@ -1,4 +1,6 @@
 //! Types of numbers and of constants.
+//!
+//! The values are those that weedle2 prints, in the port's names.
 
 use std::test::Fail;
 use weedle_parts::types::{ConstType, FloatingPointType, IntegerType, LongType, MayBeNull};

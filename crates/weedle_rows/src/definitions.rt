@@ -1,4 +1,7 @@
 //! What is read of texts.
+//!
+//! The values and the rests are those that weedle2 prints, in the port's names; those of a name that begins with
+//! a digit and of a line comment without its LF are by hand, from the grammar.
 
 use std::alloc::Global;
 use std::process::Abort;

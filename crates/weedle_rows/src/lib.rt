@@ -12,3 +12,5 @@ mod readers;
 mod real_text;
 #[cfg(test)]
 mod spelling;
+#[cfg(test)]
+mod weedle2;

@@ -1,4 +1,6 @@
 //! A text as it stands in real files.
+//!
+//! The values are those that weedle2 prints, in the port's names.
 
 use crate::definitions::titles;
 use std::alloc::Global;

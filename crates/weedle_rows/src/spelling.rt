@@ -1,5 +1,7 @@
 //! Texts that say the same: comments, a comma behind the last value of an enum and an underscore
 //! before a name are in no value.
+//!
+//! The value is the one that weedle2 prints.
 
 use crate::definitions::reads_all;
 use std::alloc::Global;

@@ -3,3 +3,4 @@ pub mod PlainAttributeLaws
 pub mod RecursiveTypeFacts
 pub mod TypeLaws
 pub mod VariantFacts
+pub mod VariantTreeFacts

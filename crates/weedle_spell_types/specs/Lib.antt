@@ -3,3 +3,4 @@ pub mod PlainAttributes
 pub mod RecursiveTypes
 pub mod Types
 pub mod Variants
+pub mod VariantTrees

@@ -19,4 +19,4 @@ pub use types::{
     record_key_type, record_type, record_types, return_type, sequence_type, single_type, type_,
     union_member_type, union_type,
 };
-pub use variant_law::variants;
+pub use variant_law::{variant_trees, variants};

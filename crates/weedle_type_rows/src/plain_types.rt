@@ -1,4 +1,6 @@
 //! Types that hold no others, each alone.
+//!
+//! The values are those that weedle2 prints, in the port's names.
 
 use std::test::Fail;
 use weedle_parts::types::{

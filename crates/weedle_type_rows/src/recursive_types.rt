@@ -1,4 +1,6 @@
 //! Types that hold others.
+//!
+//! The values are those that weedle2 prints, in the port's names.
 
 use std::alloc::Global;
 use std::test::Fail;

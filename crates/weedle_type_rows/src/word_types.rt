@@ -1,4 +1,6 @@
 //! Types that are one word.
+//!
+//! The values are those that weedle2 prints, in the port's names.
 
 use std::alloc::{AllocError, Global};
 use std::process::Abort;

@@ -1,4 +1,6 @@
 //! How much `parse_counted` does for a text.
+//!
+//! The counts are by hand: how many rules there are at each place, and how many nodes the tree has.
 
 use super::outcomes::{Counts, Outcome, all_workings, assert_bounds, counted_outcome};
 use std::alloc::Global;

@@ -1,4 +1,6 @@
 //! Hostile texts: each is read or left within the bounds of the table and of the tree.
+//!
+//! What is read and what is left of them is what weedle2 reads and leaves.
 
 use super::outcomes::{NOTHING, Outcome, assert_bounds, counted_outcome, outcome_of, split};
 use std::alloc::Global;
