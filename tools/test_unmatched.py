@@ -81,6 +81,15 @@ class Fields(unittest.TestCase):
         why = "is read by SEMI_COLON, and CALLBACK_DEFINITION has no more parts"
         self.assertEqual(rows, [f"{CALLBACK_AT}.more: {why}"])
 
+    def test_a_struct_of_a_choice(self):
+        rows = found("pub struct Special {\n    pub getter: Getter,\n}\n")
+        self.assertEqual(rows, ["weedle_x: Special: SPECIAL is a First, and it is a struct"])
+
+    def test_a_type_with_parameters(self):
+        mark = "    /// The `!`.\n    pub mark: Option<QMark>,\n"
+        rows = found(f"pub struct MayBeNull<T> {{\n    pub type_: T,\n{mark}}}\n")
+        self.assertEqual([row.split()[1] for row in rows], ["MayBeNull.mark:"] * 3)
+
     def test_the_name_of_a_word(self):
         rows = self.one("callback: C", "getter: C")
         self.assertEqual(rows, [f"{CALLBACK_AT}.getter: the name isn't that of CALLBACK"])

@@ -33,6 +33,7 @@ TOP = Path(__file__).resolve().parent.parent
 # What may differ, and why.
 EXCEPTIONS = {
     "weedle_literal: BooleanLit": "it holds which of the two words was read, and no terminal",
+    "weedle_parts: Generics": "weedle2 has these names for the brackets",
     "weedle_statements: ImplementsDefinition.includes": "weedle2 has this name for it",
     "weedle_types: UnionMemberType.Single": "weedle2 has this name, for a type that is no union",
 }
@@ -50,25 +51,36 @@ def parts_of(row):
     return row[1] if row[0] in ("Seq", "First") else ()
 
 
-def read_by(declared, part):
-    """The rule of a part, or why none reads it."""
+def read_by(declared, type_):
+    """The rule of a part's type, or why none reads it."""
     try:
-        return declared.rule_of(part.type), None
+        return declared.rule_of(type_), None
     except Unread as why:
         return None, why
 
 
 def unmatched_parts(declared, declaration, rule):
     """Where fields or variants aren't the parts of the row, one by one."""
+    if declaration.is_enum != (rule.row[0] == "First"):
+        yield "", f"{rule.name} is a {rule.row[0]}, and it is a {declaration.kind}"
+        return
     for part, wanted in zip_longest(declaration.parts, parts_of(rule.row)):
         if not part:
             yield "", f"lacks {wanted}, which {rule.name} reads"
             continue
-        found, why = read_by(declared, part)
+        found, why = read_by(declared, part.type)
         if why or found != wanted:
             has = f"{rule.name} has {wanted or 'no more parts'}"
             yield part.name, f"{why or 'is read by ' + found}, and {has}"
         else:
+            yield from ((part.name, text) for text in unmatched_names(declaration, part, found))
+
+
+def unmatched_always(declared, declaration):
+    """What is so of a type with parameters whatever it is given: of the parts without them."""
+    for part in declaration.parts:
+        found, why = read_by(declared, part.type)
+        if not why:
             yield from ((part.name, text) for text in unmatched_names(declaration, part, found))
 
 
@@ -103,9 +115,11 @@ def unmatched_in(declared, declaration):
     """The parts of a declaration that differ from its rule, and how they do."""
     rule = BY_NAME.get(upper(declaration.name))
     if declaration.kind == "type":
-        found, why = read_by(declared, declaration.parts[0])
+        found, why = read_by(declared, declaration.parts[0].type)
         if rule and found != rule.name:
             yield "", f"{why or 'is read by ' + found}, and not by {rule.name}"
+    elif declaration.parameters:
+        yield from unmatched_always(declared, declaration)
     elif not rule:
         yield "", f"no rule has the name {upper(declaration.name)}"
     elif rule.shape == "Marked":
@@ -122,11 +136,10 @@ def unmatched_in(declared, declaration):
 def unmatched(declared):
     """A line for each difference, with the type and the part that it is of."""
     for declaration in [*declared.types.values(), *declared.aliases.values()]:
-        if not declaration.parameters:
-            for part, text in unmatched_in(declared, declaration):
-                type_ = f"{declaration.crate}: {declaration.name}"
-                place = type_ + f".{part}" * bool(part)
-                yield {type_, place}, f"{place}: {text}"
+        for part, text in unmatched_in(declared, declaration):
+            type_ = f"{declaration.crate}: {declaration.name}"
+            place = type_ + f".{part}" * bool(part)
+            yield {type_, place}, f"{place}: {text}"
 
 
 def typeless(declared):

@@ -69,11 +69,6 @@ class Declaration:
         """Whether its values are copied as they are: so reading one takes no memory."""
         return "Copy" in self.derived
 
-    @property
-    def fields(self):
-        """The types of its parts, by their names."""
-        return {part.name: part.type for part in self.parts}
-
 
 def split(text):
     """What stands between the commas of a text that stand in no brackets."""

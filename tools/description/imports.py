@@ -18,6 +18,7 @@ WRITTEN = re.compile(r"[Ww]ritten by tools/(?!grammar\.py)")
 HEAD_LINES = 3
 # What a name stands for where two crates have it: the keyword `Error`, beside that of a fault.
 KEYWORDS = {("weedle_term", "Error"): "ErrorKeyword"}
+GRAMMAR = "weedle_grammar"
 FAULTS = "Rattle.weedle_base.specs.declared.fault.Err"
 OUTCOMES = {"Recoverable": "Error as Recoverable", "Failure": "Failure"}
 
@@ -28,7 +29,8 @@ def is_by_hand(text):
 
 def home_of(declaration):
     """The module of the logic that has a declared type."""
-    return f"Rattle.{declaration.crate}.specs.declared.{declaration.module}.{logic(declaration.name)}"
+    place = f"{declaration.module}.{logic(declaration.name)}"
+    return f"Rattle.{declaration.crate}.specs.declared.{place}"
 
 
 def stated_in(root, crate, folders):
@@ -64,13 +66,13 @@ class Names:
         self.standard, self.bound, self.word = standard, set(bound), word
         self.types, self.stated = {}, {}
         for crate in crates:
-            if crate != "weedle_grammar":
-                for it in declared_by(root, crate):
-                    if it.kind != "type":
-                        self.types[KEYWORDS.get((crate, it.name), logic(it.name))] = it
-            # What the grammar's own crate proves of its table is cited by no answer.
-            for name, module in stated_in(root, crate, ("specs", "proofs")[: 1 + (crate != "weedle_grammar")]):
+            # Of the grammar's own crate only its table is named, and none of its types or proofs.
+            folders = ["specs"] if crate == GRAMMAR else ["specs", "proofs"]
+            for name, module in stated_in(root, crate, folders):
                 self.stated.setdefault(name, module)
+            for it in declared_by(root, crate) if crate != GRAMMAR else ():
+                if it.kind != "type":
+                    self.types[KEYWORDS.get((crate, it.name), logic(it.name))] = it
 
     def standard_names(self, text, words):
         """The names of the standard library in a text, by their modules."""
@@ -102,7 +104,8 @@ class Names:
                 yield home_of(it), said if said == name else f"{said} as {name}"
         if "Fault" in words:
             yield FAULTS, "Err as Fault"
-        yield from ((f"{FAULTS}.TheVariants", said) for name, said in OUTCOMES.items() if name in words)
+        for name in OUTCOMES.keys() & words:
+            yield f"{FAULTS}.TheVariants", OUTCOMES[name]
         own = {name for pair in OWN.findall(text) for name in pair}
         known = {name for names in self.standard.values() for name in names} | set(self.types) | own
         yield from ((self.stated[name], name) for name in words - known if name in self.stated)

@@ -32,12 +32,8 @@ def name_of(row, shape="Plain"):
 
 def shown(row):
     """A row as it is written: `Seq A B`."""
-    parts = [part if isinstance(part, str) else " ".join(part) for part in map(plain, row[1:])]
+    parts = [part if isinstance(part, str) else " ".join(part) for part in row[1:]]
     return " ".join([row[0], *parts])
-
-
-def plain(part):
-    return str(part) if isinstance(part, int) else part
 
 
 class Declared:
