@@ -29,7 +29,7 @@ from crates import Unfit, copy_crate, files_of, read_lines
 
 TOP = Path(__file__).resolve().parent.parent
 # The scripts that write files below crates/.
-WRITERS = "grammar terminals types_proofs build_types_proofs idl_proofs into_fields".split()
+WRITERS = "grammar terminals types_proofs build_types_proofs idl_proofs into_fields orders".split()
 # What is looked at where it stands.
 LOOKS = (["undocumented.py"], ["conversions.py"], ["try_edits.py", "--check"])
 WRITTEN = re.compile(r"[Ww]ritten by (tools/\w+\.py)")

@@ -75,11 +75,11 @@ def listed(words):
     return " and ".join([", ".join(words[:-1]), words[-1]] if words[1:] else words)
 
 
-def filled(words, indent, prefix=""):
-    """Words in lines that are as full as COLUMNS lets them be."""
+def filled(words, indent, prefix="", columns=COLUMNS):
+    """Words in lines that are as full as this many columns let them be."""
     lines = [indent + prefix + words[0]]
     for word in words[1:]:
-        if len(lines[-1]) + 1 + len(word) > COLUMNS:
+        if len(lines[-1]) + 1 + len(word) > columns:
             lines.append(indent + prefix + word)
         else:
             lines[-1] += " " + word
@@ -176,12 +176,20 @@ def imported(text):
     return paths
 
 
+def natural(name):
+    """A name by which `rt fmt` sorts: `Int8Array` stands before `Int16Array`."""
+    return [int(it) if it.isdigit() else it for it in re.split(r"(\d+)", name)]
+
+
 def use_line(path, names):
-    names = sorted(names)
+    names = sorted(names, key=natural)
     line = f"use {path}::{names[0] if len(names) == 1 else '{' + ', '.join(names) + '}'};\n"
     if len(line) <= COLUMNS + 1:
         return line
-    return f"use {path}::{{\n" + filled([f"{name}," for name in names], "    ") + "};\n"
+    row = f"    {', '.join(names)},\n"
+    if len(row) > COLUMNS + 1:
+        row = filled([f"{name}," for name in names], "    ", columns=COLUMNS - 1)
+    return f"use {path}::{{\n{row}}};\n"
 
 
 def use_lines(text, items):
