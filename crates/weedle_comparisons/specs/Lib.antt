@@ -1,2 +1,3 @@
 pub mod Hashes
 pub mod Keys
+pub mod Places

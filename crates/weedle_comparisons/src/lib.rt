@@ -3,9 +3,10 @@
 //!
 //! Orders go by the declaration, from one field to the next and from one variant to the next. `==`,
 //! `cmp` and the hash agree: two values are equal exactly where their order is `Equal`, and equal
-//! values hash alike. A copy equals its original. [`laws`] says what holds at any type; each of the
-//! other modules says what the answers are at a struct, an enum and a type that owns memory of each
-//! crate, as far as the crate has one.
+//! values hash alike. A copy equals its original. [`laws`] says what holds at any type, [`orders`]
+//! how each type is ordered and [`terminals`] what holds of each word and symbol; the other modules
+//! say what the answers are at a struct, an enum and a type that owns memory of each crate, as far as
+//! the crate has one.
 //!
 //! ```rust
 //! use std::cmp::Ordering;
@@ -22,4 +23,6 @@ pub mod leaves;
 pub mod literals;
 pub mod members;
 pub mod modifiers;
+pub mod orders;
+pub mod terminals;
 pub mod types;

@@ -1,0 +1,118 @@
+"""Reads the declarations of the types whose `Ord` is derived: their fields and variants, and the paths by which
+a caller names them."""
+
+import re
+from pathlib import Path
+
+from crates import Unfit
+from into_fields import imported, snake
+
+# The modules that nobody outside their crate can name, each with the one that names its types.
+PRIVATE = {"weedle_types::formers": "weedle_types::types"}
+# What is added to the name of a former in clauses, where its own is that of an alias.
+FORMED = "Of"
+ITEM = re.compile(
+    r"^(?P<cycle>#\[cycle\(types\)\]\n)?#\[derive\((?P<derived>[^)]*)\)\]\n"
+    r"pub (?P<kind>struct|enum) (?P<name>\w+)(?:<(?P<over>[^>]*)>)?"
+    r"(?: \{\n(?P<body>.*?)^\}|\((?P<tuple>[^;]*)\);)",
+    re.M | re.S,
+)
+FIELD = re.compile(r"^    pub (\w+): (.+),$", re.M)
+PLACE = re.compile(r"pub ((?:[^,<]|<[^>]*>)+)")
+VARIANT = re.compile(r"^    (\w+)\((.+)\),$", re.M)
+ALIAS = re.compile(r"^pub type (\w+)<'a> = (formers::)?(\w+)<(.+)>;$", re.M)
+DECLARED = re.compile(r"^pub (?:struct|enum|type) (\w+)", re.M)
+PUBLIC = re.compile(r"^pub mod (\w+);", re.M)
+
+
+class Item:
+    """A struct or an enum: its name, its parameters, and each field or variant with its type."""
+
+    def __init__(self, found, module):
+        self.module, self.name = module, found["name"]
+        self.is_enum, self.leads_back = found["kind"] == "enum", bool(found["cycle"])
+        self.over = [it.strip() for it in (found["over"] or "").split(",") if it.strip()]
+        self.parameters = [it for it in self.over if it != "'a"]
+        self.is_former = module.inner in PRIVATE
+        if found["tuple"]:
+            self.parts = [(str(i), it) for i, it in enumerate(PLACE.findall(found["tuple"]))]
+        else:
+            self.parts = (VARIANT if self.is_enum else FIELD).findall(found["body"])
+
+    def at(self, given):
+        """A former as the alias has it of the same name, which gives it this type."""
+        self.over = ["'a"]
+        self.parts = [(name, re.sub(r"\bT\b", given, type_)) for name, type_ in self.parts]
+
+    @property
+    def law(self):
+        return snake(self.name) + "_" * (self.name == "Type")
+
+    @property
+    def place(self):
+        return f"{snake(self.name)}_place"
+
+    def declared(self):
+        return f"Rattle.{self.module.dotted('declared')}.{quoted(self.name)}"
+
+
+class Module:
+    """A module that declares types: its text, its path, and the one that a caller names."""
+
+    def __init__(self, crate, file, source):
+        self.text = file.read_text(encoding="utf-8")
+        self.crate, self.source = crate, source
+        self.parts = file.relative_to(source).with_suffix("").parts
+        self.inner = "::".join([crate, *self.parts])
+        self.path = PRIVATE.get(self.inner) or "::".join([crate, *public_part(source, self.parts)])
+
+    def items(self):
+        """What it declares whose `Ord` is derived."""
+        found = ITEM.finditer(self.text)
+        return [Item(it, self) for it in found if "Ord" in it["derived"].split(", ")]
+
+    def aliases(self):
+        """What its aliases stand for, by their names: of a former the name FORMED of it, and what it is given."""
+        found = ALIAS.findall(self.text)
+        return {name: (of + FORMED * bool(former), over) for name, former, of, over in found}
+
+    def knows(self, name):
+        return name in DECLARED.findall(self.text) or name in imported(self.text)
+
+    def path_of(self, name):
+        """The path by which a caller names a type that is named here."""
+        if name in DECLARED.findall(self.text):
+            return self.path
+        first, *parts = imported(self.text)[name].split("::")
+        if first not in ("super", "crate"):
+            return "::".join([first, *parts])
+        parts = [*self.parts[:-1], *parts] if first == "super" else parts
+        return "::".join([self.crate, *public_part(self.source, parts)])
+
+    def dotted(self, part):
+        return ".".join([self.crate, "specs", part, *self.parts])
+
+
+def public_part(source, parts):
+    """The modules on the way to this one that are public, up to the first that isn't."""
+    file, public = source / "lib.rt", []
+    for part in parts:
+        if part not in PUBLIC.findall(file.read_text(encoding="utf-8")):
+            break
+        public.append(part)
+        file = source.joinpath(*public).with_suffix(".rt")
+    return public
+
+
+def quoted(name):
+    return f"«{name}»" if name == "Type" else name
+
+
+def modules_of(root, path):
+    """The modules of a crate, or the one of this path."""
+    crate, _, module = path.partition("::")
+    source = Path(root) / "crates" / crate / "src"
+    if not source.is_dir():
+        raise Unfit(f"there is no folder {source}")
+    modules = [Module(crate, file, source) for file in sorted(source.rglob("*.rt"))]
+    return [it for it in modules if not module or it.inner == path]
