@@ -55,19 +55,29 @@ mod tests {
         let mut out = Vec::new();
         write(text, &mut out).unwrap();
         let answer = String::from_utf8(out).unwrap();
-        answer.lines().filter(|line| !line.starts_with(' ')).map(String::from).collect()
+        answer
+            .lines()
+            .filter(|line| !line.starts_with(' '))
+            .map(String::from)
+            .collect()
     }
 
     #[test]
     fn lists_what_is_read() {
         let text = "interface mixin Body {}; Request includes Body;";
-        assert_eq!(lines(text), ["interface mixin Body", "includes Request", "definitions 2"]);
+        assert_eq!(
+            lines(text),
+            ["interface mixin Body", "includes Request", "definitions 2"]
+        );
         assert_eq!(lines(""), ["definitions 0"]);
     }
 
     #[test]
     fn says_where_the_rest_begins() {
-        assert_eq!(lines("interface A {}; é"), ["interface A", "unread at byte 16"]);
+        assert_eq!(
+            lines("interface A {}; é"),
+            ["interface A", "unread at byte 16"]
+        );
         assert_eq!(lines("// c"), ["unread at byte 0"]);
     }
 }

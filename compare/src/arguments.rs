@@ -51,7 +51,14 @@ mod tests {
 
     #[test]
     fn refuses_the_rest() {
-        for line in ["--time", "--time 3", "--time 0 a", "--time x a", "--tree a", "a --time 3"] {
+        for line in [
+            "--time",
+            "--time 3",
+            "--time 0 a",
+            "--time x a",
+            "--tree a",
+            "a --time 3",
+        ] {
             assert_eq!(of(line), None, "of {line}");
         }
     }
