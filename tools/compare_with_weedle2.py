@@ -218,7 +218,7 @@ def made_texts(wanted):
 
 def folder_texts(files, wanted):
     maker = Maker(wanted.seed)
-    texts = [file.read_text(encoding="utf-8") for file in files]
+    texts = [file.read_bytes().decode() for file in files]
     yield "files", texts
     yield "prefixes of files", [part for text in texts if len(text.encode()) <= wanted.prefixes for part in prefixes(text)]
     yield "files with a byte changed", [maker.with_a_byte_changed(text) for text in texts for _ in range(wanted.changed)]

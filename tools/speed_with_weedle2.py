@@ -43,7 +43,7 @@ def whole_of(weedle2, files):
 def joined_text(weedle2, folder):
     """The files of a folder that weedle2 reads whole, one behind another."""
     whole = whole_of(weedle2, files_of(folder))
-    return "\n".join(file.read_text(encoding="utf-8") for file in whole) + "\n"
+    return "\n".join(file.read_bytes().decode() for file in whole) + "\n"
 
 
 def instructions(words, text=""):
@@ -77,7 +77,7 @@ def measure_weedle2(program, file, size, rounds):
 def measure_port(check, lister, file, size):
     for line in output_of([check, "--time", file]).splitlines():
         print(f"  port: {line.replace(file, 'the text')}")
-    text = Path(file).read_text(encoding="utf-8")
+    text = Path(file).read_bytes().decode()
     full, empty = instructions([lister], text), instructions([lister])
     if full is not None:
         print(f"  port: {(full - empty) / size:.0f} instructions a byte, with the list written")
@@ -89,7 +89,7 @@ def measure(name, text, wanted):
     print(f"{name}, {size} bytes:")
     with tempfile.TemporaryDirectory() as room:
         file = f"{room}/text.webidl"
-        Path(file).write_text(text, encoding="utf-8")
+        Path(file).write_bytes(text.encode())
         measure_weedle2(wanted.weedle2, file, size, wanted.rounds)
         if wanted.port:
             measure_port(wanted.port, wanted.list, file, size)
