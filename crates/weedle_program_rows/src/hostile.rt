@@ -1,11 +1,12 @@
-//! Texts that nest deep or seem to: which reader a run takes, and what it writes. A run that took descent for
-//! one that it isn't for would not end. `tools/hostile.py` times the program with these texts and longer ones.
+//! Texts that nest deep or seem to: which reader a run takes, what it writes, and that it is said why they are
+//! unread. A run that took descent for one that it isn't for would not end. `tools/hostile.py` times the program
+//! with these texts and longer ones.
 
 use crate::streams::{short_reader, short_writer};
 use std::alloc::Global;
 use std::process::Abort;
 use std::test::Fail;
-use weedle::{Depths, Status, nesting, run};
+use weedle::{Depths, Status, explain, nesting, run};
 use weedle_nesting::suits_descent;
 use weedle_testing::{nested_attributes, repeated};
 
@@ -26,7 +27,7 @@ fn assert_by_table(
     assert_run(rt, alloc, text, depths, said);
 }
 
-/// Asserts that the text nests so, and what a run says of it.
+/// Asserts that the text nests so, what a run says of it, and that it is explained where it is unread.
 fn assert_run(
     rt: &impl Abort,
     alloc: Global,
@@ -47,6 +48,19 @@ fn assert_run(
         "of {text:?}"
     );
     assert!(rt; writer.taken.as_slice() == report.as_bytes(), "of {text:?}");
+    assert_eq!(rt;
+        is_explained(alloc, text),
+        status == Status::Unread,
+        "of {text:?}"
+    );
+}
+
+/// Whether it is said of a text why its front is unread.
+fn is_explained(alloc: Global, text: &str) -> bool {
+    let Ok(Some(refusal)) = explain(alloc, text) else {
+        return false;
+    };
+    refusal.start == 0 && refusal.place > 0
 }
 
 #[test]

@@ -38,11 +38,12 @@ fn write_by_descent<'a, T: Parse<'a> + Debug, W: Write>(
         if cursor.rest.is_empty() {
             break;
         }
-        let Ok((rest, item)) = T::parse(alloc, cursor.rest) else {
+        let start = cursor.rest;
+        let Ok((rest, item)) = T::parse(alloc, start) else {
             return Err(Fault::Memory);
         };
-        cursor.go_to(sp(cursor.rest).0);
-        writeln!(out, "{} {item:?}", cursor.position)?;
+        let position = cursor.go_to(sp(start).0);
+        writeln!(out, "{position} {item:?}")?;
         cursor.go_to(rest);
     }
     Ok(())
@@ -57,10 +58,9 @@ fn write_each<T: Debug + Drop, W: Write>(
 ) -> io::Result<()> {
     let mut cursor = Cursor::new(text);
     for (item, place) in items.into_iter().zip(places) {
-        if let Some(rest) = text.get(place.span.start..) {
-            cursor.go_to(sp(rest).0);
-        }
-        writeln!(out, "{} {item:?}", cursor.position)?;
+        let rest = text.get(place.span.start..).unwrap_or("");
+        let position = cursor.go_to(sp(rest).0);
+        writeln!(out, "{position} {item:?}")?;
     }
     Ok(())
 }
@@ -82,18 +82,21 @@ impl<'a> Cursor<'a> {
         }
     }
 
-    /// Goes on to where this rest of the text begins. It looks twice at most at each byte in between.
-    fn go_to(&mut self, rest: &'a str) {
+    /// Goes on to where this rest of the text begins, and says where that is. It looks twice at most at each byte in
+    /// between.
+    fn go_to(&mut self, rest: &'a str) -> Position {
         let passed = self.rest.len().saturating_sub(rest.len());
         let moved = position_of(self.rest, passed);
-        self.position = Position {
-            line: (self.position.line - 1).saturating_add(moved.line),
+        let Position { line, column } = self.position;
+        let position = Position {
+            line: line.saturating_add(moved.line.saturating_sub(1)),
             column: if moved.line == 1 {
-                (self.position.column - 1).saturating_add(moved.column)
+                column.saturating_add(moved.column.saturating_sub(1))
             } else {
                 moved.column
             },
         };
-        self.rest = rest;
+        *self = Cursor { rest, position };
+        position
     }
 }

@@ -1,17 +1,15 @@
-//! What is printed of texts, and what a run comes to. The expected lines are written by hand.
+//! The check of files: what is printed of texts, and what it comes to. The expected lines are written by hand.
 
-use crate::arguments::{Task, request_of};
-use crate::check::{Source, check_source};
-use crate::excerpt::write_excerpt;
-use crate::fault::Fault;
-use crate::outcome::Outcome;
-use crate::tally::Tally;
+use crate::streams::{failing_reader, short_writer};
 use std::alloc::{AllocError, Global};
 use std::env::Args;
-use std::io::{self, ErrorKind, Read, Write};
+use std::io::{self, ErrorKind, Write};
 use std::process::Abort;
 use std::rt::Clock;
 use std::test::Fail;
+use weedle_checker::{
+    Fault, Outcome, Source, Tally, Task, check_source, request_of, write_excerpt,
+};
 use weedle_testing::{nested_attributes, repeated};
 
 /// Texts, what the check of a file with each comes to, and what it prints.
@@ -169,22 +167,6 @@ fn long_lines_are_cut(rt: HostRuntime) -> Result<(), Fail> {
     Ok(())
 }
 
-/// Gives its bytes, and then fails.
-#[derive(Drop)]
-struct BrokenReader<'a>(&'a [u8]);
-
-impl Read for BrokenReader<'_> {
-    fn read(&mut self, buf: &mut [u8]) -> io::Result<usize> {
-        let count = self.0.len().min(buf.len());
-        if count == 0 {
-            return Err(io::Error::from(ErrorKind::BrokenPipe));
-        }
-        buf[..count].copy_from_slice(&self.0[..count]);
-        self.0 = &self.0[count..];
-        Ok(count)
-    }
-}
-
 #[test]
 fn other_files_are_checked_where_one_is_missing(rt: HostRuntime) -> Result<(), Fail> {
     let alloc = rt.alloc();
@@ -212,31 +194,13 @@ fn other_files_are_checked_where_one_is_missing(rt: HostRuntime) -> Result<(), F
     Ok(())
 }
 
-/// Takes so many bytes, and then fails.
-#[derive(Drop)]
-struct BrokenWriter(usize);
-
-impl Write for BrokenWriter {
-    fn write(&mut self, buf: &[u8]) -> io::Result<usize> {
-        if self.0 < buf.len() {
-            return Err(io::Error::from(ErrorKind::BrokenPipe));
-        }
-        self.0 -= buf.len();
-        Ok(buf.len())
-    }
-
-    fn flush(&mut self) -> io::Result<()> {
-        Ok(())
-    }
-}
-
 #[test]
 fn faults_are_told_apart(rt: HostRuntime) {
     let broken = Source {
         name: "a",
-        opened: Ok(BrokenReader(b"interface A {};")),
+        opened: Ok(failing_reader(b"interface A {};", 9, ErrorKind::BrokenPipe)),
     };
-    let mut out = BrokenWriter(0);
+    let mut out = short_writer(rt.alloc(), 100, 0);
     let checked = check_source(&rt, Task::Check, broken, &mut out);
     assert!(rt; matches!(checked, Err(Fault::Input(_))));
     for bytes in [b"\xff".as_slice(), b"interface A {};\xc3".as_slice()] {
@@ -247,13 +211,17 @@ fn faults_are_told_apart(rt: HostRuntime) {
         let checked = check_source(&rt, Task::Check, source, &mut out);
         assert!(rt; matches!(checked, Err(Fault::NotUtf8)));
     }
-    for most in [0, 5, 10, 30, 45] {
+    for calls in 0..12 {
         let source = Source {
             name: "a",
             opened: Ok(b"foo".as_slice()),
         };
-        let checked = check_source(&rt, Task::Check, source, &mut BrokenWriter(most));
-        assert!(rt; matches!(checked, Err(Fault::Output)), "at {most}");
+        let mut out = short_writer(rt.alloc(), 4, calls);
+        let checked = check_source(&rt, Task::Check, source, &mut out);
+        assert!(rt;
+            matches!(checked, Err(Fault::Output)),
+            "after {calls} writes"
+        );
     }
 }
 
