@@ -6,12 +6,14 @@
 The program reads standard input to its end and ends with status 0 where it has read it, as
 crates/weedle_list/out/weedle_list does, once `rt run` has built it. That reads by `parse_quick`, which takes the table of
 ends for whatever nests deeper than 1,000 brackets, and for attributes within attributes: so what it says is `parse`'s
-depth too. With `--direct` in front the program is one that reads by descent, as crates/weedle_bench/out/weedle_bench does
-with the argument `-` (and `parse_by_descent`), and isn't given attributes, which take such a reader up to three times as
-long at each level.
+depth too. A program that refuses what nests too deep, as crates/weedle_check/out/weedle_check does with and without
+`--tree`, ends with status 1 there: it must never die.
 
-Of each family the deepest text that is read is looked for, between one that is and one at which the program dies for
-want of stack: it has 8 MB (or what STACK says, in KB).
+With `--direct` in front the program is one that reads by descent, as one of your own that calls `parse_by_descent`, and
+isn't given attributes, which take such a reader up to three times as long at each level.
+
+Of each family the deepest text that is read is looked for, between one that is and one that isn't. The line says what
+became of that: the program died for want of stack, of which it has 8 MB (or what STACK says, in KB), or it refused it.
 """
 
 import os
@@ -46,31 +48,32 @@ def limit():
     resource.setrlimit(resource.RLIMIT_CORE, (0, 0))
 
 
-def is_read(program, text):
-    """Whether the program reads the text: no more stack than it has is needed."""
+def became(program, text):
+    """What becomes of a text: it is read or refused, or the program dies."""
     ended = subprocess.run(
         program, input=text.encode(), preexec_fn=limit, stdout=subprocess.DEVNULL, stderr=subprocess.DEVNULL
     )
-    if ended.returncode == 1:
-        sys.exit("a text of this family is unread, or the program can't be run")
     if ended.returncode == 3:
         sys.exit("memory is wanted")
-    return ended.returncode == 0
+    return {0: "read", 1: "refused"}.get(ended.returncode, "dies")
 
 
 def deepest(program, text_of):
-    read, unread = 0, 1
-    while unread < MOST and is_read(program, text_of(unread)):
+    read, unread, end = 0, 1, "read"
+    while unread < MOST and (end := became(program, text_of(unread))) == "read":
         read, unread = unread, unread * 2
-    if unread >= MOST:
+    if read == 0:
+        sys.exit("a text of this family is unread, or the program can't be run")
+    if end == "read":
         return f"{read} and more"
     while unread - read > max(1, read // 200):
         middle = (read + unread) // 2
-        if is_read(program, text_of(middle)):
+        found = became(program, text_of(middle))
+        if found == "read":
             read = middle
         else:
-            unread = middle
-    return str(read)
+            unread, end = middle, found
+    return f"{read}, a deeper one {end}" if end == "dies" else f"{read}, a deeper one is {end}"
 
 
 def main(arguments):

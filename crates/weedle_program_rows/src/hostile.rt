@@ -1,11 +1,12 @@
-//! Texts that nest deep or seem to: which reader a run takes, and what it writes. A run that took descent for
-//! one that it isn't for would not end. `tools/hostile.py` times the program with these texts and longer ones.
+//! Texts that nest deep or seem to: which reader a run takes, what it writes, and that some are explained. A run
+//! that took descent for one that it isn't for would not end. `tools/hostile.py` times the program with these
+//! texts and longer ones.
 
 use crate::streams::{short_reader, short_writer};
 use std::alloc::Global;
 use std::process::Abort;
 use std::test::Fail;
-use weedle::{Depths, Status, nesting, run};
+use weedle::{Depths, Status, explain, nesting, run};
 use weedle_nesting::suits_descent;
 use weedle_testing::{nested_attributes, repeated};
 
@@ -49,6 +50,14 @@ fn assert_run(
     assert!(rt; writer.taken.as_slice() == report.as_bytes(), "of {text:?}");
 }
 
+/// Whether it is said of a text why its front is unread.
+fn is_explained(alloc: Global, text: &str) -> bool {
+    let Ok(Some(refusal)) = explain(alloc, text) else {
+        return false;
+    };
+    refusal.start == 0 && refusal.place > 0
+}
+
 #[test]
 fn nested_attributes_are_read_over_the_table(rt: HostRuntime) -> Result<(), Fail> {
     let text = nested_attributes(rt.alloc(), 199)?;
@@ -71,6 +80,7 @@ fn attributes_that_stay_open_are_left_over_the_table(rt: HostRuntime) -> Result<
     for part in parts {
         let text = repeated(alloc, "", part, 30, "")?;
         assert_by_table(&rt, alloc, &text, (30, 30), (Status::Unread, UNREAD));
+        assert!(rt; is_explained(alloc, &text), "of {text:?}");
     }
     Ok(())
 }

@@ -150,6 +150,14 @@ const STARTS: [(&str, &str); 6] = [
     ),
 ];
 
+/// Texts with a rest that isn't read, and where it begins.
+const RESTS: [(&str, usize); 4] = [
+    ("  ", 0),
+    ("interface A {};}", 15),
+    ("interface A {}; ///d", 16),
+    ("///a\ninterface A {}; ///d", 21),
+];
+
 /// What is said of a text, in one line, or `read` where it is read whole.
 fn said(alloc: Global, text: &str) -> Result<String, AllocError> {
     match explain(alloc, text)? {
@@ -200,6 +208,18 @@ fn columns_are_counted_in_characters(rt: HostRuntime) -> Result<(), Fail> {
 #[test]
 fn the_first_definition_that_is_not_read_is_explained(rt: HostRuntime) -> Result<(), Fail> {
     assert_said(&rt, rt.alloc(), &STARTS)?;
+    Ok(())
+}
+
+#[test]
+fn the_place_is_in_the_unread_rest(rt: HostRuntime) -> Result<(), Fail> {
+    for (text, byte) in RESTS {
+        let Some(refusal) = explain(rt.alloc(), text)? else {
+            return Err(Fail::new(text));
+        };
+        assert_eq!(rt; refusal.start, byte, "of {text:?}");
+        assert!(rt; refusal.place >= byte, "of {text:?}");
+    }
     Ok(())
 }
 

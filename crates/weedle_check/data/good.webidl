@@ -1,0 +1,4 @@
+// What a page may store.
+
+Window includes Stores;
+	Stores implements Kept;

@@ -1,0 +1,3 @@
+interface Window {
+	readonly attribute Storage session	Storage;
+};

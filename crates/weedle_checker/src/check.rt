@@ -1,0 +1,103 @@
+//! The check of a text, and what is printed of it.
+
+use crate::arguments::Task;
+use crate::depth::too_many_levels;
+use crate::fault::Fault;
+use crate::outcome::Outcome;
+use crate::slip::{slip_in, write_slip};
+use crate::timing::write_times;
+use crate::tree::write_tree;
+use std::alloc::Global;
+use std::io::{self, Read, Write};
+use std::rt::Clock;
+use weedle_testing::definitions;
+
+/// What a text is read from.
+#[derive(Drop)]
+pub struct Source<'a, R: Drop> {
+    /// What it is called.
+    pub name: &'a str,
+    /// What gives its bytes, or why there is none.
+    pub opened: io::Result<R>,
+}
+
+/// Reads a source to its end, checks the text and prints what is asked for.
+pub fn check_source<C: Clock + AllocGlobal, R: Read + Drop, W: Write>(
+    rt: &C,
+    task: Task,
+    source: Source<'_, R>,
+    out: &mut W,
+) -> Result<Outcome, Fault> {
+    let Source { name, opened } = source;
+    let bytes = bytes_of(rt.alloc(), opened)?;
+    let Ok(text) = str::from_utf8(&bytes) else {
+        return Err(Fault::NotUtf8);
+    };
+    check_text(rt, task, name, text, out)
+}
+
+/// The same of a text that is made of a seed, with about so many bytes: how long it takes to read.
+pub fn check_made<C: Clock + AllocGlobal, W: Write>(
+    rt: &C,
+    seed: u64,
+    size: usize,
+    out: &mut W,
+) -> Result<Outcome, Fault> {
+    let text = definitions(rt.alloc(), seed, size)?;
+    check_text(rt, Task::Time, "made", &text, out)
+}
+
+/// What a reader gives up to its end.
+fn bytes_of<R: Read + Drop>(alloc: Global, opened: io::Result<R>) -> Result<Vec<u8>, Fault> {
+    let mut bytes = Vec::new(alloc);
+    match opened {
+        Ok(mut reader) => match reader.read_to_end(&mut bytes) {
+            Ok(_) => Ok(bytes),
+            Err(error) => Err(Fault::of_input(error)),
+        },
+        Err(error) => Err(Fault::of_input(error)),
+    }
+}
+
+/// Checks a text, and prints what is asked for.
+fn check_text<C: Clock + AllocGlobal, W: Write>(
+    rt: &C,
+    task: Task,
+    name: &str,
+    text: &str,
+    out: &mut W,
+) -> Result<Outcome, Fault> {
+    let outcome = judge(rt.alloc(), task, name, text, out)?;
+    if outcome == Outcome::Read {
+        match task {
+            Task::Check => {}
+            Task::Tree => write_tree(rt.alloc(), text, out)?,
+            Task::Time | Task::Made { .. } => write_times(rt, name, text, out)?,
+        }
+    }
+    Ok(outcome)
+}
+
+/// Whether a text is read whole. Where it isn't, it writes where and why.
+fn judge<W: Write>(
+    alloc: Global,
+    task: Task,
+    name: &str,
+    text: &str,
+    out: &mut W,
+) -> Result<Outcome, Fault> {
+    if let Some(levels) = too_many_levels(task, text) {
+        writeln!(
+            out,
+            "{name}: nests {levels} levels deep, more than the stack holds"
+        )?;
+        return Ok(Outcome::Refused);
+    }
+    match slip_in(alloc, text)? {
+        None => Ok(Outcome::Read),
+        Some(slip) => {
+            write_slip(name, text, &slip, out)?;
+            Ok(Outcome::Refused)
+        }
+    }
+}

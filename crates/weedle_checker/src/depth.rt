@@ -1,0 +1,36 @@
+//! How deep a text may nest.
+
+use crate::arguments::Task;
+use weedle::nesting;
+
+/// How many levels a text may nest that is read, and let go of.
+const MOST_READ: usize = 6_000;
+
+/// How many levels a text may nest that is printed, too.
+const MOST_PRINTED: usize = 2_000;
+
+/// How many levels deep a text nests, where that is more than 8 MB of stack hold for the task.
+///
+/// A `(` or a `<` that is open is one level, and a `[` two: so much more stack do its arguments take. What the
+/// stack holds was measured, as docs/PROVED.md tells; the limits leave a quarter of it and more, since the
+/// arguments of the program stand there too.
+pub fn too_many_levels(task: Task, text: &str) -> Option<usize> {
+    let depths = nesting(text);
+    let levels = depths
+        .attributes
+        .saturating_mul(2)
+        .saturating_add(depths.brackets);
+    if levels > most_levels(task) {
+        Some(levels)
+    } else {
+        None
+    }
+}
+
+/// How many levels a text may nest for the task.
+fn most_levels(task: Task) -> usize {
+    match task {
+        Task::Tree => MOST_PRINTED,
+        Task::Check | Task::Time | Task::Made { .. } => MOST_READ,
+    }
+}

@@ -1,0 +1,82 @@
+//! Where a text is refused, and what is said of it.
+
+use crate::excerpt::write_excerpt;
+use std::alloc::{AllocError, Global};
+use std::io::{self, Write};
+use weedle::{Err, Refusal, explain, parse_quick, position_of};
+
+/// What is printed for a mark that some editors put in front of a text.
+const BYTE_ORDER_MARK: char = '\u{feff}';
+
+/// Where a text is refused.
+#[derive(Debug, Drop)]
+pub struct Slip {
+    /// The byte of the text at which it is.
+    pub place: usize,
+    /// What would have been read there, or None where memory ran out for more than the place, which then is where
+    /// the unread rest begins.
+    pub words: Option<String>,
+}
+
+/// Where a text is refused, or None where it is read whole.
+pub fn slip_in(alloc: Global, text: &str) -> Result<Option<Slip>, AllocError> {
+    match explain(alloc, text) {
+        Ok(None) => Ok(None),
+        Ok(Some(refusal)) => Ok(Some(explained(alloc, refusal))),
+        Err(_) => unexplained(alloc, text),
+    }
+}
+
+/// What is said of a refusal.
+fn explained(alloc: Global, refusal: Refusal) -> Slip {
+    match format!(in alloc; "{refusal}") {
+        Ok(words) => Slip {
+            place: refusal.place,
+            words: Some(words),
+        },
+        Err(_) => Slip {
+            place: refusal.start,
+            words: None,
+        },
+    }
+}
+
+/// What can be said of a text with no memory for a table of its rest.
+fn unexplained(alloc: Global, text: &str) -> Result<Option<Slip>, AllocError> {
+    match parse_quick(alloc, text) {
+        Ok(_) => Ok(None),
+        Err(Err::Error(left)) => Ok(Some(Slip {
+            place: text.len().saturating_sub(left.input.len()),
+            words: None,
+        })),
+        Err(Err::Failure(_)) => Err(AllocError),
+    }
+}
+
+/// Writes where the text of this name is refused and why, and below it the line of the text with a mark.
+pub fn write_slip<W: Write>(name: &str, text: &str, slip: &Slip, out: &mut W) -> io::Result<()> {
+    let place = slip.place.min(text.len());
+    let position = position_of(text, place);
+    write!(out, "{name}:{position}: ")?;
+    match &slip.words {
+        Some(words) => write!(out, "{words}")?,
+        None => write!(out, "unread from here on; memory ran out for more")?,
+    }
+    if is_mark(text, place) {
+        write!(out, ", not a byte order mark")?;
+    }
+    writeln!(out)?;
+    let line = text
+        .lines()
+        .nth(position.line.saturating_sub(1))
+        .unwrap_or("");
+    write_excerpt(line, position.column.saturating_sub(1), out)
+}
+
+/// Whether a byte order mark stands at the place.
+fn is_mark(text: &str, place: usize) -> bool {
+    match text.get(place..) {
+        Some(rest) => rest.starts_with(BYTE_ORDER_MARK),
+        None => false,
+    }
+}
