@@ -2,13 +2,12 @@
 //! that took descent for one that it isn't for would not end. `tools/hostile.py` times the program with these
 //! texts and longer ones.
 
-use crate::streams::{short_reader, short_writer};
 use std::alloc::Global;
 use std::process::Abort;
 use std::test::Fail;
 use weedle::{Depths, Status, explain, nesting, run};
 use weedle_nesting::suits_descent;
-use weedle_testing::{nested_attributes, repeated};
+use weedle_testing::{nested_attributes, repeated, short_reader, short_writer};
 
 const UNREAD: &str = "unread at byte 0\n";
 

@@ -1,8 +1,6 @@
-//! Tests of the programs, of outlines, of what errors and refusals say, and of the README's examples.
+//! Tests of the program, of outlines, of what errors and refusals say, and of the README's examples.
 #![tactic(auto)]
 
-#[cfg(test)]
-mod checks;
 #[cfg(test)]
 mod faults;
 #[cfg(test)]
@@ -15,7 +13,5 @@ mod program;
 mod readme;
 #[cfg(test)]
 mod refusals;
-#[cfg(test)]
-mod streams;
 #[cfg(test)]
 mod taking_apart;

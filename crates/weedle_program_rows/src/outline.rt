@@ -1,13 +1,12 @@
 //! Outlines, and what a run writes of them.
 
-use crate::streams::{failing_reader, short_reader, short_writer};
 use std::alloc::{AllocError, Global};
 use std::io;
 use std::io::{ErrorKind, Write};
 use std::process::Abort;
 use std::test::Fail;
 use weedle::{Definitions, Entry, Err, RunFault, Status, lend, outline, parse, run_outline};
-use weedle_testing::Wanted;
+use weedle_testing::{Wanted, failing_reader, short_reader, short_writer};
 
 /// A text, and what a run writes of it.
 const TEXT: &str = "///a\n/// b\ninterface A {};\nB includes C;";

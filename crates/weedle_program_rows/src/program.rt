@@ -1,10 +1,10 @@
 //! What a run writes of texts.
 
-use crate::streams::{failing_reader, short_reader, short_writer};
 use std::io::ErrorKind;
 use std::test::Fail;
 use weedle::{RunFault, Status, run};
 use weedle_testing::examples::{KINDS, WINDOW};
+use weedle_testing::{failing_reader, short_reader, short_writer};
 
 const REPORT_OF_WINDOW: &str = "interface Window\ndefinitions 1\n";
 

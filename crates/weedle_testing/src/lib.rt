@@ -1,5 +1,5 @@
-//! What the tests share: texts, some made of a seed and a size, and what is asked of an answer, as tables of
-//! rows, each a text and what is to be read of it.
+//! What the tests share: texts, some made of a seed and a size; readers and writers that give and take little, or
+//! fail; and what is asked of an answer, as tables of rows, each a text and what is to be read of it.
 #![tactic(auto)]
 
 pub mod examples;
@@ -9,6 +9,7 @@ mod random;
 mod refused;
 mod requests;
 mod rows;
+mod streams;
 mod text;
 
 pub use long::{nested_attributes, nested_text, repeated};
@@ -16,4 +17,5 @@ pub use printed::is_printed;
 pub use refused::{fails_at, is_failure, is_mismatch, refuses};
 pub use requests::{Wanted, reads_with_no_memory};
 pub use rows::{Unlike, reads, reads_copied, reads_copied_up_to, reads_up_to, reads_whole};
+pub use streams::{ShortReader, ShortWriter, failing_reader, short_reader, short_writer};
 pub use text::definitions;

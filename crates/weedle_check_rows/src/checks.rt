@@ -1,6 +1,5 @@
 //! The check of files: what is printed of texts, and what it comes to. The expected lines are written by hand.
 
-use crate::streams::{failing_reader, short_writer};
 use std::alloc::{AllocError, Global};
 use std::env::Args;
 use std::io::{self, ErrorKind, Write};
@@ -10,7 +9,7 @@ use std::test::Fail;
 use weedle_checker::{
     Fault, Outcome, Source, Tally, Task, check_source, request_of, write_excerpt,
 };
-use weedle_testing::{nested_attributes, repeated};
+use weedle_testing::{failing_reader, nested_attributes, repeated, short_writer};
 
 /// Texts, what the check of a file with each comes to, and what it prints.
 const CHECKS: [(&str, Outcome, &str); 9] = [

@@ -1,0 +1,5 @@
+//! Tests of the check of files.
+#![tactic(auto)]
+
+#[cfg(test)]
+mod checks;
