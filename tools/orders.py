@@ -40,6 +40,7 @@ CRATES = {
             ["weedle_types::argument", "weedle_types::attribute"],
         ),
         "types": ("types", ["weedle_types::formers", "weedle_types::types"]),
+        "members": ("constants, attributes, operations and stringifiers", ["weedle_members"]),
     },
     "weedle_laws": {
         "iterables": (
