@@ -7,6 +7,7 @@
 
 pub mod attributes;
 pub mod literals;
+pub mod members;
 pub mod modifiers;
 pub mod parts;
 pub mod types;
