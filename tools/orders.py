@@ -47,7 +47,11 @@ CRATES = {
             "iterations, and of what is like a map or a set",
             ["weedle_iterables", "weedle_async_iterables"],
         ),
+        "namespaces": ("namespaces and dictionaries, with their members", ["weedle_namespaces"]),
         "statements": ("definitions without members", ["weedle_statements"]),
+        "interfaces": ("interfaces, with their members", ["weedle_interfaces"]),
+        "mixins": ("mixins, with their members", ["weedle_mixins"]),
+        "definitions": ("definitions", ["weedle_idl"]),
     },
 }
 # The variants that the logic holds flat, each with how many parts it has there.

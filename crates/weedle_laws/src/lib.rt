@@ -1,16 +1,17 @@
-//! Laws on which no other crate stands: how members and definitions are ordered, and what brackets
-//! read round arguments. Each of these functions does nothing when it runs: its contract is the law.
+//! Laws of members and definitions on which no other crate stands: how they are ordered, and what
+//! brackets read round lists of theirs. Each of these functions does nothing when it runs: its contract
+//! is the law.
 //!
 //! ```rust
 //! use std::cmp::Ordering;
 //! use weedle_base::Parse;
-//! use weedle_iterables::IterableInterfaceMember;
+//! use weedle_idl::Definition;
 //!
-//! // Over one type stands before over two, since that variant is declared first.
-//! let (_, one) = IterableInterfaceMember::parse(rt.alloc(), "iterable<any>;").expect(rt, "a member");
-//! let (_, two) = IterableInterfaceMember::parse(rt.alloc(), "iterable<A, B>;").expect(rt, "a member");
-//! weedle_laws::orders::iterables::iterable_interface_member();
-//! assert!(rt; one.cmp(&two) == Ordering::Less);
+//! // Of two definitions the one of the kind that is declared first is less.
+//! let (_, one) = Definition::parse(rt.alloc(), "enum E { \"a\" };").expect(rt, "an enum");
+//! let (_, other) = Definition::parse(rt.alloc(), "typedef long T;").expect(rt, "a typedef");
+//! weedle_laws::orders::definitions::definition();
+//! assert!(rt; one.cmp(&other) == Ordering::Less);
 //! ```
 #![tactic(auto)]
 
