@@ -1,5 +1,5 @@
 #!/usr/bin/env python3
-"""Holds the README's pieces of Rust to what the gate proves and runs.
+"""Holds the README's pieces of Rust, and those of docs/USING.md, to what the gate proves and runs.
 
     python3 tools/try_readme.py [--no-run]
 
@@ -11,8 +11,8 @@ input, and a ```text block, what it prints of that. Three things are looked at:
   crates/weedle_program_rows/src/readme.rt, which the gate proves and whose tests run it.
 - The program runs: in a repository of its own, with the crates that its line names and those below
   them, `rt try` ends with status 0 and prints what the README says. --no-run leaves this out.
-- Each other ```rust block stands, indentation and blank lines aside, in a file with tests below
-  crates/*/src, or in a doc comment there. What its `use` lines bring in, that file's do too.
+- Each other ```rust block, of docs/USING.md too, stands, indentation and blank lines aside, in a file
+  with tests below crates/*/src, or in a doc comment there. What its `use` lines bring in, that file's do too.
 
 It needs Python 3.11, and without --no-run the toolchain's command `rt` on PATH, 2,000 MB of memory
 and some two minutes. It prints what doesn't hold, with both lines where lines differ, or else one
@@ -33,6 +33,8 @@ from crates import LIST, Unfit, closure, copy_crate, line_of, read_lines
 
 TOP = Path(__file__).resolve().parent.parent
 README = "README.md"
+# A page with blocks of Rust and no program.
+PAGE = "docs/USING.md"
 PROVED = "crates/weedle_program_rows/src/readme.rt"
 FENCE = re.compile(r"```(.*)")
 LIST_LINE = re.compile(r" {4}[a-z0-9_]+:( [a-z0-9_]+)+")
@@ -50,8 +52,8 @@ SECONDS = 600
 class Piece:
     """Lines that stand one behind another in a file: the number of the first, and all of them."""
 
-    def __init__(self, number, lines, language=""):
-        self.number, self.lines, self.language = number, lines, language
+    def __init__(self, number, lines, language="", file=README):
+        self.number, self.lines, self.language, self.file = number, lines, language, file
 
 
 class Readme:
@@ -87,7 +89,7 @@ class Readme:
         raise Unfit(f"{README} has no ```{language} block behind its program")
 
 
-def blocks_of(rows):
+def blocks_of(rows, file=README):
     blocks, open_block = [], None
     for number, row in enumerate(rows, 1):
         fence = FENCE.match(row)
@@ -97,7 +99,7 @@ def blocks_of(rows):
         elif open_block:
             open_block.lines.append(row)
         elif fence:
-            open_block = Piece(number + 1, [], fence[1])
+            open_block = Piece(number + 1, [], fence[1], file)
     return blocks
 
 
@@ -206,13 +208,20 @@ def places_of_rust(root):
         yield compared(row[3:] if row.startswith(("//!", "///")) else "(code)" for row in rows)
 
 
-def unfound(root, readme):
-    """The other blocks of Rust that stand nowhere."""
+def rust_of(root, file):
+    """The blocks of Rust of a page, none where it isn't there."""
+    path = root / file
+    rows = path.read_text(encoding="utf-8").splitlines() if path.is_file() else []
+    return [block for block in blocks_of(rows, file) if block.language == "rust"]
+
+
+def unfound(root, blocks):
+    """Those of the blocks of Rust that stand nowhere."""
     places = list(places_of_rust(root))
-    for block in readme.others:
+    for block in blocks:
         text, names = compared(block.lines)
         if not any(text in there and names <= brought for there, brought in places):
-            yield f"{README}:{block.number}: no file with tests and no doc comment has this block"
+            yield f"{block.file}:{block.number}: no file with tests and no doc comment has this block"
 
 
 def build_repository(root, readme, room):
@@ -262,11 +271,12 @@ def try_readme(root, is_run=True):
         raise Unfit(f"{root} has no {README}")
     readme = Readme(file.read_text(encoding="utf-8"))
     wrong, count = unproved(root, readme)
-    wrong += unfound(root, readme)
+    others = readme.others + rust_of(root, PAGE)
+    wrong += unfound(root, others)
     wrong += misprints(root, readme) if is_run else []
     run = "it prints what the README says" if is_run else "it was not run"
     said = f"{README}: {count} items of the program are proved ones, {run}, "
-    return wrong, said + f"{len(readme.others)} other blocks of Rust stand in crates/"
+    return wrong, said + f"{len(others)} other blocks of Rust stand in crates/"
 
 
 def main():
