@@ -1,7 +1,7 @@
 """The lines `use` of a file that is written: what it names is looked up where it is stated.
 
 Stated are the public names of the files of specs/ and proofs/ that are written by hand, or by
-tools/grammar.py, and the declared types.
+tools/grammar.py or tools/trees.py, and the declared types.
 """
 
 import re
@@ -14,7 +14,7 @@ STATED = re.compile(r"^ *(?:abbrev |unfoldable )?pub (?:ruleset |record )?([\w-]
 # What a file that is written states itself.
 OWN = re.compile(r"^(?:abbrev )?pub (?:ruleset )?([\w-]+)|^(?:abbrev )?([\w-]+) :", re.M)
 WORD = re.compile(r"(?<![.\w-])[\w«»'-]+")
-WRITTEN = re.compile(r"[Ww]ritten by tools/(?!grammar\.py)")
+WRITTEN = re.compile(r"[Ww]ritten by tools/(?!(?:grammar|trees)\.py)")
 HEAD_LINES = 3
 # What a name stands for where two crates have it: the keyword `Error`, beside that of a fault.
 KEYWORDS = {("weedle_term", "Error"): "ErrorKeyword"}

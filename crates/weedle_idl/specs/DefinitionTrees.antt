@@ -1,4 +1,4 @@
--- The tree of any definition, and of a list of them.
+-- The tree of any definition, and of a list of them. Written by tools/trees.py.
 use Rattle.std.specs.Prelude.{List}
 use Rattle.weedle_base.specs.Rules.{items_tree}
 use Rattle.weedle_grammar.specs.Trees.{Alt, Tree}
@@ -9,7 +9,9 @@ use Rattle.weedle_mixins.specs.Trees.{interface_mixin_definition_tree, partial_i
 use Rattle.weedle_namespaces.specs.Trees.{dictionary_definition_tree, namespace_definition_tree, partial_dictionary_definition_tree, partial_namespace_definition_tree}
 use Rattle.weedle_statements.specs.Trees.{callback_definition_tree, enum_definition_tree, implements_definition_tree, includes_statement_definition_tree, typedef_definition_tree}
 
--- a definition: which of the fourteen kinds it is, and that one's tree
+-- a definition: a callback, a callback interface, an interface, a mixin, a namespace, a dictionary, a part of
+-- an interface, a part of a mixin, a part of a dictionary, a part of a namespace, an enum, a name for a type,
+-- the use of a mixin by an interface, the older form of a mixin's use
 abbrev pub definition_tree : Definition → Tree
 definition_tree (Definition-Callback v) = Alt 0 (callback_definition_tree v)
 definition_tree (Definition-CallbackInterface v) = Alt 1 (callback_interface_definition_tree v)
@@ -26,6 +28,6 @@ definition_tree (Definition-Typedef v) = Alt 11 (typedef_definition_tree v)
 definition_tree (Definition-IncludesStatement v) = Alt 12 (includes_statement_definition_tree v)
 definition_tree (Definition-Implements v) = Alt 13 (implements_definition_tree v)
 
--- definitions, one after another
+-- definitions one after another
 abbrev pub definitions_tree : List Definition → Tree
 definitions_tree definitions = items_tree definition_tree definitions

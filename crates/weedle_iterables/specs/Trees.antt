@@ -1,33 +1,37 @@
--- The trees of iterations, maps and sets.
+-- The trees of iterations, maps and sets. Written by tools/trees.py.
 use Rattle.std.specs.Prelude.{[], ◌∷◌}
 use Rattle.weedle_base.specs.Rules.{mark_tree, option_tree}
+use Rattle.weedle_grammar.specs.Trees.{Alt, Mark, Node, Tree, trees}
 use Rattle.weedle_iterables.specs.declared.collection.MaplikeInterfaceMember.{MaplikeInterfaceMember}
 use Rattle.weedle_iterables.specs.declared.collection.SetlikeInterfaceMember.{SetlikeInterfaceMember}
 use Rattle.weedle_iterables.specs.declared.iterable.DoubleTypedIterable.{DoubleTypedIterable}
 use Rattle.weedle_iterables.specs.declared.iterable.IterableInterfaceMember.TheVariants.{Single as IterableInterfaceMember-Single, Double as IterableInterfaceMember-Double}
 use Rattle.weedle_iterables.specs.declared.iterable.IterableInterfaceMember.{IterableInterfaceMember}
 use Rattle.weedle_iterables.specs.declared.iterable.SingleTypedIterable.{SingleTypedIterable}
-use Rattle.weedle_grammar.specs.Trees.{Alt, Mark, Node, Tree, trees}
 use Rattle.weedle_types.specs.GenericsTrees.{one_type_tree, two_types_tree}
 use Rattle.weedle_types.specs.Trees.{attributes_tree}
 
--- an iteration over values: its attributes, `iterable`, the type, the semicolon
-abbrev pub single_typed_iterable_tree : SingleTypedIterable → Tree
-single_typed_iterable_tree v = Node (trees (attributes_tree v.attributes ∷ Mark ∷ one_type_tree v.generics ∷ Mark ∷ []))
-
--- an iteration over pairs: its attributes, `iterable`, the two types, the semicolon
-abbrev pub double_typed_iterable_tree : DoubleTypedIterable → Tree
-double_typed_iterable_tree v = Node (trees (attributes_tree v.attributes ∷ Mark ∷ two_types_tree v.generics ∷ Mark ∷ []))
-
--- an iteration: over values, over pairs
-abbrev pub iterable_interface_member_tree : IterableInterfaceMember → Tree
-iterable_interface_member_tree (IterableInterfaceMember-Single v) = Alt 0 (single_typed_iterable_tree v)
-iterable_interface_member_tree (IterableInterfaceMember-Double v) = Alt 1 (double_typed_iterable_tree v)
-
--- a map: its attributes, whether it is read-only, `maplike`, its two types, the semicolon
+-- a map: its attributes where they stand, `readonly` where it stands, `maplike`, the types of its keys and
+-- values in angle brackets, `;`
 abbrev pub maplike_interface_member_tree : MaplikeInterfaceMember → Tree
 maplike_interface_member_tree v = Node (trees (attributes_tree v.attributes ∷ option_tree mark_tree v.readonly ∷ Mark ∷ two_types_tree v.generics ∷ Mark ∷ []))
 
--- a set: its attributes, whether it is read-only, `setlike`, its type, the semicolon
+-- a set: its attributes where they stand, `readonly` where it stands, `setlike`, the type of its values in
+-- angle brackets, `;`
 abbrev pub setlike_interface_member_tree : SetlikeInterfaceMember → Tree
 setlike_interface_member_tree v = Node (trees (attributes_tree v.attributes ∷ option_tree mark_tree v.readonly ∷ Mark ∷ one_type_tree v.generics ∷ Mark ∷ []))
+
+-- an iteration over values: its attributes where they stand, `iterable`, the type of its values in angle
+-- brackets, `;`
+abbrev pub single_typed_iterable_tree : SingleTypedIterable → Tree
+single_typed_iterable_tree v = Node (trees (attributes_tree v.attributes ∷ Mark ∷ one_type_tree v.generics ∷ Mark ∷ []))
+
+-- an iteration over pairs: its attributes where they stand, `iterable`, the types of its keys and values in
+-- angle brackets, `;`
+abbrev pub double_typed_iterable_tree : DoubleTypedIterable → Tree
+double_typed_iterable_tree v = Node (trees (attributes_tree v.attributes ∷ Mark ∷ two_types_tree v.generics ∷ Mark ∷ []))
+
+-- an iteration over values or pairs: an iteration over values, an iteration over pairs
+abbrev pub iterable_interface_member_tree : IterableInterfaceMember → Tree
+iterable_interface_member_tree (IterableInterfaceMember-Single v) = Alt 0 (single_typed_iterable_tree v)
+iterable_interface_member_tree (IterableInterfaceMember-Double v) = Alt 1 (double_typed_iterable_tree v)
