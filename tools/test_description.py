@@ -30,10 +30,6 @@ pub struct Pair<'a, T> {
     pub second: a::B<'a, T>,
 }
 
-impl<T> Drop for Pair<'_, T> {
-    fn drop(self) {}
-}
-
 #[derive(Debug)]
 pub struct Name<'a>(pub &'a str, pub Box<Pair<'a, Or>>);
 pub struct Or;
@@ -68,9 +64,15 @@ class Declarations(unittest.TestCase):
         kinds = [it.kind for it in self.found.values()]
         self.assertEqual(kinds, ["struct", "struct", "struct", "enum", "type"])
 
+    def test_what_derives_neither_copy_nor_drop_has_a_drop_of_its_own(self):
+        found = [it.name for it in self.found.values() if it.is_dropped]
+        self.assertEqual(found, ["Name", "Or", "Either"])
+        self.assertFalse(self.found["Or"].is_borrowing or self.found["Or"].is_recursive)
+
     def test_a_struct(self):
         pair = self.found["Pair"]
-        self.assertEqual((pair.parameters, pair.is_copied, pair.is_dropped), (["T"], True, True))
+        self.assertEqual((pair.parameters, pair.is_copied, pair.is_dropped), (["T"], True, False))
+        self.assertEqual((pair.is_borrowing, pair.is_recursive), (True, True))
         self.assertEqual(pair.doc, "A pair, as `[a, b]` or `{`. It has two lines.")
         parts = [(it.name, it.text, it.doc) for it in pair.parts]
         first = ("first", "Option<Vec<(T, Comma)>>", "The first (of two, as `<`.")

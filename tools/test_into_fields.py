@@ -33,6 +33,7 @@ impl Drop for Member<'_> {
 }
 
 /// One that nobody drops by hand.
+#[derive(Drop)]
 pub struct Free<'a> {
     pub name: &'a str,
 }
@@ -56,6 +57,7 @@ impl Drop for Definition<'_> {
 }
 
 /// One that a pattern takes apart.
+#[derive(Clone, Copy)]
 pub enum Either<'a> {
     Label(Label<'a>),
     Member(Word),

@@ -12,7 +12,7 @@ BEGIN = re.compile(r"^pub (struct|enum|type) (\w+)(<[^>=({;]*>)?\s*([{(;=])", re
 FIELD = re.compile(r"(?:pub )?(\w+): (.+)", re.S)
 VARIANT = re.compile(r"(\w+)(?:\((.+)\))?", re.S)
 DERIVED = re.compile(r"#\[derive\(([^)]*)\)\]")
-DROPPED = re.compile(r"^impl(?:<[^>]*>)? Drop for (\w+)", re.M)
+RECURSIVE = "#[cycle(types)]"
 OPENING, CLOSING = "([{<", ")]}>"
 # What stands between the braces.
 KINDS = {"struct": "fields", "enum": "variants"}
@@ -58,11 +58,19 @@ class Declaration:
         self.kind, self.name, self.parameters, self.parts = kind, name, parameters, parts
         self.doc, self.derived = doc, derived
         self.crate = self.module = None
-        self.is_dropped = False
+        # Whether it has a lifetime, and whether it stands in a cycle of types.
+        self.is_borrowing = self.is_recursive = False
+        # The declaration that it is an alias of, where it is one that was looked up.
+        self.former = None
 
     @property
     def is_enum(self):
         return self.kind == "enum"
+
+    @property
+    def is_dropped(self):
+        """Whether its `Drop` is written out: it derives neither that nor `Copy`."""
+        return self.kind != "type" and not {"Copy", "Drop"} & set(self.derived)
 
     @property
     def is_copied(self):
@@ -137,20 +145,23 @@ def part_of(kind, number, docs, code):
 
 
 def head_of(text, end):
-    """The docs and the attributes right before a declaration."""
+    """The docs and the attributes right before a declaration, as they stand."""
     rows = []
     for row in reversed(text[:end].rstrip("\n").split("\n")):
         if not row.startswith(("///", "#[")):
             break
         rows.append(row)
-    head = "\n".join(reversed(rows))
+    return "\n".join(reversed(rows))
+
+
+def derived_in(head):
     derived = DERIVED.search(head)
-    return docs_and_code(head)[0], tuple(derived[1].replace(" ", "").split(",")) if derived else ()
+    return tuple(derived[1].replace(" ", "").split(",")) if derived else ()
 
 
 def declared_in(text):
     """The declarations of a file, in their order."""
-    dropped, found = DROPPED.findall(text), []
+    found = []
     for begin in BEGIN.finditer(text):
         kind, name, parameters, sign = begin.groups()
         body = text[begin.end():end_of(text, begin.end())] if sign in "{(" else ""
@@ -159,8 +170,11 @@ def declared_in(text):
         else:
             parts = parts_of("numbered" if sign in "(;" else KINDS[kind], body)
         names = [it for it in split((parameters or "<>")[1:-1]) if not it.startswith("'")]
-        declaration = Declaration(kind, name, names, parts, *head_of(text, begin.start()))
-        declaration.is_dropped = name in dropped
+        head = head_of(text, begin.start())
+        docs = docs_and_code(head)[0]
+        declaration = Declaration(kind, name, names, parts, docs, derived_in(head))
+        declaration.is_borrowing = "'" in (parameters or "")
+        declaration.is_recursive = RECURSIVE in head
         found.append(declaration)
     return found
 

@@ -4,7 +4,7 @@
 //! types ask for memory: where it is refused, the call ends at once with a failure of code `Memory`.
 //! What each type reads stands in words in docs/GRAMMAR.md.
 
-ghost use Rattle.std.specs.Prelude.{◌≡◌};
+mod written;
 
 use crate::attribute::ExtendedAttributeList;
 use crate::types::{AttributedType, Type};
@@ -112,25 +112,5 @@ impl Drop for VariadicArgument<'_> {
             ellipsis: _,
             identifier: _,
         } = self;
-    }
-}
-
-impl<'a> From<SingleArgument<'a>> for Argument<'a> {
-    ghost use Rattle.weedle_types.specs.declared.argument.Argument.TheVariants.{Single};
-
-    ghost from_gives = { λ v e. e ≡ Single v };
-
-    fn from(value: SingleArgument<'a>) -> Self {
-        Argument::Single(value)
-    }
-}
-
-impl<'a> From<VariadicArgument<'a>> for Argument<'a> {
-    ghost use Rattle.weedle_types.specs.declared.argument.Argument.TheVariants.{Variadic};
-
-    ghost from_gives = { λ v e. e ≡ Variadic v };
-
-    fn from(value: VariadicArgument<'a>) -> Self {
-        Argument::Variadic(value)
     }
 }

@@ -4,7 +4,6 @@
 //! is refused, the call ends at once with a failure of code `Memory`.
 //! What each type reads stands in words in docs/GRAMMAR.md.
 
-ghost use Rattle.std.specs.Prelude.{◌≡◌};
 ghost use Rattle.weedle_base.specs.Own.{own};
 ghost use Rattle.weedle_base.specs.OwnLaws.{own_lawful};
 ghost use Rattle.weedle_grammar.specs.Table.Types.{
@@ -19,6 +18,8 @@ ghost use Rattle.weedle_types.specs.Trees.{
   extended_attribute_no_args_tree,
   identifier_or_string_tree,
 };
+
+mod written;
 
 use crate::argument::ParenthesizedArgumentList;
 use std::alloc::Global;
@@ -210,80 +211,4 @@ impl<'a> Parse<'a> for IdentifierOrString<'a> {
     }
 
     ghost lawful = { own_lawful IDENTIFIER_OR_STRING identifier_or_string_tree ⊥ };
-}
-
-impl<'a> From<ExtendedAttributeArgList<'a>> for ExtendedAttribute<'a> {
-    ghost use Rattle.weedle_types.specs.declared.attribute.ExtendedAttribute.TheVariants.{ArgList};
-
-    ghost from_gives = { λ v e. e ≡ ArgList v };
-
-    fn from(value: ExtendedAttributeArgList<'a>) -> Self {
-        ExtendedAttribute::ArgList(value)
-    }
-}
-
-impl<'a> From<ExtendedAttributeNamedArgList<'a>> for ExtendedAttribute<'a> {
-    ghost use Rattle.weedle_types.specs.declared.attribute.ExtendedAttribute.TheVariants.{
-      NamedArgList,
-    };
-
-    ghost from_gives = { λ v e. e ≡ NamedArgList v };
-
-    fn from(value: ExtendedAttributeNamedArgList<'a>) -> Self {
-        ExtendedAttribute::NamedArgList(value)
-    }
-}
-
-impl<'a> From<ExtendedAttributeIdentList<'a>> for ExtendedAttribute<'a> {
-    ghost use Rattle.weedle_types.specs.declared.attribute.ExtendedAttribute.TheVariants.{
-      IdentList,
-    };
-
-    ghost from_gives = { λ v e. e ≡ IdentList v };
-
-    fn from(value: ExtendedAttributeIdentList<'a>) -> Self {
-        ExtendedAttribute::IdentList(value)
-    }
-}
-
-impl<'a> From<ExtendedAttributeIdent<'a>> for ExtendedAttribute<'a> {
-    ghost use Rattle.weedle_types.specs.declared.attribute.ExtendedAttribute.TheVariants.{Ident};
-
-    ghost from_gives = { λ v e. e ≡ Ident v };
-
-    fn from(value: ExtendedAttributeIdent<'a>) -> Self {
-        ExtendedAttribute::Ident(value)
-    }
-}
-
-impl<'a> From<ExtendedAttributeNoArgs<'a>> for ExtendedAttribute<'a> {
-    ghost use Rattle.weedle_types.specs.declared.attribute.ExtendedAttribute.TheVariants.{NoArgs};
-
-    ghost from_gives = { λ v e. e ≡ NoArgs v };
-
-    fn from(value: ExtendedAttributeNoArgs<'a>) -> Self {
-        ExtendedAttribute::NoArgs(value)
-    }
-}
-
-impl<'a> From<Identifier<'a>> for IdentifierOrString<'a> {
-    ghost use Rattle.weedle_types.specs.declared.attribute.IdentifierOrString.TheVariants.{
-      Identifier,
-    };
-
-    ghost from_gives = { λ v e. e ≡ Identifier v };
-
-    fn from(value: Identifier<'a>) -> Self {
-        IdentifierOrString::Identifier(value)
-    }
-}
-
-impl<'a> From<StringLit<'a>> for IdentifierOrString<'a> {
-    ghost use Rattle.weedle_types.specs.declared.attribute.IdentifierOrString.TheVariants.{String};
-
-    ghost from_gives = { λ v e. e ≡ String v };
-
-    fn from(value: StringLit<'a>) -> Self {
-        IdentifierOrString::String(value)
-    }
 }

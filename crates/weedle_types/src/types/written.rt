@@ -1,4 +1,6 @@
-//! What the types with variants are made from.
+//! What follows from the declarations of the module above.
+//!
+//! Written by tools/impls.py.
 
 ghost use Rattle.std.specs.Prelude.{◌≡◌};
 
@@ -8,26 +10,6 @@ use super::{
 };
 use weedle_parts::types::MayBeNull;
 use weedle_term::{Any, ByteString, DOMString, USVString, Undefined};
-
-impl<'a> From<SingleType<'a>> for Type<'a> {
-    ghost use Rattle.weedle_types.specs.declared.types.«Type».TheVariants.{Single};
-
-    ghost from_gives = { λ v e. e ≡ Single v };
-
-    fn from(value: SingleType<'a>) -> Self {
-        Type::Single(value)
-    }
-}
-
-impl<'a> From<MayBeNull<UnionType<'a>>> for Type<'a> {
-    ghost use Rattle.weedle_types.specs.declared.types.«Type».TheVariants.{Union};
-
-    ghost from_gives = { λ v e. e ≡ Union v };
-
-    fn from(value: MayBeNull<UnionType<'a>>) -> Self {
-        Type::Union(value)
-    }
-}
 
 impl From<Any> for SingleType<'_> {
     ghost use Rattle.weedle_types.specs.declared.formers.SingleType.TheVariants.{Any};
@@ -106,6 +88,26 @@ impl<'a> From<Type<'a>> for ReturnType<'a> {
 
     fn from(value: Type<'a>) -> Self {
         ReturnType::Type_(value)
+    }
+}
+
+impl<'a> From<SingleType<'a>> for Type<'a> {
+    ghost use Rattle.weedle_types.specs.declared.types.«Type».TheVariants.{Single};
+
+    ghost from_gives = { λ v e. e ≡ Single v };
+
+    fn from(value: SingleType<'a>) -> Self {
+        Type::Single(value)
+    }
+}
+
+impl<'a> From<MayBeNull<UnionType<'a>>> for Type<'a> {
+    ghost use Rattle.weedle_types.specs.declared.types.«Type».TheVariants.{Union};
+
+    ghost from_gives = { λ v e. e ≡ Union v };
+
+    fn from(value: MayBeNull<UnionType<'a>>) -> Self {
+        Type::Union(value)
     }
 }
 

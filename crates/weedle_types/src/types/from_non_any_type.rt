@@ -1,4 +1,6 @@
-//! What a type that is neither `any` nor a union is made from.
+//! What a value of `NonAnyType` is made from.
+//!
+//! Written by tools/impls.py.
 
 ghost use Rattle.std.specs.Prelude.{◌≡◌};
 

@@ -1,0 +1,94 @@
+"""The files of a crate: what is written of each type, put together with the lines `use`."""
+
+import re
+from pathlib import Path
+
+from description.declarations import Declaration, Part, declared_by, split
+from description.names import snake
+from written.conversions import conversions
+from written.imports import ghost_lines, imported, paths_in, use_lines
+
+OUT = "written"
+# What is written of a type, in this order.
+KINDS = (conversions,)
+# An enum with more variants has its conversions in a file of their own.
+MANY = 16
+HEAD = """//! {}
+//!
+//! Written by tools/impls.py.
+"""
+ABOUT = "What follows from the declarations of the module above."
+ABOUT_ONE = "What a value of `{}` is made from."
+
+
+def path_of(root, item):
+    """The file that declares a type."""
+    return Path(root) / "crates" / item.crate / "src" / f"{item.module.replace('.', '/')}.rt"
+
+
+def former_of(alias, declared):
+    """The enum of a module of the same crate that an alias stands for, or None."""
+    target = alias.parts[0].type
+    found = [it for it in declared if (it.module, it.name) == (target.module, target.name)]
+    return found[0] if found and found[0].is_enum else None
+
+
+def formed(alias, former):
+    """The enum as its alias has it: what it is made over is the type that the alias gives."""
+    given = dict(zip(former.parameters, split(alias.parts[0].text.partition("<")[2][:-1])))
+    parts = [
+        Part(part.name, re.sub(r"\b[A-Z]\w*\b", lambda it: given.get(it[0], it[0]), part.text))
+        for part in former.parts
+    ]
+    item = Declaration("enum", alias.name, (), parts, derived=former.derived)
+    item.crate, item.module, item.former = alias.crate, alias.module, former
+    item.is_borrowing = alias.is_borrowing
+    return item
+
+
+def items_of(module, declared):
+    """The types that a module declares, and its aliases of enums that are made over a type."""
+    for item in declared:
+        former = former_of(item, declared) if item.kind == "type" else None
+        if item.module == module and former:
+            yield formed(item, former)
+        elif item.module == module and item.kind != "type" and not item.parameters:
+            yield item
+
+
+def pieces_of(items):
+    """What is written of some types, by the names of its files, each with its first line."""
+    files = {}
+    for item in items:
+        for kind in KINDS:
+            alone = kind is conversions and item.is_enum and len(item.parts) > MANY
+            name = (f"from_{snake(item.name)}", ABOUT_ONE.format(item.name)) if alone else (OUT, ABOUT)
+            files.setdefault(name, []).extend(kind(item))
+    return {name: pieces for name, pieces in files.items() if pieces}
+
+
+def paths_for(root, items):
+    """The paths of what the pieces of some types of a module name."""
+    paths = {}
+    for item in items:
+        if item.former:
+            paths.update(imported(path_of(root, item.former).read_text(encoding="utf-8")))
+    return paths | paths_in(path_of(root, items[0]).read_text(encoding="utf-8"))
+
+
+def file_text(about, pieces, paths):
+    texts = [piece.text for piece in pieces]
+    ghost = ghost_lines({it for piece in pieces for it in piece.ghost})
+    parts = [HEAD.format(about), ghost, use_lines("".join(texts), paths), *texts]
+    return "\n".join(part for part in parts if part)
+
+
+def files_of(root, crate):
+    """The files of a crate: the module that each stands below, its path and its text."""
+    declared = list(declared_by(root, crate))
+    for module in dict.fromkeys(it.module for it in declared):
+        items = list(items_of(module, declared))
+        for (name, about), pieces in pieces_of(items).items():
+            above = path_of(root, items[0])
+            text = file_text(about, pieces, paths_for(root, items))
+            yield above, above.with_suffix("") / f"{name}.rt", text
