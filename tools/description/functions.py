@@ -33,13 +33,13 @@ TREE_LAWS = {
 
 
 class Function:
-    """A function: its name and file, the Type that it gives, and that type's rule and tree.
+    """A function: its name and file, the Type that it gives, also as text, and that type's rule and tree.
 
     One that reads some of an enum's variants has no rule, and the number of the first of them.
     """
 
     def __init__(self, name, file, type_, rule=None, tree=None, first=None):
-        self.name, self.file, self.type = name, file, type_of(type_)
+        self.name, self.file, self.text, self.type = name, file, type_, type_of(type_)
         self.rule, self.tree, self.first = rule, tree, first
 
 

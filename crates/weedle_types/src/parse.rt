@@ -1,4 +1,6 @@
 //! `Parse` for the types of the recursive group: each has the reading of its rule.
+//!
+//! Written by tools/types_impls.py.
 
 ghost use Rattle.weedle_base.specs.Own.{own};
 ghost use Rattle.weedle_base.specs.OwnLaws.{own_lawful};
@@ -100,6 +102,46 @@ impl<'a> Parse<'a> for NonAnyType<'a> {
     ghost lawful = { own_lawful NON_ANY_TYPE non_any_type_tree (Unit {0}) };
 }
 
+impl<'a> Parse<'a> for RecordKeyType<'a> {
+    ghost reading = { own RECORD_KEY_TYPE record_key_type_tree (Unit {0}) };
+
+    fn parse(alloc: Global, input: &'a str) -> IResult<&'a str, Self> {
+        record_key_type(alloc, input)
+    }
+
+    ghost lawful = { own_lawful RECORD_KEY_TYPE record_key_type_tree (Unit {0}) };
+}
+
+impl<'a> Parse<'a> for ReturnType<'a> {
+    ghost reading = { own RETURN_TYPE return_type_tree (Unit {0}) };
+
+    fn parse(alloc: Global, input: &'a str) -> IResult<&'a str, Self> {
+        return_type(alloc, input)
+    }
+
+    ghost lawful = { own_lawful RETURN_TYPE return_type_tree (Unit {0}) };
+}
+
+impl<'a> Parse<'a> for AttributedType<'a> {
+    ghost reading = { own ATTRIBUTED_TYPE attributed_type_tree (Unit {0}) };
+
+    fn parse(alloc: Global, input: &'a str) -> IResult<&'a str, Self> {
+        attributed_type(alloc, input)
+    }
+
+    ghost lawful = { own_lawful ATTRIBUTED_TYPE attributed_type_tree (Unit {0}) };
+}
+
+impl<'a> Parse<'a> for AttributedNonAnyType<'a> {
+    ghost reading = { own ATTRIBUTED_NON_ANY_TYPE attributed_non_any_type_tree (Unit {0}) };
+
+    fn parse(alloc: Global, input: &'a str) -> IResult<&'a str, Self> {
+        attributed_non_any_type(alloc, input)
+    }
+
+    ghost lawful = { own_lawful ATTRIBUTED_NON_ANY_TYPE attributed_non_any_type_tree (Unit {0}) };
+}
+
 impl<'a> Parse<'a> for SequenceType<'a> {
     ghost reading = { own SEQUENCE_TYPE sequence_type_tree (Unit {0}) };
 
@@ -150,16 +192,6 @@ impl<'a> Parse<'a> for RecordTypes<'a> {
     ghost lawful = { own_lawful RECORD_TYPES record_types_tree (Unit {0}) };
 }
 
-impl<'a> Parse<'a> for RecordKeyType<'a> {
-    ghost reading = { own RECORD_KEY_TYPE record_key_type_tree (Unit {0}) };
-
-    fn parse(alloc: Global, input: &'a str) -> IResult<&'a str, Self> {
-        record_key_type(alloc, input)
-    }
-
-    ghost lawful = { own_lawful RECORD_KEY_TYPE record_key_type_tree (Unit {0}) };
-}
-
 impl<'a> Parse<'a> for UnionMemberType<'a> {
     ghost reading = { own UNION_MEMBER_TYPE union_member_type_tree (Unit {0}) };
 
@@ -168,36 +200,6 @@ impl<'a> Parse<'a> for UnionMemberType<'a> {
     }
 
     ghost lawful = { own_lawful UNION_MEMBER_TYPE union_member_type_tree (Unit {0}) };
-}
-
-impl<'a> Parse<'a> for ReturnType<'a> {
-    ghost reading = { own RETURN_TYPE return_type_tree (Unit {0}) };
-
-    fn parse(alloc: Global, input: &'a str) -> IResult<&'a str, Self> {
-        return_type(alloc, input)
-    }
-
-    ghost lawful = { own_lawful RETURN_TYPE return_type_tree (Unit {0}) };
-}
-
-impl<'a> Parse<'a> for AttributedType<'a> {
-    ghost reading = { own ATTRIBUTED_TYPE attributed_type_tree (Unit {0}) };
-
-    fn parse(alloc: Global, input: &'a str) -> IResult<&'a str, Self> {
-        attributed_type(alloc, input)
-    }
-
-    ghost lawful = { own_lawful ATTRIBUTED_TYPE attributed_type_tree (Unit {0}) };
-}
-
-impl<'a> Parse<'a> for AttributedNonAnyType<'a> {
-    ghost reading = { own ATTRIBUTED_NON_ANY_TYPE attributed_non_any_type_tree (Unit {0}) };
-
-    fn parse(alloc: Global, input: &'a str) -> IResult<&'a str, Self> {
-        attributed_non_any_type(alloc, input)
-    }
-
-    ghost lawful = { own_lawful ATTRIBUTED_NON_ANY_TYPE attributed_non_any_type_tree (Unit {0}) };
 }
 
 impl<'a> Parse<'a> for ExtendedAttribute<'a> {
@@ -230,16 +232,6 @@ impl<'a> Parse<'a> for ExtendedAttributeNamedArgList<'a> {
     ghost lawful = { own_lawful EXTENDED_ATTRIBUTE_NAMED_ARG_LIST extended_attribute_named_arg_list_tree (Unit {0}) };
 }
 
-impl<'a> Parse<'a> for ParenthesizedArgumentList<'a> {
-    ghost reading = { own PARENTHESIZED_ARGUMENT_LIST arguments_tree (Unit {0}) };
-
-    fn parse(alloc: Global, input: &'a str) -> IResult<&'a str, Self> {
-        arguments(alloc, input)
-    }
-
-    ghost lawful = { own_lawful PARENTHESIZED_ARGUMENT_LIST arguments_tree (Unit {0}) };
-}
-
 impl<'a> Parse<'a> for Argument<'a> {
     ghost reading = { own ARGUMENT argument_tree (Unit {0}) };
 
@@ -268,4 +260,14 @@ impl<'a> Parse<'a> for VariadicArgument<'a> {
     }
 
     ghost lawful = { own_lawful VARIADIC_ARGUMENT variadic_argument_tree (Unit {0}) };
+}
+
+impl<'a> Parse<'a> for ParenthesizedArgumentList<'a> {
+    ghost reading = { own PARENTHESIZED_ARGUMENT_LIST arguments_tree (Unit {0}) };
+
+    fn parse(alloc: Global, input: &'a str) -> IResult<&'a str, Self> {
+        arguments(alloc, input)
+    }
+
+    ghost lawful = { own_lawful PARENTHESIZED_ARGUMENT_LIST arguments_tree (Unit {0}) };
 }

@@ -1,4 +1,6 @@
 //! `TryClone` for the types that hold boxes and lists: a clone has the tree of the original.
+//!
+//! Written by tools/types_impls.py.
 
 ghost use Rattle.std.specs.Prelude.{◌≡◌};
 ghost use Rattle.weedle_base.specs.AlikeLaws.{equal_equivalence, seen_equivalence};
@@ -35,7 +37,8 @@ use crate::clones::arguments::{
     clone_argument, clone_arguments, clone_single_argument, clone_variadic_argument,
 };
 use crate::clones::attributes::{
-    clone_arg_list, clone_extended_attribute, clone_ident_list, clone_named_arg_list,
+    clone_extended_attribute, clone_extended_attribute_arg_list,
+    clone_extended_attribute_ident_list, clone_extended_attribute_named_arg_list,
 };
 use crate::clones::generic_types::{
     clone_frozen_array_type, clone_promise_type, clone_record_type, clone_record_types,
@@ -81,6 +84,46 @@ impl<'a> TryClone for NonAnyType<'a> {
     }
 
     ghost equivalence = { seen_equivalence non_any_type_tree equal_equivalence };
+}
+
+impl<'a> TryClone for RecordKeyType<'a> {
+    ghost alike = { λ a b. record_key_type_tree a ≡ record_key_type_tree b };
+
+    fn try_clone(&self, alloc: Global) -> Result<Self, AllocError> {
+        clone_record_key_type(self, alloc)
+    }
+
+    ghost equivalence = { seen_equivalence record_key_type_tree equal_equivalence };
+}
+
+impl<'a> TryClone for ReturnType<'a> {
+    ghost alike = { λ a b. return_type_tree a ≡ return_type_tree b };
+
+    fn try_clone(&self, alloc: Global) -> Result<Self, AllocError> {
+        clone_return_type(self, alloc)
+    }
+
+    ghost equivalence = { seen_equivalence return_type_tree equal_equivalence };
+}
+
+impl<'a> TryClone for AttributedType<'a> {
+    ghost alike = { λ a b. attributed_type_tree a ≡ attributed_type_tree b };
+
+    fn try_clone(&self, alloc: Global) -> Result<Self, AllocError> {
+        clone_attributed_type(self, alloc)
+    }
+
+    ghost equivalence = { seen_equivalence attributed_type_tree equal_equivalence };
+}
+
+impl<'a> TryClone for AttributedNonAnyType<'a> {
+    ghost alike = { λ a b. attributed_non_any_type_tree a ≡ attributed_non_any_type_tree b };
+
+    fn try_clone(&self, alloc: Global) -> Result<Self, AllocError> {
+        clone_attributed_non_any_type(self, alloc)
+    }
+
+    ghost equivalence = { seen_equivalence attributed_non_any_type_tree equal_equivalence };
 }
 
 impl<'a> TryClone for SequenceType<'a> {
@@ -133,16 +176,6 @@ impl<'a> TryClone for RecordTypes<'a> {
     ghost equivalence = { seen_equivalence record_types_tree equal_equivalence };
 }
 
-impl<'a> TryClone for RecordKeyType<'a> {
-    ghost alike = { λ a b. record_key_type_tree a ≡ record_key_type_tree b };
-
-    fn try_clone(&self, alloc: Global) -> Result<Self, AllocError> {
-        clone_record_key_type(self, alloc)
-    }
-
-    ghost equivalence = { seen_equivalence record_key_type_tree equal_equivalence };
-}
-
 impl<'a> TryClone for UnionMemberType<'a> {
     ghost alike = { λ a b. union_member_type_tree a ≡ union_member_type_tree b };
 
@@ -151,36 +184,6 @@ impl<'a> TryClone for UnionMemberType<'a> {
     }
 
     ghost equivalence = { seen_equivalence union_member_type_tree equal_equivalence };
-}
-
-impl<'a> TryClone for ReturnType<'a> {
-    ghost alike = { λ a b. return_type_tree a ≡ return_type_tree b };
-
-    fn try_clone(&self, alloc: Global) -> Result<Self, AllocError> {
-        clone_return_type(self, alloc)
-    }
-
-    ghost equivalence = { seen_equivalence return_type_tree equal_equivalence };
-}
-
-impl<'a> TryClone for AttributedType<'a> {
-    ghost alike = { λ a b. attributed_type_tree a ≡ attributed_type_tree b };
-
-    fn try_clone(&self, alloc: Global) -> Result<Self, AllocError> {
-        clone_attributed_type(self, alloc)
-    }
-
-    ghost equivalence = { seen_equivalence attributed_type_tree equal_equivalence };
-}
-
-impl<'a> TryClone for AttributedNonAnyType<'a> {
-    ghost alike = { λ a b. attributed_non_any_type_tree a ≡ attributed_non_any_type_tree b };
-
-    fn try_clone(&self, alloc: Global) -> Result<Self, AllocError> {
-        clone_attributed_non_any_type(self, alloc)
-    }
-
-    ghost equivalence = { seen_equivalence attributed_non_any_type_tree equal_equivalence };
 }
 
 impl<'a> TryClone for ExtendedAttribute<'a> {
@@ -197,7 +200,7 @@ impl<'a> TryClone for ExtendedAttributeArgList<'a> {
     ghost alike = { λ a b. extended_attribute_arg_list_tree a ≡ extended_attribute_arg_list_tree b };
 
     fn try_clone(&self, alloc: Global) -> Result<Self, AllocError> {
-        clone_arg_list(self, alloc)
+        clone_extended_attribute_arg_list(self, alloc)
     }
 
     ghost equivalence = { seen_equivalence extended_attribute_arg_list_tree equal_equivalence };
@@ -207,30 +210,10 @@ impl<'a> TryClone for ExtendedAttributeNamedArgList<'a> {
     ghost alike = { λ a b. extended_attribute_named_arg_list_tree a ≡ extended_attribute_named_arg_list_tree b };
 
     fn try_clone(&self, alloc: Global) -> Result<Self, AllocError> {
-        clone_named_arg_list(self, alloc)
+        clone_extended_attribute_named_arg_list(self, alloc)
     }
 
     ghost equivalence = { seen_equivalence extended_attribute_named_arg_list_tree equal_equivalence };
-}
-
-impl<'a> TryClone for ExtendedAttributeIdentList<'a> {
-    ghost alike = { λ a b. extended_attribute_ident_list_tree a ≡ extended_attribute_ident_list_tree b };
-
-    fn try_clone(&self, alloc: Global) -> Result<Self, AllocError> {
-        clone_ident_list(self, alloc)
-    }
-
-    ghost equivalence = { seen_equivalence extended_attribute_ident_list_tree equal_equivalence };
-}
-
-impl<'a> TryClone for ParenthesizedArgumentList<'a> {
-    ghost alike = { λ a b. arguments_tree a ≡ arguments_tree b };
-
-    fn try_clone(&self, alloc: Global) -> Result<Self, AllocError> {
-        clone_arguments(self, alloc)
-    }
-
-    ghost equivalence = { seen_equivalence arguments_tree equal_equivalence };
 }
 
 impl<'a> TryClone for Argument<'a> {
@@ -261,4 +244,24 @@ impl<'a> TryClone for VariadicArgument<'a> {
     }
 
     ghost equivalence = { seen_equivalence variadic_argument_tree equal_equivalence };
+}
+
+impl<'a> TryClone for ParenthesizedArgumentList<'a> {
+    ghost alike = { λ a b. arguments_tree a ≡ arguments_tree b };
+
+    fn try_clone(&self, alloc: Global) -> Result<Self, AllocError> {
+        clone_arguments(self, alloc)
+    }
+
+    ghost equivalence = { seen_equivalence arguments_tree equal_equivalence };
+}
+
+impl<'a> TryClone for ExtendedAttributeIdentList<'a> {
+    ghost alike = { λ a b. extended_attribute_ident_list_tree a ≡ extended_attribute_ident_list_tree b };
+
+    fn try_clone(&self, alloc: Global) -> Result<Self, AllocError> {
+        clone_extended_attribute_ident_list(self, alloc)
+    }
+
+    ghost equivalence = { seen_equivalence extended_attribute_ident_list_tree equal_equivalence };
 }

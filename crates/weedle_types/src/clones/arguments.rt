@@ -1,4 +1,6 @@
 //! Clones of arguments.
+//!
+//! Written by tools/types_impls.py.
 #![tactic(auto, using(crate::proofs::TreeLaws::clone_steps))]
 
 ghost use Rattle.std.specs.Prelude.{◌≡◌, IfOk, map};
@@ -15,7 +17,56 @@ use crate::argument::{Argument, ParenthesizedArgumentList, SingleArgument, Varia
 use std::alloc::{AllocError, Global};
 use weedle_parts::common::Punctuated;
 
-/// Clones arguments in parentheses.
+/// Clones an argument, as `long x`, or `long... xs` for any number of them.
+#[cycle(clones)]
+pub(crate) fn clone_argument<'a>(
+    original: &Argument<'a>,
+    alloc: Global,
+) -> Result<Argument<'a>, AllocError>
+    ensures { IfOk result (λ v. argument_tree v ≡ argument_tree original.now) }
+{
+    match original {
+        Argument::Single(member) => Ok(Argument::Single(clone_single_argument(member, alloc)?)),
+        Argument::Variadic(member) => Ok(Argument::Variadic(clone_variadic_argument(
+            member, alloc,
+        )?)),
+    }
+}
+
+/// Clones an argument, as `optional long x = 5`.
+#[cycle(clones)]
+pub(crate) fn clone_single_argument<'a>(
+    original: &SingleArgument<'a>,
+    alloc: Global,
+) -> Result<SingleArgument<'a>, AllocError>
+    ensures { IfOk result (λ v. single_argument_tree v ≡ single_argument_tree original.now) }
+{
+    Ok(SingleArgument {
+        attributes: clone_attributes(&original.attributes, alloc)?,
+        optional: original.optional,
+        type_: clone_attributed_type(&original.type_, alloc)?,
+        identifier: original.identifier,
+        default: original.default,
+    })
+}
+
+/// Clones any number of arguments, as `long... xs`.
+#[cycle(clones)]
+pub(crate) fn clone_variadic_argument<'a>(
+    original: &VariadicArgument<'a>,
+    alloc: Global,
+) -> Result<VariadicArgument<'a>, AllocError>
+    ensures { IfOk result (λ v. variadic_argument_tree v ≡ variadic_argument_tree original.now) }
+{
+    Ok(VariadicArgument {
+        attributes: clone_attributes(&original.attributes, alloc)?,
+        type_: clone_type(&original.type_, alloc)?,
+        ellipsis: original.ellipsis,
+        identifier: original.identifier,
+    })
+}
+
+/// Clones arguments in parentheses, as `(long x, long y)`.
 #[cycle(clones)]
 pub(crate) fn clone_arguments<'a>(
     original: &ParenthesizedArgumentList<'a>,
@@ -47,53 +98,4 @@ pub(crate) fn clone_argument_items<'a>(
         clones.push(clone_argument(item, alloc)?)?;
     }
     Ok(clones)
-}
-
-/// Clones an argument.
-#[cycle(clones)]
-pub(crate) fn clone_argument<'a>(
-    original: &Argument<'a>,
-    alloc: Global,
-) -> Result<Argument<'a>, AllocError>
-    ensures { IfOk result (λ v. argument_tree v ≡ argument_tree original.now) }
-{
-    match original {
-        Argument::Single(member) => Ok(Argument::Single(clone_single_argument(member, alloc)?)),
-        Argument::Variadic(member) => Ok(Argument::Variadic(clone_variadic_argument(
-            member, alloc,
-        )?)),
-    }
-}
-
-/// Clones a single argument.
-#[cycle(clones)]
-pub(crate) fn clone_single_argument<'a>(
-    original: &SingleArgument<'a>,
-    alloc: Global,
-) -> Result<SingleArgument<'a>, AllocError>
-    ensures { IfOk result (λ v. single_argument_tree v ≡ single_argument_tree original.now) }
-{
-    Ok(SingleArgument {
-        attributes: clone_attributes(&original.attributes, alloc)?,
-        optional: original.optional,
-        type_: clone_attributed_type(&original.type_, alloc)?,
-        identifier: original.identifier,
-        default: original.default,
-    })
-}
-
-/// Clones an argument that stands for any number.
-#[cycle(clones)]
-pub(crate) fn clone_variadic_argument<'a>(
-    original: &VariadicArgument<'a>,
-    alloc: Global,
-) -> Result<VariadicArgument<'a>, AllocError>
-    ensures { IfOk result (λ v. variadic_argument_tree v ≡ variadic_argument_tree original.now) }
-{
-    Ok(VariadicArgument {
-        attributes: clone_attributes(&original.attributes, alloc)?,
-        type_: clone_type(&original.type_, alloc)?,
-        ellipsis: original.ellipsis,
-        identifier: original.identifier,
-    })
 }

@@ -1,4 +1,6 @@
 //! Clones of attributes.
+//!
+//! Written by tools/types_impls.py.
 #![tactic(auto, using(crate::proofs::TreeLaws::clone_steps))]
 
 ghost use Rattle.std.specs.Prelude.{◌≡◌, IfOk, map};
@@ -56,7 +58,7 @@ pub(crate) fn clone_extended_attributes<'a>(
     Ok(clones)
 }
 
-/// Clones an attribute.
+/// Clones an attribute, as `Exposed=Window` or `Constructor(long x)`.
 #[cycle(clones)]
 pub(crate) fn clone_extended_attribute<'a>(
     original: &ExtendedAttribute<'a>,
@@ -65,23 +67,23 @@ pub(crate) fn clone_extended_attribute<'a>(
     ensures { IfOk result (λ v. extended_attribute_tree v ≡ extended_attribute_tree original.now) }
 {
     match original {
-        ExtendedAttribute::ArgList(member) => Ok(ExtendedAttribute::ArgList(clone_arg_list(
-            member, alloc,
-        )?)),
-        ExtendedAttribute::NamedArgList(member) => Ok(ExtendedAttribute::NamedArgList(
-            clone_named_arg_list(member, alloc)?,
+        ExtendedAttribute::ArgList(member) => Ok(ExtendedAttribute::ArgList(
+            clone_extended_attribute_arg_list(member, alloc)?,
         )),
-        ExtendedAttribute::IdentList(member) => Ok(ExtendedAttribute::IdentList(clone_ident_list(
-            member, alloc,
-        )?)),
+        ExtendedAttribute::NamedArgList(member) => Ok(ExtendedAttribute::NamedArgList(
+            clone_extended_attribute_named_arg_list(member, alloc)?,
+        )),
+        ExtendedAttribute::IdentList(member) => Ok(ExtendedAttribute::IdentList(
+            clone_extended_attribute_ident_list(member, alloc)?,
+        )),
         ExtendedAttribute::Ident(member) => Ok(ExtendedAttribute::Ident(*member)),
         ExtendedAttribute::NoArgs(member) => Ok(ExtendedAttribute::NoArgs(*member)),
     }
 }
 
-/// Clones an attribute with arguments.
+/// Clones an attribute with arguments, as `Constructor(long x)`.
 #[cycle(clones)]
-pub(crate) fn clone_arg_list<'a>(
+pub(crate) fn clone_extended_attribute_arg_list<'a>(
     original: &ExtendedAttributeArgList<'a>,
     alloc: Global,
 ) -> Result<ExtendedAttributeArgList<'a>, AllocError>
@@ -93,9 +95,9 @@ pub(crate) fn clone_arg_list<'a>(
     })
 }
 
-/// Clones an attribute with a name and arguments.
+/// Clones an attribute with a name and arguments, as `NamedConstructor=Image(long x)`.
 #[cycle(clones)]
-pub(crate) fn clone_named_arg_list<'a>(
+pub(crate) fn clone_extended_attribute_named_arg_list<'a>(
     original: &ExtendedAttributeNamedArgList<'a>,
     alloc: Global,
 ) -> Result<ExtendedAttributeNamedArgList<'a>, AllocError>
@@ -109,8 +111,8 @@ pub(crate) fn clone_named_arg_list<'a>(
     })
 }
 
-/// Clones an attribute with names.
-pub(crate) fn clone_ident_list<'a>(
+/// Clones an attribute with names, as `Exposed=(Window, Worker)`.
+pub(crate) fn clone_extended_attribute_ident_list<'a>(
     original: &ExtendedAttributeIdentList<'a>,
     alloc: Global,
 ) -> Result<ExtendedAttributeIdentList<'a>, AllocError>

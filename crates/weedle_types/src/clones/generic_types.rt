@@ -1,4 +1,6 @@
 //! Clones of types over types in angle brackets.
+//!
+//! Written by tools/types_impls.py.
 #![tactic(auto, using(crate::proofs::TreeLaws::clone_steps))]
 
 ghost use Rattle.std.specs.Prelude.{◌≡◌, IfOk};
@@ -15,7 +17,7 @@ use crate::types::{FrozenArrayType, PromiseType, RecordType, RecordTypes, Sequen
 use std::alloc::{AllocError, Global};
 use weedle_parts::common::Generics;
 
-/// Clones a sequence.
+/// Clones a sequence, as `sequence<long>`.
 #[cycle(clones)]
 pub(crate) fn clone_sequence_type<'a>(
     original: &SequenceType<'a>,
@@ -34,7 +36,7 @@ pub(crate) fn clone_sequence_type<'a>(
     })
 }
 
-/// Clones an array that can't change.
+/// Clones an array that can't change, as `FrozenArray<long>`.
 #[cycle(clones)]
 pub(crate) fn clone_frozen_array_type<'a>(
     original: &FrozenArrayType<'a>,
@@ -53,7 +55,7 @@ pub(crate) fn clone_frozen_array_type<'a>(
     })
 }
 
-/// Clones a promise.
+/// Clones a promise, as `Promise<undefined>`.
 #[cycle(clones)]
 pub(crate) fn clone_promise_type<'a>(
     original: &PromiseType<'a>,
@@ -72,7 +74,7 @@ pub(crate) fn clone_promise_type<'a>(
     })
 }
 
-/// Clones a record.
+/// Clones a record, as `record<DOMString, long>`.
 #[cycle(clones)]
 pub(crate) fn clone_record_type<'a>(
     original: &RecordType<'a>,
@@ -90,7 +92,7 @@ pub(crate) fn clone_record_type<'a>(
     })
 }
 
-/// Clones the types of a record.
+/// Clones the types of a record, as `DOMString, long`.
 #[cycle(clones)]
 pub(crate) fn clone_record_types<'a>(
     original: &RecordTypes<'a>,

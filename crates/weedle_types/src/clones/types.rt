@@ -1,4 +1,6 @@
 //! Clones of types.
+//!
+//! Written by tools/types_impls.py.
 #![tactic(auto, using(crate::proofs::TreeLaws::clone_steps))]
 
 ghost use Rattle.std.specs.Prelude.{◌≡◌, IfOk};
@@ -16,25 +18,25 @@ use super::attributes::clone_attributes;
 use super::generic_types::{
     clone_frozen_array_type, clone_promise_type, clone_record_type, clone_sequence_type,
 };
-use super::unions::clone_union;
+use super::unions::clone_nullable_union_type;
 use crate::types::{
     AttributedNonAnyType, AttributedType, NonAnyType, RecordKeyType, ReturnType, SingleType, Type,
 };
 use std::alloc::{AllocError, Global};
 use weedle_parts::types::MayBeNull;
 
-/// Clones a type.
+/// Clones a type, as `long`, `any` or `(long or DOMString)?`.
 #[cycle(clones)]
 pub(crate) fn clone_type<'a>(original: &Type<'a>, alloc: Global) -> Result<Type<'a>, AllocError>
     ensures { IfOk result (λ v. type_tree v ≡ type_tree original.now) }
 {
     match original {
         Type::Single(member) => Ok(Type::Single(clone_single_type(member, alloc)?)),
-        Type::Union(member) => Ok(Type::Union(clone_union(member, alloc)?)),
+        Type::Union(member) => Ok(Type::Union(clone_nullable_union_type(member, alloc)?)),
     }
 }
 
-/// Clones a type that is no union.
+/// Clones a type that is no union, as `any` or `long?`.
 #[cycle(clones)]
 pub(crate) fn clone_single_type<'a>(
     original: &SingleType<'a>,
@@ -48,7 +50,7 @@ pub(crate) fn clone_single_type<'a>(
     }
 }
 
-/// Clones a type that is neither `any` nor a union.
+/// Clones a type that is neither `any` nor a union, as `long?`.
 #[cycle(clones)]
 pub(crate) fn clone_non_any_type<'a>(
     original: &NonAnyType<'a>,
@@ -130,7 +132,7 @@ pub(crate) fn clone_return_type<'a>(
     }
 }
 
-/// Clones a type and its attributes.
+/// Clones a type with the attributes that stand before it, as `[Clamp] octet`.
 #[cycle(clones)]
 pub(crate) fn clone_attributed_type<'a>(
     original: &AttributedType<'a>,
@@ -144,7 +146,7 @@ pub(crate) fn clone_attributed_type<'a>(
     })
 }
 
-/// Clones a type and its attributes, where the type is neither `any` nor a union.
+/// Clones the same where the type is neither `any` nor a union.
 #[cycle(clones)]
 pub(crate) fn clone_attributed_non_any_type<'a>(
     original: &AttributedNonAnyType<'a>,

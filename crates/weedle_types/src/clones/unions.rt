@@ -1,4 +1,6 @@
 //! Clones of unions.
+//!
+//! Written by tools/types_impls.py.
 #![tactic(auto, using(crate::proofs::TreeLaws::clone_steps))]
 
 ghost use Rattle.std.specs.Prelude.{◌≡◌, IfOk, map};
@@ -13,7 +15,7 @@ use weedle_parts::types::MayBeNull;
 
 /// Clones a union that may be null.
 #[cycle(clones)]
-pub(crate) fn clone_union<'a>(
+pub(crate) fn clone_nullable_union_type<'a>(
     original: &MayBeNull<UnionType<'a>>,
     alloc: Global,
 ) -> Result<MayBeNull<UnionType<'a>>, AllocError>
@@ -23,7 +25,7 @@ pub(crate) fn clone_union<'a>(
         type_: Parenthesized {
             open_paren: original.type_.open_paren,
             body: Punctuated {
-                list: clone_members(&original.type_.body.list, alloc)?,
+                list: clone_union_members(&original.type_.body.list, alloc)?,
                 separator: original.type_.body.separator,
             },
             close_paren: original.type_.close_paren,
@@ -32,7 +34,23 @@ pub(crate) fn clone_union<'a>(
     })
 }
 
-/// Clones a member of a union.
+/// Clones the members of a union, in their order.
+#[cycle(clones)]
+#[tactic(auto, using(crate::proofs::TreeLaws::clone_steps, crate::proofs::Smaller::member_smaller))]
+pub(crate) fn clone_union_members<'a>(
+    original: &Vec<UnionMemberType<'a>>,
+    alloc: Global,
+) -> Result<Vec<UnionMemberType<'a>>, AllocError>
+    ensures { IfOk result (λ v. map union_member_type_tree v.items ≡ map union_member_type_tree original.now.items) }
+{
+    let mut clones = Vec::new(alloc);
+    for item in original {
+        clones.push(clone_union_member_type(item, alloc)?)?;
+    }
+    Ok(clones)
+}
+
+/// Clones a member of a union, as `[Clamp] octet` or `(long or DOMString)`.
 #[cycle(clones)]
 pub(crate) fn clone_union_member_type<'a>(
     original: &UnionMemberType<'a>,
@@ -44,22 +62,8 @@ pub(crate) fn clone_union_member_type<'a>(
         UnionMemberType::Single(member) => Ok(UnionMemberType::Single(clone_attributed_non_any_type(
             member, alloc,
         )?)),
-        UnionMemberType::Union(member) => Ok(UnionMemberType::Union(clone_union(member, alloc)?)),
+        UnionMemberType::Union(member) => Ok(UnionMemberType::Union(clone_nullable_union_type(
+            member, alloc,
+        )?)),
     }
-}
-
-/// Clones the members of a union, in their order.
-#[cycle(clones)]
-#[tactic(auto, using(crate::proofs::TreeLaws::clone_steps, crate::proofs::Smaller::member_smaller))]
-pub(crate) fn clone_members<'a>(
-    original: &Vec<UnionMemberType<'a>>,
-    alloc: Global,
-) -> Result<Vec<UnionMemberType<'a>>, AllocError>
-    ensures { IfOk result (λ v. map union_member_type_tree v.items ≡ map union_member_type_tree original.now.items) }
-{
-    let mut clones = Vec::new(alloc);
-    for item in original {
-        clones.push(clone_union_member_type(item, alloc)?)?;
-    }
-    Ok(clones)
 }

@@ -13,8 +13,8 @@ invariant-arguments::clone_argument_items-loop-item l = map argument_tree l.clon
 abbrev pub invariant-attributes::clone_extended_attributes-loop-item : goal.invariant-attributes::clone_extended_attributes-loop-item
 invariant-attributes::clone_extended_attributes-loop-item l = map extended_attribute_tree l.clones.items ≡ map extended_attribute_tree (take l.item-index l.original.items)
 
-abbrev pub invariant-unions::clone_members-loop-item : goal.invariant-unions::clone_members-loop-item
-invariant-unions::clone_members-loop-item l = map union_member_type_tree l.clones.items ≡ map union_member_type_tree (take l.item-index l.original.items)
+abbrev pub invariant-unions::clone_union_members-loop-item : goal.invariant-unions::clone_union_members-loop-item
+invariant-unions::clone_union_members-loop-item l = map union_member_type_tree l.clones.items ≡ map union_member_type_tree (take l.item-index l.original.items)
 
 abbrev pub decreases-types::clone_type : goal.decreases-types::clone_type
 decreases-types::clone_type l = tree_size (type_tree l.original.now)
@@ -49,8 +49,8 @@ decreases-types::clone_return_type l = tree_size (return_type_tree l.original.no
 abbrev pub decreases-unions::clone_union_member_type : goal.decreases-unions::clone_union_member_type
 decreases-unions::clone_union_member_type l = tree_size (union_member_type_tree l.original.now)
 
-abbrev pub decreases-unions::clone_union : goal.decreases-unions::clone_union
-decreases-unions::clone_union l = tree_size (may_be_null_tree union_type_tree l.original.now)
+abbrev pub decreases-unions::clone_nullable_union_type : goal.decreases-unions::clone_nullable_union_type
+decreases-unions::clone_nullable_union_type l = tree_size (may_be_null_tree union_type_tree l.original.now)
 
 abbrev pub decreases-arguments::clone_arguments : goal.decreases-arguments::clone_arguments
 decreases-arguments::clone_arguments l = tree_size (arguments_tree l.original.now)
@@ -58,8 +58,8 @@ decreases-arguments::clone_arguments l = tree_size (arguments_tree l.original.no
 abbrev pub decreases-attributes::clone_attributes : goal.decreases-attributes::clone_attributes
 decreases-attributes::clone_attributes l = tree_size (attributes_tree l.original.now)
 
-abbrev pub decreases-unions::clone_members : goal.decreases-unions::clone_members
-decreases-unions::clone_members l = suc (trees_size (trees (map union_member_type_tree l.original.now.items)))
+abbrev pub decreases-unions::clone_union_members : goal.decreases-unions::clone_union_members
+decreases-unions::clone_union_members l = suc (trees_size (trees (map union_member_type_tree l.original.now.items)))
 
 abbrev pub decreases-arguments::clone_argument_items : goal.decreases-arguments::clone_argument_items
 decreases-arguments::clone_argument_items l = suc (trees_size (trees (map argument_tree l.original.now.items)))
@@ -76,11 +76,11 @@ decreases-types::clone_attributed_non_any_type l = tree_size (attributed_non_any
 abbrev pub decreases-attributes::clone_extended_attribute : goal.decreases-attributes::clone_extended_attribute
 decreases-attributes::clone_extended_attribute l = tree_size (extended_attribute_tree l.original.now)
 
-abbrev pub decreases-attributes::clone_arg_list : goal.decreases-attributes::clone_arg_list
-decreases-attributes::clone_arg_list l = tree_size (extended_attribute_arg_list_tree l.original.now)
+abbrev pub decreases-attributes::clone_extended_attribute_arg_list : goal.decreases-attributes::clone_extended_attribute_arg_list
+decreases-attributes::clone_extended_attribute_arg_list l = tree_size (extended_attribute_arg_list_tree l.original.now)
 
-abbrev pub decreases-attributes::clone_named_arg_list : goal.decreases-attributes::clone_named_arg_list
-decreases-attributes::clone_named_arg_list l = tree_size (extended_attribute_named_arg_list_tree l.original.now)
+abbrev pub decreases-attributes::clone_extended_attribute_named_arg_list : goal.decreases-attributes::clone_extended_attribute_named_arg_list
+decreases-attributes::clone_extended_attribute_named_arg_list l = tree_size (extended_attribute_named_arg_list_tree l.original.now)
 
 abbrev pub decreases-arguments::clone_argument : goal.decreases-arguments::clone_argument
 decreases-arguments::clone_argument l = tree_size (argument_tree l.original.now)
