@@ -23,7 +23,6 @@ CRATES = (
     "weedle_leaf_rows",
     "weedle_type_rows",
     "weedle_definition_rows",
-    "weedle_pass_rows",
     "weedle_rows",
     "weedle_program_rows",
 )

@@ -1,5 +1,5 @@
-//! Tests of members and definitions as their types read them: what they are read as, how they are taken
-//! apart and how they compare, and what is answered where memory is refused.
+//! Tests of members and definitions: what their types read, how they are taken apart and how they compare;
+//! that both readers, and both widths of cells, give one list; and what is answered where memory is refused.
 #![tactic(auto)]
 
 #[cfg(test)]
@@ -8,5 +8,7 @@ mod apart;
 mod members;
 #[cfg(test)]
 mod orders;
+#[cfg(test)]
+mod passes;
 #[cfg(test)]
 mod requests;

@@ -1,4 +1,4 @@
-//! Each request for memory refused in turn: both passes.
+//! Both passes, with each request for memory refused.
 
 ghost use Rattle.std.specs.Prelude.{◌≡◌};
 
