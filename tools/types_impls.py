@@ -20,11 +20,10 @@ from pathlib import Path
 
 from description.declarations import Type, declared_by
 from description.functions import functions_of
-from description.imports import use, uses_of
-from description.layout import COLUMNS, use_line
 from description.names import snake
 from description.readings import Declared
-from into_fields import imported
+from description.uses import code_uses, ghost_uses, stated
+from written.imports import imported
 
 TOP = Path(__file__).resolve().parent.parent
 CRATE = "weedle_types"
@@ -58,13 +57,11 @@ NUMBERED = {"RecordTypes": ("key", "comma", "value")}
 # The sentence that a declaration's doc begins with, up to what explains it.
 SENTENCE = re.compile(r"(?:`[^`]*`|[^`:;.])+")
 CALLED = re.compile(r"\b(clone_\w+)\(")
-COMMENT = re.compile(r"//.*")
-# A name that code has from elsewhere: no variant, field or method.
-NAME = re.compile(r"(?<!::)(?<![.\w])\w+")
 STEPS = "crate::proofs::TreeLaws::clone_steps"
 SMALLER = "crate::proofs::Smaller"
+ABOUT_TRY_CLONE = "`TryClone` for the types that hold boxes and lists: a clone has the tree of the original."
+ABOUT_PARSE = "`Parse` for the types of the recursive group: each has the reading of its rule."
 HEAD = "//! {}\n//!\n//! Written by tools/types_impls.py.\n"
-SPECS = "Rattle.{}.specs.{}"
 OUTER = {
     "AllocError": "std::alloc",
     "Global": "std::alloc",
@@ -72,7 +69,15 @@ OUTER = {
     "Parse": "weedle_base",
     "TryClone": "weedle_base",
 }
-TREES = [SPECS.format("weedle_parts", "ValueTrees"), SPECS.format(CRATE, "Trees")]
+# The modules of the logic that contracts name, in the order in which they are brought in.
+STANDARD = {"Rattle.std.specs.Prelude": ["◌≡◌", "IfOk", "map"]}
+MODULES_NAMED = [
+    f"Rattle.{it}"
+    for it in (
+        "weedle_base.specs.AlikeLaws weedle_base.specs.Own weedle_base.specs.OwnLaws "
+        "weedle_grammar.specs.Table.Types weedle_parts.specs.ValueTrees weedle_types.specs.Trees"
+    ).split()
+]
 TRY_CLONE = """impl<'a> TryClone for {type}<'a> {{
     ghost alike = {{ λ a b. {tree} a ≡ {tree} b }};
 
@@ -308,66 +313,38 @@ def module_paths():
 
 
 PATHS = module_paths()
+NAMED_IN_LOGIC = STANDARD | {it: stated(TOP, it) for it in MODULES_NAMED}
 
 
-def rust_uses(code, functions):
-    """The lines for what code names, where functions have these paths; what stands nearest comes first."""
-    paths, wanted = {**PATHS, **functions}, {}
-    for name in set(NAME.findall(COMMENT.sub("", code))) & set(paths):
-        wanted.setdefault(paths[name], set()).add(name)
-    nearest = ("super", "crate")
-    order = sorted(wanted, key=lambda path: (*(not path.startswith(it) for it in nearest), path))
-    return "".join(use_line(path, wanted[path]) for path in order)
-
-
-def ghost_uses(code, modules, standard=()):
-    """The lines for what contracts name of these modules, and of the standard library."""
-    names = [name for name in standard if name.strip("◌") in code]
-    lines = [use("Rattle.std.specs.Prelude", names)] if names else []
-    return "".join(map(ghost_line, [*lines, *uses_of(TOP, COMMENT.sub("", code), modules)]))
-
-
-def ghost_line(line):
-    """A line `use` of the logic in Rust; where it is too long, each name has a line."""
-    short = f"ghost {line};\n"
-    if len(short) <= COLUMNS + 1:
-        return short
-    path, names = line.rstrip("}").split("{")
-    return f"ghost {path}{{\n" + "".join(f"  {name},\n" for name in names.split(", ")) + "};\n"
+def file_text(head, items, functions):
+    """A file of these items, where functions have these paths."""
+    items = "\n".join(items)
+    uses = code_uses(items, PATHS | functions)
+    return "\n".join([head, ghost_uses(items, NAMED_IN_LOGIC), uses, items])
 
 
 def clones_text(file):
     """The file of clones of this name."""
-    items = "\n".join(function(it) for it in CLONES.values() if it.file == file)
+    items = [function(it) for it in CLONES.values() if it.file == file]
     functions = {it.name: f"super::{it.file}" for it in CLONES.values() if it.file != file}
     head = HEAD.format(FILES[file]) + f"#![tactic(auto, using({STEPS}))]\n"
-    ghost = ghost_uses(items, TREES, ["◌≡◌", "IfOk", *(["map"] if "(λ v. map " in items else [])])
-    return "\n".join([head, ghost, rust_uses(items, functions), items])
+    return file_text(head, items, functions)
 
 
 def try_clone_text():
     """`TryClone` of each type, by the function that clones it."""
     own = [it for it in NAMED.values() if it.is_own]
-    items = "\n".join(TRY_CLONE.format(type=it.own_name, tree=it.tree, function=it.name) for it in own)
-    head = HEAD.format(
-        "`TryClone` for the types that hold boxes and lists: a clone has the tree of the original."
-    )
-    ghost = ghost_uses(items, [SPECS.format("weedle_base", "AlikeLaws"), TREES[1]], ["◌≡◌"])
+    items = [TRY_CLONE.format(type=it.own_name, tree=it.tree, function=it.name) for it in own]
     functions = {it.name: f"crate::clones::{it.file}" for it in own}
-    return "\n".join([head, ghost, rust_uses(items, functions), items])
+    return file_text(HEAD.format(ABOUT_TRY_CLONE), items, functions)
 
 
 def parse_text():
     """`Parse` of each type that a function reads, by that function."""
     own = [it for it in READ if it.type.name in OWN]
-    items = "\n".join(
-        PARSE.format(type=it.type.name, rule=it.rule, tree=it.tree, function=it.name) for it in own
-    )
-    head = HEAD.format("`Parse` for the types of the recursive group: each has the reading of its rule.")
-    modules = [("weedle_base", "Own"), ("weedle_base", "OwnLaws"), ("weedle_grammar", "Table.Types")]
-    ghost = ghost_uses(items, [*(SPECS.format(*it) for it in modules), TREES[1]])
+    items = [PARSE.format(type=it.type.name, rule=it.rule, tree=it.tree, function=it.name) for it in own]
     functions = {it.name: f"crate::reading::{it.file}" for it in own}
-    return "\n".join([head, ghost, rust_uses(items, functions), items])
+    return file_text(HEAD.format(ABOUT_PARSE), items, functions)
 
 
 def main():
