@@ -9,6 +9,7 @@ import unittest
 from pathlib import Path
 
 from description.declarations import declared_in, type_of
+from description.docs import about, with_example
 from description.functions import functions_of
 from description.imports import Names, uses_of
 from description.names import snake, upper
@@ -188,6 +189,17 @@ class Written(unittest.TestCase):
     def test_names_of_some_modules(self):
         lines = list(uses_of(self.root, "x = Kept pair_tree", ["Rattle.low.specs.Trees"]))
         self.assertEqual(lines, ["use Rattle.low.specs.Trees.{Kept, pair_tree}"])
+
+
+class Docs(unittest.TestCase):
+    def test_what_a_doc_says_first(self):
+        self.assertEqual(about("A callback, as `callback F = x;`. No docstring."), "a callback")
+        self.assertEqual(about("The types of a record: of keys, of values."), "the types of a record")
+
+    def test_the_examples_of_a_doc(self):
+        told = with_example("A type, as `long`, `any` or `(x)?`. It takes no memory.")
+        self.assertEqual(told, "A type, as `long`, `any` or `(x)?`.")
+        self.assertEqual(with_example("The same where no `any` stands."), "The same where no `any` stands.")
 
 
 class Productions(unittest.TestCase):

@@ -14,6 +14,7 @@ The status is 0.
 
 import re
 
+from description.docs import about, small
 from description.imports import STATED, Names, home_of, use
 from description.layout import filled
 from description.names import logic
@@ -56,20 +57,11 @@ STANDARD = {
     "Rattle.std.specs.Prelude": ["List", "Option", "[]", "◌∷◌"],
     "Rattle.weedle_grammar.specs.Trees": ["Alt", "Mark", "Node", "Tree"],
 }
-# What a doc says first: up to where an example begins, or what stands between brackets.
-FRONT = re.compile(r"(.*?)(?:, as `|, (?=[a-z])|[:.](?: |$))")
+# What a field's doc says first.
+FRONT = re.compile(r"(.*?)(?:, |[:.](?: |$))")
 WHERE = re.compile(r", (where [^,.:]*)")
 WORDS = re.compile(r"The (?:words? )?(`[^`]*`(?:(?:, | or | and )`[^`]*`)*)")
 OF_WHAT = re.compile(r" of an? \w+$")
-
-
-def small(text):
-    return text[:1].lower() + text[1:]
-
-
-def about(declaration):
-    """What a doc calls a type: `a callback`."""
-    return small(FRONT.match(declaration.doc)[1])
 
 
 def field_about(field):
@@ -87,7 +79,7 @@ def field_about(field):
 def variant_about(variant, of_what):
     """What a variant holds: a word, or a value that its type's doc names."""
     words = WORDS.match(variant.doc)
-    return words[1] if words else about(DECLARED.types[variant.type.name]).removesuffix(of_what)
+    return words[1] if words else about(DECLARED.types[variant.type.name].doc).removesuffix(of_what)
 
 
 def definition(said, name, type_, clauses):
@@ -104,14 +96,13 @@ def node(trees):
 def struct(it):
     parts = [(field, part_of(field.type, it.is_copied)) for field in it.parts]
     if it.parts[0].text == "OpenBrace":
-        # What stands between braces is told by the front of the doc.
-        return about(it), [("v", f"bracket_tree ({parts[1][1].tree_of(f'v.{parts[1][0].name}')})")]
-    said = f"{about(it)}: {', '.join(field_about(field) for field in it.parts)}"
+        return about(it.doc), [("v", f"bracket_tree ({parts[1][1].tree_of(f'v.{parts[1][0].name}')})")]
+    said = f"{about(it.doc)}: {', '.join(field_about(field) for field in it.parts)}"
     return said, [("v", node([part.tree_of(f"v.{field.name}") for field, part in parts]))]
 
 
 def enum(it):
-    said, clauses = about(it), []
+    said, clauses = about(it.doc), []
     for number, variant in enumerate(it.parts):
         tree = part_of(variant.type, it.is_copied).tree_of("v")
         shown = tree if tree == "Mark" else f"({tree})"
@@ -154,7 +145,7 @@ def whole_list():
     item = tree_name(alias.parts[0].type.arguments[0].name)
     name, of = tree_name(WHOLE), WHOLE.lower()
     type_ = f"List {DECLARED.logic_type(alias.parts[0].type.arguments[0])}"
-    return definition(small(FRONT.match(alias.doc)[1]), name, type_, [(of, f"items_tree {item} {of}")])
+    return definition(about(alias.doc), name, type_, [(of, f"items_tree {item} {of}")])
 
 
 def named_in(type_):
@@ -203,7 +194,7 @@ def variants_of(crate):
 def file_text(names, crate, said, definitions):
     body = "\n".join(definitions)
     uses = names.uses(body, [line for it, line in variants_of(crate) if f"({it.name}-" in body])
-    return f"{filled(f'{said} {HEAD}'.split(), '', '-- ', COLUMNS)}" + "\n".join(uses) + "\n\n" + body
+    return filled([*said.split(), HEAD], "", "-- ", COLUMNS) + "\n".join(uses) + "\n\n" + body
 
 
 def main():

@@ -1,7 +1,7 @@
--- How definitions are spelt.
+-- How definitions are spelt. Written by tools/spellings.py.
 use Rattle.std.specs.Prelude.{List}
+use Rattle.weedle_idl.specs.declared.definition.Definition.TheVariants.{Callback as Definition-Callback, CallbackInterface as Definition-CallbackInterface, Interface as Definition-Interface, InterfaceMixin as Definition-InterfaceMixin, Namespace as Definition-Namespace, Dictionary as Definition-Dictionary, PartialInterface as Definition-PartialInterface, PartialInterfaceMixin as Definition-PartialInterfaceMixin, PartialDictionary as Definition-PartialDictionary, PartialNamespace as Definition-PartialNamespace, Enum as Definition-Enum, Typedef as Definition-Typedef, IncludesStatement as Definition-IncludesStatement, Implements as Definition-Implements}
 use Rattle.weedle_idl.specs.declared.definition.Definition.{Definition}
-use Rattle.weedle_idl.specs.declared.definition.Definition.TheVariants.{Callback as Definition-Callback, CallbackInterface as Definition-CallbackInterface, Dictionary as Definition-Dictionary, Enum as Definition-Enum, Implements as Definition-Implements, IncludesStatement as Definition-IncludesStatement, Interface as Definition-Interface, InterfaceMixin as Definition-InterfaceMixin, Namespace as Definition-Namespace, PartialDictionary as Definition-PartialDictionary, PartialInterface as Definition-PartialInterface, PartialInterfaceMixin as Definition-PartialInterfaceMixin, PartialNamespace as Definition-PartialNamespace, Typedef as Definition-Typedef}
 use Rattle.weedle_spell.specs.Forms.{Form, each}
 use Rattle.weedle_spell_idl.specs.Interfaces.{callback_interface_definition_spelling, interface_definition_spelling, interface_mixin_definition_spelling, partial_interface_definition_spelling, partial_interface_mixin_definition_spelling}
 use Rattle.weedle_spell_idl.specs.Namespaces.{dictionary_definition_spelling, namespace_definition_spelling, partial_dictionary_definition_spelling, partial_namespace_definition_spelling}
@@ -24,6 +24,6 @@ definition_spelling (Definition-Typedef v) = typedef_definition_spelling v
 definition_spelling (Definition-IncludesStatement v) = includes_statement_definition_spelling v
 definition_spelling (Definition-Implements v) = implements_definition_spelling v
 
--- definitions, one after another
+-- definitions one after another
 abbrev pub definitions_spelling : List Definition → Form
 definitions_spelling definitions = each definition_spelling definitions

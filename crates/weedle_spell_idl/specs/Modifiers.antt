@@ -1,12 +1,13 @@
 -- How what is inherited from is spelt, and the words before a member.
+-- Written by tools/spellings.py.
 use Rattle.std.specs.Prelude.{codes}
 use Rattle.weedle_modifier.specs.declared.inheritance.Inheritance.{Inheritance}
+use Rattle.weedle_modifier.specs.declared.modifier.Special.TheVariants.{Getter as Special-Getter, Setter as Special-Setter, Deleter as Special-Deleter, LegacyCaller as Special-LegacyCaller}
 use Rattle.weedle_modifier.specs.declared.modifier.Special.{Special}
-use Rattle.weedle_modifier.specs.declared.modifier.Special.TheVariants.{Deleter as Special-Deleter, Getter as Special-Getter, LegacyCaller as Special-LegacyCaller, Setter as Special-Setter}
+use Rattle.weedle_modifier.specs.declared.modifier.StringifierOrInheritOrStatic.TheVariants.{Stringifier as StringifierOrInheritOrStatic-Stringifier, Inherit as StringifierOrInheritOrStatic-Inherit, Static as StringifierOrInheritOrStatic-Static}
 use Rattle.weedle_modifier.specs.declared.modifier.StringifierOrInheritOrStatic.{StringifierOrInheritOrStatic}
-use Rattle.weedle_modifier.specs.declared.modifier.StringifierOrInheritOrStatic.TheVariants.{Inherit as StringifierOrInheritOrStatic-Inherit, Static as StringifierOrInheritOrStatic-Static, Stringifier as StringifierOrInheritOrStatic-Stringifier}
+use Rattle.weedle_modifier.specs.declared.modifier.StringifierOrStatic.TheVariants.{Stringifier as StringifierOrStatic-Stringifier, Static as StringifierOrStatic-Static}
 use Rattle.weedle_modifier.specs.declared.modifier.StringifierOrStatic.{StringifierOrStatic}
-use Rattle.weedle_modifier.specs.declared.modifier.StringifierOrStatic.TheVariants.{Static as StringifierOrStatic-Static, Stringifier as StringifierOrStatic-Stringifier}
 use Rattle.weedle_spell.specs.Forms.{Form, ◌then◌}
 use Rattle.weedle_spell.specs.Leaves.{identifier_spelling, terminal}
 
@@ -23,9 +24,12 @@ special_spelling (Special-LegacyCaller v) = terminal (codes "legacycaller") v
 
 -- the word before an attribute
 abbrev pub stringifier_or_inherit_or_static_spelling : StringifierOrInheritOrStatic → Form
-stringifier_or_inherit_or_static_spelling (StringifierOrInheritOrStatic-Stringifier v) = terminal (codes "stringifier") v
-stringifier_or_inherit_or_static_spelling (StringifierOrInheritOrStatic-Inherit v) = terminal (codes "inherit") v
-stringifier_or_inherit_or_static_spelling (StringifierOrInheritOrStatic-Static v) = terminal (codes "static") v
+stringifier_or_inherit_or_static_spelling (StringifierOrInheritOrStatic-Stringifier v) =
+    terminal (codes "stringifier") v
+stringifier_or_inherit_or_static_spelling (StringifierOrInheritOrStatic-Inherit v) =
+    terminal (codes "inherit") v
+stringifier_or_inherit_or_static_spelling (StringifierOrInheritOrStatic-Static v) =
+    terminal (codes "static") v
 
 -- the word before an operation
 abbrev pub stringifier_or_static_spelling : StringifierOrStatic → Form

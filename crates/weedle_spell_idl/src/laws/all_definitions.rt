@@ -1,4 +1,4 @@
-//! The laws of definitions.
+//! The laws of definitions. Written by tools/spellings.py.
 
 ghost use Rattle.weedle_grammar.specs.Table.Definitions.{DEFINITION, DEFINITIONS};
 ghost use Rattle.weedle_idl.specs.DefinitionTrees.{definition_tree, definitions_tree};

@@ -1,4 +1,5 @@
 //! The laws of the members of interfaces, of interfaces and of mixins.
+//! Written by tools/spellings.py.
 
 ghost use Rattle.weedle_grammar.specs.Table.Definitions.{
   CALLBACK_INTERFACE_DEFINITION,
@@ -12,19 +13,16 @@ ghost use Rattle.weedle_grammar.specs.Table.InterfaceMembers.{
   INTERFACE_MEMBER,
   INTERFACE_MEMBERS,
 };
-ghost use Rattle.weedle_types.specs.PartTrees.{members_tree};
 ghost use Rattle.weedle_interfaces.specs.Trees.{
+  braced_interface_members_tree,
   callback_interface_definition_tree,
   interface_definition_tree,
+  interface_member_tree,
   partial_interface_definition_tree,
 };
 ghost use Rattle.weedle_mixins.specs.Trees.{
   interface_mixin_definition_tree,
   partial_interface_mixin_definition_tree,
-};
-ghost use Rattle.weedle_interfaces.specs.Trees.{
-  braced_interface_members_tree,
-  interface_member_tree,
 };
 ghost use Rattle.weedle_spell.specs.Laws.{SpellsValues};
 ghost use Rattle.weedle_spell_idl.specs.Interfaces.{
@@ -37,6 +35,7 @@ ghost use Rattle.weedle_spell_idl.specs.Interfaces.{
   partial_interface_definition_spelling,
   partial_interface_mixin_definition_spelling,
 };
+ghost use Rattle.weedle_types.specs.PartTrees.{members_tree};
 
 /// A member of an interface, as `attribute long length;`.
 #[tactic(auto, using(crate::proofs::InterfaceLaws::interface_member_law))]
@@ -44,13 +43,13 @@ pub fn interface_member()
     ensures { SpellsValues INTERFACE_MEMBER interface_member_tree interface_member_spelling }
 {}
 
-/// The members of an interface, one after another; none included.
+/// The members of an interface, one after another, as `long f(); long g();`.
 #[tactic(auto, using(crate::proofs::InterfaceLaws::interface_members_law))]
 pub fn interface_members()
     ensures { SpellsValues INTERFACE_MEMBERS (members_tree interface_member_tree) interface_members_spelling }
 {}
 
-/// The members of an interface between braces.
+/// The members of an interface between braces, as `{ attribute long length; }`.
 #[tactic(auto, using(crate::proofs::InterfaceLaws::braced_interface_members_law))]
 pub fn braced_interface_members()
     ensures { SpellsValues BRACED_INTERFACE_MEMBERS braced_interface_members_tree braced_interface_members_spelling }

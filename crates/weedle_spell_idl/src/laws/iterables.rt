@@ -1,5 +1,10 @@
-//! The laws of iterations, maps and sets.
+//! The laws of iterations, maps and sets. Written by tools/spellings.py.
 
+ghost use Rattle.weedle_async_iterables.specs.Trees.{
+  async_iterable_interface_member_tree,
+  double_typed_async_iterable_tree,
+  single_typed_async_iterable_tree,
+};
 ghost use Rattle.weedle_grammar.specs.Table.InterfaceMembers.{
   ASYNC_ITERABLE_INTERFACE_MEMBER,
   DOUBLE_TYPED_ASYNC_ITERABLE,
@@ -9,11 +14,6 @@ ghost use Rattle.weedle_grammar.specs.Table.InterfaceMembers.{
   SETLIKE_INTERFACE_MEMBER,
   SINGLE_TYPED_ASYNC_ITERABLE,
   SINGLE_TYPED_ITERABLE,
-};
-ghost use Rattle.weedle_async_iterables.specs.Trees.{
-  async_iterable_interface_member_tree,
-  double_typed_async_iterable_tree,
-  single_typed_async_iterable_tree,
 };
 ghost use Rattle.weedle_iterables.specs.Trees.{
   double_typed_iterable_tree,
@@ -34,6 +34,18 @@ ghost use Rattle.weedle_spell_idl.specs.Iterables.{
   single_typed_iterable_spelling,
 };
 
+/// A map, as `readonly maplike<DOMString, long>;`.
+#[tactic(auto, using(crate::proofs::IterableLaws::maplike_interface_member_law))]
+pub fn maplike_interface_member()
+    ensures { SpellsValues MAPLIKE_INTERFACE_MEMBER maplike_interface_member_tree maplike_interface_member_spelling }
+{}
+
+/// A set, as `readonly setlike<long>;`.
+#[tactic(auto, using(crate::proofs::IterableLaws::setlike_interface_member_law))]
+pub fn setlike_interface_member()
+    ensures { SpellsValues SETLIKE_INTERFACE_MEMBER setlike_interface_member_tree setlike_interface_member_spelling }
+{}
+
 /// An iteration over values, as `iterable<long>;`.
 #[tactic(auto, using(crate::proofs::IterableLaws::single_typed_iterable_law))]
 pub fn single_typed_iterable()
@@ -46,7 +58,7 @@ pub fn double_typed_iterable()
     ensures { SpellsValues DOUBLE_TYPED_ITERABLE double_typed_iterable_tree double_typed_iterable_spelling }
 {}
 
-/// An iteration, over values or pairs.
+/// An iteration over values or pairs, as `iterable<long>;`.
 #[tactic(auto, using(crate::proofs::IterableLaws::iterable_interface_member_law))]
 pub fn iterable_interface_member()
     ensures { SpellsValues ITERABLE_INTERFACE_MEMBER iterable_interface_member_tree iterable_interface_member_spelling }
@@ -64,20 +76,8 @@ pub fn double_typed_async_iterable()
     ensures { SpellsValues DOUBLE_TYPED_ASYNC_ITERABLE double_typed_async_iterable_tree double_typed_async_iterable_spelling }
 {}
 
-/// An asynchronous iteration, over values or pairs.
+/// An asynchronous iteration over values or pairs, as `async iterable<long>;`.
 #[tactic(auto, using(crate::proofs::IterableLaws::async_iterable_interface_member_law))]
 pub fn async_iterable_interface_member()
     ensures { SpellsValues ASYNC_ITERABLE_INTERFACE_MEMBER async_iterable_interface_member_tree async_iterable_interface_member_spelling }
-{}
-
-/// A map, as `readonly maplike<DOMString, long>;`.
-#[tactic(auto, using(crate::proofs::IterableLaws::maplike_interface_member_law))]
-pub fn maplike_interface_member()
-    ensures { SpellsValues MAPLIKE_INTERFACE_MEMBER maplike_interface_member_tree maplike_interface_member_spelling }
-{}
-
-/// A set, as `readonly setlike<long>;`.
-#[tactic(auto, using(crate::proofs::IterableLaws::setlike_interface_member_law))]
-pub fn setlike_interface_member()
-    ensures { SpellsValues SETLIKE_INTERFACE_MEMBER setlike_interface_member_tree setlike_interface_member_spelling }
 {}

@@ -1,5 +1,5 @@
-//! The laws of constants, attributes, operations, constructors and stringifiers of interfaces, and of
-//! the members of mixins.
+//! The laws of constants, attributes, operations, constructors and stringifiers of interfaces, and
+//! of the members of mixins. Written by tools/spellings.py.
 
 ghost use Rattle.weedle_grammar.specs.Table.InterfaceMembers.{
   ATTRIBUTE_INTERFACE_MEMBER,
@@ -15,7 +15,6 @@ ghost use Rattle.weedle_grammar.specs.Table.OtherMembers.{
   MIXIN_MEMBERS,
   OPERATION_MIXIN_MEMBER,
 };
-ghost use Rattle.weedle_types.specs.PartTrees.{members_tree};
 ghost use Rattle.weedle_members.specs.Trees.{
   attribute_interface_member_tree,
   const_member_tree,
@@ -42,17 +41,18 @@ ghost use Rattle.weedle_spell_idl.specs.Members.{
   operation_mixin_member_spelling,
   stringifier_member_spelling,
 };
-
-/// A constant, as `const long X = 5;`.
-#[tactic(auto, using(crate::proofs::MemberLaws::const_member_law))]
-pub fn const_member()
-    ensures { SpellsValues CONST_MEMBER const_member_tree const_member_spelling }
-{}
+ghost use Rattle.weedle_types.specs.PartTrees.{members_tree};
 
 /// An attribute of an interface, as `static readonly attribute long x;`.
 #[tactic(auto, using(crate::proofs::MemberLaws::attribute_interface_member_law))]
 pub fn attribute_interface_member()
     ensures { SpellsValues ATTRIBUTE_INTERFACE_MEMBER attribute_interface_member_tree attribute_interface_member_spelling }
+{}
+
+/// A constant, as `const long X = 5;`.
+#[tactic(auto, using(crate::proofs::MemberLaws::const_member_law))]
+pub fn const_member()
+    ensures { SpellsValues CONST_MEMBER const_member_tree const_member_spelling }
 {}
 
 /// A constructor, as `constructor(long x);`.
@@ -91,13 +91,13 @@ pub fn mixin_member()
     ensures { SpellsValues MIXIN_MEMBER mixin_member_tree mixin_member_spelling }
 {}
 
-/// The members of a mixin, one after another; none included.
+/// The members of a mixin, one after another, as `long f(); long g();`.
 #[tactic(auto, using(crate::proofs::MemberLaws::mixin_members_law))]
 pub fn mixin_members()
     ensures { SpellsValues MIXIN_MEMBERS (members_tree mixin_member_tree) mixin_members_spelling }
 {}
 
-/// The members of a mixin between braces.
+/// The members of a mixin between braces, as `{ long f(); }`.
 #[tactic(auto, using(crate::proofs::MemberLaws::braced_mixin_members_law))]
 pub fn braced_mixin_members()
     ensures { SpellsValues BRACED_MIXIN_MEMBERS braced_mixin_members_tree braced_mixin_members_spelling }

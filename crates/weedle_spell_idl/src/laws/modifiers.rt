@@ -1,4 +1,5 @@
 //! The laws of what is inherited from, and of the words before a member.
+//! Written by tools/spellings.py.
 
 ghost use Rattle.weedle_grammar.specs.Table.InterfaceMembers.{
   INHERITANCE,
@@ -26,13 +27,13 @@ pub fn inheritance()
     ensures { SpellsValues INHERITANCE inheritance_tree inheritance_spelling }
 {}
 
-/// The word of a special operation, as `getter`: one of four.
+/// The word of a special operation, as `getter`.
 #[tactic(auto, using(crate::proofs::ModifierLaws::special_law))]
 pub fn special()
     ensures { SpellsValues SPECIAL special_tree special_spelling }
 {}
 
-/// The word before an attribute, as `static`: one of three.
+/// The word before an attribute, as `static`.
 #[tactic(auto, using(crate::proofs::ModifierLaws::stringifier_or_inherit_or_static_law))]
 pub fn stringifier_or_inherit_or_static()
     ensures { SpellsValues STRINGIFIER_OR_INHERIT_OR_STATIC stringifier_or_inherit_or_static_tree stringifier_or_inherit_or_static_spelling }

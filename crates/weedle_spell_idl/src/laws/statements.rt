@@ -1,4 +1,4 @@
-//! The laws of definitions without members.
+//! The laws of definitions without members. Written by tools/spellings.py.
 
 ghost use Rattle.weedle_grammar.specs.Table.Definitions.{
   CALLBACK_DEFINITION,
@@ -9,14 +9,6 @@ ghost use Rattle.weedle_grammar.specs.Table.Definitions.{
 };
 ghost use Rattle.weedle_grammar.specs.Table.OtherMembers.{ENUM_VALUE_LIST, ENUM_VARIANT};
 ghost use Rattle.weedle_parts.specs.ValueTrees.{punctuated_non_empty_tree};
-ghost use Rattle.weedle_statements.specs.Trees.{
-  callback_definition_tree,
-  enum_definition_tree,
-  enum_variant_tree,
-  implements_definition_tree,
-  includes_statement_definition_tree,
-  typedef_definition_tree,
-};
 ghost use Rattle.weedle_spell.specs.Laws.{SpellsValues};
 ghost use Rattle.weedle_spell_idl.specs.Statements.{
   callback_definition_spelling,
@@ -27,24 +19,14 @@ ghost use Rattle.weedle_spell_idl.specs.Statements.{
   includes_statement_definition_spelling,
   typedef_definition_spelling,
 };
-
-/// A value of an enum, as `"blob"`.
-#[tactic(auto, using(crate::proofs::StatementLaws::enum_variant_law))]
-pub fn enum_variant()
-    ensures { SpellsValues ENUM_VARIANT enum_variant_tree enum_variant_spelling }
-{}
-
-/// The values of an enum, as `"a", "b",`.
-#[tactic(auto, using(crate::proofs::StatementLaws::enum_value_list_law))]
-pub fn enum_value_list()
-    ensures { SpellsValues ENUM_VALUE_LIST (punctuated_non_empty_tree enum_variant_tree) enum_value_list_spelling }
-{}
-
-/// An enum, as `enum A { "a", "b" };`: one value at least.
-#[tactic(auto, using(crate::proofs::StatementLaws::enum_definition_law))]
-pub fn enum_definition()
-    ensures { SpellsValues ENUM_DEFINITION enum_definition_tree enum_definition_spelling }
-{}
+ghost use Rattle.weedle_statements.specs.Trees.{
+  callback_definition_tree,
+  enum_definition_tree,
+  enum_variant_tree,
+  implements_definition_tree,
+  includes_statement_definition_tree,
+  typedef_definition_tree,
+};
 
 /// A callback, as `callback F = undefined (long x);`.
 #[tactic(auto, using(crate::proofs::StatementLaws::callback_definition_law))]
@@ -52,10 +34,23 @@ pub fn callback_definition()
     ensures { SpellsValues CALLBACK_DEFINITION callback_definition_tree callback_definition_spelling }
 {}
 
-/// A name for a type, as `typedef long A;`.
-#[tactic(auto, using(crate::proofs::StatementLaws::typedef_definition_law))]
-pub fn typedef_definition()
-    ensures { SpellsValues TYPEDEF_DEFINITION typedef_definition_tree typedef_definition_spelling }
+/// A value of an enum, as `"blob"`.
+#[tactic(auto, using(crate::proofs::StatementLaws::enum_variant_law))]
+pub fn enum_variant()
+    ensures { SpellsValues ENUM_VARIANT enum_variant_tree enum_variant_spelling }
+{}
+
+/// The values of an enum, one at least, and a comma behind the last where it stands, as `"a",
+/// "b",`.
+#[tactic(auto, using(crate::proofs::StatementLaws::enum_value_list_law))]
+pub fn enum_value_list()
+    ensures { SpellsValues ENUM_VALUE_LIST (punctuated_non_empty_tree enum_variant_tree) enum_value_list_spelling }
+{}
+
+/// An enum, as `enum A { "a", "b" };`.
+#[tactic(auto, using(crate::proofs::StatementLaws::enum_definition_law))]
+pub fn enum_definition()
+    ensures { SpellsValues ENUM_DEFINITION enum_definition_tree enum_definition_spelling }
 {}
 
 /// The use of a mixin by an interface, as `A includes B;`.
@@ -68,4 +63,10 @@ pub fn includes_statement_definition()
 #[tactic(auto, using(crate::proofs::StatementLaws::implements_definition_law))]
 pub fn implements_definition()
     ensures { SpellsValues IMPLEMENTS_DEFINITION implements_definition_tree implements_definition_spelling }
+{}
+
+/// A name for a type, as `typedef long A;`.
+#[tactic(auto, using(crate::proofs::StatementLaws::typedef_definition_law))]
+pub fn typedef_definition()
+    ensures { SpellsValues TYPEDEF_DEFINITION typedef_definition_tree typedef_definition_spelling }
 {}

@@ -1,73 +1,97 @@
-//! The laws of types.
+//! The laws of types. Written by tools/spellings.py.
 
-ghost use Rattle.weedle_types.specs.Trees.{
-  type_tree,
-  single_type_tree,
-  non_any_type_tree,
-  sequence_type_tree,
-  frozen_array_type_tree,
-  promise_type_tree,
-  record_type_tree,
-  record_types_tree,
-  record_key_type_tree,
-  return_type_tree,
-  union_type_tree,
-  union_member_type_tree,
-  attributed_type_tree,
-  attributed_non_any_type_tree,
-};
 ghost use Rattle.weedle_grammar.specs.Table.Types.{
-  TYPE,
-  SINGLE_TYPE,
-  NON_ANY_TYPE,
-  SEQUENCE_TYPE,
+  ATTRIBUTED_NON_ANY_TYPE,
+  ATTRIBUTED_TYPE,
   FROZEN_ARRAY_TYPE,
+  NON_ANY_TYPE,
   PROMISE_TYPE,
+  RECORD_KEY_TYPE,
   RECORD_TYPE,
   RECORD_TYPES,
-  RECORD_KEY_TYPE,
   RETURN_TYPE,
-  UNION_TYPE,
+  SEQUENCE_TYPE,
+  SINGLE_TYPE,
+  TYPE,
   UNION_MEMBER_TYPE,
-  ATTRIBUTED_TYPE,
-  ATTRIBUTED_NON_ANY_TYPE,
+  UNION_TYPE,
 };
 ghost use Rattle.weedle_spell.specs.Laws.{SpellsValues};
 ghost use Rattle.weedle_spell_types.specs.RecursiveTypes.{
-  type_spelling,
   non_any_type_spelling,
+  type_spelling,
   union_member_type_spelling,
 };
 ghost use Rattle.weedle_spell_types.specs.Types.{
-  single_type_spelling,
-  sequence_type_spelling,
+  attributed_non_any_type_spelling,
+  attributed_type_spelling,
   frozen_array_type_spelling,
   promise_type_spelling,
+  record_key_type_spelling,
   record_type_spelling,
   record_types_spelling,
-  record_key_type_spelling,
   return_type_spelling,
+  sequence_type_spelling,
+  single_type_spelling,
   union_type_spelling,
-  attributed_type_spelling,
-  attributed_non_any_type_spelling,
+};
+ghost use Rattle.weedle_types.specs.Trees.{
+  attributed_non_any_type_tree,
+  attributed_type_tree,
+  frozen_array_type_tree,
+  non_any_type_tree,
+  promise_type_tree,
+  record_key_type_tree,
+  record_type_tree,
+  record_types_tree,
+  return_type_tree,
+  sequence_type_tree,
+  single_type_tree,
+  type_tree,
+  union_member_type_tree,
+  union_type_tree,
 };
 
-/// A type, as `long`, `any` and `(long or DOMString)?`.
+/// A type, as `long`, `any` or `(long or DOMString)?`.
 #[tactic(auto, using(crate::proofs::TypeLaws::type_law))]
 pub fn type_()
     ensures { SpellsValues TYPE type_tree type_spelling }
-{}
-
-/// A type that is no union, as `any` and `long?`.
-#[tactic(auto, using(crate::proofs::TypeLaws::single_type_law))]
-pub fn single_type()
-    ensures { SpellsValues SINGLE_TYPE single_type_tree single_type_spelling }
 {}
 
 /// A type that is neither `any` nor a union, as `long?`.
 #[tactic(auto, using(crate::proofs::TypeLaws::non_any_type_law))]
 pub fn non_any_type()
     ensures { SpellsValues NON_ANY_TYPE non_any_type_tree non_any_type_spelling }
+{}
+
+/// A member of a union, as `[Clamp] octet` or `(long or DOMString)`.
+#[tactic(auto, using(crate::proofs::TypeLaws::union_member_type_law))]
+pub fn union_member_type()
+    ensures { SpellsValues UNION_MEMBER_TYPE union_member_type_tree union_member_type_spelling }
+{}
+
+/// A type that is no union, as `any` or `long?`.
+#[tactic(auto, using(crate::proofs::TypeLaws::single_type_law))]
+pub fn single_type()
+    ensures { SpellsValues SINGLE_TYPE single_type_tree single_type_spelling }
+{}
+
+/// The type of a result, as `undefined` or `long`.
+#[tactic(auto, using(crate::proofs::TypeLaws::return_type_law))]
+pub fn return_type()
+    ensures { SpellsValues RETURN_TYPE return_type_tree return_type_spelling }
+{}
+
+/// The type of a record's keys, as `DOMString`.
+#[tactic(auto, using(crate::proofs::TypeLaws::record_key_type_law))]
+pub fn record_key_type()
+    ensures { SpellsValues RECORD_KEY_TYPE record_key_type_tree record_key_type_spelling }
+{}
+
+/// The types of a record, as `DOMString, long`.
+#[tactic(auto, using(crate::proofs::TypeLaws::record_types_law))]
+pub fn record_types()
+    ensures { SpellsValues RECORD_TYPES record_types_tree record_types_spelling }
 {}
 
 /// A sequence, as `sequence<long>`.
@@ -94,37 +118,13 @@ pub fn record_type()
     ensures { SpellsValues RECORD_TYPE record_type_tree record_type_spelling }
 {}
 
-/// The types of a record, as `DOMString, long`.
-#[tactic(auto, using(crate::proofs::TypeLaws::record_types_law))]
-pub fn record_types()
-    ensures { SpellsValues RECORD_TYPES record_types_tree record_types_spelling }
-{}
-
-/// The type of a record's keys, as `DOMString`.
-#[tactic(auto, using(crate::proofs::TypeLaws::record_key_type_law))]
-pub fn record_key_type()
-    ensures { SpellsValues RECORD_KEY_TYPE record_key_type_tree record_key_type_spelling }
-{}
-
-/// The type of a result, as `undefined` and `long`.
-#[tactic(auto, using(crate::proofs::TypeLaws::return_type_law))]
-pub fn return_type()
-    ensures { SpellsValues RETURN_TYPE return_type_tree return_type_spelling }
-{}
-
-/// A union, as `(long or [Clamp] octet)` and `()`.
+/// A union, as `(long or [Clamp] octet)`.
 #[tactic(auto, using(crate::proofs::TypeLaws::union_type_law))]
 pub fn union_type()
     ensures { SpellsValues UNION_TYPE union_type_tree union_type_spelling }
 {}
 
-/// A member of a union, as `[Clamp] octet`.
-#[tactic(auto, using(crate::proofs::TypeLaws::union_member_type_law))]
-pub fn union_member_type()
-    ensures { SpellsValues UNION_MEMBER_TYPE union_member_type_tree union_member_type_spelling }
-{}
-
-/// A type with the attributes before it, as `[Clamp] octet`.
+/// A type with the attributes that stand before it, as `[Clamp] octet`.
 #[tactic(auto, using(crate::proofs::TypeLaws::attributed_type_law))]
 pub fn attributed_type()
     ensures { SpellsValues ATTRIBUTED_TYPE attributed_type_tree attributed_type_spelling }

@@ -1,0 +1,22 @@
+"""What the doc of a declaration says first: what it declares, and an example of it."""
+
+import re
+
+# Up to an example, or to the end of the first sentence.
+FRONT = re.compile(r"(.*?)(?:, as `|[:.;](?: |$))")
+EXAMPLE = re.compile(r"[^.:]*?, as `[^`]*`(?:(?:, or |, | or )`[^`]*`)*")
+
+
+def small(text):
+    return text[:1].lower() + text[1:]
+
+
+def about(doc):
+    """What a doc calls what it declares: `a callback`."""
+    return small(FRONT.match(doc)[1])
+
+
+def with_example(doc):
+    """The same as a sentence, with the examples that the doc gives: "A callback, as `callback F = ..`."."""
+    found = EXAMPLE.match(doc)
+    return f"{found[0] if found else FRONT.match(doc)[1]}."
