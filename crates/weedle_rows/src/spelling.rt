@@ -1,4 +1,4 @@
-//! Texts that say the same: comments, a comma behind the last value of an enum and an underscore
+//! Texts that say the same: blanks, comments, a comma behind the last value of an enum and an underscore
 //! before a name are in no value.
 //!
 //! The value is the one that weedle2 prints.
@@ -7,6 +7,7 @@ use crate::definitions::reads_all;
 use std::alloc::Global;
 use std::test::Fail;
 use weedle_front::parse;
+use weedle_testing::examples::{WINDOW, WINDOW_IN_LINES};
 
 const ONE_ENUM: &str = "\
     [Enum(EnumDefinition { docstring: None, attributes: None, enum_: Enum, \
@@ -23,6 +24,12 @@ fn say_the_same(alloc: Global, a: &'static str, b: &'static str) -> Result<bool,
 /// Whether two values are equal.
 fn are_equal<T: PartialEq + Drop>(a: T, b: T) -> bool {
     a == b
+}
+
+#[test]
+fn a_text_in_lines_says_what_it_says_in_one(rt: HostRuntime) -> Result<(), Fail> {
+    assert!(rt; say_the_same(rt.alloc(), WINDOW_IN_LINES, WINDOW)?);
+    Ok(())
 }
 
 #[test]
