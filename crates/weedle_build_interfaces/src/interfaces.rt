@@ -1,4 +1,6 @@
 //! Interfaces and their members.
+//!
+//! Written by tools/builds.py.
 #![tactic(auto, using(weedle_build_base::proofs::Finding::own_steps))]
 
 ghost use Rattle.std.specs.Prelude.{◌≡◌};
@@ -146,6 +148,62 @@ impl<'a> Build<'a> for InterfacePart<BracedInterfaceMembers<'a>> {
     }
 }
 
+impl<'a> Build<'a> for InterfacePart<CallbackInterfaceDefinition<'a>> {
+    type Value = CallbackInterfaceDefinition<'a>;
+
+    ghost fits = { λ r. r ≡ CALLBACK_INTERFACE_DEFINITION };
+
+    ghost tree = { callback_interface_definition_tree };
+
+    fn build(
+        alloc: Global,
+        table: &Ends<'a>,
+        _rule: Rule,
+        at: At,
+    ) -> BuildResult<CallbackInterfaceDefinition<'a>> {
+        match eight_fields::<
+            Option<Docstring>,
+            Attributes<'a>,
+            Callback,
+            Interface,
+            Identifier<'a>,
+            Option<Inheritance<'a>>,
+            InterfacePart<BracedInterfaceMembers<'a>>,
+            SemiColon,
+        >(alloc, table, Rule::CALLBACK_INTERFACE_DEFINITION, at)
+        {
+            Ok(
+                (
+                    (
+                        docstring,
+                        attributes,
+                        callback,
+                        interface,
+                        identifier,
+                        inheritance,
+                        members,
+                        semi_colon,
+                    ),
+                    at,
+                ),
+            ) => Ok((
+                CallbackInterfaceDefinition {
+                    docstring,
+                    attributes,
+                    callback,
+                    interface,
+                    identifier,
+                    inheritance,
+                    members,
+                    semi_colon,
+                },
+                at,
+            )),
+            Err(error) => Err(error),
+        }
+    }
+}
+
 impl<'a> Build<'a> for InterfacePart<InterfaceDefinition<'a>> {
     type Value = InterfaceDefinition<'a>;
 
@@ -227,62 +285,6 @@ impl<'a> Build<'a> for InterfacePart<PartialInterfaceDefinition<'a>> {
                     partial,
                     interface,
                     identifier,
-                    members,
-                    semi_colon,
-                },
-                at,
-            )),
-            Err(error) => Err(error),
-        }
-    }
-}
-
-impl<'a> Build<'a> for InterfacePart<CallbackInterfaceDefinition<'a>> {
-    type Value = CallbackInterfaceDefinition<'a>;
-
-    ghost fits = { λ r. r ≡ CALLBACK_INTERFACE_DEFINITION };
-
-    ghost tree = { callback_interface_definition_tree };
-
-    fn build(
-        alloc: Global,
-        table: &Ends<'a>,
-        _rule: Rule,
-        at: At,
-    ) -> BuildResult<CallbackInterfaceDefinition<'a>> {
-        match eight_fields::<
-            Option<Docstring>,
-            Attributes<'a>,
-            Callback,
-            Interface,
-            Identifier<'a>,
-            Option<Inheritance<'a>>,
-            InterfacePart<BracedInterfaceMembers<'a>>,
-            SemiColon,
-        >(alloc, table, Rule::CALLBACK_INTERFACE_DEFINITION, at)
-        {
-            Ok(
-                (
-                    (
-                        docstring,
-                        attributes,
-                        callback,
-                        interface,
-                        identifier,
-                        inheritance,
-                        members,
-                        semi_colon,
-                    ),
-                    at,
-                ),
-            ) => Ok((
-                CallbackInterfaceDefinition {
-                    docstring,
-                    attributes,
-                    callback,
-                    interface,
-                    identifier,
-                    inheritance,
                     members,
                     semi_colon,
                 },

@@ -1,4 +1,6 @@
 //! The definitions without members.
+//!
+//! Written by tools/builds.py.
 #![tactic(auto, using(weedle_build_base::proofs::Finding::own_steps))]
 
 ghost use Rattle.std.specs.Prelude.{◌≡◌};
@@ -53,44 +55,6 @@ impl<'a> Build<'a> for StatementPart<EnumVariant<'a>> {
     }
 }
 
-impl<'a> Build<'a> for StatementPart<EnumDefinition<'a>> {
-    type Value = EnumDefinition<'a>;
-
-    ghost fits = { λ r. r ≡ ENUM_DEFINITION };
-
-    ghost tree = { enum_definition_tree };
-
-    fn build(
-        alloc: Global,
-        table: &Ends<'a>,
-        _rule: Rule,
-        at: At,
-    ) -> BuildResult<EnumDefinition<'a>> {
-        match six_fields::<
-            Option<Docstring>,
-            Attributes<'a>,
-            Enum,
-            Identifier<'a>,
-            EnumValues<'a>,
-            SemiColon,
-        >(alloc, table, Rule::ENUM_DEFINITION, at)
-        {
-            Ok(((docstring, attributes, enum_, identifier, values, semi_colon), at)) => Ok((
-                EnumDefinition {
-                    docstring,
-                    attributes,
-                    enum_,
-                    identifier,
-                    values,
-                    semi_colon,
-                },
-                at,
-            )),
-            Err(error) => Err(error),
-        }
-    }
-}
-
 impl<'a> Build<'a> for StatementPart<CallbackDefinition<'a>> {
     type Value = CallbackDefinition<'a>;
 
@@ -127,6 +91,44 @@ impl<'a> Build<'a> for StatementPart<CallbackDefinition<'a>> {
                     assign,
                     return_type,
                     arguments,
+                    semi_colon,
+                },
+                at,
+            )),
+            Err(error) => Err(error),
+        }
+    }
+}
+
+impl<'a> Build<'a> for StatementPart<EnumDefinition<'a>> {
+    type Value = EnumDefinition<'a>;
+
+    ghost fits = { λ r. r ≡ ENUM_DEFINITION };
+
+    ghost tree = { enum_definition_tree };
+
+    fn build(
+        alloc: Global,
+        table: &Ends<'a>,
+        _rule: Rule,
+        at: At,
+    ) -> BuildResult<EnumDefinition<'a>> {
+        match six_fields::<
+            Option<Docstring>,
+            Attributes<'a>,
+            Enum,
+            Identifier<'a>,
+            EnumValues<'a>,
+            SemiColon,
+        >(alloc, table, Rule::ENUM_DEFINITION, at)
+        {
+            Ok(((docstring, attributes, enum_, identifier, values, semi_colon), at)) => Ok((
+                EnumDefinition {
+                    docstring,
+                    attributes,
+                    enum_,
+                    identifier,
+                    values,
                     semi_colon,
                 },
                 at,

@@ -1,0 +1,348 @@
+#!/usr/bin/env python3
+"""Writes how members and definitions are built in the second pass, from their declarations and rows.
+
+Run it at the top of the repository, then `rt fmt` in each crate that it names:
+
+    python3 tools/builds.py
+
+FILES says which files it writes, each with the crates or modules whose types are built there. Of
+each of those types it writes the `impl Build`, in the order of the grammar's rules: a struct is
+built by one call of `two_fields` or its like over its fields, an enum by `choice` and
+`alternative` among its variants. How a field is built follows from the crate that names its type:
+see `Parts`. A type whose rule keeps the text that it reads has its `impl` by hand.
+
+It prints the crates that it wrote in. The status is 0, or 1 where a type has no tree, or something
+that a file names is brought in by nothing.
+"""
+
+import re
+import sys
+from pathlib import Path
+
+from crates import Unfit, read_lines
+from declared import public_part
+from description.declarations import declared_by, declared_in, split, type_of
+from description.layout import use_line
+from description.names import upper
+from description.readings import CRATES
+from description.webidl import BY_NAME, KEYWORDS, NUMBER, SCANNED, SECTIONS
+from terminals import ghost_use
+from written.imports import imported
+
+TOP = Path(__file__).resolve().parent.parent
+# Each file, below src of its crate: what it is about, and the crates or modules whose types are built there.
+FILES = {
+    "weedle_build_members/members": (
+        "The members of interfaces: constants, attributes, operations, constructors and stringifiers.",
+        "weedle_members",
+    ),
+    "weedle_build_members/iterables": (
+        "Iterations, maps and sets.", "weedle_iterables", "weedle_async_iterables",
+    ),
+    "weedle_build_interfaces/interfaces": ("Interfaces and their members.", "weedle_interfaces"),
+    "weedle_build_mixins/mixins": ("Mixins and their members.", "weedle_mixins"),
+    "weedle_build_namespaces/namespaces": (
+        "Namespaces and their members.",
+        "weedle_namespaces::namespace", "weedle_namespaces::namespace_definition",
+    ),
+    "weedle_build_namespaces/dictionaries": (
+        "Dictionaries and their members.",
+        "weedle_namespaces::dictionary", "weedle_namespaces::dictionary_definition",
+    ),
+    "weedle_build_statements/statements": ("The definitions without members.", "weedle_statements"),
+    "weedle_build/definition": ("A definition of any kind.", "weedle_idl"),
+}
+BASE = "weedle_build_base"
+# The types that lead back to themselves, and the crate that builds them.
+TYPES, TYPES_BUILT = "weedle_types", "weedle_build_types"
+COUNTS = "no one two three four five six seven eight".split()
+STEPS = "proofs::Finding::own_steps"
+HEAD = """//! {about}
+//!
+//! Written by tools/builds.py.
+#![tactic(auto, using({steps}))]
+
+"""
+# The tree of a type, as the specs state it.
+TREE = re.compile(r"^abbrev pub (\w+) : (\w+) → Tree$", re.M)
+TYPE_NAME = re.compile(r"\b[A-Z]\w*")
+PRELUDE = {"Box", "Option", "Vec"}
+
+
+def source_of(root, crate):
+    return Path(root) / "crates" / crate / "src"
+
+
+def public_names(root, crate):
+    """What the lib.rt of a crate gives its callers, by the names, with the modules that have it."""
+    text = (source_of(root, crate) / "lib.rt").read_text(encoding="utf-8")
+    return imported(re.sub(r"^pub use", "use", text, flags=re.M))
+
+
+def crates_built():
+    """The crates of the second pass over members and definitions, each with those whose types it builds."""
+    found = {TYPES_BUILT: {TYPES}}
+    for place, (_, *sources) in FILES.items():
+        found.setdefault(place.split("/")[0], set()).update(it.split("::")[0] for it in sources)
+    return {crate: built for crate, built in found.items() if crate != BASE}
+
+
+def parts_declared(root, crate):
+    """The declarations of a crate of the second pass; what is for itself alone is marked as inner."""
+    for path in sorted(source_of(root, crate).glob("*.rt")):
+        text = path.read_text(encoding="utf-8")
+        public = {it.name for it in declared_in(text)}
+        for it in declared_in(text.replace("pub(crate) ", "pub ")):
+            it.crate, it.module, it.is_inner = crate, path.stem, it.name not in public
+            yield it
+
+
+class Parts:
+    """How a field of a type is built: what stands for it in code.
+
+    A crate of the second pass with a struct as `MemberPart<T>` builds by it each type of the crates
+    that it serves; a type of another crate is built by itself. Where there is a `type` for what
+    comes of that, it has this name. What weedle_types has by a `type` leads back to itself, and is
+    built as it stands; a `type` of another crate as what it stands for.
+    """
+
+    def __init__(self, root):
+        declared = [it for crate in CRATES for it in declared_by(root, crate)]
+        # A `type` may have the name of what it stands for in a module that is not public.
+        self.declared = {it.name: it for it in sorted(declared, key=lambda it: it.kind == "type")}
+        self.over, self.aliases, self.homes = {}, [], dict(self.declared)
+        for crate, built in crates_built().items():
+            for it in parts_declared(root, crate):
+                self.homes[it.name] = it
+                if it.kind == "type":
+                    self.aliases.append(it)
+                elif it.parameters and it.parameters == [part.text for part in it.parts]:
+                    self.over.update(dict.fromkeys(built, it.name))
+
+    def named(self, text, crate):
+        """A type in code, by the name that a crate knows for it."""
+        for it in self.aliases:
+            if it.parts[0].type == type_of(text) and not (it.is_inner and it.crate != crate):
+                return f"{it.name}<'a>"
+        return text
+
+    def of(self, text, crate):
+        """How a crate builds a field of this type."""
+        if text.startswith("("):
+            return f"({', '.join(self.of(it, crate) for it in split(text[1:-1]))})"
+        name, _, rest = text.partition("<")
+        it = self.declared.get(name)
+        if it and it.kind == "type" and it.crate != TYPES:
+            return self.of(it.parts[0].text, crate)
+        if it and it.crate in self.over:
+            return self.named(f"{self.over[it.crate]}<{text}>", crate)
+        words = [it if it.startswith("'") else self.of(it, crate) for it in split(rest[:-1])]
+        return self.named(f"{name}<{', '.join(words)}>" if rest else name, crate)
+
+
+class Built:
+    """A type that is built: its name and rule, and what stands in its `impl`."""
+
+    def __init__(self, item, parts, crate, tree):
+        self.item, self.name, self.rule, self.tree = item, item.name, upper(item.name), tree
+        self.text = f"{item.name}<'a>" if item.is_borrowing else item.name
+        self.is_own = crate == BASE
+        self.over = parts.over.get(item.crate)
+        self.fields = [(part.name, parts.of(part.text, crate)) for part in item.parts]
+        if self.is_own:
+            self.fields = [(name, text.replace("<'a>", "")) for name, text in self.fields]
+
+    @property
+    def is_flag(self):
+        """Whether it is a struct that says by a bool which of two words stands there."""
+        return self.item.parts[0].text == "bool"
+
+    @property
+    def part(self):
+        if self.is_own:
+            return self.text
+        return f"{self.over}<{self.text}>" if self.over else f"Any{self.name}"
+
+    @property
+    def has_constant(self):
+        """Whether `Rule` has a constant for its rule, so that it is built at that rule alone."""
+        return bool(BY_NAME[self.rule].doc) or self.rule in SCANNED
+
+    def alternatives(self):
+        """What its alternatives are built by, each with the pattern of a value and what is made of it."""
+        if self.is_flag:
+            words = {upper(word): word for word in KEYWORDS}
+            return [(words[it], "_", f"{self.name}({it.lower()})") for it in BY_NAME[self.rule].row[1]]
+        return [(text, "member", f"{self.name}::{name}(member)") for name, text in self.fields]
+
+    def calls(self):
+        """The functions of weedle_build_base by which it is built."""
+        if self.item.is_enum or self.is_flag:
+            return {"alternative", "choice"}
+        return {f"{COUNTS[len(self.fields)]}_fields"}
+
+    def names(self):
+        """The types that its `impl` names."""
+        texts = [self.over or "", self.name]
+        if self.is_flag:
+            texts += [word for word, _, _ in self.alternatives()]
+        else:
+            texts += [text for _, text in self.fields]
+        return set(TYPE_NAME.findall(" ".join(texts))) - PRELUDE
+
+
+def fits_of(it):
+    """Of which rules a value is: of its own, or of those whose row puts its members in brackets."""
+    if it.has_constant:
+        return f"λ r. r ≡ {it.rule}"
+    opening, body, closing = BY_NAME[it.rule].row[1]
+    members = f"many_fits (λ x. x ≡ {BY_NAME[body].row[1]})"
+    row = f"bracket_fits {opening} ({members}) {closing}"
+    return f"λ r. fits_seq ({row}) (row_of_rule r) (shape_of r)"
+
+
+def rules_in(it):
+    """The rules that its `fits` names."""
+    return set(re.findall(r"\b[A-Z][A-Z0-9_]+\b", fits_of(it)))
+
+
+def body_of_struct(it):
+    """The call that builds the fields, with its answer taken apart."""
+    rule = f"Rule::{it.rule}" if it.has_constant else "rule"
+    names = ", ".join(name for name, _ in it.fields)
+    [function] = it.calls()
+    call = f"{function}::<{', '.join(text for _, text in it.fields)}>(alloc, table, {rule}, at)"
+    value = f"({it.name} {{ {names} }}, at)"
+    # The prover takes a little less for a `match` than for `?`; with two fields that doesn't count.
+    if len(it.fields) == 2:
+        return f"let (({names}), at) = {call}?;\nOk({value})"
+    return f"match {call} {{\nOk((({names}), at)) => Ok({value}),\nErr(error) => Err(error),\n}}"
+
+
+def body_of_choice(it):
+    """The choice among the alternatives, each built by one call."""
+    rows = ""
+    for k, (text, found, value) in enumerate(it.alternatives()):
+        call = f"alternative::<{text}>(alloc, table, rule, {k}, at)?"
+        rows += f"{k} => {{\nlet ({found}, at) = {call};\nOk(({value}, at))\n}}\n"
+    choice = f"match choice(table, rule, at.place) {{\n{rows}_ => unreachable!(),\n}}"
+    return f"let rule = Rule::{it.rule};\n{choice}"
+
+
+def impl(it):
+    """The `impl Build` of a type; where no crate has a part for it, behind a struct that stands for it."""
+    is_choice = it.item.is_enum or it.is_flag
+    value, rule = "Self" if it.is_own else it.text, "_rule" if it.has_constant else "rule"
+    own = "" if it.is_own or it.over else f"""/// How a {it.name.lower()} is built.
+pub(crate) struct {it.part};
+
+"""
+    return own + f"""impl<'a> Build<'a> for {it.part} {{
+    type Value = {value};
+
+    ghost fits = {{ {fits_of(it)} }};
+
+    ghost tree = {{ {it.tree} }};
+
+    fn build(alloc: Global, table: &Ends<'a>, {rule}: Rule, at: At) -> BuildResult<{value}> {{
+        {body_of_choice(it) if is_choice else body_of_struct(it)}
+    }}
+}}
+"""
+
+
+def add(paths, path, *names):
+    paths.setdefault(path, set()).update(names)
+
+
+class File:
+    """A file of impls: its crate, what it is about, and what is built there."""
+
+    def __init__(self, root, parts, place, about, *sources):
+        self.root, self.parts, self.about = root, parts, about
+        self.crate, _, module = place.partition("/")
+        self.path = source_of(root, self.crate) / f"{module}.rt"
+        self.uses = read_lines(root)[self.crate].uses
+        self.built, self.trees = [], {}
+        for source in sources:
+            self.built += self.built_of(*source.partition("::")[::2])
+        self.built.sort(key=lambda it: NUMBER[it.rule])
+
+    def built_of(self, crate, module):
+        """The types of a crate, or of one of its modules, that have a rule of their own and keep no text."""
+        for path in sorted((self.root / "crates" / crate / "specs").glob("*.antt")):
+            trees = TREE.findall(path.read_text(encoding="utf-8"))
+            home = f"Rattle.{crate}.specs.{path.stem}"
+            self.trees.update({type_: (tree, home) for tree, type_ in trees})
+        for it in declared_by(self.root, crate):
+            rule = BY_NAME.get(upper(it.name))
+            is_here = it.kind != "type" and not it.parameters and module in ("", it.module)
+            if is_here and rule and rule.shape == "Plain":
+                if it.name not in self.trees:
+                    raise Unfit(f"no file of crates/{crate}/specs states the tree of {it.name}")
+                yield Built(it, self.parts, self.crate, self.trees[it.name][0])
+
+    def ghost_lines(self):
+        """What the contracts name, brought in."""
+        paths, rules = {}, set().union(*map(rules_in, self.built))
+        add(paths, "Rattle.std.specs.Prelude", "◌≡◌")
+        if not all(it.has_constant for it in self.built):
+            add(paths, f"Rattle.{BASE}.specs.Fits", "bracket_fits", "fits_seq")
+            add(paths, "Rattle.weedle_build_types.specs.Fits", "many_fits")
+            add(paths, "Rattle.weedle_grammar.specs.Table", "row_of as row_of_rule", "shape_of")
+        for section in sorted(SECTIONS, key=lambda it: it.name):
+            if found := rules & {it.name for it in section.rules}:
+                add(paths, f"Rattle.weedle_grammar.specs.Table.{section.name}", *found)
+        for tree, home in sorted((self.trees[it.name] for it in self.built), key=lambda it: it[::-1]):
+            add(paths, home, tree)
+        return "".join(ghost_use(path, sorted(names)) + "\n" for path, names in paths.items())
+
+    def use_lines(self):
+        """What the code names, brought in."""
+        paths = {"std::alloc": {"Global"}, "weedle_rules": {"Ends", "Rule"}}
+        given = public_names(self.root, BASE)
+        for name in {"At", "Build", "BuildResult"}.union(*(it.calls() for it in self.built)):
+            add(paths, f"crate::{given[name]}" if self.crate == BASE else BASE, name)
+        for name in set().union(*(it.names() for it in self.built)):
+            add(paths, self.path_of(name), name)
+        order = sorted(paths, key=lambda path: (not path.startswith("crate"), path))
+        return "".join(use_line(path, paths[path]) for path in order)
+
+    def path_of(self, name):
+        """The path by which this file names a type or a part."""
+        it = self.parts.homes.get(name)
+        if it and it.crate == self.crate:
+            return f"crate::{it.module.replace('.', '::')}"
+        if it and it.crate in self.uses:
+            public = public_part(source_of(self.root, it.crate), it.module.split("."))
+            return "::".join([it.crate, *public])
+        for crate in self.uses:
+            if source_of(self.root, crate).is_dir() and name in public_names(self.root, crate):
+                return crate
+        raise Unfit(f"nothing that {self.crate} stands on brings {name} in")
+
+    def text(self):
+        steps = f"{'crate' if self.crate == BASE else BASE}::{STEPS}"
+        head = HEAD.format(about=self.about, steps=steps)
+        lines = [self.ghost_lines(), self.use_lines(), *map(impl, self.built)]
+        return head + "\n".join(lines)
+
+
+def run(root):
+    """Writes the files, and gives the crates that have them."""
+    parts = Parts(root)
+    files = [File(root, parts, place, *more) for place, more in FILES.items()]
+    for file in files:
+        file.path.write_text(file.text(), encoding="utf-8")
+    return sorted({file.crate for file in files})
+
+
+def main():
+    try:
+        print(*run(TOP), sep="\n")
+    except Unfit as why:
+        sys.exit(f"builds: {why}")
+
+
+if __name__ == "__main__":
+    main()

@@ -1,0 +1,288 @@
+#!/usr/bin/env python3
+"""Tests builds.py over made-up crates with types of the grammar, without the toolchain, in a second.
+
+    python3 tools/test_builds.py
+"""
+
+import tempfile
+import unittest
+from pathlib import Path
+from unittest import mock
+
+import builds
+from crates import Unfit
+
+LINES = """weedle_term:
+low: weedle_term
+weedle_build_base: low weedle_term
+build_low: weedle_build_base low weedle_term
+high: low
+build_high: build_low weedle_build_base high
+"""
+DEFAULT = """//! Defaults.
+
+/// A default.
+pub struct Default<'a> {
+    /// The sign.
+    pub assign: Assign,
+    /// The value.
+    pub value: DecLit<'a>,
+}
+"""
+LOW = """//! Members.
+
+mod default;
+pub mod mixin;
+
+pub use default::Default;
+"""
+MIXIN = """//! Mixins.
+
+/// Members.
+pub type MixinMembers<'a> = Vec<MixinMember<'a>>;
+
+pub struct BracedMixinMembers<'a> {
+    pub open_brace: OpenBrace,
+    pub body: MixinMembers<'a>,
+    pub close_brace: CloseBrace,
+}
+
+/// One of two.
+pub enum MixinMember<'a> {
+    /// A word.
+    Const(Option<Pair<'a>>),
+    /// A number, which is kept.
+    Number(DecLit<'a>),
+}
+
+pub struct DecLit<'a>(pub &'a str);
+
+pub struct BooleanLit(pub bool);
+
+/// What no rule reads.
+pub struct Pair<'a>(pub &'a str);
+"""
+TREES = """-- Trees.
+abbrev pub default_tree : Default → Tree
+default_tree v = Mark
+
+abbrev pub braced_tree : BracedMixinMembers → Tree
+abbrev pub mixin_tree : MixinMember → Tree
+abbrev pub boolean_tree : BooleanLit → Tree
+"""
+PART = """//! What others are built of.
+
+pub struct LowPart<T>(T);
+
+pub(crate) type Pairs<'a> = Option<LowPart<Pair<'a>>>;
+"""
+BASE = """//! The second pass.
+
+pub use alternatives::{alternative, choice};
+pub use at::At;
+pub use build::{Build, BuildResult};
+pub use structs::{three_fields, two_fields};
+"""
+HIGH = """//! High.
+
+mod definition;
+
+pub use low::Default;
+"""
+SPECIAL = """//! Any.
+
+pub enum Definition<'a> {
+    Callback(Default<'a>),
+}
+"""
+TERMS = """//! Terminals.
+
+pub struct Assign;
+pub struct OpenBrace;
+pub struct CloseBrace;
+pub struct True;
+pub struct False;
+"""
+FILES = {
+    "build_low/low": ("What is low.", "low::mixin"),
+    "build_low/defaults": ("Defaults.", "low::default"),
+    "build_high/high": ("What is high.", "high"),
+}
+TEXTS = {
+    "crates.txt": LINES,
+    "crates/low/src/lib.rt": LOW,
+    "crates/low/src/default.rt": DEFAULT,
+    "crates/low/src/mixin.rt": MIXIN,
+    "crates/low/specs/Trees.antt": TREES,
+    "crates/weedle_term/src/lib.rt": TERMS,
+    "crates/weedle_build_base/src/lib.rt": BASE,
+    "crates/build_low/src/lib.rt": "pub use part::LowPart;\n",
+    "crates/build_low/src/part.rt": PART,
+    "crates/high/src/lib.rt": HIGH,
+    "crates/high/src/definition.rt": SPECIAL,
+    "crates/high/specs/Trees.antt": "abbrev pub definition_tree : Definition → Tree\n",
+    "crates/build_high/src/lib.rt": "",
+}
+DEFAULTS_WRITTEN = """//! Defaults.
+//!
+//! Written by tools/builds.py.
+#![tactic(auto, using(weedle_build_base::proofs::Finding::own_steps))]
+
+ghost use Rattle.std.specs.Prelude.{◌≡◌};
+ghost use Rattle.weedle_grammar.specs.Table.Literals.{DEFAULT};
+ghost use Rattle.low.specs.Trees.{default_tree};
+
+use crate::part::LowPart;
+use low::Default;
+use low::mixin::DecLit;
+use std::alloc::Global;
+use weedle_build_base::{At, Build, BuildResult, two_fields};
+use weedle_rules::{Ends, Rule};
+use weedle_term::Assign;
+
+impl<'a> Build<'a> for LowPart<Default<'a>> {
+    type Value = Default<'a>;
+
+    ghost fits = { λ r. r ≡ DEFAULT };
+
+    ghost tree = { default_tree };
+
+    fn build(alloc: Global, table: &Ends<'a>, _rule: Rule, at: At) -> BuildResult<Default<'a>> {
+        let ((assign, value), at) =
+            two_fields::<Assign, LowPart<DecLit<'a>>>(alloc, table, Rule::DEFAULT, at)?;
+        Ok((Default { assign, value }, at))
+    }
+}
+"""
+BRACED = """
+    ghost fits = { λ r. fits_seq
+        (bracket_fits OPEN_BRACE (many_fits (λ x. x ≡ MIXIN_MEMBER)) CLOSE_BRACE)
+        (row_of_rule r) (shape_of r) };
+
+    ghost tree = { braced_tree };
+
+    fn build(alloc: Global, table: &Ends<'a>, rule: Rule, at: At) -> BuildResult<BracedMixinMembers<'a>> {
+        match three_fields::<OpenBrace, Vec<LowPart<MixinMember<'a>>>, CloseBrace>(alloc, table, rule, at) {
+            Ok(((open_brace, body, close_brace), at)) =>
+                Ok((BracedMixinMembers { open_brace, body, close_brace }, at)),
+            Err(error) => Err(error),
+        }
+    }
+}
+"""
+CHOICE = """
+        let rule = Rule::MIXIN_MEMBER;
+        match choice(table, rule, at.place) {
+            0 => {
+                let (member, at) = alternative::<Pairs<'a>>(alloc, table, rule, 0, at)?;
+                Ok((MixinMember::Const(member), at))
+            }
+            1 => {
+                let (member, at) = alternative::<LowPart<DecLit<'a>>>(alloc, table, rule, 1, at)?;
+                Ok((MixinMember::Number(member), at))
+            }
+            _ => unreachable!(),
+        }
+"""
+FLAG = """
+            0 => {
+                let (_, at) = alternative::<True>(alloc, table, rule, 0, at)?;
+                Ok((BooleanLit(true), at))
+            }
+"""
+ANY = """
+use build_low::LowPart;
+use high::{Default, Definition};
+use std::alloc::Global;
+use weedle_build_base::{At, Build, BuildResult, alternative, choice};
+use weedle_rules::{Ends, Rule};
+
+/// How a definition is built.
+pub(crate) struct AnyDefinition;
+
+impl<'a> Build<'a> for AnyDefinition {
+    type Value = Definition<'a>;
+"""
+
+
+def flat(text):
+    """A text as it is whatever its layout."""
+    return " ".join(text.split())
+
+
+class BuildsTest(unittest.TestCase):
+    def setUp(self):
+        folder = tempfile.TemporaryDirectory()
+        self.addCleanup(folder.cleanup)
+        self.root = Path(folder.name)
+        for path, text in TEXTS.items():
+            self.put(path, text)
+        named = {
+            "FILES": FILES, "CRATES": ["weedle_term", "low", "high"],
+            "TYPES": "none", "TYPES_BUILT": "build_low",
+        }
+        for name, value in named.items():
+            patch = mock.patch.object(builds, name, value)
+            patch.start()
+            self.addCleanup(patch.stop)
+
+    def put(self, path, text):
+        path = self.root / path
+        path.parent.mkdir(parents=True, exist_ok=True)
+        path.write_text(text)
+
+    def written(self, path):
+        builds.run(self.root)
+        return flat((self.root / "crates" / path).read_text())
+
+    def test_the_crates_that_have_files(self):
+        self.assertEqual(builds.run(self.root), ["build_high", "build_low"])
+
+    def test_a_struct_is_built_by_one_call(self):
+        self.assertEqual(self.written("build_low/src/defaults.rt"), flat(DEFAULTS_WRITTEN))
+
+    def test_members_in_brackets_are_built_at_each_rule_of_that_row(self):
+        text = self.written("build_low/src/low.rt")
+        self.assertIn(flat(BRACED), text)
+        self.assertIn("ghost use Rattle.weedle_build_types.specs.Fits.{many_fits};", text)
+
+    def test_an_enum_is_built_by_its_alternatives(self):
+        self.assertIn(flat(CHOICE), self.written("build_low/src/low.rt"))
+
+    def test_a_bool_is_built_by_the_words_for_it(self):
+        self.assertIn(flat(FLAG), self.written("build_low/src/low.rt"))
+
+    def test_a_type_that_keeps_its_text_is_left_out(self):
+        self.assertNotIn("for LowPart<DecLit<'a>>", self.written("build_low/src/low.rt"))
+
+    def test_rules_are_in_the_order_of_the_grammar(self):
+        text = self.written("build_low/src/low.rt")
+        names = ("Boolean", "MixinMember", "Braced")
+        places = [text.index(f"Build<'a> for LowPart<{name}") for name in names]
+        self.assertEqual(places, sorted(places))
+
+    def test_a_crate_without_a_part_has_a_struct_for_its_type(self):
+        self.assertIn(flat(ANY), self.written("build_high/src/high.rt"))
+
+    def test_a_type_of_the_base_is_its_own_value(self):
+        files = {"weedle_build_base/own": ("Own.", "low::default")}
+        with mock.patch.object(builds, "FILES", files):
+            text = self.written("weedle_build_base/src/own.rt")
+        self.assertIn("using(crate::proofs::", text)
+        self.assertIn("use crate::structs::two_fields;", text)
+        self.assertIn("for Default<'a> { type Value = Self;", text)
+        self.assertIn("two_fields::<Assign, DecLit>(", text)
+
+    def test_a_type_without_a_tree_is_refused(self):
+        self.put("crates/high/specs/Trees.antt", "")
+        with self.assertRaisesRegex(Unfit, "crates/high/specs states the tree of Definition"):
+            builds.run(self.root)
+
+    def test_a_name_that_nothing_brings_in_is_refused(self):
+        self.put("crates/high/src/lib.rt", "//! High.\n")
+        with self.assertRaisesRegex(Unfit, "nothing that build_high stands on brings Default in"):
+            builds.run(self.root)
+
+
+if __name__ == "__main__":
+    unittest.main()
