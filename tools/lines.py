@@ -1,0 +1,87 @@
+#!/usr/bin/env python3
+"""Counts the lines of a checkout by crate: by hand or written by a script, of code, specs and proofs.
+
+    python3 tools/lines.py [FOLDER]
+
+FOLDER is a checkout of this repository, of any commit; without it the one is counted that the script
+stands in. What a script writes says so at its head, as tools/check.py has it. Counted is every line
+of the files below src, specs and proofs, empty ones and comments too. Under the sums stands how many
+lines the scripts of tools have, which are by hand as well.
+
+The status is 0, or 2 where the folder holds no such repository.
+"""
+
+import argparse
+import sys
+from collections import Counter
+from pathlib import Path
+
+from check import writer_in
+from crates import PARTS, Unfit, files_of, read_lines
+
+TOP = Path(__file__).resolve().parent.parent
+MAKERS = ("by hand", "written")
+KINDS = dict(zip(PARTS, ("code", "specs", "proofs")))
+COLUMNS = [(maker, kind) for maker in MAKERS for kind in KINDS.values()]
+# The widths of a crate's name and of a number.
+NAME, NUMBER = 24, 9
+SUM = "sum"
+
+
+def lines_of(root, crate):
+    """How many lines a crate has, by who made them and by their kind."""
+    found = Counter()
+    for path in files_of(root, crate):
+        text = (Path(root) / path).read_text(encoding="utf-8")
+        kind = KINDS[path.split("/")[2]]
+        found[MAKERS[bool(writer_in(text))], kind] += text.count("\n")
+    return found
+
+
+def lines_of_tools(root):
+    """How many lines the scripts have, and how many of those are their tests'."""
+    counts = {
+        path.name: path.read_text(encoding="utf-8").count("\n")
+        for path in (Path(root) / "tools").rglob("*.py")
+    }
+    return sum(counts.values()), sum(it for name, it in counts.items() if name.startswith("test_"))
+
+
+def row(name, words):
+    return f"{name:<{NAME}}" + "".join(f"{word:>{NUMBER}}" for word in words)
+
+
+def table(counts):
+    """The lines of a table: a row for each crate, and one for their sums."""
+    heads = [maker for maker, _ in COLUMNS], [kind for _, kind in COLUMNS]
+    yield from (row("", words) for words in heads)
+    for name, count in [*counts.items(), (SUM, sum(counts.values(), Counter()))]:
+        yield row(name, [count[column] for column in COLUMNS])
+
+
+def sums(counts):
+    """A line for all that is by hand, and one for all that is written."""
+    for maker in MAKERS:
+        lines = sum(count[maker, kind] for count in counts.values() for kind in KINDS.values())
+        yield f"{maker}: {lines}"
+
+
+def report(root):
+    counts = {name: lines_of(root, name) for name in read_lines(root)}
+    lines, tests = lines_of_tools(root)
+    return [*table(counts), "", *sums(counts), f"tools: {lines}, of which tests {tests}"]
+
+
+def main():
+    parser = argparse.ArgumentParser(description=__doc__.splitlines()[0])
+    parser.add_argument("folder", nargs="?", default=TOP, help="a checkout; without it this one")
+    try:
+        print(*report(parser.parse_args().folder), sep="\n")
+    except Unfit as why:
+        print(f"lines: {why}", file=sys.stderr)
+        return 2
+    return 0
+
+
+if __name__ == "__main__":
+    sys.exit(main())

@@ -1,0 +1,69 @@
+#!/usr/bin/env python3
+"""Tests lines.py over a made-up repository, in a second.
+
+    python3 tools/test_lines.py
+"""
+
+import contextlib
+import io
+import tempfile
+import unittest
+from pathlib import Path
+from unittest import mock
+
+import lines
+
+TEXTS = {
+    "crates.txt": "low:\nhigh: low\n",
+    "crates/low/src/lib.rt": "//! Low.\n\nmod x;\n",
+    "crates/low/src/x.rt": "//! X.\n//!\n//! Written by tools/x.py.\n\n",
+    "crates/low/specs/Trees.antt": "-- Trees. Written by tools/x.py.\n-- More.\n",
+    "crates/low/proofs/a/Answers.antt": "-- A proof.\nx = refl\n\n-- Written by tools/x.py.\n",
+    "crates/low/data/a": "x\n",
+    "crates/high/src/lib.rt": "//! High.\n",
+    "tools/x.py": "pass\npass\n",
+    "tools/test_x.py": "pass\n",
+}
+REPORT = """
+                          by hand  by hand  by hand  written  written  written
+                             code    specs   proofs     code    specs   proofs
+low                             3        0        4        4        2        0
+high                            1        0        0        0        0        0
+sum                             4        0        4        4        2        0
+
+by hand: 8
+written: 6
+tools: 3, of which tests 1
+"""
+
+
+class LinesTest(unittest.TestCase):
+    def setUp(self):
+        folder = tempfile.TemporaryDirectory()
+        self.addCleanup(folder.cleanup)
+        self.root = Path(folder.name)
+
+    def put(self):
+        for path, text in TEXTS.items():
+            path = self.root / path
+            path.parent.mkdir(parents=True, exist_ok=True)
+            path.write_text(text)
+
+    def run_main(self):
+        """The status, and what is printed of answers and of errors."""
+        out, err = io.StringIO(), io.StringIO()
+        with mock.patch("sys.argv", ["lines.py", str(self.root)]):
+            with contextlib.redirect_stdout(out), contextlib.redirect_stderr(err):
+                return lines.main(), out.getvalue(), err.getvalue()
+
+    def test_lines_are_counted_by_crate_and_kind(self):
+        self.put()
+        self.assertEqual(self.run_main(), (0, REPORT[1:], ""))
+
+    def test_a_folder_without_crates_is_refused(self):
+        said = f"lines: {self.root} is no repository of crates: it has no crates.txt\n"
+        self.assertEqual(self.run_main(), (2, "", said))
+
+
+if __name__ == "__main__":
+    unittest.main()
