@@ -1,5 +1,5 @@
 #!/usr/bin/env python3
-"""Writes how members and definitions are built in the second pass, from their declarations and rows.
+"""Writes how members, definitions and what they hold are built in the second pass, from their declarations.
 
 Run it at the top of the repository, then `rt fmt` in each crate that it names:
 
@@ -11,8 +11,8 @@ built by one call of `two_fields` or its like over its fields, an enum by `choic
 `alternative` among its variants. How a field is built follows from the crate that names its type:
 see `Parts`. A type whose rule keeps the text that it reads has its `impl` by hand.
 
-It prints the crates that it wrote in. The status is 0, or 1 where a type has no tree, or something
-that a file names is brought in by nothing.
+It prints the crates that it wrote in. The status is 0, or 1 where a crate or a module declares no
+such type, where a type has no tree, or where something that a file names is brought in by nothing.
 """
 
 import re
@@ -32,6 +32,10 @@ from written.imports import imported
 TOP = Path(__file__).resolve().parent.parent
 # Each file, below src of its crate: what it is about, and the crates or modules whose types are built there.
 FILES = {
+    "weedle_build_base/literals": ("Literals, and the values of defaults and constants.", "weedle_literal"),
+    "weedle_build_base/modifiers": (
+        "What is inherited from, and the words before a member.", "weedle_modifier",
+    ),
     "weedle_build_members/members": (
         "The members of interfaces: constants, attributes, operations, constructors and stringifiers.",
         "weedle_members",
@@ -265,7 +269,10 @@ class File:
         self.uses = read_lines(root)[self.crate].uses
         self.built, self.trees = [], {}
         for source in sources:
-            self.built += self.built_of(*source.partition("::")[::2])
+            found = list(self.built_of(*source.partition("::")[::2]))
+            if not found:
+                raise Unfit(f"{place} is to build what {source} declares, which is nothing")
+            self.built += found
         self.built.sort(key=lambda it: NUMBER[it.rule])
 
     def built_of(self, crate, module):

@@ -273,6 +273,11 @@ class BuildsTest(unittest.TestCase):
         self.assertIn("for Default<'a> { type Value = Self;", text)
         self.assertIn("two_fields::<Assign, DecLit>(", text)
 
+    def test_a_module_without_types_is_refused(self):
+        with mock.patch.dict(builds.FILES, {"build_low/low": ("What is low.", "low::none")}):
+            with self.assertRaisesRegex(Unfit, "build_low/low is to build what low::none declares"):
+                builds.run(self.root)
+
     def test_a_type_without_a_tree_is_refused(self):
         self.put("crates/high/specs/Trees.antt", "")
         with self.assertRaisesRegex(Unfit, "crates/high/specs states the tree of Definition"):

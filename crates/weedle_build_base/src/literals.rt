@@ -1,26 +1,28 @@
 //! Literals, and the values of defaults and constants.
+//!
+//! Written by tools/builds.py.
 #![tactic(auto, using(crate::proofs::Finding::own_steps))]
 
 ghost use Rattle.std.specs.Prelude.{◌≡◌};
 ghost use Rattle.weedle_grammar.specs.Table.Literals.{
   BOOLEAN_LIT,
-  INTEGER_LIT,
-  FLOAT_LIT,
-  EMPTY_ARRAY_LIT,
-  EMPTY_DICTIONARY_LIT,
-  DEFAULT_VALUE,
   CONST_VALUE,
   DEFAULT,
+  DEFAULT_VALUE,
+  EMPTY_ARRAY_LIT,
+  EMPTY_DICTIONARY_LIT,
+  FLOAT_LIT,
+  INTEGER_LIT,
 };
 ghost use Rattle.weedle_literal.specs.LiteralTrees.{
   boolean_tree,
-  integer_tree,
-  float_tree,
-  empty_array_tree,
-  empty_dictionary_tree,
-  default_value_tree,
   const_value_tree,
   default_tree,
+  default_value_tree,
+  empty_array_tree,
+  empty_dictionary_tree,
+  float_tree,
+  integer_tree,
 };
 
 use crate::alternatives::{alternative, choice};
