@@ -33,7 +33,7 @@ TOP = Path(__file__).resolve().parent.parent
 # The scripts that write files below crates/.
 WRITERS = (
     "grammar terminals trees types_impls types_proofs build_types_proofs idl_proofs builds spellings "
-    "into_fields impls orders"
+    "impls orders"
 ).split()
 # What these write comes from programs that the gate hasn't, as weedle2's answers: it is left as it is.
 FROM_OUTSIDE = ("tools/weedle2_rows.py",)

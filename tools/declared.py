@@ -5,7 +5,8 @@ import re
 from pathlib import Path
 
 from crates import Unfit
-from into_fields import imported, snake
+from description.names import snake
+from written.imports import imported
 
 # The modules that nobody outside their crate can name, each with the one that names its types.
 PRIVATE = {"weedle_types::formers": "weedle_types::types"}

@@ -1,14 +1,24 @@
 #!/usr/bin/env python3
-"""Writes what follows from the declarations of types: what the variants of enums are made from.
+"""Writes the code that follows from the declarations of types, members and definitions.
 
     python3 tools/impls.py
 
-Below each module MODULE.rt of CRATES that declares enums it writes MODULE/written.rt, with `From` for
-each variant that holds something. An alias of an enum that is made over a type counts as that enum.
-The conversions of an enum with many variants stand in a file of their own. The line `mod written;` of
-MODULE.rt is written by hand. `rt fmt` lays the files out afterwards, as tools/check.py has it do.
+Who declares a struct or an enum writes it once, with docs and derives. Below each module MODULE.rt of
+CRATES that declares some, this writes MODULE/written.rt, with
 
-It prints where such a line is missing. The status is 0 where none is, else 1.
+- `Parse`, where the row is read in order by one call, or where the first variant that fits is read
+  by one choice. What `parse` MODULE.rt has itself, by hand, isn't written;
+- `TryClone`, where the type derives no `Copy`;
+- `From` for each variant of an enum that holds something;
+- `into_fields` of a struct, and for each variant of an enum a method as `into_interface`, where the
+  type derives neither `Copy` nor `Drop`.
+
+`Drop` stands in MODULE.rt, by hand: the language wants it in the module that declares the type. So does
+the line `mod written;`. The conversions of an enum with many variants stand in a file of their own.
+`rt fmt` lays the files out afterwards, as tools/check.py has it do.
+
+It prints where a line `mod` is missing, or why it can't write. The status is 0 where it wrote all and
+prints nothing, else 1.
 """
 
 import sys
@@ -18,7 +28,10 @@ from crates import Unfit
 from written.files import files_of
 
 TOP = Path(__file__).resolve().parent.parent
-CRATES = ["weedle_types"]
+CRATES = (
+    "weedle_types weedle_modifier weedle_members weedle_iterables weedle_async_iterables "
+    "weedle_interfaces weedle_mixins weedle_namespaces weedle_statements weedle_idl"
+).split()
 
 
 def write(path, text):

@@ -24,7 +24,9 @@ from pathlib import Path
 
 from crates import Unfit
 from declared import FORMED, modules_of, quoted
-from into_fields import COLUMNS, snake, use_line, write
+from description.layout import COLUMNS, use_line
+from description.names import snake
+from impls import write
 from terminals import label
 
 TOP = Path(__file__).resolve().parent.parent

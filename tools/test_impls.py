@@ -18,7 +18,8 @@ mod written;
 
 use crate::formers;
 use leaves::{Sign, Word};
-use types::Label;
+use types::{Label, List};
+use weedle_types::attribute::ExtendedAttributeList;
 
 /// A word or a label.
 pub type Either<'a> = formers::Either<Label<'a>>;
@@ -26,18 +27,20 @@ pub type Either<'a> = formers::Either<Label<'a>>;
 /// A member.
 #[derive(Debug)]
 pub struct Member<'a> {
+    pub attributes: Option<ExtendedAttributeList<'a>>,
     pub word: Word,
+    pub list: List<'a>,
     pub label: Option<Label<'a>>,
 }
 
 /// A definition.
 #[derive(Debug)]
 pub enum Definition<'a> {
-    /// The first.
     Member(Member<'a>),
-    Word(Word),
-    Nothing,
+    Sign(Sign),
 }
+
+impl<'a> Parse<'a> for Definition<'a> {}
 """
 FORMERS = """//! Made over a type.
 
@@ -49,20 +52,46 @@ pub enum Either<T> {
     Other(T),
 }
 """
-WRITTEN = """//! What follows from the declarations of the module above.
+FILES = {
+    "low/src/formers.rt": FORMERS,
+    "low/src/member.rt": MODULE,
+    "low/specs/Trees.antt": "pub member_tree :\npub definition_tree :\n",
+    "low/proofs/MemberRules.antt": "pub ruleset member_steps\n",
+    "weedle_grammar/specs/Table/Members.antt": "abbrev pub MEMBER : Rule\n",
+    "weedle_fields/src/lib.rt": "pub fn attributes_and_three<'a, A: Parse<'a>>(\n",
+    "weedle_term/src/lib.rt": "#[derive(Clone, Copy)]\npub struct Word;\n",
+    "weedle_types/src/copies.rt": """
+pub fn copy_attributes<'a>(
+    attributes: &Option<ExtendedAttributeList<'a>>,
+    alloc: Global,
+) -> Result<Option<ExtendedAttributeList<'a>>, AllocError>
+""",
+}
+HEAD = """//! What follows from the declarations of the module above.
 //!
 //! Written by tools/impls.py.
 
-ghost use Rattle.std.specs.Prelude.{◌≡◌};
+ghost use Rattle.low.specs.Trees.{definition_tree, member_tree};
+ghost use Rattle.std.specs.Prelude.{◌↔◌, ◌≡◌};
+ghost use Rattle.weedle_base.specs.AlikeLaws.{equal_equivalence, seen_equivalence};
+ghost use Rattle.weedle_base.specs.Own.{own};
+ghost use Rattle.weedle_base.specs.OwnLaws.{own_lawful};
+ghost use Rattle.weedle_grammar.specs.Table.Members.{MEMBER};
 
 use super::{Definition, Either, Member};
-use leaves::Word;
-use types::Label;
-
+use leaves::{Sign, Word};
+use std::alloc::{AllocError, Global};
+use types::{Label, List};
+use weedle_base::{IResult, Parse, TryClone};
+use weedle_fields::attributes_and_three;
+use weedle_types::attribute::ExtendedAttributeList;
+use weedle_types::copies::copy_attributes;
+"""
+CONVERSIONS = """
 impl From<Word> for Either<'_> {
     ghost use Rattle.low.specs.declared.formers.Either.TheVariants.{Word};
 
-    ghost from_gives = { λ v e. e ≡ Word v };
+    ghost from_gives = { λ value made. made ≡ Word value };
 
     fn from(value: Word) -> Self {
         Either::Word(value)
@@ -72,32 +101,34 @@ impl From<Word> for Either<'_> {
 impl<'a> From<Label<'a>> for Either<'a> {
     ghost use Rattle.low.specs.declared.formers.Either.TheVariants.{Other};
 
-    ghost from_gives = { λ v e. e ≡ Other v };
+    ghost from_gives = { λ value made. made ≡ Other value };
 
     fn from(value: Label<'a>) -> Self {
         Either::Other(value)
     }
 }
+"""
+PARSE = """
+#[tactic(auto, using(crate::proofs::MemberRules::member_steps))]
+impl<'a> Parse<'a> for Member<'a> {
+    ghost reading = { own MEMBER member_tree (Unit {0}) };
 
-impl<'a> From<Member<'a>> for Definition<'a> {
-    ghost use Rattle.low.specs.declared.member.Definition.TheVariants.{Member};
-
-    ghost from_gives = { λ v e. e ≡ Member v };
-
-    fn from(value: Member<'a>) -> Self {
-        Definition::Member(value)
+    fn parse(alloc: Global, input: &'a str) -> IResult<&'a str, Self> {
+        match attributes_and_three(alloc, input) {
+            Ok((rest, (attributes, word, list, label))) => \
+Ok((rest, Member { attributes, word, list, label })),
+            Err(error) => Err(error),
+        }
     }
+
+    ghost lawful = { own_lawful MEMBER member_tree (Unit {0}) };
 }
-
-impl From<Word> for Definition<'_> {
-    ghost use Rattle.low.specs.declared.member.Definition.TheVariants.{Word};
-
-    ghost from_gives = { λ v e. e ≡ Word v };
-
-    fn from(value: Word) -> Self {
-        Definition::Word(value)
+"""
+COPY = """
+    fn try_clone(&self, alloc: Global) -> Result<Self, AllocError> {
+        Ok(Member { attributes: copy_attributes(&self.attributes, alloc)?, word: self.word, \
+list: self.list.try_clone(alloc)?, label: self.label.try_clone(alloc)? })
     }
-}
 """
 
 
@@ -109,37 +140,87 @@ class ImplsTest(unittest.TestCase):
         crates.start()
         self.addCleanup(crates.stop)
         self.root = Path(folder.name)
-        self.source = self.root / "crates/low/src"
-        self.source.mkdir(parents=True)
-        (self.source / "formers.rt").write_text(FORMERS)
-        self.write(MODULE)
+        for path, text in FILES.items():
+            self.write(path, text)
+        self.out = self.root / "crates/low/src/member/written.rt"
 
-    def write(self, text):
-        (self.source / "member.rt").write_text(text)
+    def write(self, path, text):
+        path = self.root / "crates" / path
+        path.parent.mkdir(parents=True, exist_ok=True)
+        path.write_text(text)
 
-    def test_each_variant_that_holds_something_has_its_conversion(self):
+    def test_what_follows_from_the_declarations_is_written(self):
         self.assertEqual(impls.run(self.root), [])
-        written = {it.relative_to(self.source).as_posix() for it in self.source.rglob("*/*.rt")}
-        self.assertEqual(written, {"member/written.rt"})
-        self.assertEqual((self.source / "member/written.rt").read_text(), WRITTEN)
+        text = self.out.read_text()
+        self.assertTrue(text.startswith(HEAD + CONVERSIONS + PARSE), text)
+        self.assertIn(COPY, text)
+        heads = [row for row in text.split("\n") if row.startswith("impl")]
+        self.assertEqual(
+            heads[3:],
+            [
+                "impl TryClone for Member<'_> {",
+                "impl<'a> Member<'a> {",
+                "impl TryClone for Definition<'_> {",
+                "impl<'a> From<Member<'a>> for Definition<'a> {",
+                "impl From<Sign> for Definition<'_> {",
+                "impl<'a> Definition<'a> {",
+            ],
+        )
+
+    def test_what_is_copied_is_neither_cloned_nor_taken_apart(self):
+        self.write("low/src/member.rt", MODULE.replace("#[derive(Debug)]", "#[derive(Clone, Copy)]"))
+        impls.run(self.root)
+        text = self.out.read_text()
+        self.assertNotIn("TryClone", text)
+        self.assertNotIn("into_fields", text)
+        self.assertIn("own MEMBER member_tree ⊥", text)
+
+    def test_a_few_variants_are_read_by_one_choice(self):
+        self.write("low/src/member.rt", MODULE.replace("impl<'a> Parse<'a> for Definition<'a> {}\n", ""))
+        rulesets = "pub ruleset member_steps\npub ruleset definition_steps\n"
+        self.write("low/proofs/MemberRules.antt", rulesets)
+        self.write("weedle_grammar/specs/Table/Definitions.antt", "abbrev pub DEFINITION : Rule\n")
+        impls.run(self.root)
+        text = self.out.read_text()
+        self.assertIn("use weedle_base::Choice::{First, Second, self};", text)
+        self.assertIn("            First(member) => Definition::Member(member),\n", text)
+        self.assertIn("            Second(member) => Definition::Sign(member),\n", text)
+
+    def test_a_function_of_the_module_itself_copies_its_part(self):
+        copying = "\npub(crate) fn copy_list<'a>(list: &List<'a>, alloc: Global) -> List<'a>\n"
+        self.write("low/src/member.rt", MODULE + copying)
+        impls.run(self.root)
+        text = self.out.read_text()
+        self.assertIn("use super::{Definition, Either, Member, copy_list};", text)
+        self.assertIn("list: copy_list(&self.list, alloc)?", text)
+
+    def test_a_parse_of_another_form_has_to_be_written_by_hand(self):
+        self.write("low/src/member.rt", MODULE.replace("    pub word: Word,\n", ""))
+        with self.assertRaisesRegex(Unfit, "the Parse of Member has no plain form"):
+            impls.run(self.root)
 
     def test_many_variants_have_a_file_of_their_own(self):
         variants = "".join(f"    Word{number}(Word),\n" for number in range(17))
-        self.write(MODULE + f"pub enum Words {{\n{variants}}}\n")
+        words = f"\n#[derive(Clone, Copy)]\npub enum Words {{\n{variants}}}\n"
+        self.write("low/src/member.rt", f"{MODULE}{words}impl<'a> Parse<'a> for Words {{}}\n")
         said = "crates/low/src/member.rt lacks the line `mod from_words;`"
         self.assertEqual(impls.run(self.root), [said])
-        text = (self.source / "member/from_words.rt").read_text()
+        text = (self.root / "crates/low/src/member/from_words.rt").read_text()
         self.assertEqual(text.count("impl From<Word> for Words {"), 17)
 
     def test_a_module_has_to_name_its_file(self):
-        self.write(MODULE.replace("mod written;\n", ""))
+        self.write("low/src/member.rt", MODULE.replace("mod written;\n", ""))
         said = "crates/low/src/member.rt lacks the line `mod written;`"
         self.assertEqual(impls.run(self.root), [said])
 
     def test_a_type_that_nothing_brings_in_is_refused(self):
-        self.write(MODULE.replace("{Sign, Word}", "Sign"))
-        (self.source / "formers.rt").write_text(FORMERS.replace("use leaves::Word;\n", ""))
-        with self.assertRaisesRegex(Unfit, "Word is named"):
+        self.write("low/src/member.rt", MODULE.replace("{Label, List}", "List"))
+        with self.assertRaisesRegex(Unfit, "Label is named, and no `use` brings it in"):
+            impls.run(self.root)
+
+    def test_a_tree_that_is_stated_nowhere_is_refused(self):
+        self.write("low/specs/Trees.antt", "pub definition_tree :\n")
+        with self.assertRaisesRegex(Unfit, "low: member_tree is stated nowhere"):
             impls.run(self.root)
 
 

@@ -42,9 +42,10 @@ def ghost_uses(code, named):
     return "".join(lines)
 
 
-def ghost_line(module, names):
+def ghost_line(module, names, indent=""):
     """A line that brings in these names; where it is too long, each has a line."""
-    line = f"ghost use {module}.{{{', '.join(names)}}};\n"
+    line = f"{indent}ghost use {module}.{{{', '.join(names)}}};\n"
     if len(line) <= COLUMNS + 1:
         return line
-    return f"ghost use {module}.{{\n" + "".join(f"  {name},\n" for name in names) + "};\n"
+    rows = "".join(f"{indent}  {name},\n" for name in names)
+    return f"{indent}ghost use {module}.{{\n{rows}{indent}}};\n"

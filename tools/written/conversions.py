@@ -1,27 +1,23 @@
 """The `From` of each variant of an enum: what it holds becomes that variant."""
 
-from description.layout import COLUMNS
-from written.pieces import Piece, bound, home, unbound
+from description.uses import ghost_line
+from written.pieces import EQUAL, Piece, bound, home, unbound
 
-EQUAL = ("Rattle.std.specs.Prelude", "◌≡◌")
-
-
-def ghost_use(module, name, indent):
-    line = f"{indent}ghost use {module}.{{{name}}};\n"
-    if len(line) <= COLUMNS:
-        return line
-    return f"{indent}ghost use {module}.{{\n{indent}  {name},\n{indent}}};\n"
+# What a clause calls the value and what is made of it, and what it does in some crates.
+NAMES = ("value", "made")
+OTHER_NAMES = {"weedle_types": ("v", "e")}
 
 
 def conversion(item, variant, held, declared):
     """The `From` of what a variant holds; `declared` is the enum that the logic knows."""
     is_borrowing = "'a" in held
     lifetime, to = ("<'a>", bound(item)) if is_borrowing else ("", unbound(item))
-    variants = ghost_use(f"{home(declared)}.TheVariants", variant, "    ")
+    value, made = OTHER_NAMES.get(item.crate, NAMES)
+    variants = ghost_line(f"{home(declared)}.TheVariants", [variant], "    ")
     return Piece(
         f"""impl{lifetime} From<{held}> for {to} {{
 {variants}
-    ghost from_gives = {{ λ v e. e ≡ {variant} v }};
+    ghost from_gives = {{ λ {value} {made}. {made} ≡ {variant} {value} }};
 
     fn from(value: {held}) -> Self {{
         {item.name}::{variant}(value)
@@ -32,7 +28,7 @@ def conversion(item, variant, held, declared):
     )
 
 
-def conversions(item):
+def conversions(item, stated):
     """A `From` for each variant that holds something."""
     if item.is_enum:
         for part in item.parts:

@@ -1,16 +1,22 @@
 """The files of a crate: what is written of each type, put together with the lines `use`."""
 
 import re
-from pathlib import Path
 
 from description.declarations import Declaration, Part, declared_by, split
 from description.names import snake
 from written.conversions import conversions
+from written.copies import copies
+from written.fields import methods
 from written.imports import ghost_lines, imported, paths_in, use_lines
+from written.parses import parses
+from written.stated import Stated, path_of
 
 OUT = "written"
 # What is written of a type, in this order.
-KINDS = (conversions,)
+KINDS = (parses, copies, conversions, methods)
+# The types that hold one another are read and copied together, in modules of their own, and no
+# other crate takes them apart.
+ONLY = {"weedle_types": (conversions,)}
 # An enum with more variants has its conversions in a file of their own.
 MANY = 16
 HEAD = """//! {}
@@ -19,11 +25,6 @@ HEAD = """//! {}
 """
 ABOUT = "What follows from the declarations of the module above."
 ABOUT_ONE = "What a value of `{}` is made from."
-
-
-def path_of(root, item):
-    """The file that declares a type."""
-    return Path(root) / "crates" / item.crate / "src" / f"{item.module.replace('.', '/')}.rt"
 
 
 def former_of(alias, declared):
@@ -56,24 +57,25 @@ def items_of(module, declared):
             yield item
 
 
-def pieces_of(items):
+def pieces_of(items, stated):
     """What is written of some types, by the names of its files, each with its first line."""
     files = {}
     for item in items:
-        for kind in KINDS:
+        for kind in (conversions,) if item.former else ONLY.get(item.crate, KINDS):
             alone = kind is conversions and item.is_enum and len(item.parts) > MANY
             name = (f"from_{snake(item.name)}", ABOUT_ONE.format(item.name)) if alone else (OUT, ABOUT)
-            files.setdefault(name, []).extend(kind(item))
+            files.setdefault(name, []).extend(kind(item, stated))
     return {name: pieces for name, pieces in files.items() if pieces}
 
 
-def paths_for(root, items):
+def paths_for(items, stated):
     """The paths of what the pieces of some types of a module name."""
-    paths = {}
+    own = f"crate::{items[0].module}"
+    paths = {name: "super" if it == own else it for name, it in stated.paths().items()}
     for item in items:
         if item.former:
-            paths.update(imported(path_of(root, item.former).read_text(encoding="utf-8")))
-    return paths | paths_in(path_of(root, items[0]).read_text(encoding="utf-8"))
+            paths.update(imported(stated.text_of(item.former)))
+    return paths | paths_in(stated.text_of(items[0]))
 
 
 def file_text(about, pieces, paths):
@@ -85,10 +87,10 @@ def file_text(about, pieces, paths):
 
 def files_of(root, crate):
     """The files of a crate: the module that each stands below, its path and its text."""
-    declared = list(declared_by(root, crate))
+    declared, stated = list(declared_by(root, crate)), Stated(root, crate)
     for module in dict.fromkeys(it.module for it in declared):
         items = list(items_of(module, declared))
-        for (name, about), pieces in pieces_of(items).items():
+        for (name, about), pieces in pieces_of(items, stated).items():
             above = path_of(root, items[0])
-            text = file_text(about, pieces, paths_for(root, items))
+            text = file_text(about, pieces, paths_for(items, stated))
             yield above, above.with_suffix("") / f"{name}.rt", text

@@ -5,13 +5,25 @@ import re
 from crates import Unfit
 from description.declarations import declared_in
 from description.layout import use_line
+from description.uses import ghost_line
 
 USE = re.compile(r"^use ([^;]+);", re.M)
 # Of code: comments, and what only the logic reads.
 ASIDE = re.compile(r"//[^\n]*|^ *ghost [^;]*;|^ *ensures \{.*?\}$", re.M | re.S)
-TYPE_NAME = re.compile(r"(?<!::)\b[A-Z]\w*")
-# What every module knows.
+# A type, or a function that reads or copies fields.
+NAME = re.compile(r"(?<!::)\b(?:[A-Z]\w*|\w*attributes_and_\w+|copy_\w+)")
+# What every module knows, and what of others these files name.
 KNOWN = set("Box Drop Err From None Ok Option Result Self Some Vec".split())
+STANDARD = {
+    "AllocError": "std::alloc",
+    "Global": "std::alloc",
+    "IResult": "weedle_base",
+    "Parse": "weedle_base",
+    "TryClone": "weedle_base",
+    "Choice": "weedle_base::Choice",
+    "First": "weedle_base::Choice",
+    "Second": "weedle_base::Choice",
+}
 
 
 def imported(text):
@@ -33,10 +45,11 @@ def paths_in(text):
 def use_lines(code, paths):
     """What code names, brought in by these paths."""
     wanted = {}
-    for name in set(TYPE_NAME.findall(ASIDE.sub("", code))) - KNOWN:
-        if name not in paths:
+    for name in set(NAME.findall(ASIDE.sub("", code))) - KNOWN:
+        path = STANDARD.get(name) or paths.get(name)
+        if not path:
             raise Unfit(f"{name} is named, and no `use` brings it in")
-        wanted.setdefault(paths[name], set()).add(name)
+        wanted.setdefault(path, set()).add("self" if path.endswith(f"::{name}") else name)
     order = sorted(wanted, key=lambda path: (path != "super", path != "crate", path))
     return "".join(use_line(path, wanted[path]) for path in order)
 
@@ -46,4 +59,4 @@ def ghost_lines(names):
     wanted = {}
     for module, name in names:
         wanted.setdefault(module, set()).add(name)
-    return "".join(f"ghost use {it}.{{{', '.join(sorted(wanted[it]))}}};\n" for it in sorted(wanted))
+    return "".join(ghost_line(module, sorted(wanted[module])) for module in sorted(wanted))

@@ -2,6 +2,8 @@
 
 from description.names import logic
 
+EQUAL = ("Rattle.std.specs.Prelude", "◌≡◌")
+
 
 class Piece:
     """The text of an `impl`, and the names that its ghost clauses need, as (module, name)."""

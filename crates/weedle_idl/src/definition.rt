@@ -1,7 +1,5 @@
 //! Definitions.
 
-ghost use Rattle.std.specs.Prelude.{◌≡◌};
-ghost use Rattle.weedle_base.specs.AlikeLaws.{equal_equivalence, seen_equivalence};
 ghost use Rattle.weedle_base.specs.Own.{own};
 ghost use Rattle.weedle_base.specs.OwnLaws.{own_lawful};
 ghost use Rattle.weedle_base.specs.Reading.{Answers};
@@ -15,11 +13,11 @@ ghost use Rattle.weedle_idl.specs.Pieces.{
 ghost use Rattle.weedle_grammar.specs.Table.Definitions.{DEFINITION};
 ghost use Rattle.weedle_types.specs.Steps.{members};
 
-mod into_fields;
+mod written;
 
-use std::alloc::{AllocError, Global};
+use std::alloc::Global;
 use weedle_base::Choice::{self, First, Second};
-use weedle_base::{Err, IResult, Parse, TryClone};
+use weedle_base::{Err, IResult, Parse};
 use weedle_interfaces::{
     CallbackInterfaceDefinition, InterfaceDefinition, PartialInterfaceDefinition,
 };
@@ -174,191 +172,4 @@ fn other_definition<'a>(alloc: Global, input: &'a str) -> IResult<&'a str, Defin
         Second(Second(Second(member))) => Definition::Implements(member),
     };
     Ok((rest, member))
-}
-
-impl TryClone for Definition<'_> {
-    ghost alike = { λ a b. definition_tree a ≡ definition_tree b };
-
-    fn try_clone(&self, alloc: Global) -> Result<Self, AllocError> {
-        match self {
-            Definition::Callback(member) => Ok(Definition::Callback(member.try_clone(alloc)?)),
-            Definition::CallbackInterface(member) => Ok(Definition::CallbackInterface(
-                member.try_clone(alloc)?,
-            )),
-            Definition::Interface(member) => Ok(Definition::Interface(member.try_clone(alloc)?)),
-            Definition::InterfaceMixin(member) => Ok(Definition::InterfaceMixin(member.try_clone(
-                alloc,
-            )?)),
-            Definition::Namespace(member) => Ok(Definition::Namespace(member.try_clone(alloc)?)),
-            Definition::Dictionary(member) => Ok(Definition::Dictionary(member.try_clone(alloc)?)),
-            Definition::PartialInterface(member) => Ok(Definition::PartialInterface(
-                member.try_clone(alloc)?,
-            )),
-            Definition::PartialInterfaceMixin(member) => Ok(Definition::PartialInterfaceMixin(
-                member.try_clone(alloc)?,
-            )),
-            Definition::PartialDictionary(member) => Ok(Definition::PartialDictionary(
-                member.try_clone(alloc)?,
-            )),
-            Definition::PartialNamespace(member) => Ok(Definition::PartialNamespace(
-                member.try_clone(alloc)?,
-            )),
-            Definition::Enum(member) => Ok(Definition::Enum(member.try_clone(alloc)?)),
-            Definition::Typedef(member) => Ok(Definition::Typedef(member.try_clone(alloc)?)),
-            Definition::IncludesStatement(member) => Ok(Definition::IncludesStatement(
-                member.try_clone(alloc)?,
-            )),
-            Definition::Implements(member) => Ok(Definition::Implements(member.try_clone(alloc)?)),
-        }
-    }
-
-    ghost equivalence = { seen_equivalence definition_tree equal_equivalence };
-}
-
-impl<'a> From<CallbackDefinition<'a>> for Definition<'a> {
-    ghost use Rattle.weedle_idl.specs.declared.definition.Definition.TheVariants.{Callback};
-
-    ghost from_gives = { λ value made. made ≡ Callback value };
-
-    fn from(value: CallbackDefinition<'a>) -> Self {
-        Definition::Callback(value)
-    }
-}
-
-impl<'a> From<CallbackInterfaceDefinition<'a>> for Definition<'a> {
-    ghost use Rattle.weedle_idl.specs.declared.definition.Definition.TheVariants.{
-      CallbackInterface,
-    };
-
-    ghost from_gives = { λ value made. made ≡ CallbackInterface value };
-
-    fn from(value: CallbackInterfaceDefinition<'a>) -> Self {
-        Definition::CallbackInterface(value)
-    }
-}
-
-impl<'a> From<InterfaceDefinition<'a>> for Definition<'a> {
-    ghost use Rattle.weedle_idl.specs.declared.definition.Definition.TheVariants.{Interface};
-
-    ghost from_gives = { λ value made. made ≡ Interface value };
-
-    fn from(value: InterfaceDefinition<'a>) -> Self {
-        Definition::Interface(value)
-    }
-}
-
-impl<'a> From<InterfaceMixinDefinition<'a>> for Definition<'a> {
-    ghost use Rattle.weedle_idl.specs.declared.definition.Definition.TheVariants.{InterfaceMixin};
-
-    ghost from_gives = { λ value made. made ≡ InterfaceMixin value };
-
-    fn from(value: InterfaceMixinDefinition<'a>) -> Self {
-        Definition::InterfaceMixin(value)
-    }
-}
-
-impl<'a> From<NamespaceDefinition<'a>> for Definition<'a> {
-    ghost use Rattle.weedle_idl.specs.declared.definition.Definition.TheVariants.{Namespace};
-
-    ghost from_gives = { λ value made. made ≡ Namespace value };
-
-    fn from(value: NamespaceDefinition<'a>) -> Self {
-        Definition::Namespace(value)
-    }
-}
-
-impl<'a> From<DictionaryDefinition<'a>> for Definition<'a> {
-    ghost use Rattle.weedle_idl.specs.declared.definition.Definition.TheVariants.{Dictionary};
-
-    ghost from_gives = { λ value made. made ≡ Dictionary value };
-
-    fn from(value: DictionaryDefinition<'a>) -> Self {
-        Definition::Dictionary(value)
-    }
-}
-
-impl<'a> From<PartialInterfaceDefinition<'a>> for Definition<'a> {
-    ghost use Rattle.weedle_idl.specs.declared.definition.Definition.TheVariants.{PartialInterface};
-
-    ghost from_gives = { λ value made. made ≡ PartialInterface value };
-
-    fn from(value: PartialInterfaceDefinition<'a>) -> Self {
-        Definition::PartialInterface(value)
-    }
-}
-
-impl<'a> From<PartialInterfaceMixinDefinition<'a>> for Definition<'a> {
-    ghost use Rattle.weedle_idl.specs.declared.definition.Definition.TheVariants.{
-      PartialInterfaceMixin,
-    };
-
-    ghost from_gives = { λ value made. made ≡ PartialInterfaceMixin value };
-
-    fn from(value: PartialInterfaceMixinDefinition<'a>) -> Self {
-        Definition::PartialInterfaceMixin(value)
-    }
-}
-
-impl<'a> From<PartialDictionaryDefinition<'a>> for Definition<'a> {
-    ghost use Rattle.weedle_idl.specs.declared.definition.Definition.TheVariants.{
-      PartialDictionary,
-    };
-
-    ghost from_gives = { λ value made. made ≡ PartialDictionary value };
-
-    fn from(value: PartialDictionaryDefinition<'a>) -> Self {
-        Definition::PartialDictionary(value)
-    }
-}
-
-impl<'a> From<PartialNamespaceDefinition<'a>> for Definition<'a> {
-    ghost use Rattle.weedle_idl.specs.declared.definition.Definition.TheVariants.{PartialNamespace};
-
-    ghost from_gives = { λ value made. made ≡ PartialNamespace value };
-
-    fn from(value: PartialNamespaceDefinition<'a>) -> Self {
-        Definition::PartialNamespace(value)
-    }
-}
-
-impl<'a> From<EnumDefinition<'a>> for Definition<'a> {
-    ghost use Rattle.weedle_idl.specs.declared.definition.Definition.TheVariants.{Enum};
-
-    ghost from_gives = { λ value made. made ≡ Enum value };
-
-    fn from(value: EnumDefinition<'a>) -> Self {
-        Definition::Enum(value)
-    }
-}
-
-impl<'a> From<TypedefDefinition<'a>> for Definition<'a> {
-    ghost use Rattle.weedle_idl.specs.declared.definition.Definition.TheVariants.{Typedef};
-
-    ghost from_gives = { λ value made. made ≡ Typedef value };
-
-    fn from(value: TypedefDefinition<'a>) -> Self {
-        Definition::Typedef(value)
-    }
-}
-
-impl<'a> From<IncludesStatementDefinition<'a>> for Definition<'a> {
-    ghost use Rattle.weedle_idl.specs.declared.definition.Definition.TheVariants.{
-      IncludesStatement,
-    };
-
-    ghost from_gives = { λ value made. made ≡ IncludesStatement value };
-
-    fn from(value: IncludesStatementDefinition<'a>) -> Self {
-        Definition::IncludesStatement(value)
-    }
-}
-
-impl<'a> From<ImplementsDefinition<'a>> for Definition<'a> {
-    ghost use Rattle.weedle_idl.specs.declared.definition.Definition.TheVariants.{Implements};
-
-    ghost from_gives = { λ value made. made ≡ Implements value };
-
-    fn from(value: ImplementsDefinition<'a>) -> Self {
-        Definition::Implements(value)
-    }
 }

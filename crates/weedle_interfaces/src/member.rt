@@ -1,7 +1,5 @@
 //! The members of interfaces.
 
-ghost use Rattle.std.specs.Prelude.{◌≡◌};
-ghost use Rattle.weedle_base.specs.AlikeLaws.{equal_equivalence, seen_equivalence};
 ghost use Rattle.weedle_base.specs.Own.{own};
 ghost use Rattle.weedle_base.specs.OwnLaws.{own_lawful};
 ghost use Rattle.weedle_base.specs.Reading.{Answers};
@@ -14,12 +12,12 @@ ghost use Rattle.weedle_interfaces.specs.Pieces.{
 ghost use Rattle.weedle_grammar.specs.Table.InterfaceMembers.{INTERFACE_MEMBER};
 ghost use Rattle.weedle_types.specs.Steps.{members};
 
-mod into_fields;
+mod written;
 
-use std::alloc::{AllocError, Global};
+use std::alloc::Global;
 use weedle_async_iterables::AsyncIterableInterfaceMember;
 use weedle_base::Choice::{self, First, Second};
-use weedle_base::{Err, IResult, Parse, TryClone};
+use weedle_base::{Err, IResult, Parse};
 use weedle_iterables::{IterableInterfaceMember, MaplikeInterfaceMember, SetlikeInterfaceMember};
 use weedle_members::{
     AttributeInterfaceMember, ConstMember, ConstructorInterfaceMember, OperationInterfaceMember,
@@ -132,140 +130,4 @@ fn collection_member<'a>(alloc: Global, input: &'a str) -> IResult<&'a str, Inte
         Second(Second(member)) => InterfaceMember::Stringifier(member),
     };
     Ok((rest, member))
-}
-
-impl TryClone for InterfaceMember<'_> {
-    ghost alike = { λ a b. interface_member_tree a ≡ interface_member_tree b };
-
-    fn try_clone(&self, alloc: Global) -> Result<Self, AllocError> {
-        match self {
-            InterfaceMember::Const(member) => Ok(InterfaceMember::Const(member.try_clone(alloc)?)),
-            InterfaceMember::Attribute(member) => Ok(InterfaceMember::Attribute(member.try_clone(
-                alloc,
-            )?)),
-            InterfaceMember::Constructor(member) => Ok(InterfaceMember::Constructor(
-                member.try_clone(alloc)?,
-            )),
-            InterfaceMember::Operation(member) => Ok(InterfaceMember::Operation(member.try_clone(
-                alloc,
-            )?)),
-            InterfaceMember::Iterable(member) => Ok(InterfaceMember::Iterable(member.try_clone(
-                alloc,
-            )?)),
-            InterfaceMember::AsyncIterable(member) => Ok(InterfaceMember::AsyncIterable(
-                member.try_clone(alloc)?,
-            )),
-            InterfaceMember::Maplike(member) => Ok(InterfaceMember::Maplike(member.try_clone(
-                alloc,
-            )?)),
-            InterfaceMember::Setlike(member) => Ok(InterfaceMember::Setlike(member.try_clone(
-                alloc,
-            )?)),
-            InterfaceMember::Stringifier(member) => Ok(InterfaceMember::Stringifier(
-                member.try_clone(alloc)?,
-            )),
-        }
-    }
-
-    ghost equivalence = { seen_equivalence interface_member_tree equal_equivalence };
-}
-
-impl<'a> From<ConstMember<'a>> for InterfaceMember<'a> {
-    ghost use Rattle.weedle_interfaces.specs.declared.member.InterfaceMember.TheVariants.{Const};
-
-    ghost from_gives = { λ value made. made ≡ Const value };
-
-    fn from(value: ConstMember<'a>) -> Self {
-        InterfaceMember::Const(value)
-    }
-}
-
-impl<'a> From<AttributeInterfaceMember<'a>> for InterfaceMember<'a> {
-    ghost use Rattle.weedle_interfaces.specs.declared.member.InterfaceMember.TheVariants.{
-      Attribute,
-    };
-
-    ghost from_gives = { λ value made. made ≡ Attribute value };
-
-    fn from(value: AttributeInterfaceMember<'a>) -> Self {
-        InterfaceMember::Attribute(value)
-    }
-}
-
-impl<'a> From<ConstructorInterfaceMember<'a>> for InterfaceMember<'a> {
-    ghost use Rattle.weedle_interfaces.specs.declared.member.InterfaceMember.TheVariants.{
-      Constructor,
-    };
-
-    ghost from_gives = { λ value made. made ≡ Constructor value };
-
-    fn from(value: ConstructorInterfaceMember<'a>) -> Self {
-        InterfaceMember::Constructor(value)
-    }
-}
-
-impl<'a> From<OperationInterfaceMember<'a>> for InterfaceMember<'a> {
-    ghost use Rattle.weedle_interfaces.specs.declared.member.InterfaceMember.TheVariants.{
-      Operation,
-    };
-
-    ghost from_gives = { λ value made. made ≡ Operation value };
-
-    fn from(value: OperationInterfaceMember<'a>) -> Self {
-        InterfaceMember::Operation(value)
-    }
-}
-
-impl<'a> From<IterableInterfaceMember<'a>> for InterfaceMember<'a> {
-    ghost use Rattle.weedle_interfaces.specs.declared.member.InterfaceMember.TheVariants.{Iterable};
-
-    ghost from_gives = { λ value made. made ≡ Iterable value };
-
-    fn from(value: IterableInterfaceMember<'a>) -> Self {
-        InterfaceMember::Iterable(value)
-    }
-}
-
-impl<'a> From<AsyncIterableInterfaceMember<'a>> for InterfaceMember<'a> {
-    ghost use Rattle.weedle_interfaces.specs.declared.member.InterfaceMember.TheVariants.{
-      AsyncIterable,
-    };
-
-    ghost from_gives = { λ value made. made ≡ AsyncIterable value };
-
-    fn from(value: AsyncIterableInterfaceMember<'a>) -> Self {
-        InterfaceMember::AsyncIterable(value)
-    }
-}
-
-impl<'a> From<MaplikeInterfaceMember<'a>> for InterfaceMember<'a> {
-    ghost use Rattle.weedle_interfaces.specs.declared.member.InterfaceMember.TheVariants.{Maplike};
-
-    ghost from_gives = { λ value made. made ≡ Maplike value };
-
-    fn from(value: MaplikeInterfaceMember<'a>) -> Self {
-        InterfaceMember::Maplike(value)
-    }
-}
-
-impl<'a> From<SetlikeInterfaceMember<'a>> for InterfaceMember<'a> {
-    ghost use Rattle.weedle_interfaces.specs.declared.member.InterfaceMember.TheVariants.{Setlike};
-
-    ghost from_gives = { λ value made. made ≡ Setlike value };
-
-    fn from(value: SetlikeInterfaceMember<'a>) -> Self {
-        InterfaceMember::Setlike(value)
-    }
-}
-
-impl<'a> From<StringifierMember<'a>> for InterfaceMember<'a> {
-    ghost use Rattle.weedle_interfaces.specs.declared.member.InterfaceMember.TheVariants.{
-      Stringifier,
-    };
-
-    ghost from_gives = { λ value made. made ≡ Stringifier value };
-
-    fn from(value: StringifierMember<'a>) -> Self {
-        InterfaceMember::Stringifier(value)
-    }
 }

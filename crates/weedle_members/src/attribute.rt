@@ -1,22 +1,11 @@
 //! The attributes of interfaces.
 
-ghost use Rattle.std.specs.Prelude.{◌≡◌};
-ghost use Rattle.weedle_base.specs.AlikeLaws.{equal_equivalence, seen_equivalence};
-ghost use Rattle.weedle_base.specs.Own.{own};
-ghost use Rattle.weedle_base.specs.OwnLaws.{own_lawful};
-ghost use Rattle.weedle_members.specs.Trees.{attribute_interface_member_tree};
-ghost use Rattle.weedle_grammar.specs.Table.InterfaceMembers.{ATTRIBUTE_INTERFACE_MEMBER};
+mod written;
 
-mod into_fields;
-
-use std::alloc::{AllocError, Global};
-use weedle_base::{IResult, Parse, TryClone};
-use weedle_fields::attributes_and_six;
 use weedle_modifier::StringifierOrInheritOrStatic;
 use weedle_parts::common::Identifier;
 use weedle_term::{Attribute, ReadOnly, SemiColon};
 use weedle_types::attribute::ExtendedAttributeList;
-use weedle_types::copies::copy_attributes;
 use weedle_types::types::AttributedType;
 
 /// An attribute of an interface, as `static readonly attribute long x;`. No docstring may stand before
@@ -51,49 +40,4 @@ impl Drop for AttributeInterfaceMember<'_> {
             semi_colon: _,
         } = self;
     }
-}
-
-#[tactic(auto, using(crate::proofs::AttributeRules::attribute_interface_member_steps))]
-impl<'a> Parse<'a> for AttributeInterfaceMember<'a> {
-    ghost reading = { own ATTRIBUTE_INTERFACE_MEMBER attribute_interface_member_tree (Unit {0}) };
-
-    fn parse(alloc: Global, input: &'a str) -> IResult<&'a str, Self> {
-        match attributes_and_six(alloc, input) {
-            Ok(
-                (rest, (attributes, modifier, readonly, attribute, type_, identifier, semi_colon)),
-            ) => Ok((
-                rest,
-                AttributeInterfaceMember {
-                    attributes,
-                    modifier,
-                    readonly,
-                    attribute,
-                    type_,
-                    identifier,
-                    semi_colon,
-                },
-            )),
-            Err(error) => Err(error),
-        }
-    }
-
-    ghost lawful = { own_lawful ATTRIBUTE_INTERFACE_MEMBER attribute_interface_member_tree (Unit {0}) };
-}
-
-impl TryClone for AttributeInterfaceMember<'_> {
-    ghost alike = { λ a b. attribute_interface_member_tree a ≡ attribute_interface_member_tree b };
-
-    fn try_clone(&self, alloc: Global) -> Result<Self, AllocError> {
-        Ok(AttributeInterfaceMember {
-            attributes: copy_attributes(&self.attributes, alloc)?,
-            modifier: self.modifier,
-            readonly: self.readonly,
-            attribute: self.attribute,
-            type_: self.type_.try_clone(alloc)?,
-            identifier: self.identifier,
-            semi_colon: self.semi_colon,
-        })
-    }
-
-    ghost equivalence = { seen_equivalence attribute_interface_member_tree equal_equivalence };
 }

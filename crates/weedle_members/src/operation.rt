@@ -1,29 +1,19 @@
 //! The constructors and operations of interfaces.
 
-ghost use Rattle.std.specs.Prelude.{◌≡◌};
-ghost use Rattle.weedle_base.specs.AlikeLaws.{equal_equivalence, seen_equivalence};
 ghost use Rattle.weedle_base.specs.Own.{own};
 ghost use Rattle.weedle_base.specs.OwnLaws.{own_lawful};
-ghost use Rattle.weedle_members.specs.Trees.{
-  constructor_interface_member_tree,
-  operation_interface_member_tree,
-};
-ghost use Rattle.weedle_grammar.specs.Table.InterfaceMembers.{
-  CONSTRUCTOR_INTERFACE_MEMBER,
-  OPERATION_INTERFACE_MEMBER,
-};
+ghost use Rattle.weedle_members.specs.Trees.{constructor_interface_member_tree};
+ghost use Rattle.weedle_grammar.specs.Table.InterfaceMembers.{CONSTRUCTOR_INTERFACE_MEMBER};
 
-mod into_fields;
+mod written;
 
-use std::alloc::{AllocError, Global};
-use weedle_base::{IResult, Parse, TryClone};
-use weedle_fields::docstring_attributes_and_six;
+use std::alloc::Global;
+use weedle_base::{IResult, Parse};
 use weedle_modifier::{Special, StringifierOrStatic};
 use weedle_parts::common::{Docstring, Identifier};
 use weedle_term::{Constructor, SemiColon};
 use weedle_types::argument::ParenthesizedArgumentList;
 use weedle_types::attribute::ExtendedAttributeList;
-use weedle_types::copies::{copy_attributes, copy_docstring};
 use weedle_types::parts::attributes;
 use weedle_types::types::ReturnType;
 
@@ -77,22 +67,6 @@ impl<'a> Parse<'a> for ConstructorInterfaceMember<'a> {
     ghost lawful = { own_lawful CONSTRUCTOR_INTERFACE_MEMBER constructor_interface_member_tree (Unit {0}) };
 }
 
-impl TryClone for ConstructorInterfaceMember<'_> {
-    ghost alike = { λ a b. constructor_interface_member_tree a ≡ constructor_interface_member_tree b };
-
-    fn try_clone(&self, alloc: Global) -> Result<Self, AllocError> {
-        Ok(ConstructorInterfaceMember {
-            docstring: copy_docstring(&self.docstring, alloc)?,
-            attributes: copy_attributes(&self.attributes, alloc)?,
-            constructor: self.constructor,
-            args: self.args.try_clone(alloc)?,
-            semi_colon: self.semi_colon,
-        })
-    }
-
-    ghost equivalence = { seen_equivalence constructor_interface_member_tree equal_equivalence };
-}
-
 /// An operation of an interface, as `getter long item(long index);`. It may lack a name, and a
 /// docstring may stand before it.
 #[derive(Debug, PartialEq, Eq, PartialOrd, Ord, Hash)]
@@ -128,63 +102,4 @@ impl Drop for OperationInterfaceMember<'_> {
             semi_colon: _,
         } = self;
     }
-}
-
-#[tactic(auto, using(crate::proofs::OperationRules::operation_interface_member_steps))]
-impl<'a> Parse<'a> for OperationInterfaceMember<'a> {
-    ghost reading = { own OPERATION_INTERFACE_MEMBER operation_interface_member_tree (Unit {0}) };
-
-    fn parse(alloc: Global, input: &'a str) -> IResult<&'a str, Self> {
-        match docstring_attributes_and_six(alloc, input) {
-            Ok(
-                (
-                    rest,
-                    (
-                        docstring,
-                        attributes,
-                        modifier,
-                        special,
-                        return_type,
-                        identifier,
-                        args,
-                        semi_colon,
-                    ),
-                ),
-            ) => Ok((
-                rest,
-                OperationInterfaceMember {
-                    docstring,
-                    attributes,
-                    modifier,
-                    special,
-                    return_type,
-                    identifier,
-                    args,
-                    semi_colon,
-                },
-            )),
-            Err(error) => Err(error),
-        }
-    }
-
-    ghost lawful = { own_lawful OPERATION_INTERFACE_MEMBER operation_interface_member_tree (Unit {0}) };
-}
-
-impl TryClone for OperationInterfaceMember<'_> {
-    ghost alike = { λ a b. operation_interface_member_tree a ≡ operation_interface_member_tree b };
-
-    fn try_clone(&self, alloc: Global) -> Result<Self, AllocError> {
-        Ok(OperationInterfaceMember {
-            docstring: copy_docstring(&self.docstring, alloc)?,
-            attributes: copy_attributes(&self.attributes, alloc)?,
-            modifier: self.modifier,
-            special: self.special,
-            return_type: self.return_type.try_clone(alloc)?,
-            identifier: self.identifier,
-            args: self.args.try_clone(alloc)?,
-            semi_colon: self.semi_colon,
-        })
-    }
-
-    ghost equivalence = { seen_equivalence operation_interface_member_tree equal_equivalence };
 }

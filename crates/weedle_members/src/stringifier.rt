@@ -1,19 +1,16 @@
 //! Stringifiers with no body.
 
-ghost use Rattle.std.specs.Prelude.{◌≡◌};
-ghost use Rattle.weedle_base.specs.AlikeLaws.{equal_equivalence, seen_equivalence};
 ghost use Rattle.weedle_base.specs.Own.{own};
 ghost use Rattle.weedle_base.specs.OwnLaws.{own_lawful};
 ghost use Rattle.weedle_members.specs.Trees.{stringifier_member_tree};
 ghost use Rattle.weedle_grammar.specs.Table.InterfaceMembers.{STRINGIFIER_MEMBER};
 
-mod into_fields;
+mod written;
 
-use std::alloc::{AllocError, Global};
-use weedle_base::{IResult, Parse, TryClone};
+use std::alloc::Global;
+use weedle_base::{IResult, Parse};
 use weedle_term::{SemiColon, Stringifier};
 use weedle_types::attribute::ExtendedAttributeList;
-use weedle_types::copies::copy_attributes;
 use weedle_types::parts::attributes;
 
 /// A stringifier with no body, as `stringifier;`.
@@ -55,18 +52,4 @@ impl<'a> Parse<'a> for StringifierMember<'a> {
     }
 
     ghost lawful = { own_lawful STRINGIFIER_MEMBER stringifier_member_tree (Unit {0}) };
-}
-
-impl TryClone for StringifierMember<'_> {
-    ghost alike = { λ a b. stringifier_member_tree a ≡ stringifier_member_tree b };
-
-    fn try_clone(&self, alloc: Global) -> Result<Self, AllocError> {
-        Ok(StringifierMember {
-            attributes: copy_attributes(&self.attributes, alloc)?,
-            stringifier: self.stringifier,
-            semi_colon: self.semi_colon,
-        })
-    }
-
-    ghost equivalence = { seen_equivalence stringifier_member_tree equal_equivalence };
 }

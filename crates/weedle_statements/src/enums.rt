@@ -1,28 +1,20 @@
 //! Enums.
 
-ghost use Rattle.std.specs.Prelude.{◌≡◌};
-ghost use Rattle.weedle_base.specs.AlikeLaws.{equal_equivalence, seen_equivalence};
 ghost use Rattle.weedle_base.specs.Own.{own};
 ghost use Rattle.weedle_base.specs.OwnLaws.{own_lawful};
 ghost use Rattle.weedle_base.specs.Reading.{Answers};
 ghost use Rattle.weedle_grammar.specs.Table.Definitions.{ENUM_DEFINITION};
-ghost use Rattle.weedle_grammar.specs.Table.OtherMembers.{BRACED_ENUM_VALUE_LIST, ENUM_VARIANT};
-ghost use Rattle.weedle_statements.specs.Trees.{
-  enum_definition_tree,
-  enum_values_tree,
-  enum_variant_tree,
-};
+ghost use Rattle.weedle_grammar.specs.Table.OtherMembers.{BRACED_ENUM_VALUE_LIST};
+ghost use Rattle.weedle_statements.specs.Trees.{enum_definition_tree, enum_values_tree};
 
-mod into_fields;
+mod written;
 
-use crate::copies::copy_enum_values;
-use std::alloc::{AllocError, Global};
-use weedle_base::{IResult, Parse, TryClone};
+use std::alloc::Global;
+use weedle_base::{IResult, Parse};
 use weedle_literal::StringLit;
 use weedle_parts::common::{Braced, Docstring, Identifier, PunctuatedNonEmpty};
 use weedle_term::{Comma, Enum, SemiColon};
 use weedle_types::attribute::ExtendedAttributeList;
-use weedle_types::copies::{copy_attributes, copy_docstring};
 use weedle_types::parts::attributes;
 
 /// The values of an enum, one at least, and a comma behind the last where it stands, as `"a", "b",`.
@@ -44,31 +36,6 @@ impl Drop for EnumVariant<'_> {
             value: _,
         } = self;
     }
-}
-
-#[tactic(auto, using(crate::proofs::EnumVariantRules::enum_variant_steps))]
-impl<'a> Parse<'a> for EnumVariant<'a> {
-    ghost reading = { own ENUM_VARIANT enum_variant_tree (Unit {0}) };
-
-    fn parse(alloc: Global, input: &'a str) -> IResult<&'a str, Self> {
-        let (rest, (docstring, value)) = Parse::parse(alloc, input)?;
-        Ok((rest, EnumVariant { docstring, value }))
-    }
-
-    ghost lawful = { own_lawful ENUM_VARIANT enum_variant_tree (Unit {0}) };
-}
-
-impl TryClone for EnumVariant<'_> {
-    ghost alike = { λ a b. enum_variant_tree a ≡ enum_variant_tree b };
-
-    fn try_clone(&self, alloc: Global) -> Result<Self, AllocError> {
-        Ok(EnumVariant {
-            docstring: copy_docstring(&self.docstring, alloc)?,
-            value: self.value,
-        })
-    }
-
-    ghost equivalence = { seen_equivalence enum_variant_tree equal_equivalence };
 }
 
 /// An enum, as `enum A { "a", "b" };`: one value at least. A docstring may stand before it.
@@ -126,23 +93,6 @@ impl<'a> Parse<'a> for EnumDefinition<'a> {
     }
 
     ghost lawful = { own_lawful ENUM_DEFINITION enum_definition_tree (Unit {0}) };
-}
-
-impl TryClone for EnumDefinition<'_> {
-    ghost alike = { λ a b. enum_definition_tree a ≡ enum_definition_tree b };
-
-    fn try_clone(&self, alloc: Global) -> Result<Self, AllocError> {
-        Ok(EnumDefinition {
-            docstring: copy_docstring(&self.docstring, alloc)?,
-            attributes: copy_attributes(&self.attributes, alloc)?,
-            enum_: self.enum_,
-            identifier: self.identifier,
-            values: copy_enum_values(&self.values, alloc)?,
-            semi_colon: self.semi_colon,
-        })
-    }
-
-    ghost equivalence = { seen_equivalence enum_definition_tree equal_equivalence };
 }
 
 /// Reads the values of an enum between braces.

@@ -1,27 +1,18 @@
 //! The statements that an interface uses a mixin or another interface.
 
-ghost use Rattle.std.specs.Prelude.{◌≡◌};
-ghost use Rattle.weedle_base.specs.AlikeLaws.{equal_equivalence, seen_equivalence};
 ghost use Rattle.weedle_base.specs.Own.{own};
 ghost use Rattle.weedle_base.specs.OwnLaws.{own_lawful};
-ghost use Rattle.weedle_grammar.specs.Table.Definitions.{
-  IMPLEMENTS_DEFINITION,
-  INCLUDES_STATEMENT_DEFINITION,
-};
-ghost use Rattle.weedle_statements.specs.Trees.{
-  implements_definition_tree,
-  includes_statement_definition_tree,
-};
+ghost use Rattle.weedle_grammar.specs.Table.Definitions.{IMPLEMENTS_DEFINITION};
+ghost use Rattle.weedle_statements.specs.Trees.{implements_definition_tree};
 
-mod into_fields;
+mod written;
 
-use std::alloc::{AllocError, Global};
-use weedle_base::{IResult, Parse, TryClone};
+use std::alloc::Global;
+use weedle_base::{IResult, Parse};
 use weedle_fields::attributes_and_four;
 use weedle_parts::common::Identifier;
 use weedle_term::{Implements, Includes, SemiColon};
 use weedle_types::attribute::ExtendedAttributeList;
-use weedle_types::copies::copy_attributes;
 
 /// The use of a mixin by an interface, as `A includes B;`. No docstring may stand before it.
 #[derive(Debug, PartialEq, Eq, PartialOrd, Ord, Hash)]
@@ -48,45 +39,6 @@ impl Drop for IncludesStatementDefinition<'_> {
             semi_colon: _,
         } = self;
     }
-}
-
-#[tactic(auto, using(crate::proofs::StatementRules::includes_statement_definition_steps))]
-impl<'a> Parse<'a> for IncludesStatementDefinition<'a> {
-    ghost reading = { own INCLUDES_STATEMENT_DEFINITION includes_statement_definition_tree (Unit {0}) };
-
-    fn parse(alloc: Global, input: &'a str) -> IResult<&'a str, Self> {
-        match attributes_and_four(alloc, input) {
-            Ok((rest, (attributes, lhs_identifier, includes, rhs_identifier, semi_colon))) => Ok((
-                rest,
-                IncludesStatementDefinition {
-                    attributes,
-                    lhs_identifier,
-                    includes,
-                    rhs_identifier,
-                    semi_colon,
-                },
-            )),
-            Err(error) => Err(error),
-        }
-    }
-
-    ghost lawful = { own_lawful INCLUDES_STATEMENT_DEFINITION includes_statement_definition_tree (Unit {0}) };
-}
-
-impl TryClone for IncludesStatementDefinition<'_> {
-    ghost alike = { λ a b. includes_statement_definition_tree a ≡ includes_statement_definition_tree b };
-
-    fn try_clone(&self, alloc: Global) -> Result<Self, AllocError> {
-        Ok(IncludesStatementDefinition {
-            attributes: copy_attributes(&self.attributes, alloc)?,
-            lhs_identifier: self.lhs_identifier,
-            includes: self.includes,
-            rhs_identifier: self.rhs_identifier,
-            semi_colon: self.semi_colon,
-        })
-    }
-
-    ghost equivalence = { seen_equivalence includes_statement_definition_tree equal_equivalence };
 }
 
 /// The older form of a mixin's use, as `A implements B;`. No docstring may stand before it.
@@ -139,20 +91,4 @@ impl<'a> Parse<'a> for ImplementsDefinition<'a> {
     }
 
     ghost lawful = { own_lawful IMPLEMENTS_DEFINITION implements_definition_tree (Unit {0}) };
-}
-
-impl TryClone for ImplementsDefinition<'_> {
-    ghost alike = { λ a b. implements_definition_tree a ≡ implements_definition_tree b };
-
-    fn try_clone(&self, alloc: Global) -> Result<Self, AllocError> {
-        Ok(ImplementsDefinition {
-            attributes: copy_attributes(&self.attributes, alloc)?,
-            lhs_identifier: self.lhs_identifier,
-            includes: self.includes,
-            rhs_identifier: self.rhs_identifier,
-            semi_colon: self.semi_colon,
-        })
-    }
-
-    ghost equivalence = { seen_equivalence implements_definition_tree equal_equivalence };
 }

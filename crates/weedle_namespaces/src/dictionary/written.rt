@@ -1,0 +1,158 @@
+//! What follows from the declarations of the module above.
+//!
+//! Written by tools/impls.py.
+
+ghost use Rattle.std.specs.Prelude.{◌≡◌};
+ghost use Rattle.weedle_base.specs.AlikeLaws.{equal_equivalence, seen_equivalence};
+ghost use Rattle.weedle_base.specs.Own.{own};
+ghost use Rattle.weedle_base.specs.OwnLaws.{own_lawful};
+ghost use Rattle.weedle_grammar.specs.Table.OtherMembers.{
+  BRACED_DICTIONARY_MEMBERS,
+  DICTIONARY_MEMBER,
+};
+ghost use Rattle.weedle_namespaces.specs.Trees.{
+  braced_dictionary_members_tree,
+  dictionary_member_tree,
+};
+
+use super::{BracedDictionaryMembers, DictionaryMember, DictionaryMembers};
+use crate::copies::copy_dictionary_members;
+use std::alloc::{AllocError, Global};
+use weedle_base::{IResult, Parse, TryClone};
+use weedle_fields::docstring_attributes_and_five;
+use weedle_literal::Default;
+use weedle_parts::common::{Docstring, Identifier};
+use weedle_term::{CloseBrace, OpenBrace, Required, SemiColon};
+use weedle_types::attribute::ExtendedAttributeList;
+use weedle_types::copies::{copy_attributes, copy_docstring};
+use weedle_types::types::Type;
+
+#[tactic(auto, using(crate::proofs::DictionaryRules::braced_dictionary_members_steps))]
+impl<'a> Parse<'a> for BracedDictionaryMembers<'a> {
+    ghost reading = { own BRACED_DICTIONARY_MEMBERS braced_dictionary_members_tree (Unit {0}) };
+
+    fn parse(alloc: Global, input: &'a str) -> IResult<&'a str, Self> {
+        let (rest, (open_brace, (body, close_brace))) = Parse::parse(alloc, input)?;
+        Ok((
+            rest,
+            BracedDictionaryMembers {
+                open_brace,
+                body,
+                close_brace,
+            },
+        ))
+    }
+
+    ghost lawful = { own_lawful BRACED_DICTIONARY_MEMBERS braced_dictionary_members_tree (Unit {0}) };
+}
+
+impl TryClone for BracedDictionaryMembers<'_> {
+    ghost alike = { λ a b. braced_dictionary_members_tree a ≡ braced_dictionary_members_tree b };
+
+    fn try_clone(&self, alloc: Global) -> Result<Self, AllocError> {
+        Ok(BracedDictionaryMembers {
+            open_brace: self.open_brace,
+            body: copy_dictionary_members(&self.body, alloc)?,
+            close_brace: self.close_brace,
+        })
+    }
+
+    ghost equivalence = { seen_equivalence braced_dictionary_members_tree equal_equivalence };
+}
+
+impl<'a> BracedDictionaryMembers<'a> {
+    /// Its fields, in order: `open_brace`, `body` and `close_brace`.
+    pub fn into_fields(self) -> (OpenBrace, DictionaryMembers<'a>, CloseBrace)
+        ensures { result ≡ (self.entry.open_brace, self.entry.body, self.entry.close_brace) }
+    {
+        let BracedDictionaryMembers {
+            open_brace,
+            body,
+            close_brace,
+        } = self;
+        (open_brace, body, close_brace)
+    }
+}
+
+#[tactic(auto, using(crate::proofs::DictionaryRules::dictionary_member_steps))]
+impl<'a> Parse<'a> for DictionaryMember<'a> {
+    ghost reading = { own DICTIONARY_MEMBER dictionary_member_tree (Unit {0}) };
+
+    fn parse(alloc: Global, input: &'a str) -> IResult<&'a str, Self> {
+        match docstring_attributes_and_five(alloc, input) {
+            Ok((rest, (docstring, attributes, required, type_, identifier, default, semi_colon))) =>
+                Ok((
+                    rest,
+                    DictionaryMember {
+                        docstring,
+                        attributes,
+                        required,
+                        type_,
+                        identifier,
+                        default,
+                        semi_colon,
+                    },
+                )),
+            Err(error) => Err(error),
+        }
+    }
+
+    ghost lawful = { own_lawful DICTIONARY_MEMBER dictionary_member_tree (Unit {0}) };
+}
+
+impl TryClone for DictionaryMember<'_> {
+    ghost alike = { λ a b. dictionary_member_tree a ≡ dictionary_member_tree b };
+
+    fn try_clone(&self, alloc: Global) -> Result<Self, AllocError> {
+        Ok(DictionaryMember {
+            docstring: copy_docstring(&self.docstring, alloc)?,
+            attributes: copy_attributes(&self.attributes, alloc)?,
+            required: self.required,
+            type_: self.type_.try_clone(alloc)?,
+            identifier: self.identifier,
+            default: self.default,
+            semi_colon: self.semi_colon,
+        })
+    }
+
+    ghost equivalence = { seen_equivalence dictionary_member_tree equal_equivalence };
+}
+
+impl<'a> DictionaryMember<'a> {
+    /// Its fields, in order: `docstring`, `attributes`, `required`, `type_`, `identifier`,
+    /// `default` and `semi_colon`.
+    pub fn into_fields(
+        self,
+    ) -> (
+        Option<Docstring>,
+        Option<ExtendedAttributeList<'a>>,
+        Option<Required>,
+        Type<'a>,
+        Identifier<'a>,
+        Option<Default<'a>>,
+        SemiColon,
+    )
+        ensures { result ≡ (
+          self.entry.docstring,
+          self.entry.attributes,
+          self.entry.required,
+          self.entry.type_,
+          self.entry.identifier,
+          self.entry.default,
+          self.entry.semi_colon,
+        ) }
+    {
+        let DictionaryMember {
+            docstring,
+            attributes,
+            required,
+            type_,
+            identifier,
+            default,
+            semi_colon,
+        } = self;
+        (
+            docstring, attributes, required, type_, identifier, default, semi_colon,
+        )
+    }
+}
