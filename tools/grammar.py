@@ -22,7 +22,7 @@ import re
 import sys
 from pathlib import Path
 
-from description.names import upper  # for terminals.py too, as the names of the terminals below
+from description.names import upper
 from description.webidl import (
     CAPITALIZED, KEYWORDS, NUMBER, RULES, SCANNED, SECTIONS, SYMBOLS, parts_of,
 )

@@ -145,8 +145,7 @@ class Maker:
 
     def odd_word(self):
         """A word of the grammar."""
-        word = self.random.choice(grammar.KEYWORDS + grammar.CAPITALIZED)
-        return word if word in grammar.CAPITALIZED else word.lower()
+        return self.random.choice([*grammar.KEYWORDS.values(), *grammar.CAPITALIZED])
 
     def more(self, chance):
         """Whether one choice more is taken of what may be left out."""

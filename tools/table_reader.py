@@ -64,7 +64,7 @@ def declarations():
 
 def marks():
     """The names of terminals, by their rules."""
-    names = [name for name, _ in grammar.SYMBOLS] + grammar.KEYWORDS + grammar.CAPITALIZED + ["NegInfinity"]
+    names = [name for name, _ in grammar.SYMBOLS] + [*grammar.KEYWORDS, *grammar.CAPITALIZED, "NegInfinity"]
     return {grammar.upper(name): name for name in names}
 
 

@@ -24,23 +24,29 @@ first("PIECE", "LINE_COMMENT", "BLANKS", "BLOCK_COMMENT", shape="Silent", doc="A
 many("TRIVIA", "PIECE", shape="Silent", doc="Comments and blanks, none included.")
 
 # Terminals.
+def texts_of(names):
+    """The texts of keywords, by their names."""
+    pairs = (it.partition("=") for it in names.split())
+    return {name: text or name.lower() for name, _, text in pairs}
+
+
 SYMBOLS = [
     ("OpenParen", "("), ("CloseParen", ")"), ("OpenBracket", "["), ("CloseBracket", "]"), ("OpenBrace", "{"),
     ("CloseBrace", "}"), ("Comma", ","), ("Minus", "-"), ("Dot", "."), ("Ellipsis", "..."), ("Colon", ":"),
     ("SemiColon", ";"), ("LessThan", "<"), ("Assign", "="), ("GreaterThan", ">"), ("QMark", "?"),
 ]
-KEYWORDS = (
+# A keyword's text is its name in small letters, or what stands behind a `=`.
+KEYWORDS = texts_of(
     "Or Optional Async Attribute Callback Const Deleter Dictionary Enum Getter Includes Inherit Interface Iterable "
     "Maplike Namespace Partial Required Setlike Setter Static Stringifier Typedef Unrestricted Symbol Any Boolean "
     "Byte Double False Float Long Null Object Octet Sequence Short True Unsigned Undefined Record ReadOnly Mixin "
     "Implements LegacyCaller Constructor"
-).split()
+)
 CAPITALIZED = (
     "ByteString DOMString FrozenArray Infinity NaN USVString ArrayBuffer DataView Int8Array Int16Array Int32Array "
     "Uint8Array Uint16Array Uint32Array Uint8ClampedArray Float32Array Float64Array ArrayBufferView BufferSource "
     "Promise Error"
 ).split()
-assert (len(SYMBOLS), len(KEYWORDS), len(CAPITALIZED)) == (16, 46, 21)
 
 section("Symbols", "Symbols: trivia, the symbol's bytes, trivia.")
 for name, text in SYMBOLS:
@@ -52,8 +58,8 @@ def keyword(name, text):
 
 
 section("Keywords", "Keywords in lower case: trivia, the keyword's bytes with no name character next, trivia.")
-for name in KEYWORDS:
-    keyword(name, name.lower())
+for name, text in KEYWORDS.items():
+    keyword(name, text)
 
 section("CapitalizedKeywords", "Keywords with capitals: trivia, the keyword's bytes with no name character next, trivia.")
 for name in CAPITALIZED:
