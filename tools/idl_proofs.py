@@ -5,19 +5,18 @@ Run it at the top of the repository, then `rt fmt` in each crate that it names:
 
     python3 tools/idl_proofs.py
 
-The fields of a struct and the variants of an enum are those of its declaration, in their order;
-FILES of tools/proofs/idl_parts.py says which types have their proofs in which file. For each type it writes the parts that are
-read, that they read what the rule reads, what the parts give and refuse as what the rule does, and
-the lemmas that the search for the proof of `parse` uses.
+The fields of a struct and the variants of an enum are those of its declaration, in their order. The
+types of a module have their proofs in a file of its name; tools/proofs/idl_parts.py says what it says
+of them. For each type it writes the parts that are read, that they read what the rule reads, what the
+parts give and refuse as what the rule does, and the lemmas that the search for the proof of `parse` uses.
 """
 
 import re
-import sys
 
 from description.imports import Names, use
 from description.names import snake, upper
 from description.readings import CRATES
-from proofs.idl_parts import DECLARED, FILES, TOP, tree_name
+from proofs.idl_parts import DECLARED, TOP, files, tree_name
 
 HEAD = "Written by tools/idl_proofs.py."
 # Names of the standard library, and those that no `pub` states, in the order in which they are written.
@@ -258,19 +257,11 @@ def write(file):
             answers(t, file)
 
 
-def unnamed():
-    """The types, in crates that FILES has, that no file of it has."""
-    crates = {file.crate for file in FILES}
-    named = {t.name for file in FILES for t in file.types}
-    return [name for name, it in DECLARED.types.items() if it.crate in crates and name not in named]
-
-
 def main():
-    if unnamed():
-        sys.exit(f"no file of FILES has {', '.join(unnamed())}")
-    for file in FILES:
+    written = list(files())
+    for file in written:
         write(file)
-    print(f"{sum(len(file.types) for file in FILES)} types")
+    print(f"{sum(len(file.types) for file in written)} types")
 
 
 if __name__ == "__main__":

@@ -1,10 +1,18 @@
-"""How the fields of members and definitions are read, and which types have their proofs in which file."""
+"""How the fields of members and definitions are read, and which types have their proofs in which file.
 
+The types of a module have their proofs in one file, which has the module's name, as AttributeRules of
+`attribute`. What it says that it is about is the first line of the module's docs, and what is said of
+a type the front of the type's doc; where something else is said, that stands in APART and ABOUT.
+"""
+
+import re
 from pathlib import Path
 
+from description.docs import about
 from description.imports import home_of
 from description.names import snake, upper
-from description.readings import Declared
+from description.readings import CRATES as CRATES_READ, Declared
+from description.webidl import NUMBER
 
 TOP = Path(".")
 GROWS = "(Unit {0})"
@@ -23,12 +31,59 @@ ALONE = ("attributes_reading", "async_iterable_reading", "optional_arguments_rea
 # The structs that are read by one call of `weedle_fields`: how many fields there are up to the attributes, and
 # behind them.
 BY_ONE_CALL = ((1, 3), (1, 4), (1, 5), (1, 6), (2, 4), (2, 5), (2, 6))
-# Where the search can't go through all variants, they are read in pieces, each by a function of its own.
-PIECES = {
-    "InterfaceMember": (("main_member", 4), ("iterable_member", 2), ("collection_member", 3)),
-    "Definition": (
-        ("callback_or_interface", 3), ("main_definition", 3), ("partial_definition", 4), ("other_definition", 4),
-    ),
+# A function that reads a few variants, with the enum and the number of the first.
+PIECE = re.compile(
+    r"^fn (\w+)<'a>\(alloc: Global, input: &'a str\) -> IResult<&'a str, (\w+)<'a>>\n"
+    r"    ensures \{ Answers \(members \1_rules (\d+) ", re.M,
+)
+# The crates of members and definitions.
+CRATES = CRATES_READ[CRATES_READ.index("weedle_modifier"):]
+# Types that have a file of their own, with what its head says.
+APART = {
+    "EnumVariant": ("EnumVariantRules", "The values of enums."),
+    "EnumDefinition": ("EnumRules", "Enums."),
+}
+# What is said otherwise than the docs say it: of modules, and of types.
+ABOUT = {
+    "weedle_modifier.inheritance": "What interfaces and dictionaries inherit from.",
+    "weedle_modifier.modifier": "The words that may stand before a member.",
+    "weedle_members.stringifier": "Stringifiers.",
+    "weedle_interfaces.member": "Members of interfaces.",
+    "weedle_interfaces.definition": "Interfaces.",
+    "weedle_mixins.mixin": "Members of mixins.",
+    "weedle_namespaces.namespace": "Members of namespaces.",
+    "weedle_namespaces.dictionary": "Members of dictionaries.",
+    "weedle_namespaces.namespace_definition": "Namespaces.",
+    "weedle_namespaces.dictionary_definition": "Dictionaries.",
+    "Inheritance": "a colon and a name",
+    "Special": "one of four words",
+    "StringifierOrInheritOrStatic": "one of three words",
+    "StringifierOrStatic": "one of two words",
+    "AttributeInterfaceMember": "an attribute",
+    "OperationInterfaceMember": "an operation",
+    "SingleTypedIterable": "one type",
+    "DoubleTypedIterable": "two types",
+    "IterableInterfaceMember": "either",
+    "SingleTypedAsyncIterable": "one type",
+    "DoubleTypedAsyncIterable": "two types",
+    "AsyncIterableInterfaceMember": "either",
+    "StringifierMember": "a stringifier",
+    "InterfaceMember": "any of them",
+    "BracedInterfaceMembers": "its members between braces",
+    "OperationMixinMember": "an operation",
+    "AttributeMixinMember": "an attribute",
+    "MixinMember": "any of them",
+    "BracedMixinMembers": "its members between braces",
+    "OperationNamespaceMember": "an operation",
+    "AttributeNamespaceMember": "an attribute",
+    "NamespaceMember": "either",
+    "BracedNamespaceMembers": "its members between braces",
+    "DictionaryMember": "a member",
+    "BracedDictionaryMembers": "its members between braces",
+    "EnumVariant": "a value",
+    "IncludesStatementDefinition": "the use of a mixin",
+    "ImplementsDefinition": "the older form",
+    "Definition": "any of them",
 }
 DECLARED = Declared.of(TOP)
 
@@ -97,11 +152,11 @@ def part_of(type_, keep):
 class Proved:
     """A struct or an enum: its name, what its proofs say that it is, and its fields or variants."""
 
-    def __init__(self, name, about):
-        declaration = DECLARED.types[name]
-        self.name, self.about, self.is_enum = name, about, declaration.is_enum
+    def __init__(self, declaration, text):
+        self.name, self.is_enum = declaration.name, declaration.is_enum
+        self.about = ABOUT.get(self.name) or about(declaration.doc)
         self.grows = "⊥" if declaration.is_copied else GROWS
-        self.home, self.pieces = home_of(declaration), PIECES.get(name, ())
+        self.home, self.pieces = home_of(declaration), pieces_of(declaration, text)
         self.parts = [(it.name, part_of(it.type, declaration.is_copied)) for it in declaration.parts]
 
     def has_calls(self):
@@ -114,61 +169,39 @@ class Proved:
         return last >= 0 and not (is_attributes and (last + 1, len(names) - last - 1) in BY_ONE_CALL)
 
 
-class File:
-    """The proofs of the types of one file of a crate."""
+def pieces_of(declaration, text):
+    """The functions of a module that read a few variants of an enum each, as a name and how many.
 
-    def __init__(self, name, about, **types):
-        self.name, self.about = name, about
-        self.types = [Proved(*it) for it in types.items()]
-        declaration = DECLARED.types[self.types[0].name]
-        self.crate, self.module = declaration.crate, declaration.module
+    Where the search for a proof can't go through all variants, they are read so. The contract of
+    such a function says which is its first; the others follow up to the first of the next.
+    """
+    if not declaration.is_enum:
+        return []
+    found = [(name, int(first)) for name, type_, first in PIECE.findall(text) if type_ == declaration.name]
+    ends = [first for _, first in found[1:]] + [len(declaration.parts)]
+    return [(name, end - first) for (name, first), end in zip(found, ends)]
+
+
+class File:
+    """The proofs of some types of a module of a crate."""
+
+    def __init__(self, name, head, declarations, text):
+        self.name, self.about = name, head
+        self.crate, self.module = declarations[0].crate, declarations[0].module
+        in_order = sorted(declarations, key=lambda it: NUMBER[upper(it.name)])
+        self.types = [Proved(it, text) for it in in_order]
         self.proofs = TOP / "crates" / self.crate / "proofs"
 
 
-FILES = [
-    File("InheritanceRules", "What interfaces and dictionaries inherit from.",
-         Inheritance="a colon and a name"),
-    File("ModifierRules", "The words that may stand before a member.",
-         Special="one of four words", StringifierOrInheritOrStatic="one of three words",
-         StringifierOrStatic="one of two words"),
-    File("ConstantRules", "Constants.", ConstMember="a constant"),
-    File("AttributeRules", "The attributes of interfaces.",
-         AttributeInterfaceMember="an attribute"),
-    File("OperationRules", "The constructors and operations of interfaces.",
-         ConstructorInterfaceMember="a constructor", OperationInterfaceMember="an operation"),
-    File("IterableRules", "Iterations.",
-         SingleTypedIterable="one type", DoubleTypedIterable="two types", IterableInterfaceMember="either"),
-    File("AsyncIterableRules", "Asynchronous iterations.",
-         SingleTypedAsyncIterable="one type", DoubleTypedAsyncIterable="two types",
-         AsyncIterableInterfaceMember="either"),
-    File("CollectionRules", "Maps and sets.",
-         MaplikeInterfaceMember="a map", SetlikeInterfaceMember="a set"),
-    File("StringifierRules", "Stringifiers.", StringifierMember="a stringifier"),
-    File("MemberRules", "Members of interfaces.", InterfaceMember="any of them"),
-    File("MembersRules", "The members of an interface, one after another.",
-         BracedInterfaceMembers="its members between braces"),
-    File("MixinRules", "Members of mixins.",
-         OperationMixinMember="an operation", AttributeMixinMember="an attribute",
-         MixinMember="any of them", BracedMixinMembers="its members between braces"),
-    File("NamespaceRules", "Members of namespaces.",
-         OperationNamespaceMember="an operation", AttributeNamespaceMember="an attribute",
-         NamespaceMember="either", BracedNamespaceMembers="its members between braces"),
-    File("DictionaryRules", "Members of dictionaries.",
-         DictionaryMember="a member", BracedDictionaryMembers="its members between braces"),
-    File("EnumVariantRules", "The values of enums.", EnumVariant="a value"),
-    File("CallbackRules", "Callbacks.", CallbackDefinition="a callback"),
-    File("DefinitionRules", "Interfaces.",
-         CallbackInterfaceDefinition="a callback interface", InterfaceDefinition="an interface",
-         PartialInterfaceDefinition="a part of an interface"),
-    File("MixinDefinitionRules", "Mixins, whole and in parts.",
-         InterfaceMixinDefinition="a mixin", PartialInterfaceMixinDefinition="a part of a mixin"),
-    File("StatementRules", "The statements that an interface uses a mixin or another interface.",
-         IncludesStatementDefinition="the use of a mixin", ImplementsDefinition="the older form"),
-    File("NamespaceDefinitionRules", "Namespaces.",
-         NamespaceDefinition="a namespace", PartialNamespaceDefinition="a part of a namespace"),
-    File("DictionaryDefinitionRules", "Dictionaries.",
-         DictionaryDefinition="a dictionary", PartialDictionaryDefinition="a part of a dictionary"),
-    File("EnumRules", "Enums.", EnumDefinition="an enum"),
-    File("TypedefRules", "Names for types.", TypedefDefinition="a name for a type"),
-    File("DefinitionRules", "Definitions.", Definition="any of them"),
-]
+def files():
+    """The files of all modules that declare members or definitions, or words before them."""
+    found = {}
+    for it in DECLARED.types.values():
+        if it.crate in CRATES:
+            found.setdefault((it.crate, it.module, APART.get(it.name)), []).append(it)
+    for (crate, module, apart), declarations in found.items():
+        text = (TOP / "crates" / crate / "src" / f"{module}.rt").read_text(encoding="utf-8")
+        name = f"{''.join(word.capitalize() for word in module.split('_'))}Rules"
+        head = ABOUT.get(f"{crate}.{module}") or text.partition("\n")[0].removeprefix("//! ")
+        yield File(*(apart or (name, head)), declarations, text)
+
