@@ -13,12 +13,11 @@ CRATES that declares some, this writes MODULE/written.rt, with
 - `into_fields` of a struct, and for each variant of an enum a method as `into_interface`, where the
   type derives neither `Copy` nor `Drop`.
 
-`Drop` stands in MODULE.rt, by hand: the language wants it in the module that declares the type. So does
-the line `mod written;`. The conversions of an enum with many variants stand in a file of their own.
-`rt fmt` lays the files out afterwards, as tools/check.py has it do.
+`Drop` stands in MODULE.rt, by hand: the language wants it in the module that declares the type. The
+conversions of an enum with many variants stand in a file of their own. tools/modules.py adds the lines
+`mod` for the files, and `rt fmt` lays them out, as tools/write.py has it do.
 
-It prints where a line `mod` is missing, or why it can't write. The status is 0 where it wrote all and
-prints nothing, else 1.
+The status is 0 where it wrote all, else 1, and it prints why.
 """
 
 import sys
@@ -40,25 +39,18 @@ def write(path, text):
 
 
 def run(root):
-    """Writes the files, and gives a line for each whose module doesn't name it."""
-    said = []
+    """Writes the files."""
     for crate in CRATES:
-        for above, path, text in list(files_of(root, crate)):
+        for path, text in list(files_of(root, crate)):
             write(path, text)
-            line = f"mod {path.stem};"
-            if f"\n{line}\n" not in above.read_text(encoding="utf-8"):
-                said.append(f"{above.relative_to(root)} lacks the line `{line}`")
-    return said
 
 
 def main():
     try:
-        said = run(TOP)
+        run(TOP)
     except Unfit as why:
-        said = [str(why)]
-    print("\n".join(said), end="\n" * bool(said))
-    return 1 if said else 0
+        sys.exit(f"impls: {why}")
 
 
 if __name__ == "__main__":
-    sys.exit(main())
+    main()

@@ -27,7 +27,7 @@ TOP = Path(__file__).resolve().parent.parent
 # The scripts that write files below crates/, each behind those whose files it reads.
 WRITERS = (
     "grammar terminals trees types_impls types_proofs build_types_proofs idl_proofs builds spellings "
-    "impls orders"
+    "impls orders modules"
 ).split()
 # What these write comes from programs that the gate hasn't, as weedle2's answers: it is left as it is.
 FROM_OUTSIDE = ("tools/weedle2_rows.py",)

@@ -86,11 +86,10 @@ def file_text(about, pieces, paths):
 
 
 def files_of(root, crate):
-    """The files of a crate: the module that each stands below, its path and its text."""
+    """The files of a crate, each by its path, with its text."""
     declared, stated = list(declared_by(root, crate)), Stated(root, crate)
     for module in dict.fromkeys(it.module for it in declared):
         items = list(items_of(module, declared))
         for (name, about), pieces in pieces_of(items, stated).items():
-            above = path_of(root, items[0])
             text = file_text(about, pieces, paths_for(items, stated))
-            yield above, above.with_suffix("") / f"{name}.rt", text
+            yield path_of(root, items[0]).with_suffix("") / f"{name}.rt", text
