@@ -24,8 +24,10 @@ from pathlib import Path
 
 from crates import Unfit
 from declared import FORMED, modules_of, quoted
+from description.flat import flat_variants
 from description.layout import COLUMNS, use_line
 from description.names import snake
+from description.readings import Declared
 from impls import write
 from terminals import label
 
@@ -57,13 +59,7 @@ CRATES = {
     },
 }
 # The variants that the logic holds flat, each with how many parts it has there.
-FLAT = {
-    "Argument": {"Single": 6, "Variadic": 4},
-    "ExtendedAttribute": {"ArgList": 6, "NamedArgList": 8},
-    "NonAnyType": {"Promise": 5, "Sequence": 6, "FrozenArrayType": 6, "RecordType": 9},
-    "Type": {"Single": 1, "Union": 6},
-    "UnionMemberType": {"Single": 2, "Union": 6},
-}
+FLAT = flat_variants(Declared.of(TOP))
 # The crate with formers and with the aliases by which a caller has them.
 FORMERS = "weedle_types"
 # The first of the types that lead back to themselves: the logic's views of all of them stand by it.

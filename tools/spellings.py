@@ -30,6 +30,8 @@ from proofs.spelt import HELPERS, function, is_made, type_text
 HEAD = "Written by tools/spellings.py."
 COLUMNS = 110
 LEAVES, TYPES, IDL = "weedle_spell", "weedle_spell_types", "weedle_spell_idl"
+# The module of the types that are made over one, each under the name of a `type`.
+FORMERS = "formers"
 LEAF_CRATES = ("weedle_term", "weedle_parts", "weedle_literal")
 STANDARD = {
     "Rattle.std.specs.Global": ["Box", "Vec"],
@@ -50,9 +52,10 @@ class File:
         self.laws, self.law_module = f"{name[:-1]}Laws", law_module or snake(name)
 
     def declared(self):
-        """The types of the file's modules, and the lists that a `type` of these names."""
+        """The types of the file's modules, and the lists that a `type` of these names, or types made over one."""
         for it in [*DECLARED.types.values(), *DECLARED.aliases.values()]:
-            is_alias = it.kind == "type" and is_made(it.parts[0].type)
+            target = it.parts[0].type if it.parts and it.kind == "type" else None
+            is_alias = target and (is_made(target) or target.module == FORMERS)
             if {it.crate, f"{it.crate}.{it.module}"} & set(self.modules) and (is_alias or it.kind != "type"):
                 yield type_of(it.name)
 
@@ -69,7 +72,7 @@ FILES = [
     File(TYPES, "Types", "the types are spelt that are made of types, arguments and attributes", "types",
          types="Type NonAnyType UnionMemberType SingleType ReturnType RecordKeyType RecordTypes Box<Type>"
                " Box<ReturnType> SequenceType FrozenArrayType PromiseType RecordType UnionType AttributedType"
-               " AttributedNonAnyType"),
+               " AttributedNonAnyType", modules="weedle_types.types"),
     File(IDL, "Modifiers", "what is inherited from is spelt, and the words before a member",
          "what is inherited from, and of the words before a member", modules="weedle_modifier"),
     File(IDL, "Members",
@@ -92,8 +95,12 @@ FILES = [
 
 
 def items_of(file, done):
-    """What is written of a file's types; of those of modules each behind what it is made of."""
-    types = file.types or list(file.declared())
+    """What is written of a file's types; of those of modules each behind what it is made of.
+
+    Where a file names types and has modules too, those of the modules follow that no file names.
+    """
+    named = {function(it) for other in FILES for it in other.types}
+    types = file.types + [it for it in file.declared() if function(it) not in named]
     mine, found = {function(it) for it in types}, []
 
     def add(type_):
