@@ -1,0 +1,50 @@
+#!/usr/bin/env python3
+"""Keeps what is written by hand of variants and words in step with the declarations and the grammar.
+
+    python3 tools/in_step.py
+
+Some files that are written by hand have a line or a few for each variant of an enum, or for each word
+by which a type begins. Where such lines follow from the declarations this writes them, in their
+places; the rest of the file stays as it is. A module of tools/kept does so for each kind:
+
+- starts.py: by which words names, types and values begin, for what is said of refused texts;
+- pieces.py: the functions that read a few variants each, and the rules of these;
+- formers.py: what reads and spells a new type over a type in angle brackets, as that of `FrozenArray`;
+- variants.py: trees and spellings of variants, with their numbers.
+
+It prints the files that it changed. The status is 0, or 1 where lines have to be written by hand, and
+then it says which.
+"""
+
+import sys
+from pathlib import Path
+
+from crates import Unfit
+from kept import formers, pieces, starts, variants
+
+TOP = Path(__file__).resolve().parent.parent
+# In this order: the numbers of what is written of a new type are put right by the last.
+KINDS = (starts, pieces, formers, variants)
+
+
+def run(root):
+    """Writes the lines, and gives the files that it changed."""
+    changed = set()
+    for kind in KINDS:
+        for path, text in kind.kept(root):
+            if text != path.read_text(encoding="utf-8"):
+                path.write_text(text, encoding="utf-8")
+                changed.add(path.relative_to(root).as_posix())
+    return sorted(changed)
+
+
+def main():
+    try:
+        for path in run(TOP):
+            print(path)
+    except Unfit as why:
+        sys.exit(f"in_step: {why}")
+
+
+if __name__ == "__main__":
+    main()
