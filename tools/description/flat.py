@@ -36,6 +36,6 @@ def flat_variants(declared):
     found = {}
     for name, declaration in declared.types.items():
         if declaration.is_enum and declaration.is_recursive:
-            held = {variant: part for variant, part in declared.parts_of(Type(name)) if leads_back(declared, part)}
-            found[name] = {variant: count(declared, part) for variant, part in held.items()}
+            held = [it for it in declared.parts_of(Type(name)) if leads_back(declared, it[1])]
+            found[name] = {variant: count(declared, part) for variant, part in held}
     return found

@@ -1,1 +1,1 @@
-"""Lists that stand in files by hand, each in a module of its own: what a list has to say by the declarations."""
+"""What stands in files by hand and follows from the declarations, each kind in a module of its own."""

@@ -24,7 +24,8 @@ BLOCKS = {
     ],
     f"{TYPES}/src/reading/types.rt": [r"^    match nullable_NAME_type\(.*?^    }\n"],
     f"{TYPES}/specs/Trees.antt": [
-        CLAUSE.replace("{}", "non_any_type_tree"), r"^-- [^\n]*\nabbrev pub NAME_type_tree [^\n]*\n[^\n]*\n\n",
+        CLAUSE.replace("{}", "non_any_type_tree"),
+        r"^-- [^\n]*\nabbrev pub NAME_type_tree [^\n]*\n[^\n]*\n\n",
     ],
     f"{TYPES}/proofs/clones/+clones/Invariants.antt": [
         r"^abbrev pub decreases-generic_types::clone_NAME_type [^\n]*\n[^\n]*\n\n",
@@ -45,7 +46,8 @@ class Former:
     def __init__(self, declared, variant, alias):
         self.variant, self.word = variant, alias.removesuffix("Type")
         self.name, self.about = snake(self.word), about(declared.aliases[alias].doc)
-        [self.text] = [BY_NAME[it].row[1] for it in BY_NAME[upper(self.word)].row[1] if BY_NAME[it].row[0] == "Bytes"]
+        rows = [BY_NAME[it].row for it in BY_NAME[upper(self.word)].row[1]]
+        [self.text] = [row[1] for row in rows if row[0] == "Bytes"]
 
     def renamed(self, text, to):
         """What is written of this type, as it is of another."""
@@ -78,7 +80,8 @@ def with_uses(text, model, former):
         path, brace, names = use.partition("{")
         if model.word in path:
             return use + model.renamed(use, former)
-        items = re.compile(r"[^,{}\n]*\b(?:\w*_)?(?:%s|%s|%s)[^,{}\n]*" % (model.word, upper(model.word), model.name))
+        words = "|".join((model.word, upper(model.word), model.name))
+        items = re.compile(rf"[^,{{}}\n]*\b(?:\w*_)?(?:{words})[^,{{}}\n]*")
         return path + brace + items.sub(lambda it: f"{it[0]}, {model.renamed(it[0].strip(), former)}", names)
 
     return USE.sub(twin, text)
@@ -86,7 +89,7 @@ def with_uses(text, model, former):
 
 def with_former(path, text, model, before, former):
     """The text of a file with what it lacks of a type."""
-    before_all = text
+    old = text
     for block in BLOCKS[path]:
         if former.found(block, text):
             continue
@@ -94,7 +97,7 @@ def with_former(path, text, model, before, former):
             raise Unfit(f"{ENUM}::{former.variant} has to stand behind a variant over a type in angle brackets")
         place = before.found(block, text).end()
         text = text[:place] + model.renamed(model.found(block, text)[0], former) + text[place:]
-    return text if text == before_all else with_uses(text, model, former)
+    return text if text == old else with_uses(text, model, former)
 
 
 def kept(root):
