@@ -10,7 +10,8 @@ written from another program's answers, FROM_OUTSIDE, is left as it is.
 Beside that it is looked whether each public field and each variant has a doc line
 (tools/undocumented.py), whether the types are declared as the grammar has them
 (tools/unmatched.py), whether each conversion of a member does no more than to put it into its
-variant (tools/conversions.py), and whether each wrong body that is tried by hand still applies
+variant (tools/conversions.py), whether the `Drop` behind each declaration is what follows from it
+(tools/drops.py --check), and whether each wrong body that is tried by hand still applies
 (tools/try_edits.py --check).
 
 It prints a line for each file that is stale, for each that no script writes though it says so, and
@@ -38,7 +39,13 @@ WRITERS = (
 # What these write comes from programs that the gate hasn't, as weedle2's answers: it is left as it is.
 FROM_OUTSIDE = ("tools/weedle2_rows.py",)
 # What is looked at where it stands.
-LOOKS = (["undocumented.py"], ["unmatched.py"], ["conversions.py"], ["try_edits.py", "--check"])
+LOOKS = (
+    ["undocumented.py"],
+    ["unmatched.py"],
+    ["conversions.py"],
+    ["drops.py", "--check"],
+    ["try_edits.py", "--check"],
+)
 WRITTEN = re.compile(r"[Ww]ritten by (tools/\w+\.py)")
 # A head is short; further down a file may speak of scripts.
 HEAD_LINES = 3
