@@ -13,9 +13,9 @@ CRATES that declares some, this writes MODULE/written.rt, with
 - `into_fields` of a struct, and for each variant of an enum a method as `into_interface`, where the
   type derives neither `Copy` nor `Drop`.
 
-`Drop` stands in MODULE.rt, by hand: the language wants it in the module that declares the type. So does
-the line `mod written;`. The conversions of an enum with many variants stand in a file of their own.
-`rt fmt` lays the files out afterwards, as tools/check.py has it do.
+`Drop` stands in MODULE.rt, where tools/drops.py puts it: the language wants it in the module that declares
+the type. The line `mod written;` stands there by hand. The conversions of an enum with many variants stand
+in a file of their own. `rt fmt` lays the files out afterwards, as tools/check.py has it do.
 
 It prints where a line `mod` is missing, or why it can't write. The status is 0 where it wrote all and
 prints nothing, else 1.
