@@ -1,5 +1,5 @@
 #!/usr/bin/env python3
-"""Writes proofs of the functions of crates/weedle_build_types/src/types, which are written by hand.
+"""Writes proofs of the functions of crates/weedle_build_types/src/types, which tools/build_types.py writes.
 
 Which rule a function is of, its contract says; what its parts are, in their order, the declaration of its type.
 From this follow, in crates/weedle_build_types/proofs/types/+group, what falls from call to call and the goals that
@@ -9,7 +9,7 @@ Run it from the top of the repository.
 """
 from pathlib import Path
 
-from description.functions import TREE_LAWS, Function, functions_of
+from description.functions import NUMBERED, TREE_LAWS, Function, functions_of
 from description.imports import use, uses_of
 from description.names import snake
 from description.readings import Declared
@@ -26,8 +26,6 @@ WORD, OPTIONAL, CALL, HELD = "word", "optional", "call", "held"
 FILES = ("kinds", "generic_types", "unions", "attributes", "arguments")
 # The function that puts a value into a list, and gives none.
 ADDING = Function("add_union_member_type", "unions", "UnionMemberType", "UNION_MEMBER_TYPE", "union_member_type_tree")
-# What fields without names are called in a body.
-NUMBERED = {"record_types": ("key", "comma", "value")}
 # The functions of enums where the search needs the laws of the trees.
 NEEDY = ("type_", "non_any_type", "extended_attribute", "argument")
 
@@ -53,7 +51,7 @@ def part_of(field, type_):
 
 def fields_of(function, type_):
     names, types = zip(*DECLARED.parts_of(type_))
-    return [part_of(*it) for it in zip(NUMBERED.get(function.name, names), types)]
+    return [part_of(*it) for it in zip(NUMBERED.get(type_.name, names), types)]
 
 
 def arms_of(function, type_):

@@ -8,7 +8,8 @@ tools/write.py does it. Then the copy has to hold the very files of the reposito
 Beside that it is looked whether each public field and each variant has a doc line
 (tools/undocumented.py), whether the types are declared as the grammar has them
 (tools/unmatched.py), whether each conversion of a member does no more than to put it into its
-variant (tools/conversions.py), and whether each wrong body that is tried by hand still applies
+variant (tools/conversions.py), whether the `Drop` behind each declaration is what follows from it
+(tools/drops.py --check), and whether each wrong body that is tried by hand still applies
 (tools/try_edits.py --check).
 
 It prints a line for each file that is stale, for each that no script writes though it says so, and
@@ -25,7 +26,13 @@ from crates import Unfit
 from write import TOP, sources, write_anew, writer_in, writers
 
 # What is looked at where it stands.
-LOOKS = (["undocumented.py"], ["unmatched.py"], ["conversions.py"], ["try_edits.py", "--check"])
+LOOKS = (
+    ["undocumented.py"],
+    ["unmatched.py"],
+    ["conversions.py"],
+    ["drops.py", "--check"],
+    ["try_edits.py", "--check"],
+)
 
 
 def stale_in(files, anew):

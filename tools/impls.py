@@ -13,9 +13,9 @@ CRATES that declares some, this writes MODULE/written.rt, with
 - `into_fields` of a struct, and for each variant of an enum a method as `into_interface`, where the
   type derives neither `Copy` nor `Drop`.
 
-`Drop` stands in MODULE.rt, by hand: the language wants it in the module that declares the type. The
-conversions of an enum with many variants stand in a file of their own. tools/modules.py adds the lines
-`mod` for the files, and `rt fmt` lays them out, as tools/write.py has it do.
+`Drop` stands in MODULE.rt, where tools/drops.py puts it: the language wants it in the module that declares
+the type. The conversions of an enum with many variants stand in a file of their own. tools/modules.py adds
+the lines `mod` for the files, and `rt fmt` lays them out, as tools/write.py has it do.
 
 The status is 0 where it wrote all, else 1, and it prints why.
 """

@@ -19,7 +19,7 @@ import re
 from pathlib import Path
 
 from description.declarations import Type, declared_by
-from description.functions import functions_of
+from description.functions import NUMBERED, functions_of
 from description.names import snake
 from description.readings import Declared
 from description.uses import code_uses, ghost_uses, stated
@@ -51,8 +51,6 @@ LISTS = {
     "Identifier": ("identifiers", "names", None),
     "UnionMemberType": ("union_members", "the members of a union", "member_smaller"),
 }
-# What fields without names are called in a body.
-NUMBERED = {"RecordTypes": ("key", "comma", "value")}
 
 # The sentence that a declaration's doc begins with, up to what explains it.
 SENTENCE = re.compile(r"(?:`[^`]*`|[^`:;.])+")

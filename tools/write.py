@@ -26,8 +26,8 @@ from crates import Unfit, copy_crate, files_of, read_lines
 TOP = Path(__file__).resolve().parent.parent
 # The scripts that write below crates/, each behind those whose files it reads.
 WRITERS = (
-    "grammar terminals in_step trees types_impls types_proofs build_types_proofs idl_proofs builds spellings "
-    "impls orders modules"
+    "grammar terminals drops in_step trees types_impls types_proofs build_types build_types_proofs idl_proofs "
+    "builds spellings impls orders modules"
 ).split()
 # What these write comes from programs that the gate hasn't, as weedle2's answers: it is left as it is.
 FROM_OUTSIDE = ("tools/weedle2_rows.py",)

@@ -1,11 +1,11 @@
-"""Functions that read or build the types that hold one another, written by hand: what each is of.
+"""Functions that read or build the types that hold one another: what each is of.
 
 Their signatures and contracts say it.
 """
 
 import re
 
-from description.declarations import type_of
+from description.declarations import docs_and_code, type_of
 
 FUNCTION = re.compile(
     r"^(?:pub\(crate\) )?fn (\w+)<'a>\([^{]*?\) -> (IResult<&'a str, |BuildResult<)(.+)>\n"
@@ -13,10 +13,13 @@ FUNCTION = re.compile(
     re.M,
 )
 TREE = r"(\w+|\([^()]*\))"
+# The docs of a function, before its attributes.
+DOCS = re.compile(r"((?:^///.*\n)+)(?:^(?://|#\[).*\n)*^(?:pub\(crate\) )?fn (\w+)", re.M)
 OWN = re.compile(rf"Answers (?:\(own |table\.now\.text )(\w+) {TREE} ")
 SOME = re.compile(r"Answers \(members (\w+)_rules (\d+) (\w+) ")
 
-
+# What fields without names are called in a body.
+NUMBERED = {"RecordTypes": ("key", "comma", "value")}
 # Where a variant's tree isn't that of its value by computing: the lemma that says so.
 TREE_LAWS = {
     ("type_", "Single"): "single_type_of",
@@ -41,13 +44,17 @@ class Function:
     def __init__(self, name, file, type_, rule=None, tree=None, first=None):
         self.name, self.file, self.text, self.type = name, file, type_, type_of(type_)
         self.rule, self.tree, self.first = rule, tree, first
+        self.doc = ""
 
 
 def functions_of(folder, files):
     """The functions of some files of a folder, file by file, in their order."""
     for file in files:
         text = (folder / f"{file}.rt").read_text(encoding="utf-8")
+        docs = {name: docs_and_code(doc)[0] for doc, name in DOCS.findall(text)}
         for name, _, type_, contract in FUNCTION.findall(text):
             own, some = OWN.search(contract), SOME.search(contract)
             told = own.groups() if own else (None, None, int(some[2])) if some else ()
-            yield Function(name, file, type_, *told)
+            function = Function(name, file, type_, *told)
+            function.doc = docs.get(name, "")
+            yield function

@@ -18,10 +18,11 @@ NEAREST = ("super", "crate")
 
 
 def code_uses(code, paths):
-    """The lines for what code names, by the paths of the names."""
+    """The lines for what code names, by the paths of the names; None is that of its own."""
     wanted = {}
-    for name in set(NAME.findall(CLAUSE.sub("", COMMENT.sub("", code)))) & set(paths):
-        wanted.setdefault(paths[name], set()).add(name)
+    for name in NAME.findall(CLAUSE.sub("", COMMENT.sub("", code))):
+        if paths.get(name):
+            wanted.setdefault(paths[name], set()).add(name)
     order = sorted(wanted, key=lambda path: (*(not path.startswith(it) for it in NEAREST), path))
     return "".join(use_line(path, wanted[path]) for path in order)
 

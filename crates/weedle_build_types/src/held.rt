@@ -1,4 +1,6 @@
 //! How the types that lead back to themselves are built as parts of others.
+//!
+//! Written by tools/build_types.py.
 #![tactic(auto, using(weedle_build_base::proofs::Finding::own_steps))]
 
 ghost use Rattle.std.specs.Prelude.{◌≡◌};
@@ -42,6 +44,18 @@ impl<'a> Build<'a> for Held<Type<'a>> {
     }
 }
 
+impl<'a> Build<'a> for Held<ReturnType<'a>> {
+    type Value = ReturnType<'a>;
+
+    ghost fits = { λ r. r ≡ RETURN_TYPE };
+
+    ghost tree = { return_type_tree };
+
+    fn build(alloc: Global, table: &Ends<'a>, _rule: Rule, at: At) -> BuildResult<ReturnType<'a>> {
+        return_type(alloc, table, at)
+    }
+}
+
 impl<'a> Build<'a> for Held<AttributedType<'a>> {
     type Value = AttributedType<'a>;
 
@@ -56,18 +70,6 @@ impl<'a> Build<'a> for Held<AttributedType<'a>> {
         at: At,
     ) -> BuildResult<AttributedType<'a>> {
         attributed_type(alloc, table, at)
-    }
-}
-
-impl<'a> Build<'a> for Held<ReturnType<'a>> {
-    type Value = ReturnType<'a>;
-
-    ghost fits = { λ r. r ≡ RETURN_TYPE };
-
-    ghost tree = { return_type_tree };
-
-    fn build(alloc: Global, table: &Ends<'a>, _rule: Rule, at: At) -> BuildResult<ReturnType<'a>> {
-        return_type(alloc, table, at)
     }
 }
 

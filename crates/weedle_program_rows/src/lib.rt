@@ -1,6 +1,8 @@
-//! Tests of the program, of outlines, of what errors and refusals say, and of the README's examples.
+//! Tests of the programs, of outlines, of what errors and refusals say, and of the README's examples.
 #![tactic(auto)]
 
+#[cfg(test)]
+mod checks;
 #[cfg(test)]
 mod faults;
 #[cfg(test)]

@@ -1,4 +1,6 @@
 //! Arguments.
+//!
+//! Written by tools/build_types.py.
 
 ghost use Rattle.weedle_grammar.specs.Table.Types.{
   ARGUMENT,

@@ -1,4 +1,6 @@
 //! Attributes.
+//!
+//! Written by tools/build_types.py.
 
 ghost use Rattle.weedle_grammar.specs.Table.Types.{
   EXTENDED_ATTRIBUTE,
@@ -32,7 +34,7 @@ use weedle_types::attribute::{
     ExtendedAttributeNoArgs,
 };
 
-/// Builds attributes in brackets, or none.
+/// Builds attributes in brackets, where they stand.
 #[cycle(group)]
 pub(crate) fn attributes<'a>(
     alloc: Global,
@@ -72,35 +74,6 @@ pub(crate) fn extended_attribute_list<'a>(
         },
         visit(at),
     ))
-}
-
-/// Builds attributes, none included.
-#[cycle(group)]
-pub(crate) fn extended_attributes<'a>(
-    alloc: Global,
-    table: &Ends<'a>,
-    at: At,
-) -> BuildResult<Punctuated<ExtendedAttribute<'a>, Comma>>
-    requires { Due table.now.text LIST_EXTENDED_ATTRIBUTE_COMMA at.place }
-    ensures { Answers table.now.text LIST_EXTENDED_ATTRIBUTE_COMMA extended_attributes_tree at.place at.visits result }
-{
-    let mut list = Vec::new(alloc);
-    let separator = Comma;
-    let Some(_) = table.end(Rule::EXTENDED_ATTRIBUTE, at.place) else {
-        return Ok((Punctuated { list, separator }, visit(at)));
-    };
-    let mut here = keep(&mut list, extended_attribute(alloc, table, at))?;
-    while let Some(behind) = table.end(Rule::COMMA, here.place) {
-        let Some(_) = table.end(Rule::EXTENDED_ATTRIBUTE, behind) else {
-            return Ok((Punctuated { list, separator }, visit(here)));
-        };
-        let start = At {
-            place: behind,
-            visits: here.visits,
-        };
-        here = keep(&mut list, extended_attribute(alloc, table, start))?;
-    }
-    Ok((Punctuated { list, separator }, visit(here)))
 }
 
 /// Builds an attribute, as `Exposed=Window`.
@@ -194,4 +167,33 @@ pub(crate) fn extended_attribute_named_arg_list<'a>(
         },
         visit(at),
     ))
+}
+
+/// Builds attributes, as `Exposed=Window, SecureContext`, none included.
+#[cycle(group)]
+pub(crate) fn extended_attributes<'a>(
+    alloc: Global,
+    table: &Ends<'a>,
+    at: At,
+) -> BuildResult<Punctuated<ExtendedAttribute<'a>, Comma>>
+    requires { Due table.now.text LIST_EXTENDED_ATTRIBUTE_COMMA at.place }
+    ensures { Answers table.now.text LIST_EXTENDED_ATTRIBUTE_COMMA extended_attributes_tree at.place at.visits result }
+{
+    let mut list = Vec::new(alloc);
+    let separator = Comma;
+    let Some(_) = table.end(Rule::EXTENDED_ATTRIBUTE, at.place) else {
+        return Ok((Punctuated { list, separator }, visit(at)));
+    };
+    let mut here = keep(&mut list, extended_attribute(alloc, table, at))?;
+    while let Some(behind) = table.end(Rule::COMMA, here.place) {
+        let Some(_) = table.end(Rule::EXTENDED_ATTRIBUTE, behind) else {
+            return Ok((Punctuated { list, separator }, visit(here)));
+        };
+        let start = At {
+            place: behind,
+            visits: here.visits,
+        };
+        here = keep(&mut list, extended_attribute(alloc, table, start))?;
+    }
+    Ok((Punctuated { list, separator }, visit(here)))
 }

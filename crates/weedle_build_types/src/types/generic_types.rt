@@ -1,4 +1,6 @@
 //! Types over types in angle brackets.
+//!
+//! Written by tools/build_types.py.
 
 ghost use Rattle.weedle_parts.specs.ValueTrees.{generics_tree, may_be_null_tree};
 ghost use Rattle.weedle_grammar.specs.Table.Types.{
@@ -37,45 +39,6 @@ use weedle_types::types::{
     FrozenArrayType, PromiseType, RecordType, RecordTypes, ReturnType, SequenceType, Type,
 };
 
-/// Builds a promise, as `Promise<undefined>`.
-#[cycle(group)]
-pub(crate) fn promise_type<'a>(
-    alloc: Global,
-    table: &Ends<'a>,
-    at: At,
-) -> BuildResult<PromiseType<'a>>
-    requires { Due table.now.text PROMISE_TYPE at.place }
-    ensures { Answers table.now.text PROMISE_TYPE promise_type_tree at.place at.visits result }
-{
-    let (promise, at) = Promise::build(alloc, table, Rule::PROMISE, at)?;
-    let (generics, at) = generics_return_type(alloc, table, at)?;
-    Ok((PromiseType { promise, generics }, visit(at)))
-}
-
-/// Builds the type of a result in angle brackets.
-#[cycle(group)]
-pub(crate) fn generics_return_type<'a>(
-    alloc: Global,
-    table: &Ends<'a>,
-    at: At,
-) -> BuildResult<Generics<Box<ReturnType<'a>>>>
-    requires { Due table.now.text GENERICS_RETURN_TYPE at.place }
-    ensures { Answers table.now.text GENERICS_RETURN_TYPE (generics_tree boxed_return_type_tree) at.place at.visits result }
-{
-    let (open_angle, at) = LessThan::build(alloc, table, Rule::LESS_THAN, at)?;
-    let (body, at) = return_type(alloc, table, at)?;
-    let body = Box::new(alloc, body)?;
-    let (close_angle, at) = GreaterThan::build(alloc, table, Rule::GREATER_THAN, at)?;
-    Ok((
-        Generics {
-            open_angle,
-            body,
-            close_angle,
-        },
-        visit(at),
-    ))
-}
-
 /// Builds a sequence, as `sequence<long>`.
 #[cycle(group)]
 pub(crate) fn sequence_type<'a>(
@@ -112,7 +75,82 @@ pub(crate) fn frozen_array_type<'a>(
     ))
 }
 
-/// Builds a type in angle brackets.
+/// Builds a promise, as `Promise<undefined>`.
+#[cycle(group)]
+pub(crate) fn promise_type<'a>(
+    alloc: Global,
+    table: &Ends<'a>,
+    at: At,
+) -> BuildResult<PromiseType<'a>>
+    requires { Due table.now.text PROMISE_TYPE at.place }
+    ensures { Answers table.now.text PROMISE_TYPE promise_type_tree at.place at.visits result }
+{
+    let (promise, at) = Promise::build(alloc, table, Rule::PROMISE, at)?;
+    let (generics, at) = generics_return_type(alloc, table, at)?;
+    Ok((PromiseType { promise, generics }, visit(at)))
+}
+
+/// Builds a record, as `record<DOMString, long>`.
+#[cycle(group)]
+pub(crate) fn record_type<'a>(
+    alloc: Global,
+    table: &Ends<'a>,
+    at: At,
+) -> BuildResult<RecordType<'a>>
+    requires { Due table.now.text RECORD_TYPE at.place }
+    ensures { Answers table.now.text RECORD_TYPE record_type_tree at.place at.visits result }
+{
+    let (record_, at) = Record::build(alloc, table, Rule::RECORD, at)?;
+    let (generics, at) = generics_record_types(alloc, table, at)?;
+    Ok((RecordType { record_, generics }, visit(at)))
+}
+
+/// Builds a sequence that may be null, as `sequence<long>?`.
+#[cycle(group)]
+pub(crate) fn nullable_sequence_type<'a>(
+    alloc: Global,
+    table: &Ends<'a>,
+    at: At,
+) -> BuildResult<MayBeNull<SequenceType<'a>>>
+    requires { Due table.now.text MAY_BE_NULL_SEQUENCE_TYPE at.place }
+    ensures { Answers table.now.text MAY_BE_NULL_SEQUENCE_TYPE (may_be_null_tree sequence_type_tree) at.place at.visits result }
+{
+    let (type_, at) = sequence_type(alloc, table, at)?;
+    let (q_mark, at) = optional::<QMark>(alloc, table, Rule::Q_MARK, at)?;
+    Ok((MayBeNull { type_, q_mark }, visit(at)))
+}
+
+/// Builds an array that can't change and may be null, as `FrozenArray<long>?`.
+#[cycle(group)]
+pub(crate) fn nullable_frozen_array_type<'a>(
+    alloc: Global,
+    table: &Ends<'a>,
+    at: At,
+) -> BuildResult<MayBeNull<FrozenArrayType<'a>>>
+    requires { Due table.now.text MAY_BE_NULL_FROZEN_ARRAY_TYPE at.place }
+    ensures { Answers table.now.text MAY_BE_NULL_FROZEN_ARRAY_TYPE (may_be_null_tree frozen_array_type_tree) at.place at.visits result }
+{
+    let (type_, at) = frozen_array_type(alloc, table, at)?;
+    let (q_mark, at) = optional::<QMark>(alloc, table, Rule::Q_MARK, at)?;
+    Ok((MayBeNull { type_, q_mark }, visit(at)))
+}
+
+/// Builds a record that may be null, as `record<DOMString, long>?`.
+#[cycle(group)]
+pub(crate) fn nullable_record_type<'a>(
+    alloc: Global,
+    table: &Ends<'a>,
+    at: At,
+) -> BuildResult<MayBeNull<RecordType<'a>>>
+    requires { Due table.now.text MAY_BE_NULL_RECORD_TYPE at.place }
+    ensures { Answers table.now.text MAY_BE_NULL_RECORD_TYPE (may_be_null_tree record_type_tree) at.place at.visits result }
+{
+    let (type_, at) = record_type(alloc, table, at)?;
+    let (q_mark, at) = optional::<QMark>(alloc, table, Rule::Q_MARK, at)?;
+    Ok((MayBeNull { type_, q_mark }, visit(at)))
+}
+
+/// Builds a type in angle brackets, as `<long>`.
 #[cycle(group)]
 pub(crate) fn generics_type<'a>(
     alloc: Global,
@@ -136,22 +174,31 @@ pub(crate) fn generics_type<'a>(
     ))
 }
 
-/// Builds a record, as `record<DOMString, long>`.
+/// Builds the type of a result in angle brackets, as `<undefined>`.
 #[cycle(group)]
-pub(crate) fn record_type<'a>(
+pub(crate) fn generics_return_type<'a>(
     alloc: Global,
     table: &Ends<'a>,
     at: At,
-) -> BuildResult<RecordType<'a>>
-    requires { Due table.now.text RECORD_TYPE at.place }
-    ensures { Answers table.now.text RECORD_TYPE record_type_tree at.place at.visits result }
+) -> BuildResult<Generics<Box<ReturnType<'a>>>>
+    requires { Due table.now.text GENERICS_RETURN_TYPE at.place }
+    ensures { Answers table.now.text GENERICS_RETURN_TYPE (generics_tree boxed_return_type_tree) at.place at.visits result }
 {
-    let (record_, at) = Record::build(alloc, table, Rule::RECORD, at)?;
-    let (generics, at) = generics_record_types(alloc, table, at)?;
-    Ok((RecordType { record_, generics }, visit(at)))
+    let (open_angle, at) = LessThan::build(alloc, table, Rule::LESS_THAN, at)?;
+    let (body, at) = return_type(alloc, table, at)?;
+    let body = Box::new(alloc, body)?;
+    let (close_angle, at) = GreaterThan::build(alloc, table, Rule::GREATER_THAN, at)?;
+    Ok((
+        Generics {
+            open_angle,
+            body,
+            close_angle,
+        },
+        visit(at),
+    ))
 }
 
-/// Builds a record's types in angle brackets.
+/// Builds the types of a record in angle brackets, as `<DOMString, long>`.
 #[cycle(group)]
 pub(crate) fn generics_record_types<'a>(
     alloc: Global,
@@ -174,7 +221,7 @@ pub(crate) fn generics_record_types<'a>(
     ))
 }
 
-/// Builds a record's types, as `DOMString, long`.
+/// Builds the types of a record, as `DOMString, long`.
 #[cycle(group)]
 pub(crate) fn record_types<'a>(
     alloc: Global,
@@ -190,49 +237,4 @@ pub(crate) fn record_types<'a>(
     let (value, at) = type_(alloc, table, at)?;
     let value = Box::new(alloc, value)?;
     Ok((RecordTypes(key, comma, value), visit(at)))
-}
-
-/// Builds a sequence that may be null.
-#[cycle(group)]
-pub(crate) fn nullable_sequence_type<'a>(
-    alloc: Global,
-    table: &Ends<'a>,
-    at: At,
-) -> BuildResult<MayBeNull<SequenceType<'a>>>
-    requires { Due table.now.text MAY_BE_NULL_SEQUENCE_TYPE at.place }
-    ensures { Answers table.now.text MAY_BE_NULL_SEQUENCE_TYPE (may_be_null_tree sequence_type_tree) at.place at.visits result }
-{
-    let (type_, at) = sequence_type(alloc, table, at)?;
-    let (q_mark, at) = optional::<QMark>(alloc, table, Rule::Q_MARK, at)?;
-    Ok((MayBeNull { type_, q_mark }, visit(at)))
-}
-
-/// Builds an array that can't change and may be null.
-#[cycle(group)]
-pub(crate) fn nullable_frozen_array_type<'a>(
-    alloc: Global,
-    table: &Ends<'a>,
-    at: At,
-) -> BuildResult<MayBeNull<FrozenArrayType<'a>>>
-    requires { Due table.now.text MAY_BE_NULL_FROZEN_ARRAY_TYPE at.place }
-    ensures { Answers table.now.text MAY_BE_NULL_FROZEN_ARRAY_TYPE (may_be_null_tree frozen_array_type_tree) at.place at.visits result }
-{
-    let (type_, at) = frozen_array_type(alloc, table, at)?;
-    let (q_mark, at) = optional::<QMark>(alloc, table, Rule::Q_MARK, at)?;
-    Ok((MayBeNull { type_, q_mark }, visit(at)))
-}
-
-/// Builds a record that may be null.
-#[cycle(group)]
-pub(crate) fn nullable_record_type<'a>(
-    alloc: Global,
-    table: &Ends<'a>,
-    at: At,
-) -> BuildResult<MayBeNull<RecordType<'a>>>
-    requires { Due table.now.text MAY_BE_NULL_RECORD_TYPE at.place }
-    ensures { Answers table.now.text MAY_BE_NULL_RECORD_TYPE (may_be_null_tree record_type_tree) at.place at.visits result }
-{
-    let (type_, at) = record_type(alloc, table, at)?;
-    let (q_mark, at) = optional::<QMark>(alloc, table, Rule::Q_MARK, at)?;
-    Ok((MayBeNull { type_, q_mark }, visit(at)))
 }

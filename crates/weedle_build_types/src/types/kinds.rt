@@ -1,4 +1,6 @@
 //! Types.
+//!
+//! Written by tools/build_types.py.
 
 ghost use Rattle.weedle_grammar.specs.Table.Types.{
   ATTRIBUTED_NON_ANY_TYPE,
@@ -194,7 +196,7 @@ pub(crate) fn attributed_type<'a>(
     Ok((AttributedType { attributes, type_ }, visit(at)))
 }
 
-/// Builds the same where the type is neither `any` nor a union.
+/// Builds a type with its attributes, as `[Clamp] octet`, where the type is neither `any` nor a union.
 // It stays a call: within a member of a union its room would be held at each level of nested unions.
 #[inline(never)]
 #[cycle(group)]

@@ -1,4 +1,6 @@
 //! Attributes that hold no arguments.
+//!
+//! Written by tools/build_types.py.
 #![tactic(auto, using(weedle_build_base::proofs::Finding::own_steps))]
 
 ghost use Rattle.std.specs.Prelude.{◌≡◌};

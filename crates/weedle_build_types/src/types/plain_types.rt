@@ -1,4 +1,6 @@
 //! The types that hold no other type, four at a time, in the order of the variants of [`NonAnyType`].
+//!
+//! Written by tools/build_types.py.
 
 ghost use Rattle.std.specs.Prelude.{◌≢◌, ◌≤◌};
 ghost use Rattle.weedle_grammar.specs.Table.Types.{NON_ANY_TYPE};
@@ -49,7 +51,7 @@ pub(crate) fn plain_type<'a>(
     }
 }
 
-/// Builds a number's type, `boolean` or `byte`.
+/// Builds a type of numbers, `boolean` or `byte`, as `unsigned long?`.
 fn numbers<'a>(
     alloc: Global,
     table: &Ends<'a>,
@@ -84,7 +86,7 @@ fn numbers<'a>(
     }
 }
 
-/// Builds `octet` or a string's type.
+/// Builds `octet`, `ByteString`, `DOMString` or `USVString`.
 fn strings<'a>(
     alloc: Global,
     table: &Ends<'a>,
@@ -150,7 +152,7 @@ fn objects<'a>(
     }
 }
 
-/// Builds `DataView` or an array of signed numbers.
+/// Builds `DataView` or an array of signed numbers, as `Int8Array`.
 fn signed_arrays<'a>(
     alloc: Global,
     table: &Ends<'a>,
@@ -183,7 +185,7 @@ fn signed_arrays<'a>(
     }
 }
 
-/// Builds an array of unsigned numbers.
+/// Builds an array of unsigned numbers, as `Uint8Array`.
 fn unsigned_arrays<'a>(
     alloc: Global,
     table: &Ends<'a>,

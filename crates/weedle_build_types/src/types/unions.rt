@@ -1,4 +1,6 @@
 //! Unions.
+//!
+//! Written by tools/build_types.py.
 
 ghost use Rattle.std.specs.Prelude.{IfOk};
 ghost use Rattle.weedle_parts.specs.ValueTrees.{may_be_null_tree};
@@ -46,7 +48,7 @@ pub(crate) fn union_type<'a>(alloc: Global, table: &Ends<'a>, at: At) -> BuildRe
     ))
 }
 
-/// Builds a union that may be null.
+/// Builds a union that may be null, as `(long or DOMString)?`.
 #[cycle(group)]
 pub(crate) fn nullable_union_type<'a>(
     alloc: Global,
@@ -61,7 +63,7 @@ pub(crate) fn nullable_union_type<'a>(
     Ok((MayBeNull { type_, q_mark }, visit(at)))
 }
 
-/// Puts a member of a union, which is no union itself, behind those of a list.
+/// Puts a member of a union, as `UnionMemberType::Single`, behind those of a list.
 #[inline(never)]
 fn keep_single<'a>(
     list: &mut Vec<UnionMemberType<'a>>,
@@ -74,7 +76,7 @@ fn keep_single<'a>(
     Ok(visit(at))
 }
 
-/// Puts a member of a union, which is one itself, behind those of a list.
+/// Puts a member of a union, as `UnionMemberType::Union`, behind those of a list.
 #[inline(never)]
 fn keep_union<'a>(
     list: &mut Vec<UnionMemberType<'a>>,

@@ -34,27 +34,6 @@ kinds::attributed_non_any_type-non_any_type-requires t c = let d = front (next c
 pub kinds::attributed_non_any_type-returns : goal.kinds::attributed_non_any_type-returns
 kinds::attributed_non_any_type-returns t c = node refl refl refl (run_more c.in_ok-attributes.ensures (run_one c.in_ok-type_.ensures)) c.visit.ensures
 
-pub generic_types::promise_type-build-requires : goal.generic_types::promise_type-build-requires
-generic_types::promise_type-build-requires t c = (refl, front (rest_of_row c.requires refl))
-
-pub generic_types::promise_type-generics_return_type-requires : goal.generic_types::promise_type-generics_return_type-requires
-generic_types::promise_type-generics_return_type-requires t c = let d = front (next c.in_ok-promise.ensures (rest_of_row c.requires refl)) in let b0 = behind refl c.in_ok-promise.ensures in (omega (arith, d.boundary.0), d)
-
-pub generic_types::promise_type-returns : goal.generic_types::promise_type-returns
-generic_types::promise_type-returns t c = node refl refl refl (run_more c.in_ok-promise.ensures (run_one c.in_ok-generics.ensures)) c.visit.ensures
-
-pub generic_types::generics_return_type-build-requires : goal.generic_types::generics_return_type-build-requires
-generic_types::generics_return_type-build-requires t c = (refl, front (rest_of_row c.requires refl))
-
-pub generic_types::generics_return_type-return_type-requires : goal.generic_types::generics_return_type-return_type-requires
-generic_types::generics_return_type-return_type-requires t c = let d = front (next c.in_ok-open_angle.ensures (rest_of_row c.requires refl)) in let b0 = behind refl c.in_ok-open_angle.ensures in (omega (arith, d.boundary.0), d)
-
-pub generic_types::generics_return_type-build-requires-2 : goal.generic_types::generics_return_type-build-requires-2
-generic_types::generics_return_type-build-requires-2 t c = (refl, front (next (builds_as (ap return_type_tree c.in_ok-body-2.ensures.ok) c.in_ok-body.ensures) (next c.in_ok-open_angle.ensures (rest_of_row c.requires refl))))
-
-pub generic_types::generics_return_type-returns : goal.generic_types::generics_return_type-returns
-generic_types::generics_return_type-returns t c = node refl refl refl (run_more c.in_ok-open_angle.ensures (run_more (builds_as (ap return_type_tree c.in_ok-body-2.ensures.ok) c.in_ok-body.ensures) (run_one c.in_ok-close_angle.ensures))) c.visit.ensures
-
 pub generic_types::sequence_type-build-requires : goal.generic_types::sequence_type-build-requires
 generic_types::sequence_type-build-requires t c = (refl, front (rest_of_row c.requires refl))
 
@@ -73,17 +52,14 @@ generic_types::frozen_array_type-generics_type-requires t c = let d = front (nex
 pub generic_types::frozen_array_type-returns : goal.generic_types::frozen_array_type-returns
 generic_types::frozen_array_type-returns t c = node refl refl refl (run_more c.in_ok-frozen_array.ensures (run_one c.in_ok-generics.ensures)) c.visit.ensures
 
-pub generic_types::generics_type-build-requires : goal.generic_types::generics_type-build-requires
-generic_types::generics_type-build-requires t c = (refl, front (rest_of_row c.requires refl))
+pub generic_types::promise_type-build-requires : goal.generic_types::promise_type-build-requires
+generic_types::promise_type-build-requires t c = (refl, front (rest_of_row c.requires refl))
 
-pub generic_types::generics_type-type_-requires : goal.generic_types::generics_type-type_-requires
-generic_types::generics_type-type_-requires t c = let d = front (next c.in_ok-open_angle.ensures (rest_of_row c.requires refl)) in let b0 = behind refl c.in_ok-open_angle.ensures in (omega (arith, d.boundary.0), d)
+pub generic_types::promise_type-generics_return_type-requires : goal.generic_types::promise_type-generics_return_type-requires
+generic_types::promise_type-generics_return_type-requires t c = let d = front (next c.in_ok-promise.ensures (rest_of_row c.requires refl)) in let b0 = behind refl c.in_ok-promise.ensures in (omega (arith, d.boundary.0), d)
 
-pub generic_types::generics_type-build-requires-2 : goal.generic_types::generics_type-build-requires-2
-generic_types::generics_type-build-requires-2 t c = (refl, front (next (builds_as (ap type_tree c.in_ok-body-2.ensures.ok) c.in_ok-body.ensures) (next c.in_ok-open_angle.ensures (rest_of_row c.requires refl))))
-
-pub generic_types::generics_type-returns : goal.generic_types::generics_type-returns
-generic_types::generics_type-returns t c = node refl refl refl (run_more c.in_ok-open_angle.ensures (run_more (builds_as (ap type_tree c.in_ok-body-2.ensures.ok) c.in_ok-body.ensures) (run_one c.in_ok-close_angle.ensures))) c.visit.ensures
+pub generic_types::promise_type-returns : goal.generic_types::promise_type-returns
+generic_types::promise_type-returns t c = node refl refl refl (run_more c.in_ok-promise.ensures (run_one c.in_ok-generics.ensures)) c.visit.ensures
 
 pub generic_types::record_type-build-requires : goal.generic_types::record_type-build-requires
 generic_types::record_type-build-requires t c = (refl, front (rest_of_row c.requires refl))
@@ -93,30 +69,6 @@ generic_types::record_type-generics_record_types-requires t c = let d = front (n
 
 pub generic_types::record_type-returns : goal.generic_types::record_type-returns
 generic_types::record_type-returns t c = node refl refl refl (run_more c.in_ok-record_.ensures (run_one c.in_ok-generics.ensures)) c.visit.ensures
-
-pub generic_types::generics_record_types-build-requires : goal.generic_types::generics_record_types-build-requires
-generic_types::generics_record_types-build-requires t c = (refl, front (rest_of_row c.requires refl))
-
-pub generic_types::generics_record_types-record_types-requires : goal.generic_types::generics_record_types-record_types-requires
-generic_types::generics_record_types-record_types-requires t c = let d = front (next c.in_ok-open_angle.ensures (rest_of_row c.requires refl)) in let b0 = behind refl c.in_ok-open_angle.ensures in (omega (arith, d.boundary.0), d)
-
-pub generic_types::generics_record_types-build-requires-2 : goal.generic_types::generics_record_types-build-requires-2
-generic_types::generics_record_types-build-requires-2 t c = (refl, front (next c.in_ok-body.ensures (next c.in_ok-open_angle.ensures (rest_of_row c.requires refl))))
-
-pub generic_types::generics_record_types-returns : goal.generic_types::generics_record_types-returns
-generic_types::generics_record_types-returns t c = node refl refl refl (run_more c.in_ok-open_angle.ensures (run_more c.in_ok-body.ensures (run_one c.in_ok-close_angle.ensures))) c.visit.ensures
-
-pub generic_types::record_types-record_key_type-requires : goal.generic_types::record_types-record_key_type-requires
-generic_types::record_types-record_key_type-requires t c = let d = front (rest_of_row c.requires refl) in (omega (arith, d.boundary.0), d)
-
-pub generic_types::record_types-build-requires : goal.generic_types::record_types-build-requires
-generic_types::record_types-build-requires t c = (refl, front (next (builds_as (ap record_key_type_tree c.in_ok-key-2.ensures.ok) c.in_ok-key.ensures) (rest_of_row c.requires refl)))
-
-pub generic_types::record_types-type_-requires : goal.generic_types::record_types-type_-requires
-generic_types::record_types-type_-requires t c = let d = front (next c.in_ok-comma.ensures (next (builds_as (ap record_key_type_tree c.in_ok-key-2.ensures.ok) c.in_ok-key.ensures) (rest_of_row c.requires refl))) in let b0 = behind refl (builds_as (ap record_key_type_tree c.in_ok-key-2.ensures.ok) c.in_ok-key.ensures) in let b1 = behind refl c.in_ok-comma.ensures in (omega (arith, d.boundary.0), d)
-
-pub generic_types::record_types-returns : goal.generic_types::record_types-returns
-generic_types::record_types-returns t c = node refl refl refl (run_more (builds_as (ap record_key_type_tree c.in_ok-key-2.ensures.ok) c.in_ok-key.ensures) (run_more c.in_ok-comma.ensures (run_one (builds_as (ap type_tree c.in_ok-value-2.ensures.ok) c.in_ok-value.ensures)))) c.visit.ensures
 
 pub generic_types::nullable_sequence_type-sequence_type-requires : goal.generic_types::nullable_sequence_type-sequence_type-requires
 generic_types::nullable_sequence_type-sequence_type-requires t c = let d = front (rest_of_row c.requires refl) in (omega (arith, d.boundary.0), d)
@@ -144,6 +96,54 @@ generic_types::nullable_record_type-optional-requires t c = λ k. ((refl, tt), (
 
 pub generic_types::nullable_record_type-returns : goal.generic_types::nullable_record_type-returns
 generic_types::nullable_record_type-returns t c = node refl refl refl (run_more c.in_ok-type_.ensures (run_one (c.in_ok-q_mark.ensures OPT_Q_MARK (option_of refl refl)))) c.visit.ensures
+
+pub generic_types::generics_type-build-requires : goal.generic_types::generics_type-build-requires
+generic_types::generics_type-build-requires t c = (refl, front (rest_of_row c.requires refl))
+
+pub generic_types::generics_type-type_-requires : goal.generic_types::generics_type-type_-requires
+generic_types::generics_type-type_-requires t c = let d = front (next c.in_ok-open_angle.ensures (rest_of_row c.requires refl)) in let b0 = behind refl c.in_ok-open_angle.ensures in (omega (arith, d.boundary.0), d)
+
+pub generic_types::generics_type-build-requires-2 : goal.generic_types::generics_type-build-requires-2
+generic_types::generics_type-build-requires-2 t c = (refl, front (next (builds_as (ap type_tree c.in_ok-body-2.ensures.ok) c.in_ok-body.ensures) (next c.in_ok-open_angle.ensures (rest_of_row c.requires refl))))
+
+pub generic_types::generics_type-returns : goal.generic_types::generics_type-returns
+generic_types::generics_type-returns t c = node refl refl refl (run_more c.in_ok-open_angle.ensures (run_more (builds_as (ap type_tree c.in_ok-body-2.ensures.ok) c.in_ok-body.ensures) (run_one c.in_ok-close_angle.ensures))) c.visit.ensures
+
+pub generic_types::generics_return_type-build-requires : goal.generic_types::generics_return_type-build-requires
+generic_types::generics_return_type-build-requires t c = (refl, front (rest_of_row c.requires refl))
+
+pub generic_types::generics_return_type-return_type-requires : goal.generic_types::generics_return_type-return_type-requires
+generic_types::generics_return_type-return_type-requires t c = let d = front (next c.in_ok-open_angle.ensures (rest_of_row c.requires refl)) in let b0 = behind refl c.in_ok-open_angle.ensures in (omega (arith, d.boundary.0), d)
+
+pub generic_types::generics_return_type-build-requires-2 : goal.generic_types::generics_return_type-build-requires-2
+generic_types::generics_return_type-build-requires-2 t c = (refl, front (next (builds_as (ap return_type_tree c.in_ok-body-2.ensures.ok) c.in_ok-body.ensures) (next c.in_ok-open_angle.ensures (rest_of_row c.requires refl))))
+
+pub generic_types::generics_return_type-returns : goal.generic_types::generics_return_type-returns
+generic_types::generics_return_type-returns t c = node refl refl refl (run_more c.in_ok-open_angle.ensures (run_more (builds_as (ap return_type_tree c.in_ok-body-2.ensures.ok) c.in_ok-body.ensures) (run_one c.in_ok-close_angle.ensures))) c.visit.ensures
+
+pub generic_types::generics_record_types-build-requires : goal.generic_types::generics_record_types-build-requires
+generic_types::generics_record_types-build-requires t c = (refl, front (rest_of_row c.requires refl))
+
+pub generic_types::generics_record_types-record_types-requires : goal.generic_types::generics_record_types-record_types-requires
+generic_types::generics_record_types-record_types-requires t c = let d = front (next c.in_ok-open_angle.ensures (rest_of_row c.requires refl)) in let b0 = behind refl c.in_ok-open_angle.ensures in (omega (arith, d.boundary.0), d)
+
+pub generic_types::generics_record_types-build-requires-2 : goal.generic_types::generics_record_types-build-requires-2
+generic_types::generics_record_types-build-requires-2 t c = (refl, front (next c.in_ok-body.ensures (next c.in_ok-open_angle.ensures (rest_of_row c.requires refl))))
+
+pub generic_types::generics_record_types-returns : goal.generic_types::generics_record_types-returns
+generic_types::generics_record_types-returns t c = node refl refl refl (run_more c.in_ok-open_angle.ensures (run_more c.in_ok-body.ensures (run_one c.in_ok-close_angle.ensures))) c.visit.ensures
+
+pub generic_types::record_types-record_key_type-requires : goal.generic_types::record_types-record_key_type-requires
+generic_types::record_types-record_key_type-requires t c = let d = front (rest_of_row c.requires refl) in (omega (arith, d.boundary.0), d)
+
+pub generic_types::record_types-build-requires : goal.generic_types::record_types-build-requires
+generic_types::record_types-build-requires t c = (refl, front (next (builds_as (ap record_key_type_tree c.in_ok-key-2.ensures.ok) c.in_ok-key.ensures) (rest_of_row c.requires refl)))
+
+pub generic_types::record_types-type_-requires : goal.generic_types::record_types-type_-requires
+generic_types::record_types-type_-requires t c = let d = front (next c.in_ok-comma.ensures (next (builds_as (ap record_key_type_tree c.in_ok-key-2.ensures.ok) c.in_ok-key.ensures) (rest_of_row c.requires refl))) in let b0 = behind refl (builds_as (ap record_key_type_tree c.in_ok-key-2.ensures.ok) c.in_ok-key.ensures) in let b1 = behind refl c.in_ok-comma.ensures in (omega (arith, d.boundary.0), d)
+
+pub generic_types::record_types-returns : goal.generic_types::record_types-returns
+generic_types::record_types-returns t c = node refl refl refl (run_more (builds_as (ap record_key_type_tree c.in_ok-key-2.ensures.ok) c.in_ok-key.ensures) (run_more c.in_ok-comma.ensures (run_one (builds_as (ap type_tree c.in_ok-value-2.ensures.ok) c.in_ok-value.ensures)))) c.visit.ensures
 
 pub unions::union_type-build-requires : goal.unions::union_type-build-requires
 unions::union_type-build-requires t c = (refl, front (rest_of_row c.requires refl))

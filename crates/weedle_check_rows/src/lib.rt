@@ -1,5 +1,0 @@
-//! Tests of the check of files.
-#![tactic(auto)]
-
-#[cfg(test)]
-mod checks;

@@ -1,0 +1,65 @@
+#!/usr/bin/env python3
+"""Tests gate_plan.py over a made-up repository.
+
+    python3 tools/test_gate_plan.py
+"""
+
+import tempfile
+import unittest
+from pathlib import Path
+
+from gate_plan import Gate, costs, plan, simulated
+
+LIST = """low:
+wide: low
+one: wide low
+other: wide low
+top: one other
+"""
+TIMES = {
+    "proof": {"low": 60, "wide": 1800, "one": 600, "other": 300, "top": 120},
+    "tests": {"top": 60},
+    "edits": {"low": [2, 100]},
+    "programs": {"top": 60},
+}
+
+
+def gate_of(room, times=TIMES, rows=LIST):
+    (Path(room) / "crates.txt").write_text(rows)
+    for line in rows.splitlines():
+        source = Path(room) / "crates" / line.partition(":")[0] / "src"
+        source.mkdir(parents=True)
+        (source / "lib.rt").write_text("fn f() {}\n" * 10)
+    return Gate(room, times)
+
+
+class Planned(unittest.TestCase):
+    def setUp(self):
+        room = tempfile.TemporaryDirectory()
+        self.addCleanup(room.cleanup)
+        self.gate = gate_of(room.name)
+
+    def test_a_proof_alone_gets_the_idle_processors_but_those_of_its_empty_tests(self):
+        log = simulated(self.gate.tasks(), 4)
+        begin, end, jobs = log["wide", "proof"]
+        self.assertEqual((begin, jobs), (60 / 1.8, 2))
+        self.assertAlmostEqual(end - begin, 1800 / 1.8)
+
+    def test_crates_side_by_side_get_one_job_each(self):
+        log = simulated(self.gate.tasks(), 2)
+        self.assertEqual([log[it, "proof"][2] for it in ("one", "other")], [1, 1])
+        self.assertEqual(log["one", "proof"][0], log["other", "proof"][0])
+        self.assertEqual(log["top", "proof"][0], log["one", "proof"][1])
+
+    def test_a_plan_says_the_clock_and_the_work(self):
+        said = [*plan(self.gate, 1, False)]
+        whole = (60 + 1800 + 600 + 300 + 180 + 60 + 100) / 60
+        self.assertEqual(said, [f"1 processors: {whole:.0f} minutes, {whole:.0f} of processor time"])
+
+    def test_a_change_costs_the_crate_and_those_above(self):
+        self.assertEqual([*costs(self.gate, ["one"])][2], "| `one` | 1 | 14 | 14 |")
+        self.assertEqual([*costs(self.gate, ["low"])][2].split("|")[2].strip(), "4")
+
+
+if __name__ == "__main__":
+    unittest.main()
