@@ -267,7 +267,7 @@ class File:
         self.crate, _, module = place.partition("/")
         self.path = source_of(root, self.crate) / f"{module}.rt"
         self.uses = read_lines(root)[self.crate].uses
-        self.built, self.trees = [], {}
+        self.built, self.trees, self.sources = [], {}, sources
         for source in sources:
             found = list(self.built_of(*source.partition("::")[::2]))
             if not found:
@@ -275,7 +275,7 @@ class File:
             self.built += found
         self.built.sort(key=lambda it: NUMBER[it.rule])
 
-    def built_of(self, crate, module):
+    def built_of(self, crate, module=""):
         """The types of a crate, or of one of its modules, that have a rule of their own and keep no text."""
         for path in sorted((self.root / "crates" / crate / "specs").glob("*.antt")):
             trees = TREE.findall(path.read_text(encoding="utf-8"))
@@ -335,10 +335,19 @@ class File:
         return head + "\n".join(lines)
 
 
+def unbuilt(files):
+    """The types, in crates that FILES names, that none of its files builds."""
+    crates = {source.split("::")[0]: file for file in files for source in file.sources}
+    built = {it.name for file in files for it in file.built}
+    return [it.name for crate, file in crates.items() for it in file.built_of(crate) if it.name not in built]
+
+
 def run(root):
     """Writes the files, and gives the crates that have them."""
     parts = Parts(root)
     files = [File(root, parts, place, *more) for place, more in FILES.items()]
+    if names := unbuilt(files):
+        raise Unfit(f"no file of FILES has {', '.join(names)}")
     for file in files:
         file.path.write_text(file.text(), encoding="utf-8")
     return sorted({file.crate for file in files})

@@ -52,7 +52,7 @@ class File:
         self.laws, self.law_module = f"{name[:-1]}Laws", law_module or snake(name)
 
     def declared(self):
-        """The types of the file's modules; of those that a `type` names, lists and what is made over a type."""
+        """The types of the file's modules; of those that a `type` names the lists, and what is over a type."""
         for it in [*DECLARED.types.values(), *DECLARED.aliases.values()]:
             target = it.parts[0].type if it.parts and it.kind == "type" else None
             is_alias = target and (is_made(target) or target.module == FORMERS)

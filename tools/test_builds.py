@@ -265,8 +265,8 @@ class BuildsTest(unittest.TestCase):
         self.assertIn(flat(ANY), self.written("build_high/src/high.rt"))
 
     def test_a_type_of_the_base_is_its_own_value(self):
-        files = {"weedle_build_base/own": ("Own.", "low::default")}
-        with mock.patch.object(builds, "FILES", files):
+        files, all_built = {"weedle_build_base/own": ("Own.", "low::default")}, lambda files: []
+        with mock.patch.multiple(builds, FILES=files, unbuilt=all_built):
             text = self.written("weedle_build_base/src/own.rt")
         self.assertIn("using(crate::proofs::", text)
         self.assertIn("use crate::structs::two_fields;", text)
@@ -276,6 +276,12 @@ class BuildsTest(unittest.TestCase):
     def test_a_module_without_types_is_refused(self):
         with mock.patch.dict(builds.FILES, {"build_low/low": ("What is low.", "low::none")}):
             with self.assertRaisesRegex(Unfit, "build_low/low is to build what low::none declares"):
+                builds.run(self.root)
+
+    def test_a_type_that_no_file_builds_is_refused(self):
+        with mock.patch.dict(builds.FILES):
+            del builds.FILES["build_low/defaults"]
+            with self.assertRaisesRegex(Unfit, "no file of FILES has Default"):
                 builds.run(self.root)
 
     def test_a_type_without_a_tree_is_refused(self):

@@ -31,7 +31,8 @@ class Stale(unittest.TestCase):
         self.assertEqual(rows, ["a: lacking, and written by tools/terminals.py"])
 
     def test_a_file_by_hand_that_a_script_overwrites(self):
-        self.assertEqual(self.rows({"a": b"x"}, {"a": b"y"}), ["a: stale, a script or `rt fmt` has it otherwise"])
+        rows = self.rows({"a": b"x"}, {"a": b"y"})
+        self.assertEqual(rows, ["a: stale, a script or `rt fmt` has it otherwise"])
 
 
 if __name__ == "__main__":

@@ -94,7 +94,8 @@ def with_former(path, text, model, before, former):
         if former.found(block, text):
             continue
         if not before:
-            raise Unfit(f"{ENUM}::{former.variant} has to stand behind a variant over a type in angle brackets")
+            why = "has to stand behind a variant over a type in angle brackets"
+            raise Unfit(f"{ENUM}::{former.variant} {why}")
         place = before.found(block, text).end()
         text = text[:place] + model.renamed(model.found(block, text)[0], former) + text[place:]
     return text if text == old else with_uses(text, model, former)
