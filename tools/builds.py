@@ -36,6 +36,7 @@ FILES = {
     "weedle_build_base/modifiers": (
         "What is inherited from, and the words before a member.", "weedle_modifier",
     ),
+    "weedle_build_base/simple_types": ("Types that hold no other type.", "weedle_parts"),
     "weedle_build_members/members": (
         "The members of interfaces: constants, attributes, operations, constructors and stringifiers.",
         "weedle_members",
