@@ -25,8 +25,8 @@ from description.declarations import declared_by, declared_in, split, type_of
 from description.layout import use_line
 from description.names import upper
 from description.readings import CRATES
+from description.uses import ghost_line
 from description.webidl import BY_NAME, KEYWORDS, NUMBER, SCANNED, SECTIONS
-from terminals import ghost_use
 from written.imports import imported
 
 TOP = Path(__file__).resolve().parent.parent
@@ -36,6 +36,7 @@ FILES = {
     "weedle_build_base/modifiers": (
         "What is inherited from, and the words before a member.", "weedle_modifier",
     ),
+    "weedle_build_base/simple_types": ("Types that hold no other type.", "weedle_parts"),
     "weedle_build_members/members": (
         "The members of interfaces: constants, attributes, operations, constructors and stringifiers.",
         "weedle_members",
@@ -302,7 +303,7 @@ class File:
                 add(paths, f"Rattle.weedle_grammar.specs.Table.{section.name}", *found)
         for tree, home in sorted((self.trees[it.name] for it in self.built), key=lambda it: it[::-1]):
             add(paths, home, tree)
-        return "".join(ghost_use(path, sorted(names)) + "\n" for path, names in paths.items())
+        return "".join(ghost_line(path, sorted(names)) for path, names in paths.items())
 
     def use_lines(self):
         """What the code names, brought in."""

@@ -1,26 +1,28 @@
 //! Types that hold no other type.
+//!
+//! Written by tools/builds.py.
 #![tactic(auto, using(crate::proofs::Finding::own_steps))]
 
 ghost use Rattle.std.specs.Prelude.{◌≡◌};
 ghost use Rattle.weedle_grammar.specs.Table.SimpleTypes.{
+  CONST_TYPE,
+  DOUBLE_TYPE,
+  FLOATING_POINT_TYPE,
+  FLOAT_TYPE,
+  INTEGER_TYPE,
   LONG_LONG_TYPE,
   LONG_TYPE,
   SHORT_TYPE,
-  INTEGER_TYPE,
-  FLOAT_TYPE,
-  DOUBLE_TYPE,
-  FLOATING_POINT_TYPE,
-  CONST_TYPE,
 };
 ghost use Rattle.weedle_parts.specs.ValueTrees.{
+  const_type_tree,
+  double_type_tree,
+  float_type_tree,
+  floating_point_type_tree,
+  integer_type_tree,
   long_long_type_tree,
   long_type_tree,
   short_type_tree,
-  integer_type_tree,
-  float_type_tree,
-  double_type_tree,
-  floating_point_type_tree,
-  const_type_tree,
 };
 
 use crate::alternatives::{alternative, choice};
