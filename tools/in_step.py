@@ -1,5 +1,5 @@
 #!/usr/bin/env python3
-"""Keeps what is written by hand of variants and words in step with the declarations and the grammar.
+"""Keeps lines that stand in files by hand in step with the declarations and the grammar.
 
     python3 tools/in_step.py
 
@@ -8,6 +8,7 @@ by which a type begins. Where such lines follow from the declarations this write
 places; the rest of the file stays as it is. A module of tools/kept does so for each kind:
 
 - starts.py: by which words names, types and values begin, for what is said of refused texts;
+- titles.py: kind, name and docstring of each definition, for outlines and reports;
 - pieces.py: the functions that read a few variants each, and the rules of these;
 - formers.py: what reads and spells a new type over a type in angle brackets, as that of `FrozenArray`;
 - variants.py: trees and spellings of variants, with their numbers.
@@ -20,11 +21,11 @@ import sys
 from pathlib import Path
 
 from crates import Unfit
-from kept import formers, pieces, starts, variants
+from kept import formers, pieces, starts, titles, variants
 
 TOP = Path(__file__).resolve().parent.parent
 # In this order: the numbers of what is written of a new type are put right by the last.
-KINDS = (starts, pieces, formers, variants)
+KINDS = (starts, titles, pieces, formers, variants)
 
 
 def run(root):

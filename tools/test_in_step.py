@@ -7,6 +7,7 @@ Run it at the top of the repository. Nothing is written: each text is spoilt in 
 become again what it was.
 """
 
+import re
 import unittest
 from pathlib import Path
 from unittest import mock
@@ -15,7 +16,7 @@ import in_step
 from crates import Unfit
 from description.flat import flat_variants
 from description.readings import Declared
-from kept import formers, pieces, starts, variants
+from kept import formers, pieces, starts, titles, variants
 
 TOP = Path(__file__).resolve().parent.parent
 DECLARED = Declared.of(TOP)
@@ -45,6 +46,22 @@ class Starts(unittest.TestCase):
         text = read(starts.FILE)
         spoilt = text.replace("    BYTES_SYMBOL,\n", "").replace(" BYTES_SYMBOL,", "")
         self.assertEqual(starts.text_of(spoilt), text)
+
+
+class Titles(unittest.TestCase):
+    def test_what_is_said_of_a_definition(self):
+        told = {it.variant: (it.kind, it.name, it.has_docstring) for it in titles.titles_of(DECLARED)}
+        self.assertEqual(told["PartialInterfaceMixin"], ("partial interface mixin", "identifier", False))
+        self.assertEqual(told["Implements"], ("implements", "lhs_identifier", False))
+        self.assertEqual(told["Enum"], ("enum", "identifier", True))
+
+    def test_arms_and_clauses_that_lack_are_added(self):
+        found = titles.titles_of(DECLARED)
+        for path, text_of in titles.FILES.items():
+            text = read(f"weedle_report/{path}")
+            spoilt = re.sub(r"\n *[^\n]*\b(?:Is|Definition::)Enum\b[^\n,]*,?(?=\n)", "", text)
+            self.assertNotEqual(spoilt, text)
+            self.assertEqual(text_of(spoilt, found), text, path)
 
 
 class Pieces(unittest.TestCase):
