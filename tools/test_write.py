@@ -62,8 +62,7 @@ class Brought(unittest.TestCase):
 
 
 class Orders(unittest.TestCase):
-    def test_each_writer_is_a_script_and_stands_once(self):
-        self.assertEqual(len(set(write.WRITERS)), len(write.WRITERS))
+    def test_each_writer_is_a_script(self):
         for script in write.WRITERS:
             self.assertTrue((write.TOP / f"tools/{script}.py").is_file(), script)
 

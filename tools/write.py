@@ -24,10 +24,11 @@ from pathlib import Path
 from crates import Unfit, copy_crate, files_of, read_lines
 
 TOP = Path(__file__).resolve().parent.parent
-# The scripts that write below crates/, each behind those whose files it reads.
+# The scripts that write below crates/, each behind those whose files it reads. The lines of modules.py come
+# twice: of types before others name them, and of written files when they are there.
 WRITERS = (
-    "grammar terminals drops in_step trees types_impls types_proofs build_types build_types_proofs idl_proofs "
-    "builds spellings impls orders modules"
+    "grammar terminals drops in_step modules trees types_impls types_proofs build_types build_types_proofs "
+    "idl_proofs builds spellings impls orders modules"
 ).split()
 # What these write comes from programs that the gate hasn't, as weedle2's answers: it is left as it is.
 FROM_OUTSIDE = ("tools/weedle2_rows.py",)
