@@ -1,9 +1,10 @@
 #!/usr/bin/env python3
 """Writes proofs of the functions of crates/weedle_build_types/src/types, which tools/build_types.py writes.
 
-Which rule a function is of, its contract says; what its parts are, in their order, the declaration of its type.
-From this follow, in crates/weedle_build_types/proofs/types/+group, what falls from call to call and the goals that
-no search finds: that each part is due where the ones before it were built, and that the whole was built.
+Which rule a function is of, its contract says; what its parts are, in their order, the declaration of its
+type. From this follow, in crates/weedle_build_types/proofs/types/+group, what falls from call to call and the
+goals that no search finds: that each part is due where the ones before it were built, and that the whole was
+built.
 
 Run it from the top of the repository.
 """

@@ -1,5 +1,5 @@
-"""Reads the declarations of the types whose `Ord` is derived: their fields and variants, and the paths by which
-a caller names them."""
+"""Reads the declarations of the types whose `Ord` is derived: fields, variants, and the paths by which a
+caller names them."""
 
 import re
 from pathlib import Path

@@ -5,7 +5,8 @@ Run it at the top of the repository, then `rt fmt` in crates/weedle_grammar and 
 
     python3 tools/grammar.py
 
-The grammar stands in tools/description/webidl.py. It writes, for each section S of the grammar, in crates/weedle_grammar
+The grammar stands in tools/description/webidl.py. The script writes, for each section S of it,
+in crates/weedle_grammar
     specs/Table/S.antt      the numbers of its rules, and their rows and shapes
     src/grammar/s.rt        the same for the program: numbers, constants of `Rule`, rows
     proofs/Takes/S.antt     which of its rules always take a byte

@@ -4,8 +4,9 @@
     python3 tools/hostile.py PROGRAM
 
 The program reads standard input to its end and writes what the text defines, or where it is unread, as
-crates/weedle_list/out/weedle_list does once `rt run` has built it. Of each text it has to write what is right, in less
-than a second. It prints the time of each, and ends with status 1 where one is slower or something else is written.
+crates/weedle_list/out/weedle_list does once `rt run` has built it. Of each text it has to write what is right,
+in less than a second. The script prints the time of each, and ends with status 1 where one is slower or
+something else is written.
 """
 
 import resource

@@ -1,5 +1,5 @@
 #!/usr/bin/env python3
-"""Makes the text of mixed definitions that the port's times are measured with: `definitions` of weedle_testing.
+"""Makes the text of mixed definitions that the port is timed with, as `definitions` of weedle_testing does.
 
     python3 tools/mixed_text.py SEED SIZE > FILE
 

@@ -1,9 +1,10 @@
 #!/usr/bin/env python3
-"""Refuses the tests of the modules `requests`, and others named `.._or_want_memory`, each of their requests for memory.
+"""Refuses tests each of their requests for memory: those in modules `requests`, or named `.._or_want_memory`.
 
-Of each test it refuses the first request in the first run, the second in the second, up to the run in which none of its
-calls has one left. In each run before that the test has to pass and to say that a call wanted memory: a call that goes
-on behind a refusal would say nothing. The calls of tests that are named `no_..`, of any module, make no request at all.
+Of each test it refuses the first request in the first run, the second in the second, up to the run in which none
+of its calls has one left. In each run before that the test has to pass and to say that a call wanted memory: a
+call that goes on behind a refusal would say nothing. The calls of tests that are named `no_..`, of any module,
+make no request at all.
 
 Run `rt test` in the folders of the crates first, which builds their tests. Then, at the top of the repository:
 

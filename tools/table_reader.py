@@ -1,7 +1,7 @@
 """Reads WebIDL by the rows of the grammar, as docs/GRAMMAR.md says them, and gives what `Debug` would show.
 
-The rows are those of grammar.py, or these as weedle2 has them: the rules of CHANGED stand there
-as they were before they were changed. The names of types, fields and variants are taken from the
+The rows are those of tools/description/webidl.py, or these as weedle2 has them: the rules of CHANGED
+stand there as they were before they were changed. The names of types, fields and variants are taken from the
 declarations in crates/*/src: a rule's type has its name, its fields stand in the order of the
 rule's parts, its variants in that of the alternatives. It is for short texts: it holds every rule
 that it tries.

@@ -1,5 +1,5 @@
 #!/usr/bin/env python3
-"""Tests compare_with_weedle2.py, table_reader.py, random_texts.py and weedle2_rows.py, with no program, in some seconds.
+"""Tests compare_with_weedle2.py and what it uses, and weedle2_rows.py, with no program, in some seconds.
 
     python3 tools/test_compare_with_weedle2.py
 

@@ -3,9 +3,10 @@
 
     python3 tools/try_edits.py [--check] [CRATE..]
 
-They are the edits must-fail/by-hand/CRATE/*.edit, of all crates or of those that are named. An edit has a line `file: src/lib.rt`, and then pairs of lines `old: TEXT` and `new: TEXT`,
-each TEXT one line; further pairs apply to what the earlier ones made. A line that begins with `#`
-says something to the reader.
+They are the edits must-fail/by-hand/CRATE/*.edit, of all crates or of those that are named. An edit has
+a line `file: src/lib.rt`, and then pairs of lines `old: TEXT` and `new: TEXT`, each TEXT one line;
+further pairs apply to what the earlier ones made. A line that begins with `#` says something to the
+reader.
 
 First it looks whether each edit applies: whether each old text stands in its file exactly once.
 With --check that is all. Else it copies the repository to a temporary folder, without .git but
