@@ -1,4 +1,5 @@
-//! Tests of the programs, of outlines, of what errors and refusals say, and of the README's examples.
+//! Tests of the programs, of the check of files, of outlines, of what errors and refusals say, and of the examples
+//! in README.md and docs/USING.md.
 #![tactic(auto)]
 
 #[cfg(test)]
