@@ -1,4 +1,4 @@
-//! The README's program but for its `main`, and the example of a generic type.
+//! The README's program but for its `main`, and the example of a generic type in docs/USING.md.
 
 use std::alloc::{AllocError, Global};
 use std::test::Fail;

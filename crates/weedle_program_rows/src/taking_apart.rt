@@ -1,4 +1,4 @@
-//! The README's example of definitions that are taken apart by move.
+//! The example of docs/USING.md of definitions that are taken apart by move.
 
 use std::alloc::{AllocError, Global};
 use std::test::Fail;
