@@ -4,7 +4,7 @@
     python3 tools/lines.py [FOLDER]
 
 FOLDER is a checkout of this repository, of any commit; without it the one is counted that the script
-stands in. What a script writes says so at its head, as tools/check.py has it. Counted is every line
+stands in. What a script writes says so at its head, as tools/write.py has it. Counted is every line
 of the files below src, specs and proofs, empty ones and comments too. Under the sums stands how many
 lines the scripts of tools have, which are by hand as well.
 
@@ -16,8 +16,8 @@ import sys
 from collections import Counter
 from pathlib import Path
 
-from check import writer_in
 from crates import PARTS, Unfit, files_of, read_lines
+from write import writer_in
 
 TOP = Path(__file__).resolve().parent.parent
 MAKERS = ("by hand", "written")

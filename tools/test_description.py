@@ -15,6 +15,7 @@ from description.imports import Names, uses_of
 from description.names import snake, upper
 from description.productions import forms, productions, unlike
 from description.readings import Declared, Unread
+from description.webidl import texts_of
 
 TEXT = """//! A file.
 
@@ -105,6 +106,12 @@ class RuleNames(unittest.TestCase):
         rules = [upper(it) for it in ("DOMString", "NaN", "Int8Array")]
         self.assertEqual(rules, ["DOM_STRING", "NAN", "INT8_ARRAY"])
         self.assertEqual(snake("ConstMember"), "const_member")
+
+
+class Keywords(unittest.TestCase):
+    def test_a_text_is_the_name_in_small_letters_or_stands_beside_it(self):
+        told = {"ReadOnly": "readonly", "AsyncGetter": "async_getter"}
+        self.assertEqual(texts_of("ReadOnly AsyncGetter=async_getter"), told)
 
 
 class Readings(unittest.TestCase):
