@@ -4,8 +4,8 @@
     python3 tools/write.py
 
 Files below crates/ that a script writes name it at their heads, as `Written by tools/grammar.py`.
-In a copy of the repository all of them are removed, each script of WRITERS is run, and each crate is
-laid out by `rt fmt`. What differs then is brought back: so where a script fails, nothing is changed.
+In a copy of the repository all of them are removed, each script of WRITERS is run, and each crate in
+which something differs is laid out by `rt fmt`. What differs then is brought back: so where a script fails, nothing is changed.
 What is written from another program's answers, FROM_OUTSIDE, is left as it is.
 
 It prints a line for each file that it changed, removed or wrote for the first time. It needs the
@@ -19,6 +19,7 @@ import shutil
 import subprocess
 import sys
 import tempfile
+from concurrent.futures import ThreadPoolExecutor
 from pathlib import Path
 
 from crates import Unfit, copy_crate, files_of, read_lines
@@ -74,6 +75,15 @@ def crate_folders(paths):
     return sorted({"/".join(path.split("/")[:2]) for path in paths})
 
 
+def lay_out(room, files):
+    """Lays out each crate that has a file which isn't among these."""
+    other = [path for path, data in sources(room).items() if files.get(path) != data]
+    with ThreadPoolExecutor() as pool:
+        ends = [pool.submit(call, ["rt", "fmt"], f"{room}/{it}") for it in crate_folders(other)]
+        for end in ends:
+            end.result()
+
+
 def write_anew(root, files):
     """The files of a copy of the repository in which all that scripts write is written anew."""
     if not shutil.which("rt"):
@@ -84,8 +94,7 @@ def write_anew(root, files):
             (Path(room) / path).unlink()
         for script in WRITERS:
             call([sys.executable, f"tools/{script}.py"], room)
-        for folder in crate_folders(sources(room)):
-            call(["rt", "fmt"], f"{room}/{folder}")
+        lay_out(room, files)
         return sources(room)
 
 
