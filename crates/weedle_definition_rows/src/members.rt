@@ -11,7 +11,8 @@ use weedle_namespaces::dictionary::DictionaryMember;
 use weedle_namespaces::namespace::NamespaceMember;
 use weedle_testing::{Unlike, reads, refuses};
 
-/// What is read of each text, as members of an interface.
+/// What is read of each text, as members of an interface: a list of one, since the same over a member itself meets
+/// the prover's limit of steps, where two types are compared.
 fn reads_members<'a>(alloc: Global, rows: &[(&'a str, &str)]) -> Result<(), Unlike<'a>> {
     reads::<Vec<InterfaceMember<'_>>>(alloc, rows)
 }
