@@ -44,10 +44,15 @@ impl From<AllocError> for Fault {
     }
 }
 
-/// What fails with it is a write: all other calls say by themselves what their errors are.
+/// What fails with it is a write, or the making of the room for one: all other calls say by themselves what their
+/// errors are.
 impl From<io::Error> for Fault {
-    fn from(_error: io::Error) -> Fault {
-        Fault::Output
+    fn from(error: io::Error) -> Fault {
+        if error.kind() == ErrorKind::OutOfMemory {
+            Fault::Memory
+        } else {
+            Fault::Output
+        }
     }
 }
 
