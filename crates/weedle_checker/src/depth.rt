@@ -1,7 +1,7 @@
 //! How deep a text may nest.
 
 use crate::arguments::Task;
-use weedle::nesting;
+use weedle_nesting::nesting;
 
 /// How many levels a text may nest that is read, and let go of.
 const MOST_READ: usize = 6_000;

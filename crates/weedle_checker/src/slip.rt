@@ -3,7 +3,9 @@
 use crate::excerpt::write_excerpt;
 use std::alloc::{AllocError, Global};
 use std::io::{self, Write};
-use weedle::{Err, Refusal, explain, parse_quick, position_of};
+use weedle_base::Err;
+use weedle_explain::{Refusal, explain, position_of};
+use weedle_front::parse_quick;
 
 /// What is printed for a mark that some editors put in front of a text.
 const BYTE_ORDER_MARK: char = '\u{feff}';

@@ -7,7 +7,8 @@ use std::fmt::{self, Display, Formatter};
 use std::io::Write;
 use std::rt::Clock;
 use std::time::Instant;
-use weedle::{Err, Error, parse, parse_by_descent, parse_quick};
+use weedle_base::{Err, Error};
+use weedle_front::{parse, parse_by_descent, parse_quick};
 use weedle_nesting::suits_descent;
 use weedle_rules::Narrow;
 

@@ -4,9 +4,12 @@ use crate::fault::Fault;
 use std::alloc::Global;
 use std::fmt::Debug;
 use std::io::{self, Write};
-use weedle::{Definition, Err, Parse, Place, Position, parse, places, position_of};
-use weedle_base::sp;
+use weedle_base::{Err, Parse, sp};
+use weedle_explain::{Position, position_of};
+use weedle_front::parse;
+use weedle_idl::Definition;
 use weedle_nesting::suits_descent;
+use weedle_places::{Place, places};
 
 /// Writes each definition of a text that is read whole on a line, behind the line and the column at which it
 /// begins: `3:1 Interface(InterfaceDefinition { .. })`.

@@ -9,6 +9,8 @@ mod faults;
 #[cfg(test)]
 mod hostile;
 #[cfg(test)]
+mod listing;
+#[cfg(test)]
 mod outline;
 #[cfg(test)]
 mod program;

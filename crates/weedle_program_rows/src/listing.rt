@@ -1,8 +1,11 @@
-use super::{Task, USAGE, USAGE_STATUS, status_of, task_of};
+//! The arguments, statuses and lines of the program that lists definitions. They are those that USING.md
+//! promises.
+
 use std::alloc::{AllocError, Global};
 use std::env::Args;
 use std::test::Fail;
-use weedle_front::{RunFault, Status};
+use weedle::{RunFault, Status};
+use weedle_lister::{Task, USAGE, USAGE_STATUS, status_of, task_of};
 
 fn arguments(alloc: Global, words: &[&str]) -> Result<Args, AllocError> {
     let mut all = Vec::new(alloc);
