@@ -14,13 +14,14 @@ variant (tools/conversions.py), whether the `Drop` behind each declaration is wh
 
 It prints a line for each file that is stale, for each that no script writes though it says so, and
 for whatever else was found. It changes nothing. It needs the toolchain's command `rt` on PATH, and
-some seconds.
+five seconds of processor time: about two by the clock where four processors are idle.
 
 The status is 0 where nothing was found, 1 where something was, 2 where it could not be looked at.
 """
 
 import subprocess
 import sys
+from concurrent.futures import ThreadPoolExecutor
 
 from crates import Unfit
 from write import TOP, sources, write_anew, writer_in, writers
@@ -48,20 +49,32 @@ def stale_in(files, anew):
             yield f"{path}: stale, {script} otherwise"
 
 
-def looked():
-    """What the scripts print that look at the repository where it stands."""
-    for script, *words in LOOKS:
-        ran = subprocess.run(
-            [sys.executable, f"tools/{script}", *words], cwd=TOP, stdout=subprocess.PIPE, text=True
-        )
+def look(script, *words):
+    """Runs a script that looks at the repository where it stands."""
+    words = [sys.executable, f"tools/{script}", *words]
+    return subprocess.run(words, cwd=TOP, capture_output=True, text=True)
+
+
+def looked(ends):
+    """What such scripts print, where they find something."""
+    for ran in ends:
+        sys.stderr.write(ran.stderr)
         if ran.returncode:
             yield ran.stdout.strip()
 
 
+def found():
+    """All lines to print. The looks are taken while the files are written anew."""
+    files = sources(TOP)
+    with ThreadPoolExecutor() as pool:
+        ends = pool.map(lambda words: look(*words), LOOKS)
+        anew = write_anew(TOP, files)
+    return [*stale_in(files, anew), *looked(ends)]
+
+
 def main():
     try:
-        files = sources(TOP)
-        rows = [*stale_in(files, write_anew(TOP, files)), *looked()]
+        rows = found()
     except (Unfit, OSError) as why:
         print(f"check: {why}", file=sys.stderr)
         return 2

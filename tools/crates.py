@@ -1,5 +1,6 @@
 """Reads crates.txt: which crates a repository has, and what each of them stands on."""
 
+import os
 import re
 import shutil
 from pathlib import Path
@@ -61,9 +62,15 @@ def closure(lines, names):
 
 def files_of(root, name):
     """The files of a crate that a check reads, as paths from the root on, in their order."""
-    folders = [Path(root) / "crates" / name / part for part in PARTS]
-    files = [file for folder in folders for file in folder.rglob("*") if file.is_file()]
-    return sorted(file.relative_to(root).as_posix() for file in files)
+    begin = len(os.path.join(root, ""))
+    folders = [os.path.join(root, "crates", name, part) for part in PARTS]
+    files = [
+        f"{below}/{file}"
+        for folder in folders
+        for below, _, names in os.walk(folder)
+        for file in names
+    ]
+    return sorted(file[begin:] for file in files if os.path.isfile(file))
 
 
 def copy_crate(root, name, into):

@@ -2,6 +2,7 @@
 caller names them."""
 
 import re
+from functools import cached_property
 from pathlib import Path
 
 from crates import Unfit
@@ -77,14 +78,24 @@ class Module:
         found = ALIAS.findall(self.text)
         return {name: (of + FORMED * bool(former), over) for name, former, of, over in found}
 
+    @cached_property
+    def names(self):
+        """The names of the types that stand in it."""
+        return DECLARED.findall(self.text)
+
+    @cached_property
+    def imported(self):
+        """The path of each name that it brings in."""
+        return imported(self.text)
+
     def knows(self, name):
-        return name in DECLARED.findall(self.text) or name in imported(self.text)
+        return name in self.names or name in self.imported
 
     def path_of(self, name):
         """The path by which a caller names a type that is named here."""
-        if name in DECLARED.findall(self.text):
+        if name in self.names:
             return self.path
-        first, *parts = imported(self.text)[name].split("::")
+        first, *parts = self.imported[name].split("::")
         if first not in ("super", "crate"):
             return "::".join([first, *parts])
         parts = [*self.parts[:-1], *parts] if first == "super" else parts

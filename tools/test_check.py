@@ -4,9 +4,14 @@
     python3 tools/test_check.py
 """
 
+import io
+import subprocess
 import unittest
+from contextlib import redirect_stderr, redirect_stdout
+from unittest import mock
 
 import check
+from crates import Unfit
 
 HEAD = b"//! Terminals.\n//!\n//! Written by tools/terminals.py.\n"
 
@@ -33,6 +38,39 @@ class Stale(unittest.TestCase):
     def test_a_file_by_hand_that_a_script_overwrites(self):
         rows = self.rows({"a": b"x"}, {"a": b"y"})
         self.assertEqual(rows, ["a: stale, a script or `rt fmt` has it otherwise"])
+
+
+def ended(status, said="", fault=""):
+    return subprocess.CompletedProcess([], status, said, fault)
+
+
+class Found(unittest.TestCase):
+    def run_main(self, anew, *ends):
+        """The status and both outputs where this is written anew, and the looks end so."""
+        given = {
+            "sources": lambda top: {"a": HEAD},
+            "write_anew": mock.Mock(side_effect=anew if isinstance(anew, Exception) else [anew]),
+            "LOOKS": [[number] for number in range(len(ends))],
+            "look": lambda number: ends[number],
+        }
+        with mock.patch.multiple(check, **given):
+            with redirect_stdout(io.StringIO()) as out, redirect_stderr(io.StringIO()) as err:
+                return check.main(), out.getvalue(), err.getvalue()
+
+    def test_nothing(self):
+        self.assertEqual(self.run_main({"a": HEAD}, ended(0, "much"), ended(0)), (0, "", ""))
+
+    def test_stale_files_come_first_and_then_each_look_in_its_order(self):
+        found = self.run_main({}, *(ended(1, f"{it}\n") for it in range(5)))
+        rows = ["a: no script writes it, though it names tools/terminals.py", *"01234"]
+        self.assertEqual(found, (1, "\n".join(rows) + "\n", ""))
+
+    def test_a_look_that_fails_counts_as_found(self):
+        self.assertEqual(self.run_main({"a": HEAD}, ended(1, "", "why\n")), (1, "\n", "why\n"))
+
+    def test_where_nothing_can_be_written_no_look_is_told(self):
+        found = self.run_main(Unfit("why"), ended(1, "x", "y"))
+        self.assertEqual(found, (2, "", "check: why\n"))
 
 
 if __name__ == "__main__":

@@ -4,9 +4,11 @@
     python3 tools/test_write.py
 """
 
+import os
 import tempfile
 import unittest
 from pathlib import Path
+from unittest import mock
 
 import write
 
@@ -21,33 +23,96 @@ class Heads(unittest.TestCase):
     def test_only_a_head_counts(self):
         self.assertIsNone(write.writer_in("//! By hand.\n\n\n// as written by tools/x.py\n"))
 
-    def test_crates_of_paths(self):
-        paths = ["crates/b/src/x.rt", "crates/a/proofs/x/y.antt", "crates/b/specs/z.antt"]
-        self.assertEqual(write.crate_folders(paths), ["crates/a", "crates/b"])
+
+def put(root, files):
+    """Writes the files of a made-up repository."""
+    for path, data in files.items():
+        (Path(root) / path).parent.mkdir(parents=True, exist_ok=True)
+        (Path(root) / path).write_bytes(data)
 
 
 class Copies(unittest.TestCase):
-    def test_what_a_check_reads_is_copied(self):
+    def copied(self, files):
+        """What a copy of a repository of these files holds: files by their paths, and folders."""
         with tempfile.TemporaryDirectory() as here, tempfile.TemporaryDirectory() as there:
-            source = Path(here) / "crates/a/src/lib.rt"
-            source.parent.mkdir(parents=True)
-            source.write_bytes(HEAD)
-            (Path(here) / "crates.txt").write_text("a:\n")
-            (Path(here) / "tools").mkdir()
-            (Path(here) / "crates/a/out").mkdir()
-            (Path(here) / "crates/a/out/kept").write_text("no source")
-            write.copy(here, there)
-            self.assertEqual(write.sources(there), {"crates/a/src/lib.rt": HEAD})
-            self.assertFalse((Path(there) / "crates/a/out").exists())
+            put(here, {**files, "crates.txt": b"a:\n", "tools/x.py": b"1"})
+            write.copy(here, write.sources(here), there)
+            found = {it.relative_to(there).as_posix(): it for it in Path(there).rglob("*")}
+            data = {path: it.read_bytes() for path, it in found.items() if it.is_file()}
+            return data, found.keys() - data.keys()
+
+    def test_what_a_check_reads_is_copied(self):
+        data, _ = self.copied({"crates/a/src/lib.rt": b"x", "crates/a/out/kept": b"no source"})
+        there = {"crates/a/src/lib.rt": b"x", "crates.txt": b"a:\n", "tools/x.py": b"1"}
+        self.assertEqual(data, there)
+
+    def test_what_scripts_write_is_left_out_but_for_its_folder(self):
+        data, folders = self.copied({"crates/a/src/b/c.rt": HEAD, "crates/a/proofs/D.antt": b"d"})
+        self.assertNotIn("crates/a/src/b/c.rt", data)
+        self.assertIn("crates/a/proofs/D.antt", data)
+        self.assertIn("crates/a/src/b", folders)
+
+    def test_what_comes_from_outside_is_copied(self):
+        rows = b"//! Rows. Written by tools/weedle2_rows.py.\n"
+        self.assertEqual(self.copied({"crates/a/src/r.rt": rows})[0]["crates/a/src/r.rt"], rows)
+
+
+# What stands for `rt fmt`: it says where it runs, and adds a line to each file below src.
+LAYS_OUT = """#!/bin/sh
+test "$1" = fmt || exit 2
+pwd >> "$CALLS"
+find src -type f | sort | while read -r file; do echo laid >> "$file"; done
+"""
+
+
+class Layouts(unittest.TestCase):
+    def laid_out(self, files, anew):
+        """The files of a room after it was laid out, and how often `rt` was called."""
+        with tempfile.TemporaryDirectory() as folder:
+            room, calls = Path(folder, "room"), Path(folder, "calls")
+            put(room, {**anew, "crates.txt": b"a:\nb:\nc:\n"})
+            put(folder, {"bin/rt": LAYS_OUT.encode(), "calls": b""})
+            Path(folder, "bin/rt").chmod(0o755)
+            path = f"{folder}/bin{os.pathsep}{os.environ['PATH']}"
+            with mock.patch.dict(os.environ, PATH=path, CALLS=str(calls)):
+                write.lay_out(room, files)
+            return write.sources(room), len(calls.read_text().splitlines())
+
+    def test_each_crate_with_a_file_that_differs_is_laid_out_as_a_whole(self):
+        files = {f"crates/{it}/src/lib.rt": b"x\n" for it in "abc"}
+        files["crates/b/proofs/P.antt"] = b"p\n"
+        found, calls = self.laid_out(files, {**files, "crates/b/src/lib.rt": b"y\n"})
+        laid = {"crates/b/src/lib.rt": b"y\nlaid\n", "crates/b/proofs/P.antt": b"p\nlaid\n"}
+        self.assertEqual(found, {**files, **laid})
+        self.assertEqual(calls, 1)
+
+    def test_several_crates_take_no_more_calls_than_there_are_processors(self):
+        anew = {f"crates/{it}/src/lib.rt": b"x\n" for it in "abc"}
+        with mock.patch("os.cpu_count", return_value=2):
+            found, calls = self.laid_out({}, anew)
+        self.assertEqual(found, {path: b"x\nlaid\n" for path in anew})
+        self.assertEqual(calls, 2)
+
+    def test_nothing_is_laid_out_where_nothing_differs(self):
+        files = {"crates/a/src/lib.rt": b"x\n"}
+        self.assertEqual(self.laid_out(files, files), (files, 0))
+
+    def test_the_size_of_a_crate_is_that_of_its_code(self):
+        files = {"crates/a/src/b.rt": b"12", "crates/a/specs/B.antt": b"3", "crates/c/src/d.rt": b""}
+        anew = {**files, "crates/a/specs/B.antt": b"456"}
+        self.assertEqual(write.sizes_of(files, anew), {"a": 2})
+
+    def test_shares_are_of_about_the_same_size(self):
+        found = write.shares({"a": 1, "b": 5, "c": 3, "d": 2}, 2)
+        self.assertEqual(found, [["b", "a"], ["c", "d"]])
+        self.assertEqual(write.shares({"a": 0}, 4), [["a"]])
 
 
 class Brought(unittest.TestCase):
     def test_what_differs_is_changed_removed_or_new(self):
         with tempfile.TemporaryDirectory() as root:
             files = {f"crates/a/src/{name}.rt": HEAD for name in ("kept", "gone", "other")}
-            for path, data in files.items():
-                (Path(root) / path).parent.mkdir(parents=True, exist_ok=True)
-                (Path(root) / path).write_bytes(data)
+            put(root, files)
             anew = {**files, "crates/a/src/other.rt": b"x", "crates/a/src/b/first.rt": HEAD}
             del anew["crates/a/src/gone.rt"]
             rows = list(write.bring(root, files, anew))
@@ -59,12 +124,6 @@ class Brought(unittest.TestCase):
 
     def test_nothing_where_all_is_the_same(self):
         self.assertEqual(list(write.bring("nowhere", {"a": HEAD}, {"a": HEAD})), [])
-
-
-class Orders(unittest.TestCase):
-    def test_each_writer_is_a_script(self):
-        for script in write.WRITERS:
-            self.assertTrue((write.TOP / f"tools/{script}.py").is_file(), script)
 
 
 if __name__ == "__main__":

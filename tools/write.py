@@ -4,16 +4,19 @@
     python3 tools/write.py
 
 Files below crates/ that a script writes name it at their heads, as `Written by tools/grammar.py`.
-In a copy of the repository all of them are removed, each script of WRITERS is run, and each crate in
-which something differs is laid out by `rt fmt`. What differs then is brought back: so where a script fails, nothing is changed.
-What is written from another program's answers, FROM_OUTSIDE, is left as it is.
+In a copy of the repository without them tools/run_writers.py runs the scripts, and each crate in
+which something differs is laid out by `rt fmt`. What differs then is brought back: so where a
+script fails, nothing is changed. What is written from another program's answers, FROM_OUTSIDE, is
+left as it is.
 
 It prints a line for each file that it changed, removed or wrote for the first time. It needs the
-toolchain's command `rt` on PATH, and some seconds. tools/check.py says in the same way what is stale.
+toolchain's command `rt` on PATH, and about two seconds where four processors are idle.
+tools/check.py says in the same way what is stale.
 
 The status is 0 where all is written, also where nothing was to change, and 2 where a script failed.
 """
 
+import os
 import re
 import shutil
 import subprocess
@@ -22,20 +25,16 @@ import tempfile
 from concurrent.futures import ThreadPoolExecutor
 from pathlib import Path
 
-from crates import Unfit, copy_crate, files_of, read_lines
+from crates import LIST, Unfit, files_of, read_lines
 
 TOP = Path(__file__).resolve().parent.parent
-# The scripts that write below crates/, each behind those whose files it reads. The lines of modules.py come
-# twice: of types before others name them, and of written files when they are there.
-WRITERS = (
-    "grammar terminals drops in_step modules trees types_impls types_proofs build_types build_types_proofs "
-    "idl_proofs builds spellings impls orders modules"
-).split()
 # What these write comes from programs that the gate hasn't, as weedle2's answers: it is left as it is.
 FROM_OUTSIDE = ("tools/weedle2_rows.py",)
 WRITTEN = re.compile(r"[Ww]ritten by (tools/\w+\.py)")
 # A head is short; further down a file may speak of scripts.
 HEAD_LINES = 3
+# Where files are made in memory, on systems that have it: a disk takes long to make a thousand.
+MEMORY = "/dev/shm"
 
 
 def writer_in(text):
@@ -56,12 +55,14 @@ def writers(files):
     return {it: script for it, script in found.items() if script and script not in FROM_OUTSIDE}
 
 
-def copy(root, into):
-    """Copies what scripts and checks read."""
-    for name in read_lines(root):
-        copy_crate(root, name, into)
-    shutil.copyfile(Path(root) / "crates.txt", Path(into) / "crates.txt")
-    shutil.copytree(Path(root) / "tools", Path(into) / "tools")
+def copy(root, files, into):
+    """Makes a copy for the scripts: their own files are left out, though the folders are there."""
+    for folder in {Path(into, path).parent for path in files}:
+        folder.mkdir(parents=True, exist_ok=True)
+    for path in files.keys() - writers(files).keys():
+        Path(into, path).write_bytes(files[path])
+    shutil.copyfile(Path(root, LIST), Path(into, LIST))
+    shutil.copytree(Path(root, "tools"), Path(into, "tools"))
 
 
 def call(words, folder):
@@ -71,29 +72,59 @@ def call(words, folder):
         raise Unfit(f"{' '.join(words)} failed:\n{ran.stdout.strip()}")
 
 
-def crate_folders(paths):
-    return sorted({"/".join(path.split("/")[:2]) for path in paths})
+def crate_of(path):
+    return path.split("/")[1]
+
+
+def sizes_of(files, anew):
+    """The crates with a file that isn't among these, each with the size of its code."""
+    sizes = {crate_of(path): 0 for path, data in anew.items() if files.get(path) != data}
+    for path, data in anew.items():
+        if crate_of(path) in sizes and path.endswith(".rt"):
+            sizes[crate_of(path)] += len(data)
+    return sizes
+
+
+def shares(sizes, count):
+    """Crates dealt out into at most so many shares of about the same size."""
+    found = [[] for _ in range(count)]
+    for crate in sorted(sizes, key=sizes.get, reverse=True):
+        min(found, key=lambda share: sum(map(sizes.get, share))).append(crate)
+    return [share for share in found if share]
+
+
+def lay_out_together(room, crates):
+    """Lays out some crates by one call, as the parts of one crate: `rt fmt` takes long to begin."""
+    with tempfile.TemporaryDirectory(dir=room) as one:
+        home, parts = Path(room, "crates"), Path(one, "src")
+        parts.mkdir()
+        for crate in crates:
+            (home / crate).rename(parts / crate)
+        call(["rt", "fmt"], one)
+        for crate in crates:
+            (parts / crate).rename(home / crate)
 
 
 def lay_out(room, files):
     """Lays out each crate that has a file which isn't among these."""
-    other = [path for path, data in sources(room).items() if files.get(path) != data]
+    found = shares(sizes_of(files, sources(room)), os.cpu_count() or 1)
     with ThreadPoolExecutor() as pool:
-        ends = [pool.submit(call, ["rt", "fmt"], f"{room}/{it}") for it in crate_folders(other)]
-        for end in ends:
+        for end in [pool.submit(lay_out_together, room, it) for it in found]:
             end.result()
+
+
+def new_room():
+    """A folder that goes when it is done with."""
+    return tempfile.TemporaryDirectory(dir=MEMORY if os.access(MEMORY, os.W_OK) else None)
 
 
 def write_anew(root, files):
     """The files of a copy of the repository in which all that scripts write is written anew."""
     if not shutil.which("rt"):
         raise Unfit("the toolchain's command rt isn't on PATH")
-    with tempfile.TemporaryDirectory() as room:
-        copy(root, room)
-        for path in writers(files):
-            (Path(room) / path).unlink()
-        for script in WRITERS:
-            call([sys.executable, f"tools/{script}.py"], room)
+    with new_room() as room:
+        copy(root, files, room)
+        call([sys.executable, "tools/run_writers.py"], room)
         lay_out(room, files)
         return sources(room)
 

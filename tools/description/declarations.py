@@ -5,6 +5,8 @@ aren't public nothing is read. Comments are kept where they are docs.
 """
 
 import re
+from copy import copy
+from functools import cache
 from pathlib import Path
 
 # A declaration up to what encloses its parts, or up to its `;` or `=`.
@@ -91,6 +93,7 @@ def split(text):
     return [*found, part.strip()] if part.strip() else found
 
 
+@cache
 def type_of(text):
     """The Type of a type's text; lifetimes are left out."""
     text = text.strip()
@@ -160,7 +163,13 @@ def derived_in(head):
 
 
 def declared_in(text):
-    """The declarations of a file, in their order."""
+    """The declarations of a file, in their order. A caller may note in them where they stand."""
+    return [copy(it) for it in once_declared_in(text)]
+
+
+@cache
+def once_declared_in(text):
+    """The same, read once: many files are read again for each crate that stands on them."""
     found = []
     for begin in BEGIN.finditer(text):
         kind, name, parameters, sign = begin.groups()
@@ -183,7 +192,7 @@ def declared_by(root, crate):
     """The declarations of a crate, with their crate and module, file by file."""
     source = Path(root) / "crates" / crate / "src"
     for path in sorted(source.rglob("*.rt")):
+        module = ".".join(path.relative_to(source).with_suffix("").parts)
         for declaration in declared_in(path.read_text(encoding="utf-8")):
-            declaration.crate = crate
-            declaration.module = ".".join(path.relative_to(source).with_suffix("").parts)
+            declaration.crate, declaration.module = crate, module
             yield declaration

@@ -1,8 +1,10 @@
 """Names of rules and of values, made of the names of types."""
 
 import re
+from functools import cache
 
 
+@cache
 def upper(name):
     """The name of a type's rule: of `ConstMember` it is `CONST_MEMBER`."""
     if name == "NaN":

@@ -29,8 +29,9 @@ def stated_in(folder):
     """The file, from a folder on, that states each name there."""
     found = {}
     for path in sorted(folder.rglob("*.antt")):
+        parts = path.relative_to(folder).with_suffix("").parts
         for name in STATED.findall(path.read_text(encoding="utf-8")):
-            found.setdefault(name, path.relative_to(folder).with_suffix("").parts)
+            found.setdefault(name, parts)
     return found
 
 
