@@ -20,6 +20,10 @@ class Heads(unittest.TestCase):
         self.assertEqual(write.writer_in(HEAD.decode()), "tools/terminals.py")
         self.assertEqual(write.writer_in("-- A law. Written by tools/x.py.\n"), "tools/x.py")
 
+    def test_a_head_may_be_long(self):
+        text = "//! Rules.\n//!\n//! More of them.\n//!\n//! Written by tools/x.py.\n\nuse crate::y;\n"
+        self.assertEqual(write.writer_in(text), "tools/x.py")
+
     def test_only_a_head_counts(self):
         self.assertIsNone(write.writer_in("//! By hand.\n\n\n// as written by tools/x.py\n"))
 

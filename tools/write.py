@@ -31,15 +31,15 @@ TOP = Path(__file__).resolve().parent.parent
 # What these write comes from programs that the gate hasn't, as weedle2's answers: it is left as it is.
 FROM_OUTSIDE = ("tools/weedle2_rows.py",)
 WRITTEN = re.compile(r"[Ww]ritten by (tools/\w+\.py)")
-# A head is short; further down a file may speak of scripts.
-HEAD_LINES = 3
+# A head is the comment that a file begins with; further down a file may speak of scripts.
+HEAD = re.compile(r"(?:(?://!|--).*\n)*")
 # Where files are made in memory, on systems that have it: a disk takes long to make a thousand.
 MEMORY = "/dev/shm"
 
 
 def writer_in(text):
     """The script that a file's head names, or None."""
-    found = WRITTEN.search("\n".join(text.split("\n")[:HEAD_LINES]))
+    found = WRITTEN.search(HEAD.match(text)[0])
     return found and found[1]
 
 
