@@ -20,9 +20,9 @@ from building.functions import functions_in, plain_functions
 from building.group import BUILT, FILES, TOP, file_of, paths
 from building.held import held_functions, plain_builds
 from description.uses import code_uses, ghost_uses, stated
+from written_places import ABOVE, in_logic, put
 
 CRATE = "weedle_build_types"
-SOURCE = TOP / "crates" / CRATE / "src"
 HEAD = "//! {}\n//!\n//! Written by tools/build_types.py.\n"
 OWN_STEPS = "#![tactic(auto, using(weedle_build_base::proofs::Finding::own_steps))]\n"
 HELD = """/// How a `T` is built. It is the `Build` of a type that stands in another crate.
@@ -37,12 +37,12 @@ OUTER = {
     "weedle_build_base":
         "At Build BuildResult Last alternative choice five_fields four_fields sequence three_fields visit",
     "weedle_rules": "Ends Rule",
-    "super::steps": "keep optional",
+    f"{ABOVE}::steps": "keep optional",
     "super::plain_types": "plain_type",
     "crate::held": "Held",
 }
 # What contracts name, module by module, in the order in which it is brought in.
-TABLE, BASE = "Rattle.weedle_grammar.specs.Table.Types", "Rattle.weedle_build_base.specs.Built"
+TABLE, BASE = in_logic("weedle_grammar.specs.Table.Types"), "Rattle.weedle_build_base.specs.Built"
 VALUES, TREES = "Rattle.weedle_parts.specs.ValueTrees", "Rattle.weedle_types.specs.Trees"
 NAMED = {
     "Rattle.std.specs.Prelude": ["IfOk", "◌≡◌", "◌≢◌", "◌≤◌"],
@@ -76,7 +76,7 @@ def files():
 
 def main():
     for path, text in files():
-        (SOURCE / path).write_text(text, encoding="utf-8")
+        put(TOP, f"{CRATE}/src/{path}", text)
 
 
 if __name__ == "__main__":

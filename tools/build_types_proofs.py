@@ -6,6 +6,9 @@ type. From this follow, in crates/weedle_build_types/proofs/types/+group, what f
 goals that no search finds: that each part is due where the ones before it were built, and that the whole was
 built.
 
+Where written files stand in folders of their own, it writes the proofs of the functions that put a variant
+behind the values of a list too, as `keep_union`: else these stand by hand.
+
 Run it from the top of the repository.
 """
 from pathlib import Path
@@ -15,23 +18,25 @@ from description.imports import use, uses_of
 from description.names import snake
 from description.readings import Declared
 from description.webidl import BY_NAME
+from written_places import IS_APART, in_logic, place, put
 
 TOP = Path(".")
-CRATE = TOP / "crates/weedle_build_types"
-OUT = CRATE / "proofs/types/+group"
+CRATE = "weedle_build_types"
+GROUP = f"{CRATE}.proofs.types.+group"
 HEAD = "-- Written by tools/build_types_proofs.py."
 
 # A part is a field's name, how it is built, and by which rule or function: a Word by its rule, an Optional part
 # by its rule and its item's, a Call of a function of the group, and a Held one of a value that goes into a box.
 WORD, OPTIONAL, CALL, HELD = "word", "optional", "call", "held"
 FILES = ("kinds", "generic_types", "unions", "attributes", "arguments")
+FOLDER = TOP / place(f"{CRATE}/src/types/{FILES[0]}.rt").parent
 # The function that puts a value into a list, and gives none.
 ADDING = Function("add_union_member_type", "unions", "UnionMemberType", "UNION_MEMBER_TYPE", "union_member_type_tree")
 # The functions of enums where the search needs the laws of the trees.
 NEEDY = ("type_", "non_any_type", "extended_attribute", "argument")
 
 DECLARED = Declared.of(TOP)
-FUNCTIONS = sorted([*functions_of(CRATE / "src/types", FILES), ADDING], key=lambda it: FILES.index(it.file))
+FUNCTIONS = sorted([*functions_of(FOLDER, FILES), ADDING], key=lambda it: FILES.index(it.file))
 BUILT_BY = {DECLARED.whole(it.type): it for it in FUNCTIONS}
 
 
@@ -244,11 +249,11 @@ def answers():
 
 
 # What the files name, module by module, in the order in which they bring them in.
-TABLE = "Rattle.weedle_grammar.specs.Table"
+TABLE, BOUND = in_logic("weedle_grammar.specs.Table"), in_logic("weedle_grammar.specs.Bound")
 BASE, OWN, TYPES = "Rattle.weedle_build_base.proofs", "Rattle.weedle_build_types.proofs", "Rattle.weedle_types"
 MODULES = {
     "Invariants": [
-        "Rattle.weedle_grammar.specs.Bound", f"{TABLE}.Keywords", f"{TABLE}.Symbols", f"{TABLE}.Types",
+        BOUND, f"{TABLE}.Keywords", f"{TABLE}.Symbols", f"{TABLE}.Types",
         f"{TYPES}.specs.Trees", f"{BASE}.Separated",
     ],
     "Answers": [
@@ -262,12 +267,39 @@ STANDARD = {"Invariants": "ℕ ◌+◌ ◌-◌ ◌*◌ length map".split(), "Ans
 
 def write(name, about, body, goals):
     lines = [f"-- {about}", "--", HEAD, use("Rattle.std.proofs.Common", STANDARD[name])]
-    lines += [*uses_of(TOP, body, MODULES[name]), f"use {OWN}.types.+group.{goals} as goal"]
-    (OUT / f"{name}.antt").write_text("\n".join([*lines, "", body]))
+    lines += [*uses_of(TOP, body, MODULES[name]), f"use {in_logic(GROUP)}.{goals} as goal"]
+    put(TOP, f"{GROUP.replace('.', '/')}/{name}.antt", "\n".join([*lines, "", body]))
+
+
+KEPT = """\
+{head}
+use Rattle.weedle_types.proofs.TreeLaws.{{{law}}}
+use {module}.Goals as goal
+
+pub returns : goal.returns
+returns c = record {{
+  member = c.in_ok-member.member;
+  from = c.in_ok-member.at;
+  was = c.in_ok-member.was;
+  value = _;
+  is = {law} c.in_ok-member.member;
+  items = c.in_ok-push.ensures.items;
+  visited = c.visit.ensures;
+}}
+"""
+
+
+def kept():
+    """The proofs of the functions that put a variant behind the values of a list, by their modules."""
+    for variant, _ in DECLARED.parts_of(ADDING.type):
+        module = f"{CRATE}.proofs.types.{ADDING.file}.keep_{snake(variant)}"
+        law = TREE_LAWS[snake(ADDING.type.name), variant]
+        yield module, KEPT.format(head=HEAD, law=law, module=in_logic(module))
 
 
 def main():
-    OUT.mkdir(parents=True, exist_ok=True)
+    for module, text in kept() if IS_APART else ():
+        put(TOP, f"{module.replace('.', '/')}/Answers.antt", text)
     about = "Each call builds from a later place, or from the same place by a rule of a smaller number."
     write("Invariants", about, invariants(), "Given")
     about = "Each part is due where the ones before it were built, and the whole is built of its parts."

@@ -28,6 +28,7 @@ from description.readings import CRATES
 from description.uses import ghost_line
 from description.webidl import BY_NAME, KEYWORDS, NUMBER, SCANNED, SECTIONS
 from written.imports import imported
+from written_places import files_in, in_logic, module_in, put
 
 TOP = Path(__file__).resolve().parent.parent
 # Each file, below src of its crate: what it is about, and the crates or modules whose types are built there.
@@ -62,6 +63,7 @@ BASE = "weedle_build_base"
 TYPES, TYPES_BUILT = "weedle_types", "weedle_build_types"
 COUNTS = "no one two three four five six seven eight".split()
 STEPS = "proofs::Finding::own_steps"
+TABLE = in_logic("weedle_grammar.specs.Table")
 HEAD = """//! {about}
 //!
 //! Written by tools/builds.py.
@@ -94,11 +96,13 @@ def crates_built():
 
 def parts_declared(root, crate):
     """The declarations of a crate of the second pass; what is for itself alone is marked as inner."""
-    for path in sorted(source_of(root, crate).glob("*.rt")):
+    source = source_of(root, crate)
+    for path in files_in(source, ".rt"):
         text = path.read_text(encoding="utf-8")
         public = {it.name for it in declared_in(text)}
         for it in declared_in(text.replace("pub(crate) ", "pub ")):
-            it.crate, it.module, it.is_inner = crate, path.stem, it.name not in public
+            it.crate, it.is_inner = crate, it.name not in public
+            it.module = ".".join(module_in(source, path))
             yield it
 
 
@@ -266,7 +270,7 @@ class File:
     def __init__(self, root, parts, place, about, *sources):
         self.root, self.parts, self.about = root, parts, about
         self.crate, _, module = place.partition("/")
-        self.path = source_of(root, self.crate) / f"{module}.rt"
+        self.path = f"{self.crate}/src/{module}.rt"
         self.uses = read_lines(root)[self.crate].uses
         self.built, self.trees, self.sources = [], {}, sources
         for source in sources:
@@ -278,9 +282,10 @@ class File:
 
     def built_of(self, crate, module=""):
         """The types of a crate, or of one of its modules, that have a rule of their own and keep no text."""
-        for path in sorted((self.root / "crates" / crate / "specs").glob("*.antt")):
+        specs = self.root / "crates" / crate / "specs"
+        for path in files_in(specs, ".antt"):
+            home = ".".join([f"Rattle.{crate}.specs", *module_in(specs, path)])
             trees = TREE.findall(path.read_text(encoding="utf-8"))
-            home = f"Rattle.{crate}.specs.{path.stem}"
             self.trees.update({type_: (tree, home) for tree, type_ in trees})
         for it in declared_by(self.root, crate):
             rule = BY_NAME.get(upper(it.name))
@@ -297,10 +302,10 @@ class File:
         if not all(it.has_constant for it in self.built):
             add(paths, f"Rattle.{BASE}.specs.Fits", "bracket_fits", "fits_seq")
             add(paths, "Rattle.weedle_build_types.specs.Fits", "many_fits")
-            add(paths, "Rattle.weedle_grammar.specs.Table", "row_of as row_of_rule", "shape_of")
+            add(paths, TABLE, "row_of as row_of_rule", "shape_of")
         for section in sorted(SECTIONS, key=lambda it: it.name):
             if found := rules & {it.name for it in section.rules}:
-                add(paths, f"Rattle.weedle_grammar.specs.Table.{section.name}", *found)
+                add(paths, f"{TABLE}.{section.name}", *found)
         for tree, home in sorted((self.trees[it.name] for it in self.built), key=lambda it: it[::-1]):
             add(paths, home, tree)
         return "".join(ghost_line(path, sorted(names)) for path, names in paths.items())
@@ -350,7 +355,7 @@ def run(root):
     if names := unbuilt(files):
         raise Unfit(f"no file of FILES has {', '.join(names)}")
     for file in files:
-        file.path.write_text(file.text(), encoding="utf-8")
+        put(root, file.path, file.text())
     return sorted({file.crate for file in files})
 
 

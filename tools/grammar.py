@@ -27,9 +27,12 @@ from description.names import upper
 from description.webidl import (
     CAPITALIZED, KEYWORDS, NUMBER, RULES, SCANNED, SECTIONS, SYMBOLS, parts_of,
 )
+from written_places import TO_ABOVE, in_logic, put
 
-GRAMMAR = Path("crates/weedle_grammar")
-ENDS = Path("crates/weedle_rules")
+TOP = Path(".")
+GRAMMAR, ENDS = "weedle_grammar", "weedle_rules"
+TABLE, BOUND = in_logic(f"{GRAMMAR}.specs.Table"), in_logic(f"{GRAMMAR}.specs.Bound")
+FLAGS = in_logic(f"{GRAMMAR}.proofs.Takes")
 HEAD = "written by tools/grammar.py"
 
 
@@ -110,11 +113,6 @@ for r in RULES:
             sys.exit(f"{r.name} reads {x} before a byte is taken: write {x} above it")
 
 # Writing.
-def write(path, text):
-    path.parent.mkdir(parents=True, exist_ok=True)
-    path.write_text(text)
-
-
 def quoted(text):
     return '"' + text.replace('"', '\\"').replace("\n", "\\n") + '"'
 
@@ -163,7 +161,7 @@ def spec_section(s):
     out.append("use Rattle.weedle_grammar.specs.Entry.{Entry, rule}")
     for home in SECTIONS:
         if home.name in used:
-            out.append(f"use Rattle.weedle_grammar.specs.Table.{home.name}.{{" + ", ".join(sorted(used[home.name], key=NUMBER.get)) + "}")
+            out.append(f"use {TABLE}.{home.name}.{{" + ", ".join(sorted(used[home.name], key=NUMBER.get)) + "}")
     out.append("")
     for r in s.rules:
         out += [f"abbrev pub {r.name} : ℕ", f"{r.name} = {NUMBER[r.name]}", ""]
@@ -172,7 +170,7 @@ def spec_section(s):
         shape = r.shape if " " not in r.shape else f"({r.shape})"
         out.append(f"    rule {r.name} {shape} ({spec_row(r.row)}) ∷")
     out.append("    []")
-    write(GRAMMAR / f"specs/Table/{s.name}.antt", "\n".join(out) + "\n")
+    put(TOP, f"{GRAMMAR}/specs/Table/{s.name}.antt", "\n".join(out) + "\n")
 
 
 def spec_table():
@@ -182,7 +180,7 @@ def spec_table():
             "use Rattle.weedle_grammar.specs.Trees.{Outcome}",
             "use Rattle.weedle_grammar.specs.Meaning.{Shape, Silent, Grammar, ReadsBy}",
             "use Rattle.weedle_grammar.specs.Entry.{Entry, entry_at}"]
-    out += [f"use Rattle.weedle_grammar.specs.Table.{s.name}.{{{s.module}}}" for s in SECTIONS]
+    out += [f"use {TABLE}.{s.name}.{{{s.module}}}" for s in SECTIONS]
     out.append("")
     out += [f"pub mod {s.name}" for s in SECTIONS]
     out.append("")
@@ -195,7 +193,7 @@ def spec_table():
             "-- the grammar", "abbrev pub webidl : Grammar", "webidl = record { row = row_of; shape = shape_of }", "",
             "-- rule r at place p of the text has the outcome o",
             "abbrev pub Reads : List ℕ → ℕ → ℕ → Outcome → Type 0", "Reads text r p o = ReadsBy webidl text r p o"]
-    write(GRAMMAR / "specs/Table.antt", "\n".join(out) + "\n")
+    put(TOP, f"{GRAMMAR}/specs/Table.antt", "\n".join(out) + "\n")
 
 
 def plain_text(row):
@@ -239,7 +237,7 @@ def code_section(s):
     text = "".join(code_row(r.row) for r in s.rules)
     out = [f"//! {s.about}", "//!", f"//! {HEAD[0].upper() + HEAD[1:]}.", "",
            "ghost use Rattle.std.specs.Prelude.{◌≡◌, ◌<◌, ◌≤◌};",
-           "ghost use Rattle.weedle_grammar.specs.Table.{row_of};",
+           f"ghost use {TABLE}.{{row_of}};",
            "ghost use Rattle.weedle_grammar.specs.View.{row_view};", ""]
     if "Class::" in text:
         out.append("use crate::class::Class;")
@@ -262,7 +260,7 @@ def code_section(s):
         pattern = r.name if i + 1 < len(s.rules) else "_"
         out.append(f"        {pattern} => {code_row(r.row)},")
     out += ["    }", "}"]
-    write(GRAMMAR / f"src/grammar/{s.module}.rt", "\n".join(out) + "\n")
+    put(TOP, f"{GRAMMAR}/src/grammar/{s.module}.rt", "\n".join(out) + "\n")
 
 
 def code_grammar():
@@ -270,7 +268,7 @@ def code_grammar():
            "//! A constant is a rule's number. The rows of a section stand beside its constants.", "//!",
            f"//! {HEAD[0].upper() + HEAD[1:]}.", "",
            "ghost use Rattle.std.specs.Prelude.{◌≡◌};",
-           "ghost use Rattle.weedle_grammar.specs.Table.{row_of as the_row_of};",
+           f"ghost use {TABLE}.{{row_of as the_row_of}};",
            "ghost use Rattle.weedle_grammar.specs.View.{row_view};", "",
            "use crate::row::Row;", "use crate::rule::Rule;", ""]
     out += [f"pub mod {s.module};" for s in SECTIONS]
@@ -282,17 +280,17 @@ def code_grammar():
         out.append(f"{lead} number < {high} {{" if i + 1 < len(SECTIONS) else "    } else {")
         out.append(f"        {s.module}::row(number)")
     out += ["    }", "}"]
-    write(GRAMMAR / "src/grammar.rt", "\n".join(out) + "\n")
+    put(TOP, f"{GRAMMAR}/src/grammar.rt", "\n".join(out) + "\n")
 
 
 def set_number(crate, name, value):
-    path = crate / "src/lib.rt"
+    path = TOP / "crates" / crate / "src/lib.rt"
     if path.exists():
         path.write_text(re.sub(rf"pub const {name}: usize = \d+;", f"pub const {name}: usize = {value};", path.read_text()))
 
 
 def spec_bound():
-    write(GRAMMAR / "specs/Bound.antt", "\n".join([
+    put(TOP, f"{GRAMMAR}/specs/Bound.antt", "\n".join([
         f"-- How many rules there are. {HEAD[0].upper() + HEAD[1:]}.",
         "use Rattle.std.specs.Prelude.{ℕ}", "",
         "-- one more than the greatest number", "abbrev pub rule_count : ℕ", f"rule_count = {len(RULES)}"]) + "\n")
@@ -300,7 +298,7 @@ def spec_bound():
 
 
 def spec_reads():
-    write(ENDS / "specs/Bound.antt", "\n".join([
+    put(TOP, f"{ENDS}/specs/Bound.antt", "\n".join([
         f"-- How much is looked at for one cell. {HEAD[0].upper() + HEAD[1:]}.",
         "use Rattle.std.specs.Prelude.{ℕ}", "",
         "-- how often a byte or a cell is looked at, at most, to work a rule out at a place", "abbrev pub most_reads : ℕ",
@@ -333,24 +331,24 @@ def code_fill_section(s):
         stop = min(start + CALLS, high)
         out += [""] + fill_head("", f"fill_from_{start}", start, stop)
         out += [f"    fill_cell(reader, {s.module}::{RULES[n].name}, place);" for n in range(start, stop)] + ["}"]
-    write(ENDS / f"src/fill/place/{s.module}.rt", "\n".join(out) + "\n")
+    put(TOP, f"{ENDS}/src/fill/place/{s.module}.rt", "\n".join(out) + "\n")
 
 
 def code_fill_place():
     out = ["//! Works out the cells of one place, section by section.", "//!", f"//! {HEAD[0].upper() + HEAD[1:]}.", "",
            "ghost use Rattle.std.specs.Prelude.{◌≤◌, ◌+◌, ◌-◌, ◌*◌, length};",
-           "ghost use Rattle.weedle_grammar.specs.Bound.{rule_count};",
+           f"ghost use {BOUND}.{{rule_count}};",
            "ghost use Rattle.weedle_rules.specs.Filling.{IsFilled};", "",
            "use crate::cell::Cell;", "use crate::reader::Reader;", ""]
     out += [f"mod {s.module};" for s in SECTIONS]
     out += ["", "/// Works out the cells of all rules at a place, where all behind it are known.",
-            "#[inline(always)]", "pub(super) fn fill_place<C: Cell>(reader: &mut Reader<'_, C>, place: usize)",
+            "#[inline(always)]", f"{TO_ABOVE} fn fill_place<C: Cell>(reader: &mut Reader<'_, C>, place: usize)",
             "    requires within { place ≤ length reader.old.text }",
             "    requires next { IsFilled reader.old reader.old.text ((length reader.old.text - place) * rule_count) }",
             "    ensures { IsFilled reader.new reader.old.text ((length reader.old.text - place) * rule_count + rule_count) }",
             "{", "    reader.lay();"]
     out += [f"    {s.module}::fill(reader, place);" for s in SECTIONS] + ["}"]
-    write(ENDS / "src/fill/place.rt", "\n".join(out) + "\n")
+    put(TOP, f"{ENDS}/src/fill/place.rt", "\n".join(out) + "\n")
 
 
 def proof_takes():
@@ -363,13 +361,13 @@ def proof_takes():
         for i in range(0, len(flags), 12):
             out.append("    " + " ∷ ".join(flags[i:i + 12]) + " ∷")
         out.append("    []")
-        write(GRAMMAR / f"proofs/Takes/{s.name}.antt", "\n".join(out) + "\n")
+        put(TOP, f"{GRAMMAR}/proofs/Takes/{s.name}.antt", "\n".join(out) + "\n")
     joined = SECTIONS[-1].module
     for s in reversed(SECTIONS[:-1]):
         joined = f"{s.module} ++ {joined}" if s is SECTIONS[-2] else f"{s.module} ++ ({joined})"
     out = [f"-- Which rules always take a byte. {HEAD[0].upper() + HEAD[1:]}.",
            "use Rattle.std.proofs.Common.{ℕ, zero, suc, List, [], ◌∷◌, ◌++◌, Bool, false}"]
-    out += [f"use Rattle.weedle_grammar.proofs.Takes.{s.name}.{{{s.module}}}" for s in SECTIONS]
+    out += [f"use {FLAGS}.{s.name}.{{{s.module}}}" for s in SECTIONS]
     out.append("")
     out += [f"pub mod {s.name}" for s in SECTIONS]
     out += ["", "-- whether each rule does, in the order of their numbers", "abbrev pub flags : List Bool", f"flags = {joined}", "",
@@ -377,7 +375,7 @@ def proof_takes():
             "abbrev pub flag_at : List Bool → ℕ → Bool", "flag_at [] r = false", "flag_at (b ∷ bs) zero = b",
             "flag_at (b ∷ bs) (suc r) = flag_at bs r", "", "-- the rule takes a byte wherever it doesn't fail",
             "abbrev pub takes : ℕ → Bool", "takes r = flag_at flags r"]
-    write(GRAMMAR / "proofs/Takes.antt", "\n".join(out) + "\n")
+    put(TOP, f"{GRAMMAR}/proofs/Takes.antt", "\n".join(out) + "\n")
 
 
 def main():

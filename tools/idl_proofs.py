@@ -17,6 +17,7 @@ from description.imports import Names, use
 from description.names import snake, upper
 from description.readings import CRATES
 from proofs.idl_parts import DECLARED, TOP, files, tree_name
+from written_places import in_logic, put
 
 HEAD = "Written by tools/idl_proofs.py."
 # Names of the standard library, and those that no `pub` states, in the order in which they are written.
@@ -220,8 +221,8 @@ def answers(t, file):
     got = ", ".join(f"{name}_got_{k}" for k in range(last + 1))
     out = [f"-- Alternatives, each where those before it were a mismatch. {HEAD}",
            f"use {BASE}.proofs.Steps.{{exit_answers}}",
-           f"use Rattle.{file.crate}.proofs.{file.name}.{{{name}_fault, {got}}}",
-           f"use Rattle.{file.crate}.proofs.{path}.Goals as goal",
+           f"use {in_logic(f'{file.crate}.proofs.{file.name}')}.{{{name}_fault, {got}}}",
+           f"use {in_logic(f'{file.crate}.proofs.{path}')}.Goals as goal",
            f"use {BASE}.proofs.Direct.{{stop_first, stop_next, take_first, take_next}}"]
 
     def behind(step, k, fact):
@@ -241,9 +242,7 @@ def answers(t, file):
     fault = f"({name}_fault {behind('stop_next', last, 'c.in_err-rest.ensures')})"
     out += ["", "pub returns-in_err-rest : goal.returns-in_err-rest",
             f"returns-in_err-rest c = exit_answers c.from_residual.result {fault} c.from_residual.ensures.1"]
-    folder = file.proofs / path.replace(".", "/")
-    folder.mkdir(parents=True, exist_ok=True)
-    (folder / "Answers.antt").write_text("\n".join(out) + "\n")
+    put(TOP, f"{file.crate}/proofs/{path.replace('.', '/')}/Answers.antt", "\n".join(out) + "\n")
 
 
 def write(file):
@@ -251,7 +250,7 @@ def write(file):
     body = "\n".join(texts + [steps(t) for t in file.types if not t.is_enum or not t.pieces])
     variants = [use(f"{t.home}.TheVariants", [f"{name} as Is{name}" for name, _ in t.parts]) for t in file.types if t.is_enum]
     head = f"-- {file.about} {HEAD}\n" + "\n".join(NAMES.uses(body, variants)) + "\n\n"
-    (file.proofs / f"{file.name}.antt").write_text(head + body)
+    put(TOP, f"{file.crate}/proofs/{file.name}.antt", head + body)
     for t in file.types:
         if t.is_enum and t.pieces:
             answers(t, file)

@@ -25,6 +25,7 @@ from pathlib import Path
 
 from crates import Unfit
 from written.files import files_of
+from written_places import put
 
 TOP = Path(__file__).resolve().parent.parent
 CRATES = (
@@ -33,16 +34,11 @@ CRATES = (
 ).split()
 
 
-def write(path, text):
-    path.parent.mkdir(exist_ok=True)
-    path.write_text(text, encoding="utf-8")
-
-
 def run(root):
     """Writes the files."""
     for crate in CRATES:
         for path, text in list(files_of(root, crate)):
-            write(path, text)
+            put(root, path, text)
 
 
 def main():

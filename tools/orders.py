@@ -28,8 +28,8 @@ from description.flat import flat_variants
 from description.layout import COLUMNS, use_line
 from description.names import snake
 from description.readings import Declared
-from impls import write
 from terminals import label
+from written_places import in_logic, place, put
 
 TOP = Path(__file__).resolve().parent.parent
 # Each crate of laws: its modules, each with what it is about and the modules or crates that declare
@@ -203,7 +203,7 @@ def ghost_lines(crate, items, laws):
     if "ordering_then" in laws:
         lines += ghost_line("Rattle.std.specs.Ordering", ["ordering_then"])
     if enums:
-        lines += ghost_line(f"Rattle.{crate}.specs.Places", [it.place for it in enums])
+        lines += ghost_line(in_logic(f"{crate}.specs.Places"), [it.place for it in enums])
     for item in items:
         if item.is_former:
             lines += ghost_line(item.declared(), [f"{item.name} as {item.name}{FORMED}"])
@@ -279,46 +279,46 @@ def answers_text(crate, module, item, aliases):
             f"use Rattle.{own}.{quoted(item.name)} as type", *uses, f"use {RING}.TheViews as view",
             f"use {item.declared()}.{{{quoted(item.name)}}}",
             f"use {item.declared()}.TheVariants.{{{', '.join(variants)}}}",
-            f"use Rattle.{crate}.specs.Places.{{{item.place}}}",
+            f"use {in_logic(f'{crate}.specs.Places')}.{{{item.place}}}",
             f"use Rattle.{crate}.proofs.Choices.{{by_after, by_before, by_same, place_of}}",
         ]
         lines = enum_answers(item, aliases)
     else:
         lines = ["pub returns : goal.returns", "returns c = order.is"]
-    uses.append(f"use Rattle.{crate}.proofs.orders.{module}.{item.law}.Goals as goal")
+    uses.append(f"use {in_logic(f'{crate}.proofs.orders.{module}.{item.law}')}.Goals as goal")
     return "\n".join([f"-- {HEAD}", *uses, "", *lines]) + "\n"
 
 
 def files_of(root):
-    """Each file that is written, with its text."""
+    """Each file that is written, by its path below crates/, with its text."""
     aliases = {}
     for module in modules_of(root, FORMERS):
         aliases.update(module.aliases())
     for crate, modules in CRATES.items():
-        folder, enums = Path(root) / "crates" / crate, []
+        enums = []
         for module, (about, crates) in modules.items():
             items = [item for it in crates for one in modules_of(root, it) for item in one.items()]
             for item in items:
                 if item.is_former:
                     item.at(aliases[item.name][1])
                 if item.leads_back:
-                    path = folder / f"proofs/orders/{module}/{item.law}/Answers.antt"
+                    path = f"{crate}/proofs/orders/{module}/{item.law}/Answers.antt"
                     yield path, answers_text(crate, module, item, aliases)
             enums += [item for item in items if item.is_enum]
-            yield folder / f"src/orders/{module}.rt", laws_text(crate, about, items, aliases)
-        yield folder / "specs/Places.antt", places_text(enums)
+            yield f"{crate}/src/orders/{module}.rt", laws_text(crate, about, items, aliases)
+        yield f"{crate}/specs/Places.antt", places_text(enums)
 
 
 def run(root, is_check=False):
     """Writes what is stale, or leaves it, and gives what is said and whether all is well."""
     said = []
     for path, text in files_of(root):
-        if path.is_file() and path.read_text(encoding="utf-8") == text:
+        file = Path(root) / place(path)
+        if file.is_file() and file.read_text(encoding="utf-8") == text:
             continue
-        said.append(f"{'stale' if is_check else 'wrote'} {path.relative_to(root)}")
+        said.append(f"{'stale' if is_check else 'wrote'} {place(path)}")
         if not is_check:
-            path.parent.mkdir(parents=True, exist_ok=True)
-            write(path, text)
+            put(root, path, text)
     return said, not (is_check and said)
 
 

@@ -26,6 +26,7 @@ from description.readings import CRATES
 from proofs.idl_parts import DECLARED, TOP
 from proofs.spelling_terms import WHOLE, Item, definition, proof
 from proofs.spelt import HELPERS, function, is_made, type_text
+from written_places import IS_APART, in_crate, in_logic, put
 
 HEAD = "Written by tools/spellings.py."
 COLUMNS = 110
@@ -155,7 +156,7 @@ def law(item, stated):
 
 def law_function(item, stated, module):
     doc = filled(with_example(item.doc).split(), "", "/// ")
-    return (f"{doc}#[tactic(auto, using(crate::proofs::{module}::{item.base}_law))]\npub fn {item.fact}()\n"
+    return (f"{doc}#[tactic(auto, using({in_crate(module)}::{item.base}_law))]\npub fn {item.fact}()\n"
             f"    ensures {{ {contract(item, stated)} }}\n{{}}\n")
 
 
@@ -187,15 +188,11 @@ class Writer:
         self.proofs = Names(TOP, crates, {"Rattle.std.proofs.Common": ["refl"]})
         self.done = set()
 
-    def put(self, path, text):
-        (TOP / "crates" / path).write_text(text, encoding="utf-8")
-
     def put_logic(self, module, head, uses, body):
-        crate, folder, name = module.split(".")
-        self.put(f"{crate}/{folder}/{name}.antt", head + "\n".join(uses) + "\n\n" + body)
-        stated = dict.fromkeys(STATED.findall(body), f"Rattle.{module}")
+        put(TOP, f"{module.replace('.', '/')}.antt", head + "\n".join(uses) + "\n\n" + body)
+        stated = dict.fromkeys(STATED.findall(body), in_logic(module))
         self.proofs.stated.update(stated)
-        if folder == "specs":
+        if ".specs." in module:
             self.specs.stated.update(stated)
 
     def file(self, file):
@@ -214,11 +211,12 @@ class Writer:
         texts = [spelt(it, stated, known) for it in own if not it.is_box]
         body = "\n".join([*texts, "-- the laws\n" + "\n".join(law(it, stated) for it in with_law)])
         uses, said = imports(self.proofs, body, own), f"The laws of {file.of_what}."
-        self.put_logic(f"{file.crate}.proofs.{file.laws}", head_of(said, "-- "), uses, body)
+        module = f"{file.crate}.proofs.{file.laws}"
+        self.put_logic(module, head_of(said, "-- "), uses, body)
         ghosts = map(ghost, imports(self.proofs, "\n".join(contract(it, stated) for it in with_law)))
-        functions = "\n".join(law_function(it, stated, file.laws) for it in with_law)
-        self.put(f"{file.crate}/src/laws/{file.law_module}.rt",
-                 f"{head_of(said, '//! ')}\n{''.join(ghosts)}\n{functions}")
+        functions = "\n".join(law_function(it, stated, module) for it in with_law)
+        put(TOP, f"{file.crate}/src/laws/{file.law_module}.rt",
+            f"{head_of(said, '//! ')}\n{''.join(ghosts)}\n{functions}")
 
     def module(self, crate):
         """The module of a crate's laws: what is in its folder, by hand too."""
@@ -227,7 +225,7 @@ class Writer:
                  for path in sorted(folder.glob("*.rt"))}
         mods = "".join(f"mod {name};\n" for name in found)
         uses = "".join(f"pub {use_line(name, functions)}" for name, functions in found.items())
-        self.put(f"{crate}/src/laws.rt", f"{head_of(LAWS, '//! ')}\n{mods}\n{uses}")
+        put(TOP, f"{crate}/src/laws.rt", f"{head_of(LAWS, '//! ')}\n{mods}\n{uses}")
 
 
 def unwritten(done):
@@ -243,7 +241,7 @@ def main():
         writer.file(file)
     if names := list(unwritten(writer.done)):
         sys.exit(f"no file of FILES has {', '.join(names)}")
-    for crate in (TYPES, IDL):
+    for crate in () if IS_APART else (TYPES, IDL):
         writer.module(crate)
     print(f"{len(FILES)} files of {TYPES} and {IDL}")
 

@@ -11,6 +11,7 @@ from unittest import mock
 
 import builds
 from crates import Unfit
+from written_places import in_logic, place
 
 LINES = """weedle_term:
 low: weedle_term
@@ -129,7 +130,7 @@ DEFAULTS_WRITTEN = """//! Defaults.
 #![tactic(auto, using(weedle_build_base::proofs::Finding::own_steps))]
 
 ghost use Rattle.std.specs.Prelude.{◌≡◌};
-ghost use Rattle.weedle_grammar.specs.Table.Literals.{DEFAULT};
+ghost use TABLE.Literals.{DEFAULT};
 ghost use Rattle.low.specs.Trees.{default_tree};
 
 use crate::part::LowPart;
@@ -233,13 +234,14 @@ class BuildsTest(unittest.TestCase):
 
     def written(self, path):
         builds.run(self.root)
-        return flat((self.root / "crates" / path).read_text())
+        return flat((self.root / place(path)).read_text())
 
     def test_the_crates_that_have_files(self):
         self.assertEqual(builds.run(self.root), ["build_high", "build_low"])
 
     def test_a_struct_is_built_by_one_call(self):
-        self.assertEqual(self.written("build_low/src/defaults.rt"), flat(DEFAULTS_WRITTEN))
+        text = DEFAULTS_WRITTEN.replace("TABLE", in_logic("weedle_grammar.specs.Table"))
+        self.assertEqual(self.written("build_low/src/defaults.rt"), flat(text))
 
     def test_members_in_brackets_are_built_at_each_rule_of_that_row(self):
         text = self.written("build_low/src/low.rt")

@@ -11,6 +11,7 @@ from unittest import mock
 
 import impls
 from crates import Unfit
+from written_places import apart, in_logic, place
 
 MODULE = """//! Members.
 
@@ -57,7 +58,7 @@ FILES = {
     "low/src/member.rt": MODULE,
     "low/specs/Trees.antt": "pub member_tree :\npub definition_tree :\n",
     "low/proofs/MemberRules.antt": "pub ruleset member_steps\n",
-    "weedle_grammar/specs/Table/Members.antt": "abbrev pub MEMBER : Rule\n",
+    apart("weedle_grammar/specs/Table/Members.antt"): "abbrev pub MEMBER : Rule\n",
     "weedle_fields/src/lib.rt": "pub fn attributes_and_three<'a, A: Parse<'a>>(\n",
     "weedle_term/src/lib.rt": "#[derive(Clone, Copy)]\npub struct Word;\n",
     "weedle_types/src/copies.rt": """
@@ -76,7 +77,7 @@ ghost use Rattle.std.specs.Prelude.{◌↔◌, ◌≡◌};
 ghost use Rattle.weedle_base.specs.AlikeLaws.{equal_equivalence, seen_equivalence};
 ghost use Rattle.weedle_base.specs.Own.{own};
 ghost use Rattle.weedle_base.specs.OwnLaws.{own_lawful};
-ghost use Rattle.weedle_grammar.specs.Table.Members.{MEMBER};
+ghost use TABLE.Members.{MEMBER};
 
 use super::{Definition, Either, Member};
 use leaves::{Sign, Word};
@@ -86,7 +87,7 @@ use weedle_base::{IResult, Parse, TryClone};
 use weedle_fields::attributes_and_three;
 use weedle_types::attribute::ExtendedAttributeList;
 use weedle_types::copies::copy_attributes;
-"""
+""".replace("TABLE", in_logic("weedle_grammar.specs.Table"))
 CONVERSIONS = """
 impl From<Word> for Either<'_> {
     ghost use Rattle.low.specs.declared.formers.Either.TheVariants.{Word};
@@ -179,7 +180,7 @@ class ImplsTest(unittest.TestCase):
         self.write("low/src/member.rt", MODULE.replace("impl<'a> Parse<'a> for Definition<'a> {}\n", ""))
         rulesets = "pub ruleset member_steps\npub ruleset definition_steps\n"
         self.write("low/proofs/MemberRules.antt", rulesets)
-        self.write("weedle_grammar/specs/Table/Definitions.antt", "abbrev pub DEFINITION : Rule\n")
+        self.write(apart("weedle_grammar/specs/Table/Definitions.antt"), "abbrev pub DEFINITION : Rule\n")
         impls.run(self.root)
         text = self.out.read_text()
         self.assertIn("use weedle_base::Choice::{First, Second, self};", text)
@@ -204,7 +205,7 @@ class ImplsTest(unittest.TestCase):
         words = f"\n#[derive(Clone, Copy)]\npub enum Words {{\n{variants}}}\n"
         self.write("low/src/member.rt", f"{MODULE}{words}impl<'a> Parse<'a> for Words {{}}\n")
         impls.run(self.root)
-        text = (self.root / "crates/low/src/member/from_words.rt").read_text()
+        text = (self.root / place("low/src/member/from_words.rt")).read_text()
         self.assertEqual(text.count("impl From<Word> for Words {"), 17)
 
     def test_a_type_that_nothing_brings_in_is_refused(self):

@@ -11,6 +11,7 @@ from unittest import mock
 
 import orders
 from crates import Unfit
+from written_places import in_logic, place
 
 MODULE = """//! Members.
 
@@ -51,7 +52,7 @@ LAWS = """//! Orders of members.
 
 ghost use Rattle.std.specs.Prelude.{◌≡◌, ◌<◌};
 ghost use Rattle.std.specs.Ordering.{ordering_then};
-ghost use Rattle.laws.specs.Places.{kind_place};
+ghost use PLACES.{kind_place};
 
 use leaves::{Label, Word};
 use low::member::{Held, Kind, Member};
@@ -89,7 +90,7 @@ pub fn kind<'a>()
         → ⟦<Kind<'a> as Ord>⟧.cmp (Kind.Plain a) (Kind.Plain b)
         ≡ ⟦<Word as Ord>⟧.cmp a b }
 {}
-"""
+""".replace("PLACES", in_logic("laws.specs.Places"))
 PLACE = """
 -- `Kind`
 abbrev pub kind_place : Kind → ℕ
@@ -115,19 +116,21 @@ class OrdersTest(unittest.TestCase):
         source.mkdir(parents=True)
         (source / "lib.rt").write_text("//! Low.\n\npub mod member;\npub mod other;\n")
         (source / "member.rt").write_text(MODULE)
-        self.laws = self.root / "crates/laws"
+
+    def file(self, path):
+        return self.root / place(path)
 
     def test_each_type_with_an_order_has_its_law(self):
         orders.run(self.root)
-        self.assertEqual((self.laws / "src/orders/members.rt").read_text(), LAWS)
+        self.assertEqual(self.file("laws/src/orders/members.rt").read_text(), LAWS)
 
     def test_places_of_what_leads_back_are_flat(self):
         orders.run(self.root)
-        self.assertTrue((self.laws / "specs/Places.antt").read_text().endswith(PLACE))
+        self.assertTrue(self.file("laws/specs/Places.antt").read_text().endswith(PLACE))
 
     def test_what_leads_back_has_answers(self):
         orders.run(self.root)
-        answers = [it.parent.name for it in self.laws.rglob("Answers.antt")]
+        answers = [it.parent.name for it in self.root.rglob("Answers.antt")]
         self.assertEqual(answers, ["kind"])
 
     def test_a_second_run_changes_nothing(self):
@@ -137,9 +140,9 @@ class OrdersTest(unittest.TestCase):
 
     def test_a_check_names_what_is_stale_and_leaves_it(self):
         orders.run(self.root)
-        path = self.laws / "src/orders/members.rt"
+        path = self.file("laws/src/orders/members.rt")
         path.write_text("old")
-        stale = "stale crates/laws/src/orders/members.rt"
+        stale = f"stale {path.relative_to(self.root)}"
         self.assertEqual(orders.run(self.root, is_check=True), ([stale], False))
         self.assertEqual(path.read_text(), "old")
 

@@ -12,6 +12,7 @@ import spellings
 from description.declarations import type_of
 from proofs.spelling_terms import Item
 from proofs.spelt import fact, form, function, terminal
+from written_places import in_crate
 
 CONSTANT = """-- a constant
 abbrev pub const_member_spelling : ConstMember → Form
@@ -36,7 +37,7 @@ abbrev pub enum_value_list_spelling : PunctuatedNonEmpty EnumVariant Comma → F
 enum_value_list_spelling = punctuated_non_empty_spelling enum_variant_spelling (word (codes ","))
 """
 CALLBACK = """/// A callback, as `callback F = undefined (long x);`.
-#[tactic(auto, using(crate::proofs::StatementLaws::callback_definition_law))]
+#[tactic(auto, using(LAWS::callback_definition_law))]
 pub fn callback_definition()
     ensures { SpellsValues CALLBACK_DEFINITION callback_definition_tree callback_definition_spelling }
 {}
@@ -94,8 +95,9 @@ class Laws(unittest.TestCase):
         self.assertEqual(text, f"pub mixin_members_law : {said}\nmixin_members_law = loose mixin_members\n")
 
     def test_a_function_has_the_example_of_the_declaration(self):
-        told = spellings.law_function(item("CallbackDefinition"), {"callback_definition_tree"}, "StatementLaws")
-        self.assertEqual(told, CALLBACK)
+        laws, trees = "weedle_spell_idl.proofs.StatementLaws", {"callback_definition_tree"}
+        told = spellings.law_function(item("CallbackDefinition"), trees, laws)
+        self.assertEqual(told, CALLBACK.replace("LAWS", in_crate(laws)))
 
 
 class Files(unittest.TestCase):

@@ -9,8 +9,14 @@ import unittest
 
 import types_impls
 from types_impls import BODIES, CLONES, NAMED, OWN, READ, body, function, is_in_cycle, words_of
+from written_places import place
 
 BY_NAME = {it.name: it for it in CLONES.values()}
+
+
+def definitions(text):
+    """The definitions of a file of invariants, in no order."""
+    return sorted(re.findall(r"^abbrev pub .*\n.*\n", text, re.M))
 
 
 def joined(text):
@@ -94,6 +100,18 @@ class FunctionsTest(unittest.TestCase):
         called = {name for text in BODIES.values() for name in re.findall(r"clone_\w+(?=\()", text)}
         self.assertEqual(called - set(BODIES), set())
         self.assertEqual({it.name: body(it) for it in CLONES.values()}, BODIES)
+
+
+class InvariantsTest(unittest.TestCase):
+    def test_they_are_those_that_are_proved(self):
+        for module, text in types_impls.invariants_of_clones():
+            path = types_impls.TOP / place(f"{module.replace('.', '/')}/Invariants.antt")
+            self.assertEqual(definitions(text), definitions(path.read_text(encoding="utf-8")))
+
+    def test_a_list_falls_by_its_items(self):
+        text = dict(types_impls.invariants_of_clones())["weedle_types.proofs.clones.+clones"]
+        size = "suc (trees_size (trees (map argument_tree l.original.now.items)))"
+        self.assertIn(f"decreases-arguments::clone_argument_items l = {size}\n", text)
 
 
 class FilesTest(unittest.TestCase):

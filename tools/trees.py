@@ -20,6 +20,7 @@ from description.layout import filled
 from description.names import logic
 from description.readings import CRATES
 from proofs.idl_parts import DECLARED, SHARED, TOP, part_of, tree_name
+from written_places import in_logic, put
 
 HEAD = "Written by tools/trees.py."
 COLUMNS = 110
@@ -203,8 +204,8 @@ def main():
         texts = Order(crate).texts
         for name, said in files.items():
             text = file_text(names, crate, said, texts[name])
-            (TOP / "crates" / crate / "specs" / f"{name}.antt").write_text(text, encoding="utf-8")
-            names.stated.update(dict.fromkeys(STATED.findall(text), f"Rattle.{crate}.specs.{name}"))
+            put(TOP, f"{crate}/specs/{name}.antt", text)
+            names.stated.update(dict.fromkeys(STATED.findall(text), in_logic(f"{crate}.specs.{name}")))
     print(f"{sum(map(len, FILES.values()))} files")
 
 

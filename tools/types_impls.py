@@ -10,6 +10,9 @@ them, it writes in crates/weedle_types/src:
 - try_clone.rt: `TryClone` for each type, by its function there;
 - parse.rt: `Parse` for each type that a function in src/reading reads, by that function.
 
+Where written files stand in folders of their own, it writes the invariants of the functions that clone
+too: else these stand by hand.
+
 A function that clones stands in the file that has the name of the file of the one that reads, and
 that of a list right behind the function that calls it. `rt fmt` lays the files out. The status is 0
 where they are written.
@@ -23,7 +26,9 @@ from description.functions import NUMBERED, functions_of
 from description.names import snake
 from description.readings import Declared
 from description.uses import code_uses, ghost_uses, stated
+from proofs.clones import CLONES as PROOFS, invariant, invariants, is_list
 from written.imports import imported
+from written_places import IS_APART, in_logic, put
 
 TOP = Path(__file__).resolve().parent.parent
 CRATE = "weedle_types"
@@ -70,11 +75,12 @@ OUTER = {
 # The modules of the logic that contracts name, in the order in which they are brought in.
 STANDARD = {"Rattle.std.specs.Prelude": ["◌≡◌", "IfOk", "map"]}
 MODULES_NAMED = [
-    f"Rattle.{it}"
-    for it in (
-        "weedle_base.specs.AlikeLaws weedle_base.specs.Own weedle_base.specs.OwnLaws "
-        "weedle_grammar.specs.Table.Types weedle_parts.specs.ValueTrees weedle_types.specs.Trees"
-    ).split()
+    "Rattle.weedle_base.specs.AlikeLaws",
+    "Rattle.weedle_base.specs.Own",
+    "Rattle.weedle_base.specs.OwnLaws",
+    in_logic("weedle_grammar.specs.Table.Types"),
+    "Rattle.weedle_parts.specs.ValueTrees",
+    "Rattle.weedle_types.specs.Trees",
 ]
 TRY_CLONE = """impl<'a> TryClone for {type}<'a> {{
     ghost alike = {{ λ a b. {tree} a ≡ {tree} b }};
@@ -345,11 +351,25 @@ def parse_text():
     return file_text(HEAD.format(ABOUT_PARSE), items, functions)
 
 
+def invariants_of_clones():
+    """The files of invariants, each by the module of proofs that it is for."""
+    trees = {it: NAMED_IN_LOGIC[it] for it in MODULES_NAMED if it.endswith("Trees")}
+    ring = [it for it in CLONES.values() if is_in_cycle(it.name)]
+    group = f"{PROOFS}.+clones"
+    yield group, invariants(ring, trees, in_logic(group))
+    for it in CLONES.values():
+        if is_list(it) and it not in ring:
+            function = f"{PROOFS}.{it.file}.{it.name}"
+            yield function, invariant(it, trees, in_logic(function))
+
+
 def main():
+    for module, text in invariants_of_clones() if IS_APART else ():
+        put(TOP, f"{module.replace('.', '/')}/Invariants.antt", text)
     for file in FILES:
-        (SOURCE / f"clones/{file}.rt").write_text(clones_text(file), encoding="utf-8")
-    (SOURCE / "try_clone.rt").write_text(try_clone_text(), encoding="utf-8")
-    (SOURCE / "parse.rt").write_text(parse_text(), encoding="utf-8")
+        put(TOP, f"{CRATE}/src/clones/{file}.rt", clones_text(file))
+    put(TOP, f"{CRATE}/src/try_clone.rt", try_clone_text())
+    put(TOP, f"{CRATE}/src/parse.rt", parse_text())
 
 
 if __name__ == "__main__":

@@ -16,8 +16,9 @@ import re
 
 from description.imports import Names, home_of, use
 from proofs.types_answers import choice_answers, group_answers, measures
-from proofs.types_parts import FAMILIES, JOINED, OUT, PIECES, TABLE, TOP
+from proofs.types_parts import FAMILIES, JOINED, PIECES, TABLE, TOP
 from proofs.types_rules import enum_rules, if_rules, joined_rules, list_rules, option_rules, piece_rules, struct_rules
+from written_places import in_logic, put
 
 CRATES = ["weedle_grammar", "weedle_base", "weedle_term", "weedle_parts", "weedle_literal", "weedle_types"]
 STANDARD = {
@@ -47,12 +48,8 @@ def imports(text, more=()):
 
 def write(path, about, lines, more=()):
     text = "\n".join(lines).strip("\n") + "\n"
-    path = OUT / path
-    path.parent.mkdir(parents=True, exist_ok=True)
     head = [f"-- {about}", "--", "-- Written by tools/types_proofs.py."]
-    content = "\n".join(head + imports(text, more)) + "\n\n" + text
-    if not path.exists() or path.read_text() != content:
-        path.write_text(content)
+    put(TOP, f"weedle_types/proofs/{path}", "\n".join(head + imports(text, more)) + "\n\n" + text)
 
 
 def main():
@@ -76,7 +73,8 @@ def main():
         for name, stem in cited.items():
             if name in words:
                 by_file.setdefault(stem, []).append(name)
-        return [f"use Rattle.weedle_types.proofs.{stem}.{{{', '.join(sorted(names))}}}" for stem, names in by_file.items()] + [f"use {goals} as goal"]
+        uses = [use(in_logic(f"weedle_types.proofs.{stem}"), sorted(names)) for stem, names in by_file.items()]
+        return [*uses, f"use {goals} as goal"]
 
     for name, (_, members) in {**PIECES, **JOINED}.items():
         lines = choice_answers(name, ["word"] * len(members) if name in PIECES else list(members), "", "")

@@ -19,8 +19,9 @@ from compare_with_weedle2 import TITLES, WEEDLE2, NoUse, output_of, renamed, une
 from table_reader import Table
 from tree_json import debug, definition_of, read
 from weedle2_texts import LEFT, WHOLE
+from written_places import put
 
-FOLDER = Path(__file__).resolve().parent.parent / "crates/weedle_rows/src/weedle2"
+TOP = Path(__file__).resolve().parent.parent
 COLUMNS = 96
 HEAD = """//! {about}
 //!
@@ -114,9 +115,8 @@ def main(program):
         files[name] = file_text(about, WHOLE_DOC, ("text", "list", "tree"), list(whole_rows(program, lines)))
     name, about, lines = LEFT
     files[name] = file_text(about, LEFT_DOC, ("text", "rest", "tree"), list(left_rows(program, lines)))
-    FOLDER.mkdir(exist_ok=True)
     for name, text in files.items():
-        (FOLDER / f"{name}.rt").write_text(text, encoding="utf-8")
+        put(TOP, f"weedle_rows/src/weedle2/{name}.rt", text)
         print(f"{name}: {text.count(chr(10))} lines")
 
 

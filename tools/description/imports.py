@@ -9,6 +9,7 @@ from pathlib import Path
 
 from description.declarations import declared_by
 from description.names import logic
+from written_places import files_in, module_in
 
 STATED = re.compile(r"^ *(?:abbrev |unfoldable )?pub (?:ruleset |record )?([\w-]+)", re.M)
 # What a file that is written states itself.
@@ -37,11 +38,10 @@ def stated_in(root, crate, folders):
     """The names that a crate's folders state, each with its module, file by file."""
     for folder in folders:
         top = Path(root) / "crates" / crate / folder
-        for path in [*sorted(top.glob("*.antt")), *sorted(top.glob("Table/*.antt"))]:
+        for path in files_in(top, ".antt"):
             text = path.read_text(encoding="utf-8")
             if path.name != "Lib.antt" and is_by_hand(text):
-                parts = path.relative_to(top).with_suffix("").parts
-                module = ".".join(["Rattle", crate, folder, *parts])
+                module = ".".join(["Rattle", crate, folder, *module_in(top, path)])
                 yield from ((name, module) for name in STATED.findall(text))
 
 

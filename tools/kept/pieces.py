@@ -10,6 +10,7 @@ from description.flat import leads_back
 from description.names import upper
 from description.readings import Declared
 from description.webidl import BY_NAME, SECTIONS
+from written_places import in_logic
 
 # The crates, each with the module whose functions these are.
 MODULES = {
@@ -22,7 +23,7 @@ PIECE = re.compile(
     r"    ensures (?:reads )?\{ Answers \(members \w+_rules (?P<first>\d+) [^\n]*\n"
     r"(?:    ensures [^\n]*\n)*\{\n(?P<body>.*?)^\}\n", re.M | re.S,
 )
-TABLE = "Rattle.weedle_grammar.specs.Table"
+TABLE = in_logic("weedle_grammar.specs.Table")
 USES = re.compile(rf"(?:^use {TABLE}\.[^\n]*\n)+", re.M)
 WORD = """    match word(alloc, input) {{
         Ok((rest, member)) => return Ok((rest, {}(member))),

@@ -190,7 +190,6 @@ class File:
         self.crate, self.module = declarations[0].crate, declarations[0].module
         in_order = sorted(declarations, key=lambda it: NUMBER[upper(it.name)])
         self.types = [Proved(it, text) for it in in_order]
-        self.proofs = TOP / "crates" / self.crate / "proofs"
 
 
 def files():

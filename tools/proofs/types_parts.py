@@ -9,7 +9,6 @@ from description.webidl import BY_NAME
 
 TOP = Path(".")
 CRATE = TOP / "crates" / "weedle_types"
-OUT = CRATE / "proofs"
 GROWS = "(Unit {0})"
 
 # A part is a terminal or leaf by its type, Opt of one, Nullable of one, Call of a function of the group, or

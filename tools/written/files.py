@@ -9,9 +9,10 @@ from written.copies import copies
 from written.fields import methods
 from written.imports import ghost_lines, imported, paths_in, use_lines
 from written.parses import parses
-from written.stated import Stated, path_of
+from written.stated import Stated
+from written_places import ABOVE, FOLDER
 
-OUT = "written"
+OUT = FOLDER
 # What is written of a type, in this order.
 KINDS = (parses, copies, conversions, methods)
 # The types that hold one another are read and copied together, in modules of their own, and no
@@ -68,14 +69,14 @@ def pieces_of(items, stated):
     return {name: pieces for name, pieces in files.items() if pieces}
 
 
-def paths_for(items, stated):
-    """The paths of what the pieces of some types of a module name."""
-    own = f"crate::{items[0].module}"
-    paths = {name: "super" if it == own else it for name, it in stated.paths().items()}
+def paths_for(name, items, stated):
+    """The paths of what the pieces of some types of a module name, in the file of this name."""
+    own, above = f"crate::{items[0].module}", "super" if name == OUT else ABOVE
+    paths = {name: above if it == own else it for name, it in stated.paths().items()}
     for item in items:
         if item.former:
             paths.update(imported(stated.text_of(item.former)))
-    return paths | paths_in(stated.text_of(items[0]))
+    return paths | paths_in(stated.text_of(items[0]), above)
 
 
 def file_text(about, pieces, paths):
@@ -86,10 +87,10 @@ def file_text(about, pieces, paths):
 
 
 def files_of(root, crate):
-    """The files of a crate, each by its path, with its text."""
+    """The files of a crate, each by its path below crates/, with its text."""
     declared, stated = list(declared_by(root, crate)), Stated(root, crate)
     for module in dict.fromkeys(it.module for it in declared):
         items = list(items_of(module, declared))
         for (name, about), pieces in pieces_of(items, stated).items():
-            text = file_text(about, pieces, paths_for(items, stated))
-            yield path_of(root, items[0]).with_suffix("") / f"{name}.rt", text
+            text = file_text(about, pieces, paths_for(name, items, stated))
+            yield f"{crate}/src/{module.replace('.', '/')}/{name}.rt", text

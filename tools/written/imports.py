@@ -37,9 +37,9 @@ def imported(text):
     return paths
 
 
-def paths_in(text):
-    """The path of each name that a file below a module knows it by."""
-    return imported(text) | {it.name: "super" for it in declared_in(text)}
+def paths_in(text, above="super"):
+    """The path of each name that a file below a module knows it by, which calls the module by this name."""
+    return imported(text) | {it.name: above for it in declared_in(text)}
 
 
 def use_lines(code, paths):
@@ -50,7 +50,7 @@ def use_lines(code, paths):
         if not path:
             raise Unfit(f"{name} is named, and no `use` brings it in")
         wanted.setdefault(path, set()).add("self" if path.endswith(f"::{name}") else name)
-    order = sorted(wanted, key=lambda path: (path != "super", path != "crate", path))
+    order = sorted(wanted, key=lambda path: (not path.startswith("super"), path != "crate", path))
     return "".join(use_line(path, wanted[path]) for path in order)
 
 

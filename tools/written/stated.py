@@ -8,12 +8,14 @@ from description.declarations import type_of
 from description.imports import STATED
 from description.names import snake, upper
 from description.readings import Declared
+from written_places import in_logic, place
 
 # A function that copies a part, as `copy_attributes`, with the type of what it copies.
 COPYING = re.compile(r"^pub(?:\(crate\))? fn (copy_\w+)(?:<'a>)?\(\s*\w+: &([^;{]+?),\s*alloc: Global", re.M)
 READING = re.compile(r"^pub fn (\w+)<", re.M)
 # Where functions stand that other crates call.
 COPIES, FIELDS = ("weedle_types", "copies"), "weedle_fields"
+TABLE = "weedle_grammar.specs.Table"
 
 
 def source_of(root, crate):
@@ -49,7 +51,7 @@ class Stated:
         crates = Path(root) / "crates"
         self.specs = stated_in(crates / crate / "specs")
         self.proofs = stated_in(crates / crate / "proofs")
-        self.table = stated_in(crates / "weedle_grammar/specs/Table")
+        self.table = stated_in(Path(root) / place(TABLE.replace(".", "/")))
         self.declared = Declared.of(root)
         shared = source_of(root, COPIES[0]) / f"{COPIES[1]}.rt"
         self.copies = list(copies_in(shared, "::".join(COPIES)))
@@ -66,7 +68,7 @@ class Stated:
     def rule(self, item):
         """The rule that reads a type, as (module, name)."""
         name = upper(item.name)
-        return f"Rattle.weedle_grammar.specs.Table.{'.'.join(self.find(self.table, name))}", name
+        return f"{in_logic(TABLE)}.{'.'.join(self.find(self.table, name))}", name
 
     def steps(self, item):
         """The path of the ruleset by which the `parse` of a type is proved."""
