@@ -3,27 +3,33 @@
 
     python3 tools/modules.py
 
-Three kinds of lines are added where they lack; nothing is removed, and `rt fmt` sorts them afterwards.
+Five kinds of lines are added where they lack; nothing is removed, and `rt fmt` sorts them afterwards.
 
 - `mod written;` or its like in the module below which a script wrote a file;
+- where files stand in a folder `written`, as tools/written_places.py has it, `pub mod written` in Lib.antt;
+- `pub use` of what they have, in a module by hand above them that gives some of it already;
 - in src/lib.rt of a crate that declares types: `mod` of each module that declares some, and `pub use`
   of those whose module isn't public;
 - in the crates of GIVING, which give types of other crates under the port's paths: `pub use` of a type,
   in the file that gives others of its module, or else others of its crate.
 
-It prints the files that it changed. The status is 0.
+The module of a folder `written` is written here as a whole: written.rt or written.antt, which names the files.
+
+It prints the files that it changed. The status is 0, or 1 where such a folder has a file by hand, or where
+written files are to stand in such folders and tools/move_written.py hasn't moved them.
 """
 
 import re
 import sys
 from pathlib import Path
 
-from crates import read_lines
+from crates import PARTS, Unfit, read_lines
 from declared import PRIVATE
 from description.declarations import declared_in
 from description.readings import CRATES
 from write import writer_in
 from written.imports import imported
+from written_places import BY_HAND_APART, FOLDER, IS_APART
 
 TOP = Path(__file__).resolve().parent.parent
 # The crates that give types of others, each with those whose types it gives.
@@ -31,6 +37,15 @@ GIVING = {"weedle_idl": CRATES[CRATES.index("weedle_modifier"):-1], "weedle": [*
 MOD = re.compile(r"^(?:pub(?:\(crate\))? )?mod (\w+);", re.M)
 PUBLIC = re.compile(r"^pub mod (\w+);", re.M)
 PUB_USE = re.compile(r"^pub use [^;]+::[^;]+;\n", re.M)
+# What a module by hand gives of a written one below it.
+GIVEN = re.compile(rf"^pub use {FOLDER}::\w+::", re.M)
+FUNCTION = re.compile(r"^pub fn (\w+)", re.M)
+# The module of a folder `written`, of code and of the logic: how it begins, and its line for each file.
+HERE = "tools/modules.py"
+OF_FOLDERS = {
+    ".rt": (f"//! What scripts write.\n//!\n//! Written by {HERE}.\n\n", "pub mod {};\n"),
+    ".antt": (f"-- What scripts write. Written by {HERE}.\n", "pub mod {}\n"),
+}
 # What stands at the head of a module, before its lines `mod`.
 HEAD = re.compile(r"(?:(?://!.*|#!\[.*\]|ghost use [^;]*;|)\n)*")
 
@@ -64,14 +79,68 @@ def types_in(path):
     return [it.name for it in declared_in(path.read_text(encoding="utf-8"))]
 
 
+def read(path):
+    return path.read_text(encoding="utf-8") if path.is_file() else ""
+
+
+def folders_in(crate):
+    """The folders `written` of a crate, in which no file is by hand."""
+    for folder in sorted(it for part in PARTS for it in (crate / part).rglob(FOLDER) if it.is_dir()):
+        for file in sorted(it for it in folder.rglob("*") if it.is_file()):
+            if not writer_in(read(file)):
+                raise Unfit(f"{file.relative_to(crate.parent)} names no script that writes it")
+        yield folder
+
+
+def of_folders(crate):
+    """The modules of a crate's folders `written`, but for those that another script writes."""
+    for folder in folders_in(crate):
+        for suffix, (head, line) in OF_FOLDERS.items():
+            path, names = folder.with_suffix(suffix), sorted(it.stem for it in folder.glob(f"*{suffix}"))
+            text = head + "".join(map(line.format, names))
+            if names and text != read(path) and writer_in(read(path)) in (None, HERE):
+                yield path, text
+
+
+def above(path, source):
+    """The file of the module above that of a file or a folder."""
+    return source / "lib.rt" if path.parent == source else path.parent.with_suffix(".rt")
+
+
+def of_logic(crate):
+    """The files Lib.antt that lack the module of a folder `written`.
+
+    The prover makes that of proofs itself where code has a module of this name.
+    """
+    line = OF_FOLDERS[".antt"][1].format(FOLDER)
+    for part in ("specs", "proofs"):
+        path, is_made = crate / part / "Lib.antt", part == "proofs" and (crate / f"src/{FOLDER}.rt").is_file()
+        if (crate / part / f"{FOLDER}.antt").is_file() and not is_made and line not in read(path):
+            yield path, read(path) + line
+
+
+def of_names(crate):
+    """The modules that give some names of written ones below them, and lack others."""
+    for folder in folders_in(crate):
+        path = above(folder, crate / "src")
+        text = before = read(path)
+        for file in sorted(folder.glob("*.rt")) if GIVEN.search(text) else ():
+            lacking = {*types_in(file), *FUNCTION.findall(read(file))} - set(given_in(text))
+            if lacking:
+                text = with_pub_use(text, f"{FOLDER}::{file.stem}", lacking)
+        if text != before:
+            yield path, text
+
+
 def of_written(source):
     """The modules that lack a line `mod` for a file that a script wrote below them."""
     for path in sorted(source.rglob("*.rt")):
-        above = path.parent.with_suffix(".rt")
-        if path.parent != source and above.is_file() and writer_in(path.read_text(encoding="utf-8")):
-            text = above.read_text(encoding="utf-8")
+        module = above(path, source)
+        is_named = path.parent != source or path.stem == FOLDER
+        if is_named and module.is_file() and writer_in(path.read_text(encoding="utf-8")):
+            text = module.read_text(encoding="utf-8")
             if path.stem not in MOD.findall(text):
-                yield above, with_mod(text, path.stem)
+                yield module, with_mod(text, path.stem)
 
 
 def of_declared(source):
@@ -124,8 +193,18 @@ def nearest(given, path, known, home):
     return max(given, key=count)
 
 
+def unmoved(root):
+    """A module that is to be by hand and lacks: tools/write.py leaves it out while its head names a script."""
+    for path in sorted(BY_HAND_APART) if IS_APART else ():
+        if (root / path).parent.is_dir() and not (root / path).is_file():
+            return path
+    return None
+
+
 def run(root):
     """Adds the lines, and gives the files that it changed."""
+    if unmoved(root):
+        raise Unfit(f"{unmoved(root)} is to be by hand: run tools/move_written.py first")
     changed = []
 
     def put(rows):
@@ -134,7 +213,11 @@ def run(root):
             changed.append(path.relative_to(root).as_posix())
 
     for crate in read_lines(root):
-        put(of_written(source_of(root, crate)))
+        source = source_of(root, crate)
+        put(of_folders(source.parent))
+        put(of_written(source))
+        put(of_logic(source.parent))
+        put(of_names(source.parent))
     for crate in CRATES[1:]:
         put(of_declared(source_of(root, crate)))
     for crate, sources in GIVING.items():
@@ -143,8 +226,11 @@ def run(root):
 
 
 def main():
-    for path in run(TOP):
-        print(path)
+    try:
+        for path in run(TOP):
+            print(path)
+    except Unfit as why:
+        sys.exit(f"modules: {why}")
 
 
 if __name__ == "__main__":

@@ -10,6 +10,7 @@ from pathlib import Path
 from unittest import mock
 
 import modules
+from crates import Unfit
 
 LOW = """//! Members.
 #![tactic(auto)]
@@ -39,7 +40,9 @@ FILES = {
 }
 
 
-class ModulesTest(unittest.TestCase):
+class MadeUp(unittest.TestCase):
+    """A repository of two crates."""
+
     def setUp(self):
         folder = tempfile.TemporaryDirectory()
         self.addCleanup(folder.cleanup)
@@ -60,6 +63,8 @@ class ModulesTest(unittest.TestCase):
     def read(self, path):
         return (self.root / "crates" / path).read_text()
 
+
+class ModulesTest(MadeUp):
     def test_nothing_is_added_where_nothing_lacks(self):
         self.assertEqual(modules.run(self.root), [])
 
@@ -82,6 +87,72 @@ class ModulesTest(unittest.TestCase):
     def test_types_of_a_module_that_is_public_are_known_by_its_path(self):
         self.write("low/src/open.rt", FILES["low/src/open.rt"].replace("Open", "Opened"))
         self.assertEqual(modules.run(self.root), [])
+
+
+WRITTEN = "//! Keys.\n//!\n//! Written by tools/x.py.\n\npub struct Key;\n\npub fn law() {}\n"
+APART = {
+    "low/src/written/keys.rt": WRITTEN,
+    "low/src/old/written/from_old.rt": WRITTEN,
+    "low/specs/Lib.antt": "pub mod Words\n",
+    "low/specs/written/Trees.antt": "-- Written by tools/x.py.\n",
+    "low/proofs/Lib.antt": "pub mod Facts\n",
+    "low/proofs/written/Rules.antt": "-- Written by tools/x.py.\n",
+}
+
+
+class FoldersTest(MadeUp):
+    def setUp(self):
+        super().setUp()
+        for path, text in APART.items():
+            self.write(path, text)
+
+    def test_nothing_is_added_where_nothing_lacks(self):
+        modules.run(self.root)
+        self.assertEqual(modules.run(self.root), [])
+
+    def test_the_modules_of_folders_are_written(self):
+        modules.run(self.root)
+        head = "Written by tools/modules.py."
+        self.assertTrue(self.read("low/src/written.rt").endswith(f"{head}\n\npub mod keys;\n"))
+        self.assertTrue(self.read("low/specs/written.antt").endswith("\npub mod Trees\n"))
+        self.assertTrue(self.read("low/proofs/written.antt").endswith("\npub mod Rules\n"))
+
+    def test_a_module_that_another_script_writes_gets_a_line(self):
+        modules.run(self.root)
+        head = FILES["low/src/old/written.rt"]
+        self.assertEqual(self.read("low/src/old/written.rt"), f"{head}mod from_old;\n\n")
+
+    def test_modules_by_hand_name_the_folders(self):
+        modules.run(self.root)
+        self.assertIn("mod written;\n", self.read("low/src/lib.rt"))
+        self.assertEqual(self.read("low/specs/Lib.antt"), "pub mod Words\npub mod written\n")
+
+    def test_the_prover_makes_the_module_of_proofs_where_code_has_it(self):
+        modules.run(self.root)
+        self.assertEqual(self.read("low/proofs/Lib.antt"), "pub mod Facts\n")
+        (self.root / "crates/low/src/written/keys.rt").unlink()
+        (self.root / "crates/low/src/written.rt").unlink()
+        modules.run(self.root)
+        self.assertEqual(self.read("low/proofs/Lib.antt"), "pub mod Facts\npub mod written\n")
+
+    def test_a_module_that_gives_some_names_gives_all(self):
+        self.assertNotIn("Key", self.read("low/src/lib.rt"))
+        self.write("low/src/lib.rt", f"{LOW}pub use written::keys::law;\n")
+        modules.run(self.root)
+        self.assertIn("pub use written::keys::{Key};\n", self.read("low/src/lib.rt"))
+
+    def test_files_that_are_to_move_are_to_move_first(self):
+        given = {"IS_APART": True, "BY_HAND_APART": {"crates/low/src/lib.rt"}}
+        with mock.patch.multiple(modules, **given):
+            modules.run(self.root)
+            (self.root / "crates/low/src/lib.rt").unlink()
+            with self.assertRaisesRegex(Unfit, "low/src/lib.rt is to be by hand: run tools/move_written.py"):
+                modules.run(self.root)
+
+    def test_a_file_by_hand_in_a_folder_is_refused(self):
+        self.write("low/proofs/written/key/Answers.antt", "-- By hand.\n")
+        with self.assertRaisesRegex(Unfit, "low/proofs/written/key/Answers.antt names no script"):
+            modules.run(self.root)
 
 
 if __name__ == "__main__":
