@@ -1,0 +1,58 @@
+"""Counts instructions by valgrind's callgrind: of a whole run, and of the calls of its functions.
+
+`calls_of` reads what callgrind writes. In it stands, for each function that a function calls,
+
+    cfn=(12) weedle_front::reader::parse
+    calls=5 0
+    18 4021
+
+so that five calls from line 18 took 4,021 instructions, with all that they call. A name stands at its
+number's first use alone.
+"""
+
+import re
+import shutil
+import subprocess
+import tempfile
+from pathlib import Path
+
+CALLED = re.compile(r"cfn=\((\d+)\)(?: (.*))?")
+NAMED = re.compile(r"fn=\((\d+)\)(?: (.*))?")
+CALLS = re.compile(r"calls=(\d+) ")
+
+
+class NoCount(Exception):
+    """Why nothing was counted, in one line."""
+
+
+def is_there():
+    return shutil.which("valgrind") is not None
+
+
+def counted(words, text=""):
+    """How many instructions a run takes, and what callgrind writes of it."""
+    with tempfile.TemporaryDirectory() as room:
+        file = Path(room) / "out"
+        command = ["valgrind", "--tool=callgrind", f"--callgrind-out-file={file}", *words]
+        done = subprocess.run(command, input=text.encode(), capture_output=True, check=False)
+        said = done.stderr.decode(errors="replace")
+        found = re.search(r"Collected : (\d+)", said)
+        if not found:
+            raise NoCount(f"valgrind {words[0]}: {said.strip().splitlines()[-1]}")
+        return int(found[1]), file.read_text()
+
+
+def calls_of(text):
+    """By the name of each function how often it is called, and how many instructions that takes in all."""
+    names, found, called, times = {}, {}, None, None
+    for line in text.splitlines():
+        if times is not None:
+            before = found.get(called, (0, 0))
+            found[called] = before[0] + times, before[1] + int(line.split()[-1])
+            times = None
+        elif number := CALLED.fullmatch(line) or NAMED.fullmatch(line):
+            name = names.setdefault(number[1], number[2])
+            called = name if line.startswith("c") else called
+        elif number := CALLS.match(line):
+            times = int(number[1])
+    return found
