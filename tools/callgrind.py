@@ -6,8 +6,8 @@
     calls=5 0
     18 4021
 
-so that five calls from line 18 took 4,021 instructions, with all that they call. A name stands at its
-number's first use alone.
+so that five calls took 4,021 instructions, with all that they call; the function that calls stands
+before, behind `fn=`. A name stands at its number's first use alone.
 """
 
 import re
@@ -43,16 +43,17 @@ def counted(words, text=""):
 
 
 def calls_of(text):
-    """By the name of each function how often it is called, and how many instructions that takes in all."""
-    names, found, called, times = {}, {}, None, None
+    """How often each function calls each other, by their names, and how many instructions these calls take in all."""
+    names, found, calls, called, times = {}, {}, None, None, None
     for line in text.splitlines():
         if times is not None:
-            before = found.get(called, (0, 0))
-            found[called] = before[0] + times, before[1] + int(line.split()[-1])
+            before = found.get((calls, called), (0, 0))
+            found[calls, called] = before[0] + times, before[1] + int(line.split()[-1])
             times = None
-        elif number := CALLED.fullmatch(line) or NAMED.fullmatch(line):
-            name = names.setdefault(number[1], number[2])
-            called = name if line.startswith("c") else called
+        elif number := CALLED.fullmatch(line):
+            called = names.setdefault(number[1], number[2])
+        elif number := NAMED.fullmatch(line):
+            calls = names.setdefault(number[1], number[2])
         elif number := CALLS.match(line):
             times = int(number[1])
     return found

@@ -37,12 +37,13 @@ from mixed_text import Mixed
 MORE = 10
 # The part of a text whose instructions are counted reader by reader: the table takes hundreds of bytes for each.
 PART = 10
-READERS = {
-    "parse_by_descent": "weedle_front::descent::parse_by_descent",
-    "parse_quick": "weedle_front::descent::parse_quick",
-    "parse": "weedle_front::reader::parse",
-}
-LETTING_GO = "weedle_checker::timing::answered"
+# What the function of weedle_check that times a reader calls: its readers, of which `parse_quick` stands in
+# place as a look at the nesting and `parse_by_descent`, and what lets go of a list.
+TIMED = "weedle_checker::timing::time_reader"
+DESCENT = "weedle_front::descent::parse_by_descent"
+LOOK = "weedle_nesting::look::look_over"
+TABLE = "weedle_front::reader::parse"
+LETTING_GO = "weedle_idl::definition::Definition::drop"
 
 
 def whole_of(weedle2, files):
@@ -75,13 +76,17 @@ def measure_weedle2(program, file, size, rounds):
         print(f"  weedle2: {(more - one) / MORE / size:.0f} instructions a byte")
 
 
-def cost_of(calls, function):
-    """What a call of a function takes at the mean, whatever types it is made for."""
-    found = [cost for name, cost in calls.items() if name.split("::<")[0] == function]
-    times, taken = (sum(it) for it in zip(*found)) if found else (0, 0)
-    if not times:
+def calls_timed(calls, function):
+    """How often a function is called where a reader is timed, and how many instructions that takes in all."""
+    found = [it for (caller, called), it in calls.items() if plain(caller) == TIMED and plain(called) == function]
+    if not found:
         raise NoUse(f"callgrind saw no call of {function}")
-    return taken / times
+    return tuple(sum(it) for it in zip(*found))
+
+
+def plain(name):
+    """A function's name without the types that it is made for."""
+    return name.partition("::<")[0]
 
 
 def count_readers(check, text):
@@ -90,9 +95,12 @@ def count_readers(check, text):
         file = Path(room) / "text.webidl"
         file.write_text(text)
         calls = callgrind.calls_of(callgrind.counted([check, "--time", str(file)])[1])
-    for reader, function in READERS.items():
-        taken = cost_of(calls, function) + cost_of(calls, LETTING_GO)
-        print(f"  port: {reader} {taken / len(text.encode()):.1f} instructions a byte")
+    timed = {it: calls_timed(calls, it) for it in (DESCENT, LOOK, TABLE, LETTING_GO)}
+    descent, look, table = (timed[it][1] / timed[it][0] for it in (DESCENT, LOOK, TABLE))
+    going = timed[LETTING_GO][1] / (timed[DESCENT][0] + timed[TABLE][0])
+    readers = {"parse_by_descent": descent, "parse_quick": look + descent, "parse": table}
+    for reader, taken in readers.items():
+        print(f"  port: {reader} {(taken + going) / len(text.encode()):.1f} instructions a byte")
 
 
 def measure_port(check, lister, file, size):
