@@ -12,10 +12,12 @@ whole, joined to one. Of each text it prints
 - nanoseconds a byte: of weedle2 the median of N readings in one process; of the port what
   `weedle_check --time` prints, reader by reader;
 - instructions a byte, as valgrind's callgrind counts them: of weedle2 what ten readings more cost, the
-  tenth part; of the port what `weedle_list` costs with the text more than without one, so with the
-  taking in of the text, the look at its nesting and the writing of the list. Without valgrind on PATH
-  it leaves this out;
-- kB of memory that the process held at most, of the port as GNU time says it of `weedle_list`.
+  tenth part, with the letting go of the list; of the port each reader's own calls in `weedle_check --time`, of a
+  text of the same kind that has a tenth of the size, and with them the letting go of the list; then what
+  `weedle_list` costs with the text more than without one, so with the taking in of the text and the
+  writing of the list. Without valgrind on PATH it leaves these out;
+- kB of memory that the process held at most: weedle2's with the text and what it read; of the port, as GNU
+  time says it, `weedle_check`'s with the same, and `weedle_list`'s with the lines that it writes too.
 
 Other work on the machine makes times longer, and leaves instructions and memory as they are.
 """
@@ -28,10 +30,20 @@ import sys
 import tempfile
 from pathlib import Path
 
+import callgrind
 from compare_with_weedle2 import LIST, PORT, WEEDLE2, NoUse, files_of, output_of
 from mixed_text import Mixed
 
 MORE = 10
+# The part of a text whose instructions are counted reader by reader: the table takes hundreds of bytes for each.
+PART = 10
+# What the function of weedle_check that times a reader calls: its readers, of which `parse_quick` stands in
+# place as a look at the nesting and `parse_by_descent`, and what lets go of a list.
+TIMED = "weedle_checker::timing::time_reader"
+DESCENT = "weedle_front::descent::parse_by_descent"
+LOOK = "weedle_nesting::look::look_over"
+TABLE = "weedle_front::reader::parse"
+LETTING_GO = "weedle_idl::definition::Definition::drop"
 
 
 def whole_of(weedle2, files):
@@ -40,23 +52,8 @@ def whole_of(weedle2, files):
     return [file for file, answer in zip(files, answers) if answer.splitlines()[-1].startswith("definitions ")]
 
 
-def joined_text(weedle2, folder):
-    """The files of a folder that weedle2 reads whole, one behind another."""
-    whole = whole_of(weedle2, files_of(folder))
-    return "\n".join(file.read_bytes().decode() for file in whole) + "\n"
-
-
-def instructions(words, text=""):
-    """How many instructions a run takes, or None where valgrind isn't there."""
-    if not shutil.which("valgrind"):
-        return None
-    with tempfile.TemporaryDirectory() as room:
-        command = ["valgrind", "--tool=callgrind", f"--callgrind-out-file={room}/out", *words]
-        done = subprocess.run(command, input=text.encode(), capture_output=True, check=False)
-    found = re.search(r"Collected : (\d+)", done.stderr.decode(errors="replace"))
-    if not found:
-        raise NoUse(f"valgrind {words[0]}: {done.stderr.decode(errors='replace').strip().splitlines()[-1]}")
-    return int(found[1])
+def joined(files):
+    return "\n".join(file.read_bytes().decode() for file in files) + "\n"
 
 
 def memory(words, text=""):
@@ -67,11 +64,43 @@ def memory(words, text=""):
     return int(done.stderr.split()[-1])
 
 
+def instructions(words, text=""):
+    """How many instructions a run takes, or None where valgrind isn't there."""
+    return callgrind.counted(words, text)[0] if callgrind.is_there() else None
+
+
 def measure_weedle2(program, file, size, rounds):
     print("  weedle2: " + output_of([program, "--time", str(rounds), file]).rpartition(f"{file}: ")[2].strip())
     one, more = (instructions([program, "--time", str(count), file]) for count in (1, 1 + MORE))
     if one is not None:
         print(f"  weedle2: {(more - one) / MORE / size:.0f} instructions a byte")
+
+
+def calls_timed(calls, function):
+    """How often a function is called where a reader is timed, and how many instructions that takes in all."""
+    found = [it for (caller, called), it in calls.items() if plain(caller) == TIMED and plain(called) == function]
+    if not found:
+        raise NoUse(f"callgrind saw no call of {function}")
+    return tuple(sum(it) for it in zip(*found))
+
+
+def plain(name):
+    """A function's name without the types that it is made for."""
+    return name.partition("::<")[0]
+
+
+def count_readers(check, text):
+    """Prints the instructions a byte of each reader of the port."""
+    with tempfile.TemporaryDirectory() as room:
+        file = Path(room) / "text.webidl"
+        file.write_text(text)
+        calls = callgrind.calls_of(callgrind.counted([check, "--time", str(file)])[1])
+    timed = {it: calls_timed(calls, it) for it in (DESCENT, LOOK, TABLE, LETTING_GO)}
+    descent, look, table = (timed[it][1] / timed[it][0] for it in (DESCENT, LOOK, TABLE))
+    going = timed[LETTING_GO][1] / (timed[DESCENT][0] + timed[TABLE][0])
+    readers = {"parse_by_descent": descent, "parse_quick": look + descent, "parse": table}
+    for reader, taken in readers.items():
+        print(f"  port: {reader} {(taken + going) / len(text.encode()):.1f} instructions a byte")
 
 
 def measure_port(check, lister, file, size):
@@ -81,10 +110,10 @@ def measure_port(check, lister, file, size):
     full, empty = instructions([lister], text), instructions([lister])
     if full is not None:
         print(f"  port: {(full - empty) / size:.0f} instructions a byte, with the list written")
-    print(f"  port: {memory([lister], text)} kB held")
+    print(f"  port: {memory([check, file])} kB held, {memory([lister], text)} kB with the list written")
 
 
-def measure(name, text, wanted):
+def measure(name, text, short, wanted):
     size = len(text.encode())
     print(f"{name}, {size} bytes:")
     with tempfile.TemporaryDirectory() as room:
@@ -93,6 +122,8 @@ def measure(name, text, wanted):
         measure_weedle2(wanted.weedle2, file, size, wanted.rounds)
         if wanted.port:
             measure_port(wanted.port, wanted.list, file, size)
+    if wanted.port and callgrind.is_there():
+        count_readers(wanted.port, short)
 
 
 def arguments():
@@ -106,14 +137,16 @@ def arguments():
 
 
 def main(wanted):
-    measure(f"definitions made of seed {wanted.seed}", Mixed(wanted.seed).text(wanted.size), wanted)
+    whole, short = (Mixed(wanted.seed).text(size) for size in (wanted.size, wanted.size // PART))
+    measure(f"definitions made of seed {wanted.seed}", whole, short, wanted)
     for folder in wanted.folder:
-        measure(f"the files of {folder}", joined_text(wanted.weedle2, folder), wanted)
+        files = whole_of(wanted.weedle2, files_of(folder))
+        measure(f"the files of {folder}", joined(files), joined(files[::PART]), wanted)
 
 
 if __name__ == "__main__":
     try:
         main(arguments())
-    except NoUse as fault:
+    except (NoUse, callgrind.NoCount) as fault:
         print(fault, file=sys.stderr)
         sys.exit(2)
