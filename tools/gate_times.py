@@ -30,6 +30,8 @@ import sys
 import time
 from pathlib import Path
 
+TOP = Path(__file__).resolve().parent.parent
+
 TICKS = os.sysconf("SC_CLK_TCK")
 INTERVAL = 0.5
 KINDS = ("proof", "tests", "edits", "programs")
@@ -132,12 +134,17 @@ def kind_of(entry):
     return "proof"
 
 
+def wrong_bodies(crate):
+    """How many wrong bodies of a crate the gate tries."""
+    return len([*(TOP / "crates" / crate / "must-fail").glob("*.edit")])
+
+
 class Times:
     """Seconds of processor time by kind and crate, and when each proof began and ended."""
 
     def __init__(self, log):
         self.by = {kind: {} for kind in KINDS}
-        self.edits, self.spans, self.rest = {}, {}, 0.0
+        self.spans, self.rest = {}, 0.0
         for entry in log:
             self.add(entry)
 
@@ -148,11 +155,11 @@ class Times:
             return
         of_kind = self.by[kind]
         of_kind[crate] = of_kind.get(crate, 0) + taken_by(entry)
-        if kind == "edits":
-            self.edits.setdefault(crate, set()).add(entry["cwd"])
         if kind == "proof":
-            began, ended = self.spans.get(crate, (entry["start"], entry["end"]))
-            self.spans[crate] = min(began, entry["start"]), max(ended, entry["end"])
+            # What else is done for a crate, as the looking through its files, is soon done.
+            self.spans[crate] = max(
+                self.spans.get(crate, (0.0, 0.0)), (entry["start"], entry["end"]), key=lambda it: it[1] - it[0]
+            )
 
     def crates(self):
         names = {it for of_kind in self.by.values() for it in of_kind}
@@ -163,7 +170,7 @@ class Times:
 
     def as_json(self):
         said = {kind: {k: round(v, 1) for k, v in self.by[kind].items()} for kind in KINDS}
-        edits = {k: [len(self.edits[k]), v] for k, v in said["edits"].items()}
+        edits = {k: [wrong_bodies(k), v] for k, v in said["edits"].items()}
         return {**said, "edits": edits, "rest": round(self.rest, 1)}
 
 
