@@ -13,7 +13,7 @@ by hand above it passes it on.
 from pathlib import Path
 
 # Whether the files stand in folders of their own. Where this is changed, tools/move_written.py moves them.
-IS_APART = False
+IS_APART = True
 FOLDER = "written"
 # The folders further down that have a module by hand above them, in which others by hand may stand.
 FOLDERS = """

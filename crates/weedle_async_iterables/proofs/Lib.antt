@@ -1,3 +1,3 @@
 pub mod PartRules
 pub mod CopyFacts
-pub mod AsyncIterableRules
+pub mod written

@@ -1,2 +1,1 @@
-pub mod PartTrees
-pub mod Trees
+pub mod written

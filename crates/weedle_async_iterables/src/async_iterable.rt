@@ -2,11 +2,11 @@
 
 ghost use Rattle.weedle_base.specs.Own.{own};
 ghost use Rattle.weedle_base.specs.OwnLaws.{own_lawful};
-ghost use Rattle.weedle_async_iterables.specs.Trees.{
+ghost use Rattle.weedle_async_iterables.specs.written.Trees.{
   double_typed_async_iterable_tree,
   single_typed_async_iterable_tree,
 };
-ghost use Rattle.weedle_grammar.specs.Table.InterfaceMembers.{
+ghost use Rattle.weedle_grammar.specs.written.Table.InterfaceMembers.{
   DOUBLE_TYPED_ASYNC_ITERABLE,
   SINGLE_TYPED_ASYNC_ITERABLE,
 };
@@ -50,7 +50,7 @@ impl Drop for SingleTypedAsyncIterable<'_> {
     }
 }
 
-#[tactic(auto, using(crate::proofs::AsyncIterableRules::single_typed_async_iterable_steps))]
+#[tactic(auto, using(crate::proofs::written::AsyncIterableRules::single_typed_async_iterable_steps))]
 impl<'a> Parse<'a> for SingleTypedAsyncIterable<'a> {
     ghost reading = { own SINGLE_TYPED_ASYNC_ITERABLE single_typed_async_iterable_tree (Unit {0}) };
 
@@ -104,7 +104,7 @@ impl Drop for DoubleTypedAsyncIterable<'_> {
     }
 }
 
-#[tactic(auto, using(crate::proofs::AsyncIterableRules::double_typed_async_iterable_steps))]
+#[tactic(auto, using(crate::proofs::written::AsyncIterableRules::double_typed_async_iterable_steps))]
 impl<'a> Parse<'a> for DoubleTypedAsyncIterable<'a> {
     ghost reading = { own DOUBLE_TYPED_ASYNC_ITERABLE double_typed_async_iterable_tree (Unit {0}) };
 

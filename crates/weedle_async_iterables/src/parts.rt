@@ -2,11 +2,11 @@
 
 ghost use Rattle.weedle_base.specs.Own.{own};
 ghost use Rattle.weedle_base.specs.Reading.{Answers};
-ghost use Rattle.weedle_async_iterables.specs.PartTrees.{
+ghost use Rattle.weedle_async_iterables.specs.written.PartTrees.{
   async_iterable_tree,
   optional_arguments_tree,
 };
-ghost use Rattle.weedle_grammar.specs.Table.InterfaceMembers.{
+ghost use Rattle.weedle_grammar.specs.written.Table.InterfaceMembers.{
   ASYNC_ITERABLE,
   OPT_PARENTHESIZED_ARGUMENT_LIST,
 };

@@ -14,7 +14,7 @@ use Rattle.weedle_base.specs.declared.fault.Error.{Error}
 use Rattle.weedle_base.specs.declared.fault.ErrorKind.{ErrorKind}
 use Rattle.weedle_grammar.specs.Meaning.{Plain, ReadsFirst, by_first, first_none, first_here, first_next}
 use Rattle.weedle_grammar.specs.Rows.{First}
-use Rattle.weedle_grammar.specs.Table.{webidl, row_of, shape_of}
+use Rattle.weedle_grammar.specs.written.Table.{webidl, row_of, shape_of}
 use Rattle.weedle_grammar.specs.Trees.{Tree, Alt, Fails, Gives}
 
 -- the reading is that of rules of which the first that fits is taken, counted from i

@@ -9,7 +9,7 @@ use Rattle.weedle_grammar.specs.declared.class.Class.{Class}
 use Rattle.weedle_grammar.specs.Rows.{Past, is_in, run_length}
 use Rattle.weedle_grammar.specs.Meaning.{Silent}
 use Rattle.weedle_grammar.specs.Trees.{Fails}
-use Rattle.weedle_grammar.specs.Table.{row_of, shape_of, Reads}
+use Rattle.weedle_grammar.specs.written.Table.{row_of, shape_of, Reads}
 use Rattle.weedle_base.specs.Trivia.{Took}
 use Rattle.weedle_base.proofs.LeafFacts.{reads_past, cut, found_byte, nowhere_byte, found_past, nowhere_past}
 use Rattle.weedle_base.proofs.TriviaFacts.{given, run_is}

@@ -5,8 +5,8 @@ use Rattle.std.specs.Prelude.{◌≡◌, ℕ, suc, ◌+◌, List, [], ◌∷◌,
 use Rattle.memchr.specs.Find.{IsFirstByte, is_byte}
 use Rattle.weedle_grammar.specs.declared.class.Class.TheVariants.{NotLineFeed}
 use Rattle.weedle_grammar.specs.Rows.{take_bytes}
-use Rattle.weedle_grammar.specs.Table.{Reads}
-use Rattle.weedle_grammar.specs.Table.Trivia.{BYTES_LF, NOT_NEXT_ANY, RUN_NOT_LINE_FEED, LINE_END}
+use Rattle.weedle_grammar.specs.written.Table.{Reads}
+use Rattle.weedle_grammar.specs.written.Table.Trivia.{BYTES_LF, NOT_NEXT_ANY, RUN_NOT_LINE_FEED, LINE_END}
 use Rattle.weedle_grammar.specs.Trees.{Fails}
 use Rattle.weedle_base.proofs.FindFacts.{found_front, run_before, run_whole}
 use Rattle.weedle_base.proofs.LeafFacts.{reads_bytes}

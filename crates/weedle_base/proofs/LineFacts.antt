@@ -7,12 +7,12 @@ use Rattle.memchr.specs.Find.{IsFirstByte, is_byte}
 use Rattle.weedle_grammar.specs.Rows.{Many}
 use Rattle.weedle_grammar.specs.Trees.{Tree, Lines, Items, trees, Fails, Gives}
 use Rattle.weedle_grammar.specs.Meaning.{Yields, ReadsRow, by_seq, many_end, many_more, more_lines, but_last}
-use Rattle.weedle_grammar.specs.Table.{webidl, Reads}
-use Rattle.weedle_grammar.specs.Table.Trivia.{RUN_BLANK}
-use Rattle.weedle_grammar.specs.Table.Leaves.{BYTES_THREE_SLASHES, PAST_LF, DOC_LINE, MANY_DOC_LINE, DOCSTRING}
+use Rattle.weedle_grammar.specs.written.Table.{webidl, Reads}
+use Rattle.weedle_grammar.specs.written.Table.Trivia.{RUN_BLANK}
+use Rattle.weedle_grammar.specs.written.Table.Leaves.{BYTES_THREE_SLASHES, PAST_LF, DOC_LINE, MANY_DOC_LINE, DOCSTRING}
 use Rattle.weedle_grammar.proofs.Suffix.{then_on, fails, nothing, no_node}
 use Rattle.weedle_grammar.proofs.Checked.{rank, ranked}
-use Rattle.weedle_grammar.proofs.Takes.{takes}
+use Rattle.weedle_grammar.proofs.written.Takes.{takes}
 use Rattle.weedle_grammar.proofs.Exists.{advances}
 use Rattle.weedle_base.proofs.RuleFacts.{of_row}
 use Rattle.weedle_base.proofs.RunRules.{row_forth}

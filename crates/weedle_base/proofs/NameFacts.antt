@@ -7,9 +7,9 @@ use Rattle.weedle_base.proofs.Steps.{rest_add}
 use Rattle.weedle_base.specs.Trivia.{Took, TookText}
 use Rattle.weedle_grammar.proofs.Suffix.{then_on, fails, nothing, no_node}
 use Rattle.weedle_grammar.specs.Meaning.{by_seq}
-use Rattle.weedle_grammar.specs.Table.{Reads}
-use Rattle.weedle_grammar.specs.Table.Leaves.{OPT_BYTES_UNDERSCORE, IDENTIFIER_TEXT, IDENTIFIER}
-use Rattle.weedle_grammar.specs.Table.Trivia.{TRIVIA}
+use Rattle.weedle_grammar.specs.written.Table.{Reads}
+use Rattle.weedle_grammar.specs.written.Table.Leaves.{OPT_BYTES_UNDERSCORE, IDENTIFIER_TEXT, IDENTIFIER}
+use Rattle.weedle_grammar.specs.written.Table.Trivia.{TRIVIA}
 use Rattle.weedle_grammar.specs.Trees.{Text, Fails, Gives}
 
 -- An identifier: trivia, an underscore where there is one, the text that is kept, trivia.

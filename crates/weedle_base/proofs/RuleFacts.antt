@@ -15,7 +15,7 @@ use Rattle.weedle_grammar.proofs.Shift.{given_same, last_moved}
 use Rattle.weedle_grammar.proofs.Suffix.{nothing, then, then_on, then_fails, fails}
 use Rattle.weedle_grammar.specs.Meaning.{Plain, Raw, Piece, ReadsRow, ReadsSeq, by_row, by_opt, by_seq, shaped, given_of, last_end}
 use Rattle.weedle_grammar.specs.Rows.{Row, Seq, Opt}
-use Rattle.weedle_grammar.specs.Table.{webidl, row_of, shape_of, Reads}
+use Rattle.weedle_grammar.specs.written.Table.{webidl, row_of, shape_of, Reads}
 use Rattle.weedle_grammar.specs.Trees.{Tree, Node, trees, Outcome, Fails, Gives}
 
 -- the rules read these trees one after another

@@ -10,7 +10,7 @@ use Rattle.weedle_base.specs.Runs.{Items, run_reading, vec_step}
 use Rattle.weedle_grammar.proofs.Shift.{row_behind, raw_moved}
 use Rattle.weedle_grammar.specs.Meaning.{Plain, Raw, Breaks, Yields, ReadsRow, many_end, many_stuck, many_more}
 use Rattle.weedle_grammar.specs.Rows.{Row, Many}
-use Rattle.weedle_grammar.specs.Table.{webidl, row_of, shape_of}
+use Rattle.weedle_grammar.specs.written.Table.{webidl, row_of, shape_of}
 use Rattle.weedle_grammar.specs.Trees.{Tree}
 
 -- what a row does at the front of what is left

@@ -5,7 +5,7 @@ use Rattle.std.proofs.Common.{refl, sym, subst}
 use Rattle.weedle_grammar.specs.Rows.{Seq, First, Opt}
 use Rattle.weedle_grammar.specs.Trees.{Tree, Mark, Fails, Gives}
 use Rattle.weedle_grammar.specs.Meaning.{Silent, Marked, ReadsSeq, by_seq, by_first, by_opt, first_here, first_next, first_none}
-use Rattle.weedle_grammar.specs.Table.{webidl, row_of, shape_of, Reads}
+use Rattle.weedle_grammar.specs.written.Table.{webidl, row_of, shape_of, Reads}
 use Rattle.weedle_grammar.proofs.Suffix.{then_fails_on}
 use Rattle.weedle_base.proofs.RuleFacts.{of_row, Parts, parts_none, parts_on}
 use Rattle.weedle_base.proofs.Steps.{rest_add}

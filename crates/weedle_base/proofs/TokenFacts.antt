@@ -20,9 +20,9 @@ use Rattle.weedle_base.specs.declared.fault.Err.{Err as Fault}
 use Rattle.weedle_base.specs.declared.fault.Error.{Error}
 use Rattle.weedle_grammar.proofs.Suffix.{fails, no_node}
 use Rattle.weedle_grammar.specs.Rows.{begins}
-use Rattle.weedle_grammar.specs.Table.{Reads}
-use Rattle.weedle_grammar.specs.Table.Keywords.{NOT_NEXT_NAME}
-use Rattle.weedle_grammar.specs.Table.Trivia.{TRIVIA}
+use Rattle.weedle_grammar.specs.written.Table.{Reads}
+use Rattle.weedle_grammar.specs.written.Table.Keywords.{NOT_NEXT_NAME}
+use Rattle.weedle_grammar.specs.written.Table.Trivia.{TRIVIA}
 use Rattle.weedle_grammar.specs.Trees.{Tree, Mark, Fails, Gives}
 use Rattle.weedle_grammar.specs.declared.class.Class.TheVariants.{Name}
 

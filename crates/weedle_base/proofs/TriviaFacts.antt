@@ -10,11 +10,11 @@ use Rattle.weedle_base.proofs.RunRules.{row_forth}
 use Rattle.weedle_base.specs.Trivia.{Took, Trial}
 use Rattle.weedle_grammar.proofs.Checked.{rank, ranked}
 use Rattle.weedle_grammar.proofs.Exists.{advances}
-use Rattle.weedle_grammar.proofs.Takes.{takes}
+use Rattle.weedle_grammar.proofs.written.Takes.{takes}
 use Rattle.weedle_grammar.specs.Meaning.{Yields, ReadsRow, by_first, first_here, first_next, first_none, many_end, many_more}
 use Rattle.weedle_grammar.specs.Rows.{Many, run_length, is_in}
-use Rattle.weedle_grammar.specs.Table.{webidl, Reads}
-use Rattle.weedle_grammar.specs.Table.Trivia.{LINE_COMMENT, BLANKS, BLOCK_COMMENT, PIECE, TRIVIA}
+use Rattle.weedle_grammar.specs.written.Table.{webidl, Reads}
+use Rattle.weedle_grammar.specs.written.Table.Trivia.{LINE_COMMENT, BLANKS, BLOCK_COMMENT, PIECE, TRIVIA}
 use Rattle.weedle_grammar.specs.Trees.{Tree, Fails, Gives}
 use Rattle.weedle_grammar.specs.declared.class.Class.{Class}
 

@@ -12,7 +12,7 @@ use Rattle.weedle_grammar.specs.declared.class.Class.{Class}
 use Rattle.weedle_grammar.specs.Rows.{NotNext, take_bytes, take_one, take_not_next, run_length, is_in}
 use Rattle.weedle_grammar.specs.Meaning.{Silent}
 use Rattle.weedle_grammar.specs.Trees.{Tree, Fails, Gives}
-use Rattle.weedle_grammar.specs.Table.{row_of, shape_of, Reads}
+use Rattle.weedle_grammar.specs.written.Table.{row_of, shape_of, Reads}
 use Rattle.weedle_base.proofs.LeafFacts.{reads_bytes, reads_one, reads_not_next, reads_run, cut, takes_none, takes_some}
 use Rattle.weedle_base.specs.Trivia.{Took, Trial, is_next}
 use Rattle.weedle_grammar.proofs.Leaves.{both}

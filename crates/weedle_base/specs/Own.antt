@@ -4,7 +4,7 @@ use Rattle.weedle_base.specs.Places.{IsSuffix}
 use Rattle.weedle_base.specs.Reading.{Reading}
 use Rattle.weedle_base.specs.declared.fault.ErrorKind.{ErrorKind}
 use Rattle.weedle_base.specs.declared.fault.ErrorKind.TheVariants.{Memory}
-use Rattle.weedle_grammar.specs.Table.{Reads}
+use Rattle.weedle_grammar.specs.written.Table.{Reads}
 use Rattle.weedle_grammar.specs.Trees.{Tree, Fails, Gives}
 
 -- a call stops for want of memory, at a suffix of the text, if the type asks for memory at all

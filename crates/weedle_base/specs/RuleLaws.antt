@@ -5,7 +5,7 @@ use Rattle.std.specs.Global.{Box, Vec}
 use Rattle.weedle_grammar.specs.Rows.{Seq, Opt, Many}
 use Rattle.weedle_grammar.specs.Trees.{Tree, Node, trees}
 use Rattle.weedle_grammar.specs.Meaning.{Plain}
-use Rattle.weedle_grammar.specs.Table.{row_of, shape_of}
+use Rattle.weedle_grammar.specs.written.Table.{row_of, shape_of}
 use Rattle.weedle_base.specs.Reading.{Reading}
 use Rattle.weedle_base.specs.Rules.{HasRule, option_tree, items_tree}
 

@@ -3,7 +3,7 @@ use Rattle.std.specs.Prelude.{ℕ, List, [], ◌∷◌, map, Option, Some, None}
 use Rattle.weedle_base.specs.Own.{stops_for_memory}
 use Rattle.weedle_base.specs.Reading.{Reading}
 use Rattle.weedle_base.specs.declared.fault.ErrorKind.{ErrorKind}
-use Rattle.weedle_grammar.specs.Table.{Reads}
+use Rattle.weedle_grammar.specs.written.Table.{Reads}
 use Rattle.weedle_grammar.specs.Trees.{Tree, Absent, Present, trees, Fails, Gives, Mark, Items as Listed}
 
 -- the reading is that of the rule, with this tree of a value

@@ -3,7 +3,7 @@ use Rattle.std.specs.Prelude.{◌≡◌, ℕ, List}
 use Rattle.weedle_grammar.specs.declared.class.Class.{Class}
 use Rattle.weedle_grammar.specs.Rows.{Bytes, OneOf, Run}
 use Rattle.weedle_grammar.specs.Meaning.{Silent}
-use Rattle.weedle_grammar.specs.Table.{row_of, shape_of}
+use Rattle.weedle_grammar.specs.written.Table.{row_of, shape_of}
 
 -- the rule takes these bytes
 abbrev pub IsWord : ℕ → List ℕ → Type 0

@@ -2,9 +2,9 @@
 use Rattle.std.specs.Prelude.{◌≡◌, ℕ, List, [], ◌∷◌}
 use Rattle.weedle_grammar.specs.Meaning.{Silent, Marked}
 use Rattle.weedle_grammar.specs.Rows.{Row, Bytes, Seq}
-use Rattle.weedle_grammar.specs.Table.{row_of, shape_of}
-use Rattle.weedle_grammar.specs.Table.Keywords.{NOT_NEXT_NAME}
-use Rattle.weedle_grammar.specs.Table.Trivia.{TRIVIA}
+use Rattle.weedle_grammar.specs.written.Table.{row_of, shape_of}
+use Rattle.weedle_grammar.specs.written.Table.Keywords.{NOT_NEXT_NAME}
+use Rattle.weedle_grammar.specs.written.Table.Trivia.{TRIVIA}
 
 -- the second part of a sequence
 abbrev pub second_of : Row → ℕ

@@ -2,7 +2,7 @@
 use Rattle.std.specs.Borrow.{Bor}
 use Rattle.std.specs.Prelude.{◌≡◌, ℕ, List, [], drop, Bool, length, ◌&&◌, nat_lt, slice_index, Option, MatchOption, take}
 use Rattle.weedle_grammar.specs.Rows.{is_in}
-use Rattle.weedle_grammar.specs.Table.{Reads}
+use Rattle.weedle_grammar.specs.written.Table.{Reads}
 use Rattle.weedle_grammar.specs.Trees.{Tree, Fails, Gives}
 use Rattle.weedle_grammar.specs.declared.class.Class.{Class}
 

@@ -2,8 +2,8 @@
 
 ghost use Rattle.std.specs.Prelude.{◌≡◌, [], ◌∷◌, ◌++◌, OnOk, MatchOption, string_bytes};
 ghost use Rattle.weedle_grammar.specs.Trees.{Fails, Lines};
-ghost use Rattle.weedle_grammar.specs.Table.{Reads};
-ghost use Rattle.weedle_grammar.specs.Table.Leaves.{DOC_LINE, DOCSTRING};
+ghost use Rattle.weedle_grammar.specs.written.Table.{Reads};
+ghost use Rattle.weedle_grammar.specs.written.Table.Leaves.{DOC_LINE, DOCSTRING};
 ghost use Rattle.weedle_base.specs.Reading.{Answers};
 ghost use Rattle.weedle_base.specs.Own.{own};
 ghost use Rattle.weedle_base.specs.Trivia.{Took};

@@ -3,8 +3,8 @@
 ghost use Rattle.std.specs.Prelude.{◌≡◌, [], ◌∷◌, MatchOption};
 ghost use Rattle.weedle_grammar.specs.Rows.{is_in};
 ghost use Rattle.weedle_grammar.specs.declared.class.Class.TheVariants.{Name};
-ghost use Rattle.weedle_grammar.specs.Table.{Reads};
-ghost use Rattle.weedle_grammar.specs.Table.Leaves.{
+ghost use Rattle.weedle_grammar.specs.written.Table.{Reads};
+ghost use Rattle.weedle_grammar.specs.written.Table.Leaves.{
   IDENTIFIER,
   IDENTIFIER_TEXT,
   OPT_BYTES_UNDERSCORE,

@@ -1,7 +1,7 @@
 //! The scanners of trivia.
 
 ghost use Rattle.std.specs.Prelude.{List, ℕ, []};
-ghost use Rattle.weedle_grammar.specs.Table.Trivia.{
+ghost use Rattle.weedle_grammar.specs.written.Table.Trivia.{
   RUN_NOT_LINE_FEED,
   LINE_END,
   LINE_COMMENT,

@@ -2,7 +2,7 @@
 
 ghost use Rattle.std.specs.Prelude.{◌≡◌, IfOk};
 ghost use Rattle.weedle_build_base.specs.Whole.{IsBuilt};
-ghost use Rattle.weedle_idl.specs.DefinitionTrees.{definitions_tree};
+ghost use Rattle.weedle_idl.specs.written.DefinitionTrees.{definitions_tree};
 
 use crate::definition::AnyDefinition;
 use std::alloc::{AllocError, Global};

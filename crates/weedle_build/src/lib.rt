@@ -17,6 +17,7 @@
 #![tactic(auto)]
 
 mod built;
-mod definition;
+mod written;
 
 pub use built::{Built, build_definitions};
+use written::definition;

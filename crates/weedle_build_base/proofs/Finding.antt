@@ -3,7 +3,7 @@ use Rattle.std.proofs.Common.{◌≡◌, ℕ, List, [], ◌∷◌, Some, None, r
 use Rattle.std.specs.Prelude.{IsUtf8, IsCharBoundary}
 use Rattle.weedle_grammar.specs.Trees.{Tree, Mark, Outcome, Fails, Gives}
 use Rattle.weedle_grammar.specs.Meaning.{Marked, Raw, Breaks, Yields, shaped}
-use Rattle.weedle_grammar.specs.Table.{row_of, shape_of, Reads}
+use Rattle.weedle_grammar.specs.written.Table.{row_of, shape_of, Reads}
 use Rattle.weedle_rules.specs.Cells.{HasEnd, end_of}
 use Rattle.weedle_grammar.proofs.Unique.{one_outcome}
 use Rattle.weedle_grammar.proofs.Inversion.{at_row}

@@ -6,7 +6,7 @@ use Rattle.weedle_grammar.proofs.Leaves.{both}
 use Rattle.weedle_grammar.specs.Rows.{Row, Bytes, OneOf, NotNext, Run as RunOf, Past, Seq, First, Opt, Many, ListOf, List1, Tail, If}
 use Rattle.weedle_grammar.specs.Trees.{Tree, Text, Gives}
 use Rattle.weedle_grammar.specs.Meaning.{Shape, Silent, Marked, Kept, Line, Joined, Inner, Plain, Piece, piece, together, with_piece, ends_of, last_end, kept, between, shaped, ReadsSeq}
-use Rattle.weedle_grammar.specs.Table.{webidl, row_of, shape_of, Reads}
+use Rattle.weedle_grammar.specs.written.Table.{webidl, row_of, shape_of, Reads}
 use Rattle.weedle_grammar.proofs.Unique.{one_outcome}
 use Rattle.weedle_grammar.proofs.Inversion.{parts_of, of_parts}
 use Rattle.weedle_grammar.proofs.Exists.{grows}

@@ -6,9 +6,9 @@ use Rattle.std.proofs.lemmas.Str.{IsCharBoundary-before_ascii}
 use Rattle.weedle_grammar.specs.Rows.{Past, begins, take_past}
 use Rattle.weedle_grammar.specs.Trees.{Tree, trees, Mark, Text, Node, Alt, Absent, Present, Items, Lines, Gives}
 use Rattle.weedle_grammar.specs.Meaning.{Silent, leaf, shaped, between, but_last, more_lines, by_row, by_seq, seq_end, seq_more}
-use Rattle.weedle_grammar.specs.Table.{Reads}
-use Rattle.weedle_grammar.specs.Table.Trivia.{RUN_BLANK}
-use Rattle.weedle_grammar.specs.Table.Leaves.{BYTES_THREE_SLASHES, PAST_LF, DOC_LINE, MANY_DOC_LINE, DOCSTRING}
+use Rattle.weedle_grammar.specs.written.Table.{Reads}
+use Rattle.weedle_grammar.specs.written.Table.Trivia.{RUN_BLANK}
+use Rattle.weedle_grammar.specs.written.Table.Leaves.{BYTES_THREE_SLASHES, PAST_LF, DOC_LINE, MANY_DOC_LINE, DOCSTRING}
 use Rattle.weedle_rules.specs.Cells.{HasEnd}
 use Rattle.weedle_grammar.proofs.Inversion.{at_row, of_past}
 use Rattle.weedle_grammar.proofs.Leaves.{both}

@@ -7,7 +7,7 @@ use Rattle.weedle_grammar.specs.declared.row.Row.TheVariants as code
 use Rattle.weedle_grammar.specs.View.{row_view}
 use Rattle.weedle_grammar.specs.Trees.{Tree, trees, Items, Gives}
 use Rattle.weedle_grammar.specs.Meaning.{Shape, Silent, Marked, Kept, Line, Joined, Inner, Plain, Piece, piece, Raw, Breaks, before, raw_of, shaped, together, with_piece, ReadsRow, list1_more, by_row}
-use Rattle.weedle_grammar.specs.Table.{webidl, row_of, shape_of, Reads}
+use Rattle.weedle_grammar.specs.written.Table.{webidl, row_of, shape_of, Reads}
 use Rattle.weedle_grammar.proofs.Unique.{one_outcome}
 use Rattle.weedle_grammar.proofs.Inversion.{at_row, of_list1, parts_of, of_parts}
 use Rattle.weedle_grammar.proofs.GrammarFacts.{at_boundary}

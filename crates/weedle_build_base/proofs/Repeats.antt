@@ -5,7 +5,7 @@ use Rattle.std.proofs.lemmas.List.{append_assoc, append-nil}
 use Rattle.weedle_grammar.specs.Rows.{Row, Bytes, OneOf, NotNext, Run as RunOf, Past, Seq, First, Opt, Many, ListOf, List1, Tail, If}
 use Rattle.weedle_grammar.specs.Trees.{Tree, trees, Items, Gives}
 use Rattle.weedle_grammar.specs.Meaning.{Shape, Silent, Marked, Kept, Line, Joined, Inner, Plain, Raw, Breaks, Yields, before, shaped, ReadsRow, many_end, many_more, by_row}
-use Rattle.weedle_grammar.specs.Table.{webidl, row_of, shape_of}
+use Rattle.weedle_grammar.specs.written.Table.{webidl, row_of, shape_of}
 use Rattle.weedle_grammar.proofs.Unique.{one_outcome}
 use Rattle.weedle_grammar.proofs.Inversion.{at_row, of_many}
 use Rattle.weedle_grammar.proofs.Exists.{grows}

@@ -5,7 +5,7 @@ use Rattle.std.proofs.lemmas.List.{append-nil}
 use Rattle.weedle_grammar.specs.Rows.{Row, Bytes, OneOf, NotNext, Run as RunOf, Past, Seq, First, Opt, Many, ListOf, List1, Tail, If}
 use Rattle.weedle_grammar.specs.Trees.{Tree, trees, Items, Outcome, Fails, Gives}
 use Rattle.weedle_grammar.specs.Meaning.{Shape, Silent, Marked, Kept, Line, Joined, Inner, Plain, Raw, Breaks, Yields, before, raw_of, shaped, ReadsRow, tail_end, tail_back, tail_more, list_none, list_more, by_row}
-use Rattle.weedle_grammar.specs.Table.{webidl, row_of, shape_of, Reads}
+use Rattle.weedle_grammar.specs.written.Table.{webidl, row_of, shape_of, Reads}
 use Rattle.weedle_rules.specs.Cells.{HasEnd}
 use Rattle.weedle_grammar.specs.Size.{size, total_size}
 use Rattle.weedle_grammar.proofs.Unique.{one_outcome}

@@ -4,7 +4,7 @@ use Rattle.std.specs.Prelude.{IsUtf8, IsCharBoundary}
 use Rattle.weedle_grammar.specs.Rows.{Row, Bytes, OneOf, NotNext, Run as RunOf, Past, Seq, First, Opt, Many, ListOf, List1, Tail, If}
 use Rattle.weedle_grammar.specs.Trees.{Tree, trees, Node, Gives}
 use Rattle.weedle_grammar.specs.Meaning.{Shape, Silent, Marked, Kept, Line, Joined, Inner, Plain, Piece, piece, Raw, ReadsRow, ReadsSeq, if_fails, if_absent, if_present, by_row, by_seq, seq_end, seq_more, together, with_piece, given_of, last_end, shaped}
-use Rattle.weedle_grammar.specs.Table.{webidl, row_of, shape_of, Reads}
+use Rattle.weedle_grammar.specs.written.Table.{webidl, row_of, shape_of, Reads}
 use Rattle.weedle_grammar.proofs.Unique.{one_outcome}
 use Rattle.weedle_grammar.proofs.Inversion.{parts_of, of_parts, at_row}
 use Rattle.weedle_grammar.proofs.GrammarFacts.{at_boundary}

@@ -5,10 +5,10 @@ use Rattle.std.proofs.lemmas.Str.{IsCharBoundary-start}
 use Rattle.weedle_grammar.specs.Rows.{Row, Many}
 use Rattle.weedle_grammar.specs.Trees.{Tree, Outcome, Fails, Gives}
 use Rattle.weedle_grammar.specs.Meaning.{Shape, Raw, Breaks, Yields, before, shaped, ReadsRow, many_end, many_stuck, many_more}
-use Rattle.weedle_grammar.specs.Table.{webidl, shape_of, Reads}
-use Rattle.weedle_grammar.specs.Table.Definitions.{DEFINITION, DEFINITIONS}
+use Rattle.weedle_grammar.specs.written.Table.{webidl, shape_of, Reads}
+use Rattle.weedle_grammar.specs.written.Table.Definitions.{DEFINITION, DEFINITIONS}
 use Rattle.weedle_grammar.proofs.Inversion.{at_row}
-use Rattle.weedle_grammar.proofs.Takes.{takes}
+use Rattle.weedle_grammar.proofs.written.Takes.{takes}
 use Rattle.weedle_grammar.proofs.Checked.{ranked}
 use Rattle.weedle_grammar.proofs.Exists.{advances, stays_inside}
 use Rattle.weedle_grammar.proofs.GrammarFacts.{one, at_boundary}

@@ -2,7 +2,7 @@
 use Rattle.std.specs.Prelude.{◌≡◌, ℕ, ◌+◌, ◌-◌, ◌^◌, min, List, [], ◌∷◌, IsUtf8, IsCharBoundary, Result, Ok, Err, Some, ◌<◌, length, get_or}
 use Rattle.weedle_build_base.specs.declared.at.At.{At}
 use Rattle.weedle_grammar.specs.Trees.{Tree, Alt, Gives}
-use Rattle.weedle_grammar.specs.Table.{webidl, row_of, Reads}
+use Rattle.weedle_grammar.specs.written.Table.{webidl, row_of, Reads}
 use Rattle.weedle_build_base.specs.Fits.{firsts}
 use Rattle.weedle_grammar.specs.Size.{size, total_size}
 use Rattle.weedle_grammar.specs.Meaning.{Piece, ReadsSeq, given_of, last_end}

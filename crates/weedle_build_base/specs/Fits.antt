@@ -2,8 +2,8 @@
 use Rattle.std.specs.Prelude.{◌≡◌, ℕ, List, [], ◌∷◌, get_or, length, Bool, true, false, nat_eq, nat_lt, ◌&&◌}
 use Rattle.weedle_grammar.specs.Rows.{Row, Seq, First, Opt, Many, ListOf, List1, Tail, If}
 use Rattle.weedle_grammar.specs.Meaning.{Shape, Plain, Inner, Kept}
-use Rattle.weedle_grammar.specs.Table.{row_of, shape_of}
-use Rattle.weedle_grammar.specs.Table.Symbols.{Q_MARK}
+use Rattle.weedle_grammar.specs.written.Table.{row_of, shape_of}
+use Rattle.weedle_grammar.specs.written.Table.Symbols.{Q_MARK}
 
 -- a rule of this row and shape reads a type that may be absent, whose rules F has
 abbrev pub fits_option : (ℕ → Type 0) → Row → Shape → Type 0

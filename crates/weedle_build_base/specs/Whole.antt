@@ -1,8 +1,8 @@
 -- What the building of a whole text answers.
 use Rattle.std.specs.Prelude.{◌≡◌, ◌≤◌, ◌+◌, ◌*◌, ℕ, List, [], ◌∷◌, drop, length}
 use Rattle.weedle_grammar.specs.Trees.{Tree, Gives}
-use Rattle.weedle_grammar.specs.Table.{Reads}
-use Rattle.weedle_grammar.specs.Table.Definitions.{DEFINITIONS}
+use Rattle.weedle_grammar.specs.written.Table.{Reads}
+use Rattle.weedle_grammar.specs.written.Table.Definitions.{DEFINITIONS}
 use Rattle.weedle_grammar.specs.Size.{size}
 
 -- at the front of the text the rule of definitions reads this tree, up to some end; the rest is the text from there; and each node of the tree was visited once

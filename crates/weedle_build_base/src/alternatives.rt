@@ -15,7 +15,7 @@ ghost use Rattle.std.specs.Prelude.{
   get_or,
 };
 ghost use Rattle.weedle_grammar.specs.Trees.{Tree, Alt};
-ghost use Rattle.weedle_grammar.specs.Table.{row_of as row_of_rule, shape_of};
+ghost use Rattle.weedle_grammar.specs.written.Table.{row_of as row_of_rule, shape_of};
 ghost use Rattle.weedle_build_base.specs.Built.{Due, IsChosen, Answers};
 ghost use Rattle.weedle_build_base.specs.Fits.{firsts, is_choice, fits_first};
 

@@ -1,7 +1,7 @@
 //! A body between two brackets, and a type that may be null.
 
-ghost use Rattle.weedle_grammar.specs.Table.{row_of as row_of_rule, shape_of};
-ghost use Rattle.weedle_grammar.specs.Table.Symbols.{
+ghost use Rattle.weedle_grammar.specs.written.Table.{row_of as row_of_rule, shape_of};
+ghost use Rattle.weedle_grammar.specs.written.Table.Symbols.{
   OPEN_PAREN,
   CLOSE_PAREN,
   OPEN_BRACKET,

@@ -3,7 +3,7 @@
 ghost use Rattle.std.specs.Prelude.{◌≡◌, ℕ};
 ghost use Rattle.weedle_grammar.specs.Trees.{Tree, Mark};
 ghost use Rattle.weedle_grammar.specs.Meaning.{Marked};
-ghost use Rattle.weedle_grammar.specs.Table.{shape_of};
+ghost use Rattle.weedle_grammar.specs.written.Table.{shape_of};
 ghost use Rattle.weedle_build_base.specs.Built.{Due, Builds, Visits, Found, Answers};
 
 use crate::at::At;

@@ -2,8 +2,8 @@
 
 ghost use Rattle.std.specs.Prelude.{◌≡◌, [], ◌∷◌};
 ghost use Rattle.weedle_grammar.specs.Trees.{Lines, Gives};
-ghost use Rattle.weedle_grammar.specs.Table.{Reads};
-ghost use Rattle.weedle_grammar.specs.Table.Leaves.{DOC_LINE, DOCSTRING};
+ghost use Rattle.weedle_grammar.specs.written.Table.{Reads};
+ghost use Rattle.weedle_grammar.specs.written.Table.Leaves.{DOC_LINE, DOCSTRING};
 ghost use Rattle.weedle_parts.specs.ValueTrees.{docstring_tree};
 ghost use Rattle.weedle_build_base.specs.Built.{Due};
 

@@ -2,7 +2,7 @@
 
 ghost use Rattle.std.specs.Prelude.{◌≡◌, ◌+◌, ◌<◌, ◌^◌, ℕ, List, [], ◌∷◌, drop, IsSome, slice_get};
 ghost use Rattle.weedle_grammar.specs.Trees.{Tree, Node, trees};
-ghost use Rattle.weedle_grammar.specs.Table.{row_of as row_of_rule, shape_of};
+ghost use Rattle.weedle_grammar.specs.written.Table.{row_of as row_of_rule, shape_of};
 ghost use Rattle.weedle_build_base.specs.Built.{Due, Rest, Answers, FieldAnswers};
 ghost use Rattle.weedle_build_base.specs.Fits.{list_of, then_fits, end_fits, fits_seq};
 

@@ -1,6 +1,6 @@
 //! The standard library's types.
 
-ghost use Rattle.weedle_grammar.specs.Table.{row_of as row_of_rule, shape_of};
+ghost use Rattle.weedle_grammar.specs.written.Table.{row_of as row_of_rule, shape_of};
 ghost use Rattle.weedle_base.specs.Rules.{option_tree, items_tree};
 ghost use Rattle.weedle_build_base.specs.Fits.{
   fits_option,

@@ -2,7 +2,7 @@
 #![tactic(auto, using(crate::proofs::Finding::own_steps))]
 
 ghost use Rattle.std.specs.Prelude.{◌≡◌};
-ghost use Rattle.weedle_grammar.specs.Table.Leaves.{
+ghost use Rattle.weedle_grammar.specs.written.Table.Leaves.{
   IDENTIFIER,
   DEC_LIT,
   HEX_LIT,

@@ -24,13 +24,10 @@ mod fields;
 mod generic;
 mod leaves;
 mod lists;
-mod literals;
-mod modifiers;
-mod simple_types;
 mod structs;
-mod terminals;
 mod texts;
 mod whole;
+mod written;
 
 pub use alternatives::{alternative, alternative_rule, choice};
 pub use at::At;

@@ -2,7 +2,7 @@
 
 ghost use Rattle.std.specs.Global.{Vec};
 ghost use Rattle.std.specs.Prelude.{map};
-ghost use Rattle.weedle_grammar.specs.Table.{row_of as row_of_rule, shape_of};
+ghost use Rattle.weedle_grammar.specs.written.Table.{row_of as row_of_rule, shape_of};
 ghost use Rattle.weedle_parts.specs.ValueTrees.{punctuated_tree, punctuated_non_empty_tree};
 ghost use Rattle.weedle_build_base.specs.Built.{IsDueList, ItemAnswers};
 ghost use Rattle.weedle_build_base.specs.Fits.{fits_tail, fits_list, fits_non_empty};

@@ -9,7 +9,7 @@
 
 ghost use Rattle.std.specs.Prelude.{[], ◌∷◌};
 ghost use Rattle.weedle_grammar.specs.Trees.{Node, trees};
-ghost use Rattle.weedle_grammar.specs.Table.{row_of as row_of_rule, shape_of};
+ghost use Rattle.weedle_grammar.specs.written.Table.{row_of as row_of_rule, shape_of};
 ghost use Rattle.weedle_build_base.specs.Built.{Due, Answers};
 ghost use Rattle.weedle_build_base.specs.Fits.{then_fits, end_fits, fits_seq};
 

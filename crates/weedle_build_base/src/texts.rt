@@ -2,7 +2,7 @@
 
 ghost use Rattle.std.specs.Prelude.{IsTrue};
 ghost use Rattle.weedle_grammar.specs.Trees.{Text};
-ghost use Rattle.weedle_grammar.specs.Table.{row_of as row_of_rule, shape_of};
+ghost use Rattle.weedle_grammar.specs.written.Table.{row_of as row_of_rule, shape_of};
 ghost use Rattle.weedle_build_base.specs.Fits.{is_kept};
 ghost use Rattle.weedle_build_base.specs.Built.{Due, Builds};
 

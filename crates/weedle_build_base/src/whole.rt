@@ -1,7 +1,7 @@
 //! What stands at the front of a whole text.
 
 ghost use Rattle.std.specs.Prelude.{◌≡◌, IfOk};
-ghost use Rattle.weedle_grammar.specs.Table.Definitions.{DEFINITIONS};
+ghost use Rattle.weedle_grammar.specs.written.Table.Definitions.{DEFINITIONS};
 ghost use Rattle.weedle_build_base.specs.Whole.{IsBuilt};
 
 use crate::at::At;

@@ -3,7 +3,7 @@
 //! [`InterfacePart`] stands for each of them as a part of others.
 #![tactic(auto)]
 
-mod interfaces;
 mod part;
+mod written;
 
 pub use part::InterfacePart;

@@ -3,8 +3,7 @@
 //! [`MemberPart`] stands for each of them as a part of others.
 #![tactic(auto)]
 
-mod iterables;
-mod members;
 mod part;
+mod written;
 
 pub use part::MemberPart;

@@ -3,7 +3,7 @@
 //! [`MixinPart`] stands for each of them as a part of others.
 #![tactic(auto)]
 
-mod mixins;
 mod part;
+mod written;
 
 pub use part::MixinPart;

@@ -3,8 +3,7 @@
 //! [`NamespacePart`] stands for each of them as a part of others.
 #![tactic(auto)]
 
-mod dictionaries;
-mod namespaces;
 mod part;
+mod written;
 
 pub use part::NamespacePart;

@@ -4,6 +4,6 @@
 #![tactic(auto)]
 
 mod part;
-mod statements;
+mod written;
 
 pub use part::StatementPart;

@@ -2,10 +2,10 @@
 use Rattle.std.proofs.Common.{◌≡◌, ℕ, ◌<◌, ◌≤◌, List, true, Some, refl, sym, subst, arith}
 use Rattle.std.specs.Prelude.{Result}
 use Rattle.weedle_grammar.specs.Rows.{If, Opt}
-use Rattle.weedle_grammar.specs.Table.{webidl, row_of, shape_of}
+use Rattle.weedle_grammar.specs.written.Table.{webidl, row_of, shape_of}
 use Rattle.weedle_grammar.specs.Trees.{Tree}
 use Rattle.weedle_grammar.specs.Meaning.{Plain}
-use Rattle.weedle_grammar.proofs.Takes.{takes}
+use Rattle.weedle_grammar.proofs.written.Takes.{takes}
 use Rattle.weedle_grammar.proofs.Checked.{ranked}
 use Rattle.weedle_grammar.proofs.Exists.{advances, grows}
 use Rattle.weedle_build_base.specs.Built.{Answers, Builds, Due, Rest}

@@ -4,7 +4,7 @@ use Rattle.std.specs.Prelude.{IsUtf8, IsCharBoundary}
 use Rattle.weedle_grammar.specs.Rows.{If}
 use Rattle.weedle_grammar.specs.Trees.{Tree, trees, Node, Absent, Outcome, Fails, Gives}
 use Rattle.weedle_grammar.specs.Meaning.{Plain, Piece, piece, Raw, Breaks, Yields, before, raw_of, shaped, gave_some, ReadsRow, ReadsSeq, if_absent, if_present, seq_end, seq_more, by_row, given_of, last_end}
-use Rattle.weedle_grammar.specs.Table.{webidl, row_of, shape_of, Reads}
+use Rattle.weedle_grammar.specs.written.Table.{webidl, row_of, shape_of, Reads}
 use Rattle.weedle_grammar.specs.Size.{size, sizes}
 use Rattle.weedle_grammar.proofs.Unique.{one_seq}
 use Rattle.weedle_grammar.proofs.Inversion.{at_row, of_if}

@@ -1,6 +1,6 @@
 -- Which rules read a list of members.
 use Rattle.std.specs.Prelude.{ℕ}
-use Rattle.weedle_grammar.specs.Table.{row_of, shape_of}
+use Rattle.weedle_grammar.specs.written.Table.{row_of, shape_of}
 use Rattle.weedle_build_base.specs.Fits.{fits_many}
 
 -- a rule repeats a type whose rules F has

@@ -4,7 +4,7 @@ use Rattle.weedle_build_base.specs.Built.{Builds, Visits}
 use Rattle.weedle_build_base.specs.declared.at.At.{At}
 use Rattle.weedle_grammar.specs.Rows.{Opt}
 use Rattle.weedle_grammar.specs.Meaning.{Plain}
-use Rattle.weedle_grammar.specs.Table.{row_of, shape_of}
+use Rattle.weedle_grammar.specs.written.Table.{row_of, shape_of}
 use Rattle.weedle_grammar.specs.Trees.{Tree, Alt}
 
 -- a character of the text begins at the place

@@ -3,9 +3,10 @@
 //! [`Held`] stands for each of those that other types have as parts.
 #![tactic(auto)]
 
-mod held;
 mod parts;
 mod types;
+mod written;
 
-pub use held::Held;
 pub use parts::{Arguments, Attributes};
+use written::held;
+pub use written::held::Held;

@@ -3,11 +3,7 @@
 //!
 //! Each call builds from a later place, or from the same place by a rule of a smaller number, so every call ends.
 
-pub(crate) mod arguments;
-pub(crate) mod attributes;
-pub(crate) mod generic_types;
-pub(crate) mod kinds;
-mod plain_attributes;
-mod plain_types;
 mod steps;
-pub(crate) mod unions;
+mod written;
+
+pub(crate) use written::{arguments, attributes, generic_types, kinds, unions};

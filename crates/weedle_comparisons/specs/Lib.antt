@@ -1,3 +1,3 @@
 pub mod Hashes
 pub mod Keys
-pub mod Places
+pub mod written

@@ -24,5 +24,7 @@ pub mod literals;
 pub mod members;
 pub mod modifiers;
 pub mod orders;
-pub mod terminals;
 pub mod types;
+mod written;
+
+pub use written::terminals;

@@ -5,9 +5,6 @@
 //! enum the value whose variant is declared first is less, and two values of one variant compare as
 //! what they hold. So `cmp` of any value can be followed down to texts and words.
 
-pub mod attributes;
-pub mod literals;
-pub mod members;
-pub mod modifiers;
-pub mod parts;
-pub mod types;
+mod written;
+
+pub use written::{attributes, literals, members, modifiers, parts, types};

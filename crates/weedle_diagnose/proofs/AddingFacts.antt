@@ -1,7 +1,7 @@
 -- Marks that are added one after another, until all that is tried is marked.
 use Rattle.std.proofs.Common.{◌≡◌, ◌≢◌, ◌⊎◌, inl, inr, ℕ, List, [], ◌∷◌, length, Some, None, refl, sym, subst, ◌∙◌}
 use Rattle.weedle_grammar.specs.Rows.{Row, Opt, Many, Tail}
-use Rattle.weedle_grammar.specs.Table.{row_of}
+use Rattle.weedle_grammar.specs.written.Table.{row_of}
 use Rattle.weedle_rules.specs.Cells.{HasEnd}
 use Rattle.weedle_rules.specs.Outcomes.{EndsAt}
 use Rattle.weedle_diagnose.specs.Tries.{SameAttempt, TriesInTurn, TriesByChoice, TriesListed, RowTries, Tries}

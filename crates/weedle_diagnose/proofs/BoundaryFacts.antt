@@ -3,7 +3,7 @@ use Rattle.std.proofs.Common.{◌≡◌, inl, inr, ℕ, List, [], ◌∷◌, Opt
 use Rattle.std.specs.Prelude.{IsUtf8, IsCharBoundary}
 use Rattle.weedle_grammar.specs.Rows.{Row, Bytes, OneOf, NotNext, Run, Past, Seq, First, Opt, Many, ListOf, List1, Tail, If}
 use Rattle.weedle_grammar.specs.Meaning.{Piece, piece, ReadsSeq, seq_end, seq_fails, seq_more, with_piece, last_end}
-use Rattle.weedle_grammar.specs.Table.{webidl, row_of}
+use Rattle.weedle_grammar.specs.written.Table.{webidl, row_of}
 use Rattle.weedle_grammar.proofs.GrammarFacts.{at_boundary}
 use Rattle.weedle_rules.specs.Outcomes.{EndsAt}
 use Rattle.weedle_diagnose.specs.Tries.{TriesInTurn, TriesByChoice, RowTries, Tried, at_first, by}

@@ -2,7 +2,7 @@
 use Rattle.std.proofs.Common.{◌≡◌, inl, inr, ℕ, List, Bool, true, false, Option, Some, None, refl, sym, ◌∙◌, ap}
 use Rattle.weedle_grammar.specs.Rows.{If}
 use Rattle.weedle_grammar.specs.Meaning.{Piece, ReadsSeq, last_end}
-use Rattle.weedle_grammar.specs.Table.{webidl, row_of}
+use Rattle.weedle_grammar.specs.written.Table.{webidl, row_of}
 use Rattle.weedle_grammar.proofs.Unique.{one_seq}
 use Rattle.weedle_rules.proofs.RowEnds.{pieces_end}
 use Rattle.weedle_rules.proofs.ConditionEnds.{NoteEnds, noted}

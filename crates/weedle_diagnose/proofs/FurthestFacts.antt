@@ -3,7 +3,7 @@ use Rattle.std.proofs.Common.{◌≡◌, inl, inr, ℕ, ◌+◌, ◌-◌, ◌*�
 use Rattle.std.specs.Prelude.{◌↔◌}
 use Rattle.std.specs.List.{Contains}
 use Rattle.std.proofs.lemmas.Bool.{cases_lt}
-use Rattle.weedle_grammar.specs.Bound.{rule_count}
+use Rattle.weedle_grammar.specs.written.Bound.{rule_count}
 use Rattle.weedle_rules.specs.Cells.{cell_number}
 use Rattle.weedle_diagnose.specs.Tries.{Tried, at_first, by, IsUnmet}
 use Rattle.weedle_diagnose.specs.Marks.{HasBit, IsSet, AreTried}

@@ -1,15 +1,15 @@
 -- What a rule tries lies behind its place, or is a rule of a smaller number at it.
 use Rattle.std.proofs.Common.{◌≡◌, inl, inr, ℕ, ◌<◌, ◌≤◌, List, [], ◌∷◌, length, Bool, true, ◌&&◌, refl, subst, sym, arith}
 use Rattle.std.specs.Prelude.{nat_lt, ◌||◌}
-use Rattle.weedle_grammar.specs.Bound.{rule_count}
+use Rattle.weedle_grammar.specs.written.Bound.{rule_count}
 use Rattle.weedle_grammar.specs.Rows.{Row, Bytes, OneOf, NotNext, Run, Past, Seq, First, Opt, Many, ListOf, List1, Tail, If}
 use Rattle.weedle_grammar.specs.Entry.{are_rules}
 use Rattle.weedle_grammar.specs.Meaning.{last_end}
-use Rattle.weedle_grammar.specs.Table.{webidl, row_of}
+use Rattle.weedle_grammar.specs.written.Table.{webidl, row_of}
 use Rattle.weedle_rules.specs.Cells.{cell_number}
 use Rattle.weedle_grammar.proofs.Leaves.{both, one_of}
 use Rattle.weedle_grammar.proofs.Ranked.{is_low, low_parts, all_low}
-use Rattle.weedle_grammar.proofs.Takes.{takes}
+use Rattle.weedle_grammar.proofs.written.Takes.{takes}
 use Rattle.weedle_grammar.proofs.Checked.{rank, ranked}
 use Rattle.weedle_grammar.proofs.Entries.{passes}
 use Rattle.weedle_grammar.proofs.Exists.{grows, stays_inside, advances, seq_grows, seq_stays_inside, seq_advances}

@@ -2,8 +2,8 @@
 use Rattle.std.proofs.Common.{◌≡◌, ◌⊎◌, inl, inr, ℕ, ◌+◌, ◌-◌, ◌*◌, ◌/◌, ◌%◌, ◌<◌, ◌≤◌, List, length, refl, sym, subst, arith}
 use Rattle.std.specs.Prelude.{◌↔◌}
 use Rattle.std.proofs.lemmas.Bool.{cases_lt}
-use Rattle.weedle_grammar.specs.Bound.{rule_count}
-use Rattle.weedle_grammar.specs.Table.Definitions.{DEFINITIONS}
+use Rattle.weedle_grammar.specs.written.Bound.{rule_count}
+use Rattle.weedle_grammar.specs.written.Table.Definitions.{DEFINITIONS}
 use Rattle.weedle_rules.specs.Cells.{cell_number}
 use Rattle.weedle_diagnose.specs.Tries.{SameAttempt, Tries, Tried, at_first, by}
 use Rattle.weedle_diagnose.specs.Marks.{HasBit, IsSet, IsMarked, IsClear, Adds, AreTried, IsMarking}

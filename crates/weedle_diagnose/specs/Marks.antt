@@ -1,8 +1,8 @@
 -- Marks of rules at places: a bit for each, in the order in which a table of ends is filled.
 use Rattle.std.specs.Prelude.{◌≡◌, ◌⊎◌, ◌↔◌, ◌≤◌, ◌<◌, ◌+◌, ◌*◌, ◌-◌, ◌/◌, ◌%◌, ℕ, List, length, slice_index}
 use Rattle.std.specs.Int.{bit_at}
-use Rattle.weedle_grammar.specs.Bound.{rule_count}
-use Rattle.weedle_grammar.specs.Table.Definitions.{DEFINITIONS}
+use Rattle.weedle_grammar.specs.written.Bound.{rule_count}
+use Rattle.weedle_grammar.specs.written.Table.Definitions.{DEFINITIONS}
 use Rattle.weedle_rules.specs.Cells.{cell_number}
 use Rattle.weedle_diagnose.specs.Tries.{Tries, Tried}
 

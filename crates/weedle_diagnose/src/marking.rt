@@ -4,7 +4,7 @@
 //! anything tries it, and one walk over all cells suffices.
 
 ghost use Rattle.std.specs.Prelude.{◌≡◌, ◌≤◌, ◌<◌, ◌+◌, ◌-◌, ◌*◌, ℕ, length, IfOk};
-ghost use Rattle.weedle_grammar.specs.Bound.{rule_count};
+ghost use Rattle.weedle_grammar.specs.written.Bound.{rule_count};
 ghost use Rattle.weedle_diagnose.specs.Marks.{AreTried, IsSet, IsMarking};
 
 use crate::marks::{last_set, mark};

@@ -15,7 +15,7 @@ use Rattle.weedle_grammar.specs.declared.row.Row as rows
 use Rattle.weedle_grammar.specs.declared.row.Row.TheVariants as code
 use Rattle.std.specs.Borrow.{Bor}
 use Rattle.weedle_grammar.specs.Rows.{Row, Bytes, OneOf}
-use Rattle.weedle_grammar.specs.Table.{row_of, table}
+use Rattle.weedle_grammar.specs.written.Table.{row_of, table}
 
 -- the row has a text or a class of its own
 abbrev pub is_shown : Row → Bool

@@ -5,10 +5,10 @@ use Rattle.weedle_explain.specs.declared.expected.Expected.{Expected}
 use Rattle.weedle_explain.specs.declared.expected.Expected.TheVariants as word
 use Rattle.weedle_explain.specs.declared.starts.TheConstants.{NAMES, TYPES, TYPES_BUT_ANY, CONST_TYPES, DEFAULT_VALUES, CONST_VALUES}
 use Rattle.weedle_grammar.specs.Rows.{Row, Bytes, OneOf, NotNext, Past}
-use Rattle.weedle_grammar.specs.Table.{row_of}
-use Rattle.weedle_grammar.specs.Table.Keywords.{NOT_NEXT_NAME}
-use Rattle.weedle_grammar.specs.Table.Leaves.{PAST_LF}
-use Rattle.weedle_grammar.specs.Table.Trivia.{BYTES_LF, BYTES_SLASH_SLASH, BYTES_SLASH_STAR, NOT_NEXT_ANY, NOT_NEXT_SLASH, ONE_OF_BLANK, PAST_STAR_SLASH}
+use Rattle.weedle_grammar.specs.written.Table.{row_of}
+use Rattle.weedle_grammar.specs.written.Table.Keywords.{NOT_NEXT_NAME}
+use Rattle.weedle_grammar.specs.written.Table.Leaves.{PAST_LF}
+use Rattle.weedle_grammar.specs.written.Table.Trivia.{BYTES_LF, BYTES_SLASH_SLASH, BYTES_SLASH_STAR, NOT_NEXT_ANY, NOT_NEXT_SLASH, ONE_OF_BLANK, PAST_STAR_SLASH}
 
 -- the rule is among the rules
 abbrev pub has : List ℕ → ℕ → Bool

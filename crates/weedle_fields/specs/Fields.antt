@@ -6,8 +6,8 @@ use Rattle.weedle_base.specs.Own.{own}
 use Rattle.weedle_base.specs.Reading.{Reading, Got, Faults}
 use Rattle.weedle_base.specs.declared.fault.Err.{Err as Fault}
 use Rattle.weedle_base.specs.declared.fault.Error.{Error}
-use Rattle.weedle_grammar.specs.Table.Leaves.{DOCSTRING}
-use Rattle.weedle_grammar.specs.Table.Types.{OPT_EXTENDED_ATTRIBUTE_LIST}
+use Rattle.weedle_grammar.specs.written.Table.Leaves.{DOCSTRING}
+use Rattle.weedle_grammar.specs.written.Table.Types.{OPT_EXTENDED_ATTRIBUTE_LIST}
 use Rattle.weedle_parts.specs.ValueTrees.{docstring_tree}
 use Rattle.weedle_parts.specs.declared.common.docstring.Docstring.{Docstring}
 use Rattle.weedle_types.specs.PartTrees.{Attributes}

@@ -14,14 +14,14 @@ use Rattle.weedle_build_base.specs.Whole.{IsBuilt}
 use Rattle.weedle_grammar.proofs.Exists.{stays_inside}
 use Rattle.weedle_grammar.proofs.Unique.{one_outcome}
 use Rattle.weedle_grammar.specs.Meaning.{between}
-use Rattle.weedle_grammar.specs.Table.{webidl, Reads}
-use Rattle.weedle_grammar.specs.Table.Definitions.{DEFINITIONS}
+use Rattle.weedle_grammar.specs.written.Table.{webidl, Reads}
+use Rattle.weedle_grammar.specs.written.Table.Definitions.{DEFINITIONS}
 use Rattle.weedle_grammar.specs.Trees.{Tree, Gives}
-use Rattle.weedle_idl.specs.DefinitionTrees.{definitions_tree}
+use Rattle.weedle_idl.specs.written.DefinitionTrees.{definitions_tree}
 use Rattle.weedle_idl.specs.declared.definition.Definition.{Definition}
 use Rattle.weedle_spell.specs.Laws.{SpellsValues, Spells}
 use Rattle.weedle_spell.specs.Pieces.{IsInPieces}
-use Rattle.weedle_spell_idl.specs.Definitions.{definitions_spelling}
+use Rattle.weedle_spell_idl.specs.written.Definitions.{definitions_spelling}
 use Rattle.weedle_front.specs.Whole.{IsWhole, IsLeft, ParseAnswers, WholeOf, SpellsList, HasTexts}
 
 -- at the front of the text the rule of definitions reads this tree, up to some end, and the rest is the text from there

@@ -6,13 +6,13 @@ use Rattle.weedle_front.specs.declared.reader.Counted.{Counted}
 use Rattle.weedle_base.specs.declared.fault.Err.{Err}
 use Rattle.weedle_base.specs.declared.fault.Err.TheVariants.{Error as Stopped, Failure}
 use Rattle.weedle_base.specs.declared.fault.Error.{Error}
-use Rattle.weedle_grammar.specs.Bound.{rule_count}
+use Rattle.weedle_grammar.specs.written.Bound.{rule_count}
 use Rattle.weedle_grammar.specs.Size.{size}
-use Rattle.weedle_grammar.specs.Table.{Reads}
-use Rattle.weedle_grammar.specs.Table.Definitions.{DEFINITIONS}
+use Rattle.weedle_grammar.specs.written.Table.{Reads}
+use Rattle.weedle_grammar.specs.written.Table.Definitions.{DEFINITIONS}
 use Rattle.weedle_grammar.specs.Trees.{Tree, Gives}
 use Rattle.weedle_idl.specs.declared.definition.Definition.{Definition}
-use Rattle.weedle_rules.specs.Bound.{most_reads}
+use Rattle.weedle_rules.specs.written.Bound.{most_reads}
 
 -- the answer is that memory ran out
 abbrev pub MemoryRanOut : Result (Vec Definition) (Err (Error (Bor (List ℕ)))) → Type 0

@@ -6,14 +6,14 @@ use Rattle.weedle_base.specs.declared.fault.Err.{Err}
 use Rattle.weedle_base.specs.declared.fault.Err.TheVariants.{Error as Stopped, Failure}
 use Rattle.weedle_base.specs.declared.fault.Error.{Error}
 use Rattle.weedle_base.specs.declared.fault.ErrorKind.TheVariants.{Unread, Memory}
-use Rattle.weedle_grammar.specs.Table.{Reads}
-use Rattle.weedle_grammar.specs.Table.Definitions.{DEFINITIONS}
+use Rattle.weedle_grammar.specs.written.Table.{Reads}
+use Rattle.weedle_grammar.specs.written.Table.Definitions.{DEFINITIONS}
 use Rattle.weedle_grammar.specs.Trees.{Tree, Gives}
-use Rattle.weedle_idl.specs.DefinitionTrees.{definitions_tree}
+use Rattle.weedle_idl.specs.written.DefinitionTrees.{definitions_tree}
 use Rattle.weedle_idl.specs.declared.definition.Definition.{Definition}
 use Rattle.weedle_spell.specs.Laws.{Spells}
 use Rattle.weedle_spell.specs.Pieces.{IsInPieces}
-use Rattle.weedle_spell_idl.specs.Definitions.{definitions_spelling}
+use Rattle.weedle_spell_idl.specs.written.Definitions.{definitions_spelling}
 
 -- the grammar reads the whole text as these definitions
 unfoldable pub IsWhole : List ℕ → List Definition → Type 0

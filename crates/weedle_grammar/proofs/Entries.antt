@@ -3,7 +3,7 @@ use Rattle.std.proofs.Common.{◌≡◌, ℕ, zero, suc, ◌+◌, List, [], ◌�
 use Rattle.weedle_grammar.specs.Rows.{First}
 use Rattle.weedle_grammar.specs.Meaning.{Silent}
 use Rattle.weedle_grammar.specs.Entry.{Entry, rule, entry_at}
-use Rattle.weedle_grammar.specs.Table.{table}
+use Rattle.weedle_grammar.specs.written.Table.{table}
 use Rattle.weedle_grammar.proofs.Leaves.{both}
 
 -- all entries from rule r on pass

@@ -7,7 +7,6 @@ pub mod Leaves
 pub mod Exists
 pub mod Classes
 pub mod Boundary
-pub mod Takes
 pub mod Checked
 pub mod GrammarFacts
 pub mod Suffix

@@ -5,7 +5,7 @@ use Rattle.weedle_grammar.proofs.Leaves.{both}
 use Rattle.weedle_grammar.specs.Entry.{Entry, entry_at}
 use Rattle.weedle_grammar.specs.Meaning.{Shape, Silent, Marked, Kept, Line, Joined, Inner, Plain, Piece, piece, Raw, Breaks, Yields, ReadsBy, ReadsRow, ReadsSeq, ReadsFirst, by_row, by_seq, by_first, by_opt, seq_end, seq_fails, seq_more, first_none, first_here, first_next, formed, shaped, together, opted, raw_of, with_piece, given_of}
 use Rattle.weedle_grammar.specs.Rows.{Row, Bytes, OneOf, NotNext, Run, Past, Seq, First, Opt, Many, ListOf, List1, Tail, If}
-use Rattle.weedle_grammar.specs.Table.{webidl, table, row_of, shape_of, Reads}
+use Rattle.weedle_grammar.specs.written.Table.{webidl, table, row_of, shape_of, Reads}
 use Rattle.weedle_grammar.specs.Trees.{Tree, Alt, Absent, Present, Outcome, Fails, Gives}
 
 -- a plain row gives one tree, if its parts do

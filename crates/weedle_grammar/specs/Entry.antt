@@ -2,7 +2,7 @@
 use Rattle.std.specs.Prelude.{ℕ, zero, suc, Bool, true, ◌&&◌, nat_lt, List, [], ◌∷◌}
 use Rattle.weedle_grammar.specs.Rows.{Row, First}
 use Rattle.weedle_grammar.specs.Meaning.{Shape, Silent}
-use Rattle.weedle_grammar.specs.Bound.{rule_count}
+use Rattle.weedle_grammar.specs.written.Bound.{rule_count}
 
 -- a rule: its number, its shape and its row
 pub record Entry : Type 0 where

@@ -2,7 +2,7 @@
 use Rattle.std.specs.Prelude.{◌≡◌, ◌↔◌, ℕ, List, drop, IsCharBoundary}
 use Rattle.weedle_grammar.specs.Trees.{Tree, Outcome, Gives}
 use Rattle.weedle_grammar.specs.Meaning.{moved}
-use Rattle.weedle_grammar.specs.Table.{Reads}
+use Rattle.weedle_grammar.specs.written.Table.{Reads}
 
 -- each rule has exactly one outcome at each place
 abbrev pub HasOneOutcome : List ℕ → ℕ → ℕ → Type 0

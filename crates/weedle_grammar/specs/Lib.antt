@@ -2,9 +2,8 @@ pub mod Rows
 pub mod Trees
 pub mod Meaning
 pub mod Entry
-pub mod Table
-pub mod Bound
 pub mod Laws
 pub mod View
 pub mod Size
 pub mod Nesting
+pub mod written

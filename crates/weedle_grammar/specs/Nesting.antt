@@ -4,7 +4,7 @@ use Rattle.std.specs.List.{All, Contains, filter}
 use Rattle.weedle_grammar.specs.Rows.{Row}
 use Rattle.weedle_grammar.specs.Trees.{Tree, Outcome, Fails, Gives}
 use Rattle.weedle_grammar.specs.Meaning.{Grammar, Piece, Raw, ReadsBy, ReadsRow, ReadsSeq, ReadsFirst, by_row, by_seq, by_first, by_opt, many_more, list_more, list1_more, tail_more, if_absent, if_present, seq_end, seq_fails, seq_more, first_none, first_here, first_next}
-use Rattle.weedle_grammar.specs.Table.{webidl, Reads}
+use Rattle.weedle_grammar.specs.written.Table.{webidl, Reads}
 
 -- a rule that gives something: its number, where it begins and ends, what it gives, and how that is derived
 pub record Part (G : Grammar) (text : List ℕ) : Type 0 where

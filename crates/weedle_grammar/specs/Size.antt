@@ -4,7 +4,7 @@ use Rattle.std.specs.List.{filter}
 use Rattle.weedle_grammar.specs.Rows.{Row, Seq, If}
 use Rattle.weedle_grammar.specs.Trees.{Tree, Trees, Done, Then, Mark, Text, Node, Alt, Absent, Present, Items, Lines, Gives}
 use Rattle.weedle_grammar.specs.Meaning.{Shape, Silent}
-use Rattle.weedle_grammar.specs.Table.{row_of, shape_of, Reads}
+use Rattle.weedle_grammar.specs.written.Table.{row_of, shape_of, Reads}
 
 abbrev mutual
   -- how many nodes a tree has

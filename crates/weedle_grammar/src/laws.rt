@@ -4,7 +4,7 @@ ghost use Rattle.std.specs.Prelude.{ℕ, ◌≤◌, List, length, IsUtf8, IsChar
 ghost use Rattle.weedle_grammar.specs.Laws.{HasOneOutcome, IsShifted, EndsAtBoundary};
 ghost use Rattle.weedle_grammar.specs.Nesting.{Part, HasOneAtStart, IsNested};
 ghost use Rattle.weedle_grammar.specs.Size.{IsSmallWhereEmpty, HasFewParts, IsBounded};
-ghost use Rattle.weedle_grammar.specs.Table.{webidl};
+ghost use Rattle.weedle_grammar.specs.written.Table.{webidl};
 
 /// Each rule has exactly one outcome at each place of a text.
 pub fn one_outcome()

@@ -14,15 +14,16 @@
 #![tactic(auto)]
 
 mod class;
-pub mod grammar;
 pub mod laws;
 mod row;
 mod rule;
+mod written;
 
 pub use class::{Class, holds};
-pub use grammar::row_of;
 pub use row::{Parts, Row};
 pub use rule::{Rule, rule_of};
+pub use written::grammar;
+pub use written::grammar::row_of;
 
 /// How many rules there are.
 pub const RULES: usize = 386;

@@ -23,7 +23,7 @@ pub(crate) fn parts_of(numbers: &'static [u16]) -> Parts
 
 impl Parts {
     ghost use Rattle.std.specs.Prelude.{◌≡◌, ◌<◌, ◌↔◌, IsTrue, length, slice_get, slice_index};
-    ghost use Rattle.weedle_grammar.specs.Bound.{rule_count};
+    ghost use Rattle.weedle_grammar.specs.written.Bound.{rule_count};
     ghost use Rattle.weedle_grammar.specs.View.{numbers_of};
 
     /// How many there are. It takes no memory.

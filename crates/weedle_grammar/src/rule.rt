@@ -1,7 +1,7 @@
 //! The rules of the grammar, by number.
 
 ghost use Rattle.std.specs.Prelude.{◌≡◌, ℕ, ◌<◌, ◌↔◌, IfSome, IsSome};
-ghost use Rattle.weedle_grammar.specs.Bound.{rule_count};
+ghost use Rattle.weedle_grammar.specs.written.Bound.{rule_count};
 
 use crate::RULES;
 use std::marker::Model;

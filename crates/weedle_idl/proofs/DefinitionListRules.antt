@@ -9,10 +9,10 @@ use Rattle.weedle_base.specs.Own.{own}
 use Rattle.weedle_base.specs.Reading.{Reading}
 use Rattle.weedle_base.specs.Rules.{IsRule}
 use Rattle.weedle_base.specs.Runs.{run_reading, vec_step}
-use Rattle.weedle_idl.specs.DefinitionTrees.{definition_tree, definitions_tree}
+use Rattle.weedle_idl.specs.written.DefinitionTrees.{definition_tree, definitions_tree}
 use Rattle.weedle_idl.specs.Laws.{NeverRefuses}
 use Rattle.weedle_idl.specs.declared.definition.Definition.{Definition}
-use Rattle.weedle_grammar.specs.Table.Definitions.{DEFINITION, DEFINITIONS}
+use Rattle.weedle_grammar.specs.written.Table.Definitions.{DEFINITION, DEFINITIONS}
 
 -- what a list of definitions reads
 abbrev pub definitions_reading : Reading (Vec Definition)

@@ -1,2 +1,2 @@
-pub mod DefinitionRules
 pub mod DefinitionListRules
+pub mod written

@@ -1,3 +1,3 @@
-pub mod DefinitionTrees
 pub mod Pieces
 pub mod Laws
+pub mod written

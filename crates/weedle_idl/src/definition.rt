@@ -3,14 +3,14 @@
 ghost use Rattle.weedle_base.specs.Own.{own};
 ghost use Rattle.weedle_base.specs.OwnLaws.{own_lawful};
 ghost use Rattle.weedle_base.specs.Reading.{Answers};
-ghost use Rattle.weedle_idl.specs.DefinitionTrees.{definition_tree};
+ghost use Rattle.weedle_idl.specs.written.DefinitionTrees.{definition_tree};
 ghost use Rattle.weedle_idl.specs.Pieces.{
   callback_or_interface_rules,
   main_definition_rules,
   other_definition_rules,
   partial_definition_rules,
 };
-ghost use Rattle.weedle_grammar.specs.Table.Definitions.{DEFINITION};
+ghost use Rattle.weedle_grammar.specs.written.Table.Definitions.{DEFINITION};
 ghost use Rattle.weedle_types.specs.Steps.{members};
 
 mod written;
@@ -89,7 +89,7 @@ impl Drop for Definition<'_> {
     }
 }
 
-#[tactic(auto, using(crate::proofs::DefinitionRules::definition_steps))]
+#[tactic(auto, using(crate::proofs::written::DefinitionRules::definition_steps))]
 impl<'a> Parse<'a> for Definition<'a> {
     ghost reading = { own DEFINITION definition_tree (Unit {0}) };
 
@@ -117,7 +117,7 @@ impl<'a> Parse<'a> for Definition<'a> {
 }
 
 /// Reads a callback or an interface.
-#[tactic(auto, using(crate::proofs::DefinitionRules::callback_or_interface_steps))]
+#[tactic(auto, using(crate::proofs::written::DefinitionRules::callback_or_interface_steps))]
 fn callback_or_interface<'a>(alloc: Global, input: &'a str) -> IResult<&'a str, Definition<'a>>
     ensures { Answers (members callback_or_interface_rules 0 definition_tree (Unit {0})) input.now result }
 {
@@ -131,7 +131,7 @@ fn callback_or_interface<'a>(alloc: Global, input: &'a str) -> IResult<&'a str, 
 }
 
 /// Reads a mixin, a namespace or a dictionary.
-#[tactic(auto, using(crate::proofs::DefinitionRules::main_definition_steps))]
+#[tactic(auto, using(crate::proofs::written::DefinitionRules::main_definition_steps))]
 fn main_definition<'a>(alloc: Global, input: &'a str) -> IResult<&'a str, Definition<'a>>
     ensures { Answers (members main_definition_rules 3 definition_tree (Unit {0})) input.now result }
 {
@@ -145,7 +145,7 @@ fn main_definition<'a>(alloc: Global, input: &'a str) -> IResult<&'a str, Defini
 }
 
 /// Reads a part of an interface, of a mixin, of a dictionary or of a namespace.
-#[tactic(auto, using(crate::proofs::DefinitionRules::partial_definition_steps))]
+#[tactic(auto, using(crate::proofs::written::DefinitionRules::partial_definition_steps))]
 fn partial_definition<'a>(alloc: Global, input: &'a str) -> IResult<&'a str, Definition<'a>>
     ensures { Answers (members partial_definition_rules 6 definition_tree (Unit {0})) input.now result }
 {
@@ -160,7 +160,7 @@ fn partial_definition<'a>(alloc: Global, input: &'a str) -> IResult<&'a str, Def
 }
 
 /// Reads an enum, a name for a type or a statement.
-#[tactic(auto, using(crate::proofs::DefinitionRules::other_definition_steps))]
+#[tactic(auto, using(crate::proofs::written::DefinitionRules::other_definition_steps))]
 fn other_definition<'a>(alloc: Global, input: &'a str) -> IResult<&'a str, Definition<'a>>
     ensures { Answers (members other_definition_rules 10 definition_tree (Unit {0})) input.now result }
 {

@@ -2,9 +2,9 @@
 //! contract is the law.
 
 ghost use Rattle.weedle_base.specs.Rules.{HasRule};
-ghost use Rattle.weedle_idl.specs.DefinitionTrees.{definitions_tree};
+ghost use Rattle.weedle_idl.specs.written.DefinitionTrees.{definitions_tree};
 ghost use Rattle.weedle_idl.specs.Laws.{NeverRefuses};
-ghost use Rattle.weedle_grammar.specs.Table.Definitions.{DEFINITIONS};
+ghost use Rattle.weedle_grammar.specs.written.Table.Definitions.{DEFINITIONS};
 
 use crate::Definitions;
 use weedle_base::Parse;

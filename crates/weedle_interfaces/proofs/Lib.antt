@@ -1,3 +1,1 @@
-pub mod MemberRules
-pub mod MembersRules
-pub mod DefinitionRules
+pub mod written

@@ -3,13 +3,13 @@
 ghost use Rattle.weedle_base.specs.Own.{own};
 ghost use Rattle.weedle_base.specs.OwnLaws.{own_lawful};
 ghost use Rattle.weedle_base.specs.Reading.{Answers};
-ghost use Rattle.weedle_interfaces.specs.Trees.{interface_member_tree};
+ghost use Rattle.weedle_interfaces.specs.written.Trees.{interface_member_tree};
 ghost use Rattle.weedle_interfaces.specs.Pieces.{
   collection_member_rules,
   iterable_member_rules,
   main_member_rules,
 };
-ghost use Rattle.weedle_grammar.specs.Table.InterfaceMembers.{INTERFACE_MEMBER};
+ghost use Rattle.weedle_grammar.specs.written.Table.InterfaceMembers.{INTERFACE_MEMBER};
 ghost use Rattle.weedle_types.specs.Steps.{members};
 
 mod written;
@@ -68,7 +68,7 @@ impl Drop for InterfaceMember<'_> {
     }
 }
 
-#[tactic(auto, using(crate::proofs::MemberRules::interface_member_steps))]
+#[tactic(auto, using(crate::proofs::written::MemberRules::interface_member_steps))]
 impl<'a> Parse<'a> for InterfaceMember<'a> {
     ghost reading = { own INTERFACE_MEMBER interface_member_tree (Unit {0}) };
 
@@ -91,7 +91,7 @@ impl<'a> Parse<'a> for InterfaceMember<'a> {
 }
 
 /// Reads one of the members up to operations.
-#[tactic(auto, using(crate::proofs::MemberRules::main_member_steps))]
+#[tactic(auto, using(crate::proofs::written::MemberRules::main_member_steps))]
 fn main_member<'a>(alloc: Global, input: &'a str) -> IResult<&'a str, InterfaceMember<'a>>
     ensures { Answers (members main_member_rules 0 interface_member_tree (Unit {0})) input.now result }
 {
@@ -106,7 +106,7 @@ fn main_member<'a>(alloc: Global, input: &'a str) -> IResult<&'a str, InterfaceM
 }
 
 /// Reads an iteration.
-#[tactic(auto, using(crate::proofs::MemberRules::iterable_member_steps))]
+#[tactic(auto, using(crate::proofs::written::MemberRules::iterable_member_steps))]
 fn iterable_member<'a>(alloc: Global, input: &'a str) -> IResult<&'a str, InterfaceMember<'a>>
     ensures { Answers (members iterable_member_rules 4 interface_member_tree (Unit {0})) input.now result }
 {
@@ -119,7 +119,7 @@ fn iterable_member<'a>(alloc: Global, input: &'a str) -> IResult<&'a str, Interf
 }
 
 /// Reads a map, a set or a stringifier.
-#[tactic(auto, using(crate::proofs::MemberRules::collection_member_steps))]
+#[tactic(auto, using(crate::proofs::written::MemberRules::collection_member_steps))]
 fn collection_member<'a>(alloc: Global, input: &'a str) -> IResult<&'a str, InterfaceMember<'a>>
     ensures { Answers (members collection_member_rules 6 interface_member_tree (Unit {0})) input.now result }
 {

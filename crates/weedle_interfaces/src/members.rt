@@ -1,7 +1,7 @@
 //! The members of an interface, one after another.
 
 ghost use Rattle.std.specs.Prelude.{IfOk, ◌≡◌};
-ghost use Rattle.weedle_interfaces.specs.Trees.{interface_member_tree};
+ghost use Rattle.weedle_interfaces.specs.written.Trees.{interface_member_tree};
 ghost use Rattle.weedle_types.specs.PartTrees.{members_tree};
 
 mod written;

@@ -1,2 +1,1 @@
-pub mod IterableRules
-pub mod CollectionRules
+pub mod written

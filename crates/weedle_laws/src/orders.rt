@@ -5,9 +5,6 @@
 //! enum the value whose variant is declared first is less, and two values of one variant compare as
 //! what they hold.
 
-pub mod definitions;
-pub mod interfaces;
-pub mod iterables;
-pub mod mixins;
-pub mod namespaces;
-pub mod statements;
+mod written;
+
+pub use written::{definitions, interfaces, iterables, mixins, namespaces, statements};

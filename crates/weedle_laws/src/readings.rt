@@ -3,16 +3,16 @@
 //! same lists, `Parenthesized<ArgumentList>` and `Braced<InterfaceMembers>`, read what the same rules read.
 
 ghost use Rattle.weedle_base.specs.Rules.{HasRule};
-ghost use Rattle.weedle_grammar.specs.Table.InterfaceMembers.{BRACED_INTERFACE_MEMBERS};
-ghost use Rattle.weedle_grammar.specs.Table.OtherMembers.{
+ghost use Rattle.weedle_grammar.specs.written.Table.InterfaceMembers.{BRACED_INTERFACE_MEMBERS};
+ghost use Rattle.weedle_grammar.specs.written.Table.OtherMembers.{
   BRACED_DICTIONARY_MEMBERS,
   BRACED_MIXIN_MEMBERS,
   BRACED_NAMESPACE_MEMBERS,
 };
-ghost use Rattle.weedle_grammar.specs.Table.Types.{PARENTHESIZED_ARGUMENT_LIST};
-ghost use Rattle.weedle_interfaces.specs.Trees.{interface_member_tree};
-ghost use Rattle.weedle_mixins.specs.Trees.{mixin_member_tree};
-ghost use Rattle.weedle_namespaces.specs.Trees.{dictionary_member_tree, namespace_member_tree};
+ghost use Rattle.weedle_grammar.specs.written.Table.Types.{PARENTHESIZED_ARGUMENT_LIST};
+ghost use Rattle.weedle_interfaces.specs.written.Trees.{interface_member_tree};
+ghost use Rattle.weedle_mixins.specs.written.Trees.{mixin_member_tree};
+ghost use Rattle.weedle_namespaces.specs.written.Trees.{dictionary_member_tree, namespace_member_tree};
 ghost use Rattle.weedle_parts.specs.ValueTrees.{braced_tree, parenthesized_tree};
 ghost use Rattle.weedle_types.specs.PartTrees.{members_tree};
 ghost use Rattle.weedle_types.specs.Trees.{argument_list_tree};

@@ -19,8 +19,8 @@ mod standard;
 #[cfg(test)]
 mod table;
 #[cfg(test)]
-mod terminals;
-#[cfg(test)]
 mod types;
 #[cfg(test)]
 mod users;
+#[cfg(test)]
+mod written;

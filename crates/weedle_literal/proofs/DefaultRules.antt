@@ -3,11 +3,11 @@ use Rattle.std.specs.Prelude.{ℕ, List, [], ◌∷◌}
 use Rattle.std.specs.Borrow.{Bor}
 use Rattle.std.proofs.Common.{refl}
 use Rattle.weedle_grammar.specs.Trees.{Mark, Node, trees}
-use Rattle.weedle_grammar.specs.Table.Symbols.{ASSIGN}
-use Rattle.weedle_grammar.specs.Table.Literals.{DEFAULT_VALUE, DEFAULT}
+use Rattle.weedle_grammar.specs.written.Table.Symbols.{ASSIGN}
+use Rattle.weedle_grammar.specs.written.Table.Literals.{DEFAULT_VALUE, DEFAULT}
 use Rattle.weedle_base.specs.declared.fault.Err.{Err as Fault}
 use Rattle.weedle_base.specs.declared.fault.Error.{Error}
-use Rattle.weedle_term.specs.declared.symbols.Assign.{Assign}
+use Rattle.weedle_term.specs.declared.written.symbols.Assign.{Assign}
 use Rattle.weedle_base.specs.Own.{own}
 use Rattle.weedle_base.specs.Reading.{Reading, Got, Faults}
 use Rattle.weedle_base.specs.Rules.{IsRule}

@@ -3,14 +3,14 @@ use Rattle.std.specs.Prelude.{ℕ, List, [], ◌∷◌}
 use Rattle.std.specs.Borrow.{Bor}
 use Rattle.std.proofs.Common.{refl}
 use Rattle.weedle_grammar.specs.Trees.{Mark, Node, trees}
-use Rattle.weedle_grammar.specs.Table.Symbols.{OPEN_BRACKET, CLOSE_BRACKET, OPEN_BRACE, CLOSE_BRACE}
-use Rattle.weedle_grammar.specs.Table.Literals.{EMPTY_ARRAY_LIT, EMPTY_DICTIONARY_LIT}
+use Rattle.weedle_grammar.specs.written.Table.Symbols.{OPEN_BRACKET, CLOSE_BRACKET, OPEN_BRACE, CLOSE_BRACE}
+use Rattle.weedle_grammar.specs.written.Table.Literals.{EMPTY_ARRAY_LIT, EMPTY_DICTIONARY_LIT}
 use Rattle.weedle_base.specs.declared.fault.Err.{Err as Fault}
 use Rattle.weedle_base.specs.declared.fault.Error.{Error}
-use Rattle.weedle_term.specs.declared.symbols.OpenBracket.{OpenBracket}
-use Rattle.weedle_term.specs.declared.symbols.CloseBracket.{CloseBracket}
-use Rattle.weedle_term.specs.declared.symbols.OpenBrace.{OpenBrace}
-use Rattle.weedle_term.specs.declared.symbols.CloseBrace.{CloseBrace}
+use Rattle.weedle_term.specs.declared.written.symbols.OpenBracket.{OpenBracket}
+use Rattle.weedle_term.specs.declared.written.symbols.CloseBracket.{CloseBracket}
+use Rattle.weedle_term.specs.declared.written.symbols.OpenBrace.{OpenBrace}
+use Rattle.weedle_term.specs.declared.written.symbols.CloseBrace.{CloseBrace}
 use Rattle.weedle_base.specs.Own.{own}
 use Rattle.weedle_base.specs.Reading.{Reading, Got, Faults}
 use Rattle.weedle_base.specs.Rules.{IsRule}

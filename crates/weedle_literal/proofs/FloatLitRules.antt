@@ -3,14 +3,14 @@ use Rattle.std.specs.Prelude.{ℕ, List, ◌⊎◌}
 use Rattle.std.specs.Borrow.{Bor}
 use Rattle.std.proofs.Common.{refl, inl, inr}
 use Rattle.weedle_grammar.specs.Trees.{Mark, Alt}
-use Rattle.weedle_grammar.specs.Table.CapitalizedKeywords.{INFINITY, NAN, NEG_INFINITY}
-use Rattle.weedle_grammar.specs.Table.Leaves.{FLOAT_VALUE_LIT}
-use Rattle.weedle_grammar.specs.Table.Literals.{FLOAT_LIT}
+use Rattle.weedle_grammar.specs.written.Table.CapitalizedKeywords.{INFINITY, NAN, NEG_INFINITY}
+use Rattle.weedle_grammar.specs.written.Table.Leaves.{FLOAT_VALUE_LIT}
+use Rattle.weedle_grammar.specs.written.Table.Literals.{FLOAT_LIT}
 use Rattle.weedle_base.specs.declared.fault.Err.{Err as Fault}
 use Rattle.weedle_base.specs.declared.fault.Error.{Error}
-use Rattle.weedle_term.specs.declared.capitalized_keywords.Infinity.{Infinity}
-use Rattle.weedle_term.specs.declared.capitalized_keywords.NaN.{NaN}
-use Rattle.weedle_term.specs.declared.capitalized_keywords.NegInfinity.{NegInfinity}
+use Rattle.weedle_term.specs.declared.written.capitalized_keywords.Infinity.{Infinity}
+use Rattle.weedle_term.specs.declared.written.capitalized_keywords.NaN.{NaN}
+use Rattle.weedle_term.specs.declared.written.capitalized_keywords.NegInfinity.{NegInfinity}
 use Rattle.weedle_base.specs.Own.{own}
 use Rattle.weedle_base.specs.Reading.{Reading, Got, Faults}
 use Rattle.weedle_base.specs.Rules.{IsRule}

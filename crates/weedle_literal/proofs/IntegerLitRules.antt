@@ -3,8 +3,8 @@ use Rattle.std.specs.Prelude.{ℕ, List, ◌⊎◌}
 use Rattle.std.specs.Borrow.{Bor}
 use Rattle.std.proofs.Common.{refl, inl, inr}
 use Rattle.weedle_grammar.specs.Trees.{Alt}
-use Rattle.weedle_grammar.specs.Table.Leaves.{DEC_LIT, HEX_LIT, OCT_LIT}
-use Rattle.weedle_grammar.specs.Table.Literals.{INTEGER_LIT}
+use Rattle.weedle_grammar.specs.written.Table.Leaves.{DEC_LIT, HEX_LIT, OCT_LIT}
+use Rattle.weedle_grammar.specs.written.Table.Literals.{INTEGER_LIT}
 use Rattle.weedle_base.specs.declared.fault.Err.{Err as Fault}
 use Rattle.weedle_base.specs.declared.fault.Error.{Error}
 use Rattle.weedle_base.specs.Own.{own}

@@ -7,8 +7,8 @@ use Rattle.weedle_base.proofs.Steps.{rest_add}
 use Rattle.weedle_grammar.specs.Rows.{Seq}
 use Rattle.weedle_grammar.specs.Trees.{Text, Fails, Gives}
 use Rattle.weedle_grammar.specs.Meaning.{Kept, by_seq}
-use Rattle.weedle_grammar.specs.Table.{row_of, shape_of, Reads}
-use Rattle.weedle_grammar.specs.Table.Trivia.{TRIVIA}
+use Rattle.weedle_grammar.specs.written.Table.{row_of, shape_of, Reads}
+use Rattle.weedle_grammar.specs.written.Table.Trivia.{TRIVIA}
 use Rattle.weedle_grammar.proofs.Suffix.{then_on, then_fails_on, fails, nothing, no_node}
 
 -- a rule that keeps the text of its middle part

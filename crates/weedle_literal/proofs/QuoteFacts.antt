@@ -7,9 +7,9 @@ use Rattle.weedle_grammar.specs.declared.class.Class.TheVariants.{NotQuote}
 use Rattle.weedle_grammar.specs.Rows.{run_length, take_bytes}
 use Rattle.weedle_grammar.specs.Trees.{Text, Fails, Gives}
 use Rattle.weedle_grammar.specs.Meaning.{by_seq}
-use Rattle.weedle_grammar.specs.Table.{Reads}
-use Rattle.weedle_grammar.specs.Table.Trivia.{TRIVIA}
-use Rattle.weedle_grammar.specs.Table.Leaves.{BYTES_QUOTE, RUN_NOT_QUOTE, STRING_LIT}
+use Rattle.weedle_grammar.specs.written.Table.{Reads}
+use Rattle.weedle_grammar.specs.written.Table.Trivia.{TRIVIA}
+use Rattle.weedle_grammar.specs.written.Table.Leaves.{BYTES_QUOTE, RUN_NOT_QUOTE, STRING_LIT}
 use Rattle.weedle_grammar.proofs.Suffix.{then_on, then_fails_on, then_fails, fails, nothing, no_node}
 use Rattle.weedle_base.proofs.RuleFacts.{of_row}
 use Rattle.weedle_base.proofs.Steps.{rest_add}

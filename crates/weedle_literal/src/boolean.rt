@@ -1,6 +1,6 @@
 //! Booleans.
 
-ghost use Rattle.weedle_grammar.specs.Table.Literals.{BOOLEAN_LIT};
+ghost use Rattle.weedle_grammar.specs.written.Table.Literals.{BOOLEAN_LIT};
 ghost use Rattle.weedle_base.specs.Own.{own};
 ghost use Rattle.weedle_base.specs.OwnLaws.{own_lawful};
 ghost use Rattle.weedle_literal.specs.LiteralTrees.{boolean_tree};

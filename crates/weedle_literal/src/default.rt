@@ -1,6 +1,6 @@
 //! Defaults.
 
-ghost use Rattle.weedle_grammar.specs.Table.Literals.{DEFAULT};
+ghost use Rattle.weedle_grammar.specs.written.Table.Literals.{DEFAULT};
 ghost use Rattle.weedle_base.specs.Own.{own};
 ghost use Rattle.weedle_base.specs.OwnLaws.{own_lawful};
 ghost use Rattle.weedle_literal.specs.LiteralTrees.{default_tree};

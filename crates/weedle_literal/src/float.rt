@@ -1,7 +1,7 @@
 //! Numbers with a point or an exponent, and the words among floats.
 
 ghost use Rattle.std.specs.Prelude.{◌≡◌, []};
-ghost use Rattle.weedle_grammar.specs.Table.Leaves.{
+ghost use Rattle.weedle_grammar.specs.written.Table.Leaves.{
   DIGITS,
   OPT_ONE_OF_SIGN,
   EXPONENT,
@@ -15,7 +15,7 @@ ghost use Rattle.weedle_grammar.specs.Table.Leaves.{
   FLOAT_VALUE_LIT,
   FLOAT_VALUE_LIT_TEXT,
 };
-ghost use Rattle.weedle_grammar.specs.Table.Literals.{FLOAT_LIT};
+ghost use Rattle.weedle_grammar.specs.written.Table.Literals.{FLOAT_LIT};
 ghost use Rattle.weedle_base.specs.Own.{own};
 ghost use Rattle.weedle_base.specs.OwnLaws.{own_lawful};
 ghost use Rattle.weedle_base.specs.Trivia.{Took, Trial};

@@ -1,7 +1,7 @@
 //! Whole numbers.
 
 ghost use Rattle.std.specs.Prelude.{◌≡◌, []};
-ghost use Rattle.weedle_grammar.specs.Table.Leaves.{
+ghost use Rattle.weedle_grammar.specs.written.Table.Leaves.{
   DEC_LIT,
   DEC_LIT_TEXT,
   HEX_LIT,
@@ -10,7 +10,7 @@ ghost use Rattle.weedle_grammar.specs.Table.Leaves.{
   OCT_LIT_TEXT,
   OPT_BYTES_MINUS,
 };
-ghost use Rattle.weedle_grammar.specs.Table.Literals.{INTEGER_LIT};
+ghost use Rattle.weedle_grammar.specs.written.Table.Literals.{INTEGER_LIT};
 ghost use Rattle.weedle_base.specs.Own.{own};
 ghost use Rattle.weedle_base.specs.OwnLaws.{own_lawful};
 ghost use Rattle.weedle_base.specs.Trivia.{Took, Trial};

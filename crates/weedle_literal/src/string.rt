@@ -1,6 +1,6 @@
 //! Texts in quotes.
 
-ghost use Rattle.weedle_grammar.specs.Table.Leaves.{STRING_LIT};
+ghost use Rattle.weedle_grammar.specs.written.Table.Leaves.{STRING_LIT};
 ghost use Rattle.weedle_base.specs.Own.{own};
 ghost use Rattle.weedle_base.specs.OwnLaws.{own_lawful};
 ghost use Rattle.weedle_literal.specs.LiteralTrees.{string_tree};

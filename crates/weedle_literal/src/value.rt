@@ -1,7 +1,7 @@
 //! Values of defaults and of constants.
 
 ghost use Rattle.std.specs.Prelude.{◌≡◌};
-ghost use Rattle.weedle_grammar.specs.Table.Literals.{DEFAULT_VALUE, CONST_VALUE};
+ghost use Rattle.weedle_grammar.specs.written.Table.Literals.{DEFAULT_VALUE, CONST_VALUE};
 ghost use Rattle.weedle_base.specs.Own.{own};
 ghost use Rattle.weedle_base.specs.OwnLaws.{own_lawful};
 ghost use Rattle.weedle_literal.specs.LiteralTrees.{default_value_tree, const_value_tree};

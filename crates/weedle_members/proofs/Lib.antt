@@ -1,4 +1,1 @@
-pub mod ConstantRules
-pub mod AttributeRules
-pub mod OperationRules
-pub mod StringifierRules
+pub mod written

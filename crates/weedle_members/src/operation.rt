@@ -2,8 +2,8 @@
 
 ghost use Rattle.weedle_base.specs.Own.{own};
 ghost use Rattle.weedle_base.specs.OwnLaws.{own_lawful};
-ghost use Rattle.weedle_members.specs.Trees.{constructor_interface_member_tree};
-ghost use Rattle.weedle_grammar.specs.Table.InterfaceMembers.{CONSTRUCTOR_INTERFACE_MEMBER};
+ghost use Rattle.weedle_members.specs.written.Trees.{constructor_interface_member_tree};
+ghost use Rattle.weedle_grammar.specs.written.Table.InterfaceMembers.{CONSTRUCTOR_INTERFACE_MEMBER};
 
 mod written;
 
@@ -44,7 +44,7 @@ impl Drop for ConstructorInterfaceMember<'_> {
     }
 }
 
-#[tactic(auto, using(crate::proofs::OperationRules::constructor_interface_member_steps))]
+#[tactic(auto, using(crate::proofs::written::OperationRules::constructor_interface_member_steps))]
 impl<'a> Parse<'a> for ConstructorInterfaceMember<'a> {
     ghost reading = { own CONSTRUCTOR_INTERFACE_MEMBER constructor_interface_member_tree (Unit {0}) };
 

@@ -2,8 +2,8 @@
 
 ghost use Rattle.weedle_base.specs.Own.{own};
 ghost use Rattle.weedle_base.specs.OwnLaws.{own_lawful};
-ghost use Rattle.weedle_members.specs.Trees.{stringifier_member_tree};
-ghost use Rattle.weedle_grammar.specs.Table.InterfaceMembers.{STRINGIFIER_MEMBER};
+ghost use Rattle.weedle_members.specs.written.Trees.{stringifier_member_tree};
+ghost use Rattle.weedle_grammar.specs.written.Table.InterfaceMembers.{STRINGIFIER_MEMBER};
 
 mod written;
 
@@ -34,7 +34,7 @@ impl Drop for StringifierMember<'_> {
     }
 }
 
-#[tactic(auto, using(crate::proofs::StringifierRules::stringifier_member_steps))]
+#[tactic(auto, using(crate::proofs::written::StringifierRules::stringifier_member_steps))]
 impl<'a> Parse<'a> for StringifierMember<'a> {
     ghost reading = { own STRINGIFIER_MEMBER stringifier_member_tree (Unit {0}) };
 

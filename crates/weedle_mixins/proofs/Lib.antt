@@ -1,2 +1,1 @@
-pub mod MixinRules
-pub mod MixinDefinitionRules
+pub mod written

@@ -1,2 +1,1 @@
-pub mod InheritanceRules
-pub mod ModifierRules
+pub mod written

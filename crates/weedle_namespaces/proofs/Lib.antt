@@ -1,4 +1,1 @@
-pub mod NamespaceRules
-pub mod DictionaryRules
-pub mod NamespaceDefinitionRules
-pub mod DictionaryDefinitionRules
+pub mod written

@@ -10,9 +10,9 @@ use Rattle.weedle_base.specs.Reading.{Reading, Got, Faults}
 use Rattle.weedle_base.specs.Rules.{IsRule, mark_tree}
 use Rattle.weedle_base.specs.declared.fault.Err.{Err as Fault}
 use Rattle.weedle_base.specs.declared.fault.Error.{Error}
-use Rattle.weedle_term.specs.declared.type_keywords.Boolean.{Boolean}
-use Rattle.weedle_term.specs.declared.type_keywords.Byte.{Byte}
-use Rattle.weedle_term.specs.declared.type_keywords.Octet.{Octet}
+use Rattle.weedle_term.specs.declared.written.type_keywords.Boolean.{Boolean}
+use Rattle.weedle_term.specs.declared.written.type_keywords.Byte.{Byte}
+use Rattle.weedle_term.specs.declared.written.type_keywords.Octet.{Octet}
 use Rattle.weedle_parts.proofs.PartRules.{may_be_null_rule}
 use Rattle.weedle_parts.specs.MayBeNull.{may_be_null_reading}
 use Rattle.weedle_parts.specs.ValueTrees.{identifier_tree, may_be_null_tree, integer_type_tree, floating_point_type_tree, const_type_tree}
@@ -22,9 +22,9 @@ use Rattle.weedle_parts.specs.declared.types.const_type.ConstType.TheVariants.{I
 use Rattle.weedle_parts.specs.declared.types.floating_point.FloatingPointType.{FloatingPointType}
 use Rattle.weedle_parts.specs.declared.types.integer.IntegerType.{IntegerType}
 use Rattle.weedle_parts.specs.declared.types.may_be_null.MayBeNull.{MayBeNull}
-use Rattle.weedle_grammar.specs.Table.Keywords.{BOOLEAN, BYTE, OCTET}
-use Rattle.weedle_grammar.specs.Table.Leaves.{IDENTIFIER}
-use Rattle.weedle_grammar.specs.Table.SimpleTypes.{INTEGER_TYPE, FLOATING_POINT_TYPE, MAY_BE_NULL_INTEGER_TYPE, MAY_BE_NULL_FLOATING_POINT_TYPE, MAY_BE_NULL_BOOLEAN, MAY_BE_NULL_BYTE, MAY_BE_NULL_OCTET, MAY_BE_NULL_IDENTIFIER, CONST_TYPE}
+use Rattle.weedle_grammar.specs.written.Table.Keywords.{BOOLEAN, BYTE, OCTET}
+use Rattle.weedle_grammar.specs.written.Table.Leaves.{IDENTIFIER}
+use Rattle.weedle_grammar.specs.written.Table.SimpleTypes.{INTEGER_TYPE, FLOATING_POINT_TYPE, MAY_BE_NULL_INTEGER_TYPE, MAY_BE_NULL_FLOATING_POINT_TYPE, MAY_BE_NULL_BOOLEAN, MAY_BE_NULL_BYTE, MAY_BE_NULL_OCTET, MAY_BE_NULL_IDENTIFIER, CONST_TYPE}
 use Rattle.weedle_grammar.specs.Trees.{Tree, Alt}
 
 -- the readings of the six, one after the other fails

@@ -11,17 +11,17 @@ use Rattle.weedle_base.specs.Reading.{Reading, Got, Faults}
 use Rattle.weedle_base.specs.Rules.{IsRule, option_tree, mark_tree}
 use Rattle.weedle_base.specs.declared.fault.Err.{Err as Fault}
 use Rattle.weedle_base.specs.declared.fault.Error.{Error}
-use Rattle.weedle_term.specs.declared.type_keywords.Long.{Long}
-use Rattle.weedle_term.specs.declared.type_keywords.Short.{Short}
-use Rattle.weedle_term.specs.declared.type_keywords.Unsigned.{Unsigned}
+use Rattle.weedle_term.specs.declared.written.type_keywords.Long.{Long}
+use Rattle.weedle_term.specs.declared.written.type_keywords.Short.{Short}
+use Rattle.weedle_term.specs.declared.written.type_keywords.Unsigned.{Unsigned}
 use Rattle.weedle_parts.specs.ValueTrees.{long_long_type_tree, long_type_tree, short_type_tree, integer_type_tree}
 use Rattle.weedle_parts.specs.declared.types.integer.IntegerType.{IntegerType}
 use Rattle.weedle_parts.specs.declared.types.integer.IntegerType.TheVariants.{LongLong, Long as IsLong, Short as IsShort}
 use Rattle.weedle_parts.specs.declared.types.integer.LongLongType.{LongLongType}
 use Rattle.weedle_parts.specs.declared.types.integer.LongType.{LongType}
 use Rattle.weedle_parts.specs.declared.types.integer.ShortType.{ShortType}
-use Rattle.weedle_grammar.specs.Table.Keywords.{LONG, SHORT, UNSIGNED}
-use Rattle.weedle_grammar.specs.Table.SimpleTypes.{OPT_UNSIGNED, LONG_LONG, LONG_LONG_TYPE, LONG_TYPE, SHORT_TYPE, INTEGER_TYPE}
+use Rattle.weedle_grammar.specs.written.Table.Keywords.{LONG, SHORT, UNSIGNED}
+use Rattle.weedle_grammar.specs.written.Table.SimpleTypes.{OPT_UNSIGNED, LONG_LONG, LONG_LONG_TYPE, LONG_TYPE, SHORT_TYPE, INTEGER_TYPE}
 use Rattle.weedle_grammar.specs.Trees.{Mark, Node, Alt, trees}
 
 abbrev unsigned_reading : Reading (Option Unsigned)

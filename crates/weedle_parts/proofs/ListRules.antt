@@ -14,7 +14,7 @@ use Rattle.weedle_parts.specs.Lists.{next_step, tail_reading, list_gives, list1_
 use Rattle.weedle_grammar.proofs.GrammarFacts.{forth}
 use Rattle.weedle_grammar.specs.Meaning.{Plain, Inner, Raw, Breaks, Yields, ReadsRow, before, by_seq, list_none, list_more, list1_fails, list1_more, tail_end, tail_stuck, tail_back, tail_more}
 use Rattle.weedle_grammar.specs.Rows.{Seq, Opt, ListOf, List1, Tail}
-use Rattle.weedle_grammar.specs.Table.{webidl, row_of, shape_of, Reads}
+use Rattle.weedle_grammar.specs.written.Table.{webidl, row_of, shape_of, Reads}
 use Rattle.weedle_grammar.specs.Trees.{Tree, Fails, Gives}
 
 module _ {V W : Type 0} {R : Reading V} {S : Reading W} {x z : ℕ} {tree : V → Tree} {tree' : W → Tree} {grows : Type 0} (item : IsRule R x tree grows) (separator : IsRule S z tree' grows) where

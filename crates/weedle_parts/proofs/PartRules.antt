@@ -9,9 +9,9 @@ use Rattle.weedle_parts.specs.MayBeNull.{may_be_null_reading}
 use Rattle.weedle_parts.specs.ValueTrees.{bracket_tree, parenthesized_tree, bracketed_tree, braced_tree, generics_tree, may_be_null_tree}
 use Rattle.weedle_grammar.specs.Meaning.{Plain}
 use Rattle.weedle_grammar.specs.Rows.{Seq}
-use Rattle.weedle_grammar.specs.Table.{row_of, shape_of}
-use Rattle.weedle_grammar.specs.Table.SimpleTypes.{OPT_Q_MARK}
-use Rattle.weedle_grammar.specs.Table.Symbols.{OPEN_PAREN, CLOSE_PAREN, OPEN_BRACKET, CLOSE_BRACKET, OPEN_BRACE, CLOSE_BRACE, LESS_THAN, GREATER_THAN, Q_MARK}
+use Rattle.weedle_grammar.specs.written.Table.{row_of, shape_of}
+use Rattle.weedle_grammar.specs.written.Table.SimpleTypes.{OPT_Q_MARK}
+use Rattle.weedle_grammar.specs.written.Table.Symbols.{OPEN_PAREN, CLOSE_PAREN, OPEN_BRACKET, CLOSE_BRACKET, OPEN_BRACE, CLOSE_BRACE, LESS_THAN, GREATER_THAN, Q_MARK}
 use Rattle.weedle_grammar.specs.Trees.{Tree}
 
 module _ {T : Type 0} {R : Reading T} {x : ℕ} {tree : T → Tree} {grows : Type 0} (rule : IsRule R x tree grows) (r : ℕ) where

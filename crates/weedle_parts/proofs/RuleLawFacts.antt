@@ -12,7 +12,7 @@ use Rattle.weedle_parts.specs.RuleLaws.{BracketLaw, MayBeNullLaw, PunctuatedLaw,
 use Rattle.weedle_parts.specs.ValueTrees.{parenthesized_tree, bracketed_tree, braced_tree, generics_tree, may_be_null_tree, punctuated_tree, punctuated_non_empty_tree}
 use Rattle.weedle_parts.specs.declared.common.punctuated.Punctuated.{Punctuated}
 use Rattle.weedle_parts.specs.declared.common.punctuated.PunctuatedNonEmpty.{PunctuatedNonEmpty}
-use Rattle.weedle_grammar.specs.Table.Symbols.{OPEN_PAREN, CLOSE_PAREN, OPEN_BRACKET, CLOSE_BRACKET, OPEN_BRACE, CLOSE_BRACE, LESS_THAN, GREATER_THAN}
+use Rattle.weedle_grammar.specs.written.Table.Symbols.{OPEN_PAREN, CLOSE_PAREN, OPEN_BRACKET, CLOSE_BRACKET, OPEN_BRACE, CLOSE_BRACE, LESS_THAN, GREATER_THAN}
 
 module _ {T : Type 0} (R : Reading T) where
   pub parenthesized_law : BracketLaw R (parenthesized_reading R) parenthesized_tree OPEN_PAREN CLOSE_PAREN

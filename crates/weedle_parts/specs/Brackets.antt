@@ -3,19 +3,19 @@ use Rattle.std.specs.Prelude.{ℕ}
 use Rattle.weedle_base.specs.Generic.{pair_reading, seen_reading}
 use Rattle.weedle_base.specs.Own.{own}
 use Rattle.weedle_base.specs.Reading.{Reading}
-use Rattle.weedle_term.specs.declared.symbols.CloseBrace.{CloseBrace}
-use Rattle.weedle_term.specs.declared.symbols.CloseBracket.{CloseBracket}
-use Rattle.weedle_term.specs.declared.symbols.CloseParen.{CloseParen}
-use Rattle.weedle_term.specs.declared.symbols.GreaterThan.{GreaterThan}
-use Rattle.weedle_term.specs.declared.symbols.LessThan.{LessThan}
-use Rattle.weedle_term.specs.declared.symbols.OpenBrace.{OpenBrace}
-use Rattle.weedle_term.specs.declared.symbols.OpenBracket.{OpenBracket}
-use Rattle.weedle_term.specs.declared.symbols.OpenParen.{OpenParen}
+use Rattle.weedle_term.specs.declared.written.symbols.CloseBrace.{CloseBrace}
+use Rattle.weedle_term.specs.declared.written.symbols.CloseBracket.{CloseBracket}
+use Rattle.weedle_term.specs.declared.written.symbols.CloseParen.{CloseParen}
+use Rattle.weedle_term.specs.declared.written.symbols.GreaterThan.{GreaterThan}
+use Rattle.weedle_term.specs.declared.written.symbols.LessThan.{LessThan}
+use Rattle.weedle_term.specs.declared.written.symbols.OpenBrace.{OpenBrace}
+use Rattle.weedle_term.specs.declared.written.symbols.OpenBracket.{OpenBracket}
+use Rattle.weedle_term.specs.declared.written.symbols.OpenParen.{OpenParen}
 use Rattle.weedle_parts.specs.declared.common.brackets.Parenthesized.{Parenthesized}
 use Rattle.weedle_parts.specs.declared.common.brackets.Bracketed.{Bracketed}
 use Rattle.weedle_parts.specs.declared.common.brackets.Braced.{Braced}
 use Rattle.weedle_parts.specs.declared.common.brackets.Generics.{Generics}
-use Rattle.weedle_grammar.specs.Table.Symbols.{OPEN_PAREN, CLOSE_PAREN, OPEN_BRACKET, CLOSE_BRACKET, OPEN_BRACE, CLOSE_BRACE, LESS_THAN, GREATER_THAN}
+use Rattle.weedle_grammar.specs.written.Table.Symbols.{OPEN_PAREN, CLOSE_PAREN, OPEN_BRACKET, CLOSE_BRACKET, OPEN_BRACE, CLOSE_BRACE, LESS_THAN, GREATER_THAN}
 use Rattle.weedle_grammar.specs.Trees.{Mark}
 
 -- Between brackets of the rules left and right, a body that R reads; `view` sees the whole as its three parts.

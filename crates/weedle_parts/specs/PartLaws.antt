@@ -6,7 +6,7 @@ use Rattle.weedle_base.specs.OwnLaws.{own_lawful}
 use Rattle.weedle_base.specs.Reading.{Reading, IsLawful}
 use Rattle.weedle_parts.specs.Brackets.{bracket_parts, bracket_reading}
 use Rattle.weedle_parts.specs.MayBeNull.{q_mark_reading, may_be_null_reading}
-use Rattle.weedle_grammar.specs.Table.Symbols.{Q_MARK}
+use Rattle.weedle_grammar.specs.written.Table.Symbols.{Q_MARK}
 use Rattle.weedle_grammar.specs.Trees.{Mark}
 
 -- the law of the four bracketings

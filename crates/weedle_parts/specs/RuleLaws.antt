@@ -4,8 +4,8 @@ use Rattle.weedle_base.specs.Reading.{Reading}
 use Rattle.weedle_base.specs.Rules.{HasRule}
 use Rattle.weedle_grammar.specs.Meaning.{Plain, Inner}
 use Rattle.weedle_grammar.specs.Rows.{Seq, Opt, ListOf, List1, Tail}
-use Rattle.weedle_grammar.specs.Table.{row_of, shape_of}
-use Rattle.weedle_grammar.specs.Table.SimpleTypes.{OPT_Q_MARK}
+use Rattle.weedle_grammar.specs.written.Table.{row_of, shape_of}
+use Rattle.weedle_grammar.specs.written.Table.SimpleTypes.{OPT_Q_MARK}
 use Rattle.weedle_grammar.specs.Trees.{Tree}
 
 -- a body that R reads, and the whole that S reads, whose tree is made of the body's

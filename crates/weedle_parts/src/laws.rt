@@ -4,7 +4,7 @@
 //! A type that reads what a rule reads is put into a part: then what the part reads is what any
 //! rule reads whose row is made so of the rules of the parameters.
 
-ghost use Rattle.weedle_grammar.specs.Table.Symbols.{
+ghost use Rattle.weedle_grammar.specs.written.Table.Symbols.{
   OPEN_PAREN,
   CLOSE_PAREN,
   OPEN_BRACKET,

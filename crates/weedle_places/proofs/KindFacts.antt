@@ -3,8 +3,8 @@ use Rattle.std.proofs.Common.{◌≡◌, inl, inr, ℕ, suc, List, [], ◌∷◌
 use Rattle.weedle_grammar.specs.Rows.{First}
 use Rattle.weedle_grammar.specs.Trees.{Tree, Outcome, Fails, Gives}
 use Rattle.weedle_grammar.specs.Meaning.{ReadsFirst, first_none}
-use Rattle.weedle_grammar.specs.Table.{webidl, row_of}
-use Rattle.weedle_grammar.specs.Table.Definitions.{DEFINITION}
+use Rattle.weedle_grammar.specs.written.Table.{webidl, row_of}
+use Rattle.weedle_grammar.specs.written.Table.Definitions.{DEFINITION}
 use Rattle.weedle_rules.specs.Cells.{HasEnd, end_of}
 use Rattle.weedle_rules.proofs.RowEnds.{row_ends, raw_of_end, raw_end}
 use Rattle.weedle_grammar.proofs.Inversion.{of_first, of_choice}

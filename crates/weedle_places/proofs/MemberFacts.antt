@@ -4,10 +4,10 @@ use Rattle.std.specs.Prelude.{MatchOption, ◌==◌, if◌then◌else◌}
 use Rattle.weedle_grammar.specs.Rows.{Seq, Many}
 use Rattle.weedle_grammar.specs.Trees.{Tree}
 use Rattle.weedle_grammar.specs.Meaning.{Piece, piece, with_piece, last_end, together, ReadsSeq}
-use Rattle.weedle_grammar.specs.Table.{webidl, row_of}
-use Rattle.weedle_grammar.specs.Table.Symbols.{OPEN_BRACE, CLOSE_BRACE}
-use Rattle.weedle_grammar.specs.Table.InterfaceMembers.{INTERFACE_MEMBER, INTERFACE_MEMBERS, BRACED_INTERFACE_MEMBERS}
-use Rattle.weedle_grammar.specs.Table.OtherMembers.{MIXIN_MEMBER, MIXIN_MEMBERS, BRACED_MIXIN_MEMBERS, NAMESPACE_MEMBER, NAMESPACE_MEMBERS, BRACED_NAMESPACE_MEMBERS, DICTIONARY_MEMBER, DICTIONARY_MEMBERS, BRACED_DICTIONARY_MEMBERS}
+use Rattle.weedle_grammar.specs.written.Table.{webidl, row_of}
+use Rattle.weedle_grammar.specs.written.Table.Symbols.{OPEN_BRACE, CLOSE_BRACE}
+use Rattle.weedle_grammar.specs.written.Table.InterfaceMembers.{INTERFACE_MEMBER, INTERFACE_MEMBERS, BRACED_INTERFACE_MEMBERS}
+use Rattle.weedle_grammar.specs.written.Table.OtherMembers.{MIXIN_MEMBER, MIXIN_MEMBERS, BRACED_MIXIN_MEMBERS, NAMESPACE_MEMBER, NAMESPACE_MEMBERS, BRACED_NAMESPACE_MEMBERS, DICTIONARY_MEMBER, DICTIONARY_MEMBERS, BRACED_DICTIONARY_MEMBERS}
 use Rattle.weedle_grammar.proofs.Inversion.{of_parts, of_seq}
 use Rattle.weedle_rules.specs.Cells.{HasEnd}
 use Rattle.weedle_rules.proofs.RowEnds.{row_ends, raw_end}

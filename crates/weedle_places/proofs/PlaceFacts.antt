@@ -1,8 +1,8 @@
 -- Definitions that are found one after another.
 use Rattle.std.proofs.Common.{◌≡◌, ℕ, ◌≤◌, List, [], ◌∷◌, ◌++◌, length, Some, None, refl, sym, subst, arith, append_assoc, append-nil}
 use Rattle.weedle_grammar.specs.Rows.{Many}
-use Rattle.weedle_grammar.specs.Table.{row_of}
-use Rattle.weedle_grammar.specs.Table.Definitions.{DEFINITION, DEFINITIONS}
+use Rattle.weedle_grammar.specs.written.Table.{row_of}
+use Rattle.weedle_grammar.specs.written.Table.Definitions.{DEFINITION, DEFINITIONS}
 use Rattle.weedle_rules.specs.Cells.{HasEnd}
 use Rattle.weedle_places.proofs.WithinFacts.{AreWithin, members_within}
 use Rattle.weedle_places.specs.declared.place.Place.{Place}

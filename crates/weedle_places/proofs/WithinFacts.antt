@@ -3,9 +3,9 @@ use Rattle.std.proofs.Common.{◌≡◌, ℕ, ◌≤◌, List, [], ◌∷◌, Op
 use Rattle.std.specs.Prelude.{All, MatchOption}
 use Rattle.std.proofs.lemmas.List.Elements.{All-nil, All-cons}
 use Rattle.weedle_grammar.specs.Rows.{Row, Bytes, OneOf, NotNext, Run, Past, Seq, First, Opt, Many, ListOf, List1, Tail, If}
-use Rattle.weedle_grammar.specs.Table.{webidl, row_of}
-use Rattle.weedle_grammar.specs.Table.Symbols.{OPEN_BRACE, CLOSE_BRACE}
-use Rattle.weedle_grammar.specs.Table.Definitions.{DEFINITION}
+use Rattle.weedle_grammar.specs.written.Table.{webidl, row_of}
+use Rattle.weedle_grammar.specs.written.Table.Symbols.{OPEN_BRACE, CLOSE_BRACE}
+use Rattle.weedle_grammar.specs.written.Table.Definitions.{DEFINITION}
 use Rattle.weedle_grammar.proofs.Exists.{seq_grows}
 use Rattle.weedle_places.specs.declared.span.Span.{Span}
 use Rattle.weedle_rules.specs.Outcomes.{EndsAt}

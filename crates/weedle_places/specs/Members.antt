@@ -1,11 +1,11 @@
 -- The members of a definition.
 use Rattle.std.specs.Prelude.{◌≡◌, ◌⊎◌, ◌==◌, ℕ, List, [], ◌∷◌, Option, Some, None, MatchOption, if◌then◌else◌}
 use Rattle.weedle_grammar.specs.Rows.{Row, Seq, First}
-use Rattle.weedle_grammar.specs.Table.{row_of}
-use Rattle.weedle_grammar.specs.Table.Symbols.{OPEN_BRACE}
-use Rattle.weedle_grammar.specs.Table.InterfaceMembers.{INTERFACE_MEMBER, BRACED_INTERFACE_MEMBERS}
-use Rattle.weedle_grammar.specs.Table.OtherMembers.{MIXIN_MEMBER, BRACED_MIXIN_MEMBERS, NAMESPACE_MEMBER, BRACED_NAMESPACE_MEMBERS, DICTIONARY_MEMBER, BRACED_DICTIONARY_MEMBERS}
-use Rattle.weedle_grammar.specs.Table.Definitions.{DEFINITION}
+use Rattle.weedle_grammar.specs.written.Table.{row_of}
+use Rattle.weedle_grammar.specs.written.Table.Symbols.{OPEN_BRACE}
+use Rattle.weedle_grammar.specs.written.Table.InterfaceMembers.{INTERFACE_MEMBER, BRACED_INTERFACE_MEMBERS}
+use Rattle.weedle_grammar.specs.written.Table.OtherMembers.{MIXIN_MEMBER, BRACED_MIXIN_MEMBERS, NAMESPACE_MEMBER, BRACED_NAMESPACE_MEMBERS, DICTIONARY_MEMBER, BRACED_DICTIONARY_MEMBERS}
+use Rattle.weedle_grammar.specs.written.Table.Definitions.{DEFINITION}
 use Rattle.weedle_places.specs.declared.span.Span.{Span}
 use Rattle.weedle_rules.specs.Outcomes.{EndsAt, FailsAt}
 use Rattle.weedle_places.specs.Items.{AreItems}

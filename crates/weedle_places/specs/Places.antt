@@ -1,6 +1,6 @@
 -- Where the definitions of a text stand.
 use Rattle.std.specs.Prelude.{◌≡◌, ◌≤◌, ℕ, List, [], ◌∷◌, length, All}
-use Rattle.weedle_grammar.specs.Table.Definitions.{DEFINITION, DEFINITIONS}
+use Rattle.weedle_grammar.specs.written.Table.Definitions.{DEFINITION, DEFINITIONS}
 use Rattle.weedle_places.specs.declared.place.Place.{Place}
 use Rattle.weedle_rules.specs.Outcomes.{EndsAt}
 use Rattle.weedle_places.specs.Members.{HasMembers}

@@ -2,7 +2,7 @@
 
 ghost use Rattle.std.specs.Prelude.{◌≡◌, ◌≤◌, ℕ, length, IfOk};
 ghost use Rattle.weedle_grammar.specs.Rows.{Many};
-ghost use Rattle.weedle_grammar.specs.Table.{row_of};
+ghost use Rattle.weedle_grammar.specs.written.Table.{row_of};
 ghost use Rattle.weedle_places.specs.Items.{AreItems};
 
 use crate::span::Span;

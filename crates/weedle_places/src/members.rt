@@ -14,8 +14,8 @@ ghost use Rattle.std.specs.Prelude.{
 };
 ghost use Rattle.weedle_grammar.specs.Meaning.{Piece, ReadsSeq};
 ghost use Rattle.weedle_grammar.specs.Rows.{Many};
-ghost use Rattle.weedle_grammar.specs.Table.{webidl, row_of as the_row_of};
-ghost use Rattle.weedle_grammar.specs.Table.Definitions.{DEFINITION};
+ghost use Rattle.weedle_grammar.specs.written.Table.{webidl, row_of as the_row_of};
+ghost use Rattle.weedle_grammar.specs.written.Table.Definitions.{DEFINITION};
 ghost use Rattle.weedle_grammar.specs.View.{numbers_of};
 ghost use Rattle.weedle_places.specs.declared.span.Span.{Span as TheSpan};
 ghost use Rattle.weedle_rules.specs.Outcomes.{EndsAt};

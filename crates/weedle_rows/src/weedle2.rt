@@ -3,16 +3,7 @@
 //! The expected values are those that weedle2 prints; `tools/weedle2_rows.py` has asked it, and has
 //! written the files below.
 
-mod attributes;
-mod callbacks_to_enums;
-mod definitions;
-mod interface_members;
-mod iterations;
-mod left;
-mod operations;
-mod other_members;
-mod parts_of_definitions;
-mod types;
+mod written;
 
 use crate::definitions::titles;
 use std::alloc::Global;
@@ -20,6 +11,10 @@ use std::process::Abort;
 use std::test::Fail;
 use weedle_front::{Definitions, parse_quick};
 use weedle_testing::{is_printed, reads_up_to, reads_whole};
+use written::{
+    attributes, callbacks_to_enums, definitions, interface_members, iterations, left, operations,
+    other_members, parts_of_definitions, types,
+};
 
 /// What stands before each row.
 const ROW: &str = "\ntext: ";

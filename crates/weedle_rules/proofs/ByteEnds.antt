@@ -9,7 +9,7 @@ use Rattle.weedle_grammar.proofs.Leaves.{begins_le}
 use Rattle.std.proofs.Math.Seq.{drop-cons}
 use Rattle.std.proofs.lemmas.Option.{slice_get_within, get_or_from_slice_get, slice_get-get_or}
 use Rattle.std.proofs.lemmas.List.{length-drop}
-use Rattle.weedle_grammar.specs.Table.{webidl}
+use Rattle.weedle_grammar.specs.written.Table.{webidl}
 use Rattle.weedle_rules.proofs.RowEnds.{RowEnds, bytes_ends, one_ends, not_next_ends, run_ends, past_ends, run_end_is, past_end_is}
 use Rattle.weedle_rules.proofs.ListFrom.{parts_from, past_end}
 

@@ -2,7 +2,7 @@
 use Rattle.std.proofs.Common.{◌≡◌, ◌≢◌, ◌⊎◌, inl, inr, ℕ, zero, suc, ◌+◌, ◌++◌, ◌-◌, ◌<◌, ◌≤◌, List, [], ◌∷◌, length, map, Bool, true, false, Option, Some, None, refl, ap, sym, subst, ◌∙◌, arith}
 use Rattle.std.specs.Prelude.{◌==◌, nat_le, not, if◌then◌else◌}
 use Rattle.std.proofs.lemmas.Bool.{cases_lt}
-use Rattle.weedle_grammar.specs.Bound.{rule_count}
+use Rattle.weedle_grammar.specs.written.Bound.{rule_count}
 use Rattle.weedle_grammar.specs.Rows.{Opt, If}
 use Rattle.weedle_grammar.specs.Trees.{Tree, Mark, Absent, Present, Outcome, Fails, Gives}
 use Rattle.weedle_grammar.specs.Meaning.{Grammar, Marked, Plain, Piece, piece, Breaks, Yields, ReadsBy, ReadsSeq, by_row, if_fails, if_absent, if_present, seq_end, seq_fails, seq_more, shaped, raw_of, opted, before, with_piece, gave_some, is_present, given_of, last_end}

@@ -3,11 +3,11 @@ use Rattle.std.proofs.Common.{◌≡◌, ℕ, suc, ◌<◌, List, [], ◌∷◌,
 use Rattle.std.specs.Prelude.{◌&&◌, nat_lt}
 use borrow.Author.Tests.{ltb-true}
 use Rattle.weedle_grammar.specs.Rows.{Row, Bytes, OneOf, NotNext, Run, Past, Seq, First, Opt, Many, ListOf, List1, Tail, If}
-use Rattle.weedle_grammar.specs.Table.{row_of, shape_of}
+use Rattle.weedle_grammar.specs.written.Table.{row_of, shape_of}
 use Rattle.weedle_grammar.specs.Meaning.{Shape, Silent, Marked, Kept, Line, Joined, Inner, Plain}
-use Rattle.weedle_grammar.proofs.Takes.{takes}
-use Rattle.weedle_grammar.specs.Bound.{rule_count}
-use Rattle.weedle_rules.specs.Bound.{most_reads}
+use Rattle.weedle_grammar.proofs.written.Takes.{takes}
+use Rattle.weedle_grammar.specs.written.Bound.{rule_count}
+use Rattle.weedle_rules.specs.written.Bound.{most_reads}
 use Rattle.weedle_grammar.proofs.Leaves.{both}
 use Rattle.weedle_rules.proofs.RowTests.{row_passes}
 

@@ -1,10 +1,10 @@
 -- The looks of a working-out, its outcome, and the cells that it may look at.
 use Rattle.std.proofs.Common.{◌≡◌, ◌≢◌, ℕ, ◌+◌, ◌<◌, ◌≤◌, length, Option, Some, ap, sym, subst, ◌∙◌, arith}
-use Rattle.weedle_grammar.specs.Bound.{rule_count}
+use Rattle.weedle_grammar.specs.written.Bound.{rule_count}
 use Rattle.weedle_grammar.specs.Rows.{Row}
 use Rattle.weedle_rules.specs.Cells.{cell_number, HasEnd}
 use Rattle.weedle_rules.specs.Filling.{Filling, Open, IsBegun, IsWorked}
-use Rattle.weedle_grammar.specs.Table.{webidl, row_of}
+use Rattle.weedle_grammar.specs.written.Table.{webidl, row_of}
 use Rattle.weedle_rules.proofs.RowEnds.{is_before, RowEnds, rule_ends, ends_after, ends_inside}
 
 -- v is w after some looks, k reads in all

@@ -2,7 +2,7 @@
 use Rattle.std.proofs.Common.{◌≡◌, inl, inr, ℕ, ◌+◌, ◌-◌, ◌<◌, ◌≤◌, List, [], ◌∷◌, length, map, Bool, true, ◌&&◌, ◌||◌, Option, Some, None, refl, sym, subst, ◌∙◌, add-one, arith}
 use Rattle.std.specs.Prelude.{nat_lt}
 use borrow.Author.Tests.{ltb-true}
-use Rattle.weedle_grammar.specs.Bound.{rule_count}
+use Rattle.weedle_grammar.specs.written.Bound.{rule_count}
 use Rattle.weedle_grammar.specs.Rows.{Row, Seq, First, Opt, Many, ListOf, List1, Tail}
 use Rattle.weedle_grammar.specs.Trees.{Tree, Fails, Gives}
 use Rattle.weedle_grammar.specs.Meaning.{Grammar, piece, seq_end, seq_fails, seq_more, first_none, first_here, first_next, with_piece}

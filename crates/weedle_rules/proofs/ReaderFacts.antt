@@ -5,10 +5,10 @@ use Rattle.std.proofs.lemmas.List.{get_or-map, get_or-take, map-append, length-a
 use Rattle.std.proofs.Math.Seq.{get_or-append_seam}
 use Rattle.std.proofs.Math.ListN.{get_or-append}
 use Rattle.std.proofs.lemmas.Bool.{cases_lt}
-use Rattle.weedle_grammar.specs.Bound.{rule_count}
-use Rattle.weedle_rules.specs.Bound.{most_reads}
+use Rattle.weedle_grammar.specs.written.Bound.{rule_count}
+use Rattle.weedle_rules.specs.written.Bound.{most_reads}
 use Rattle.weedle_grammar.specs.Trees.{Outcome, Fails, Gives}
-use Rattle.weedle_grammar.specs.Table.{webidl, Reads}
+use Rattle.weedle_grammar.specs.written.Table.{webidl, Reads}
 use Rattle.weedle_rules.specs.Cells.{end_of, HasEnd, cell_number, cell_of, AllRight}
 use Rattle.weedle_rules.specs.TableOfEnds.{IsCounted}
 use Rattle.weedle_rules.specs.ReaderView.{cells_of, known_of, AreRows, IsReader}

@@ -1,9 +1,9 @@
 -- A test that each row of the grammar passes, though one without alternatives may not.
 use Rattle.std.proofs.Common.{◌≡◌, ℕ, zero, suc, ◌<◌, List, [], ◌∷◌, length, Bool, true, ◌&&◌, refl, subst, arith}
-use Rattle.weedle_grammar.specs.Bound.{rule_count}
+use Rattle.weedle_grammar.specs.written.Bound.{rule_count}
 use Rattle.weedle_grammar.specs.Rows.{Row}
 use Rattle.weedle_grammar.specs.Entry.{Entry, entry_at}
-use Rattle.weedle_grammar.specs.Table.{table, row_of}
+use Rattle.weedle_grammar.specs.written.Table.{table, row_of}
 use Rattle.weedle_grammar.proofs.Leaves.{both}
 
 -- the rows of all entries pass

@@ -1,10 +1,10 @@
 -- The cells of a table of ends: when one is right, and in which order they are worked out.
 use Rattle.std.specs.Prelude.{◌≡◌, ◌≤◌, ◌<◌, ◌+◌, ◌-◌, ◌*◌, ℕ, List, length, Option, Some, None}
 use Rattle.std.proofs.Common.{get_or}
-use Rattle.weedle_grammar.specs.Bound.{rule_count}
+use Rattle.weedle_grammar.specs.written.Bound.{rule_count}
 use Rattle.weedle_grammar.specs.Trees.{Outcome, Fails, Gives}
 use Rattle.weedle_grammar.specs.Meaning.{Grammar, ReadsBy}
-use Rattle.weedle_grammar.specs.Table.{webidl}
+use Rattle.weedle_grammar.specs.written.Table.{webidl}
 
 -- where an outcome ends; None of a failure
 abbrev pub end_of : Outcome → Option ℕ

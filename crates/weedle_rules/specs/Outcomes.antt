@@ -1,7 +1,7 @@
 -- Where a rule ends at a place, and that it fails there, whatever it gives.
 use Rattle.std.specs.Prelude.{ℕ, List}
 use Rattle.weedle_grammar.specs.Trees.{Tree, Fails, Gives}
-use Rattle.weedle_grammar.specs.Table.{Reads}
+use Rattle.weedle_grammar.specs.written.Table.{Reads}
 
 -- rule r ends at e, where it is read from p
 abbrev pub EndsAt : List ℕ → ℕ → ℕ → ℕ → Type 0

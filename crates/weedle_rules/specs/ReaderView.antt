@@ -2,8 +2,8 @@
 use Rattle.std.specs.Prelude.{◌≡◌, ◌≤◌, ◌<◌, ◌+◌, ◌-◌, ◌*◌, ℕ, Bool, true, List, length, map, take, Option}
 use Rattle.std.proofs.Common.{get_or}
 use Rattle.std.specs.List.{flat_map}
-use Rattle.weedle_grammar.specs.Bound.{rule_count}
-use Rattle.weedle_rules.specs.Bound.{most_reads}
+use Rattle.weedle_grammar.specs.written.Bound.{rule_count}
+use Rattle.weedle_rules.specs.written.Bound.{most_reads}
 use Rattle.weedle_rules.specs.Cells.{AllRight}
 use Rattle.weedle_rules.specs.TableOfEnds.{AreCounts}
 

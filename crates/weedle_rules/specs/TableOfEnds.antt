@@ -1,7 +1,7 @@
 -- A table of ends.
 use Rattle.std.specs.Prelude.{◌≡◌, ◌≤◌, ◌+◌, ◌*◌, max, ℕ, Bool, List, length, sum, fold, All, Option}
-use Rattle.weedle_grammar.specs.Bound.{rule_count}
-use Rattle.weedle_rules.specs.Bound.{most_reads}
+use Rattle.weedle_grammar.specs.written.Bound.{rule_count}
+use Rattle.weedle_rules.specs.written.Bound.{most_reads}
 use Rattle.weedle_rules.specs.Cells.{AllRight}
 
 -- a table of ends as contracts see it

@@ -4,7 +4,7 @@
 //! rule, and keeps the reader's fields in registers.
 
 ghost use Rattle.std.specs.Prelude.{◌≡◌, ◌<◌, ◌≤◌, ◌+◌, ◌-◌, ◌*◌, length};
-ghost use Rattle.weedle_grammar.specs.Bound.{rule_count};
+ghost use Rattle.weedle_grammar.specs.written.Bound.{rule_count};
 ghost use Rattle.weedle_rules.specs.Filling.{IsUnfilled, IsFilled, IsFilling};
 
 use crate::cell::Cell;
@@ -12,9 +12,9 @@ use crate::reader::Reader;
 use crate::work::work_out;
 use weedle_grammar::rule_of;
 
-mod place;
+mod written;
 
-use place::fill_place;
+use written::place::fill_place;
 
 /// Works out the next cell, of the rule of this number at this place.
 #[inline(always)]

@@ -25,7 +25,7 @@ ghost use Rattle.std.specs.Prelude.{
   IfSome,
   IfOk,
 };
-ghost use Rattle.weedle_grammar.specs.Bound.{rule_count};
+ghost use Rattle.weedle_grammar.specs.written.Bound.{rule_count};
 ghost use Rattle.weedle_rules.specs.Cells.{HasEnd, cell_number, cell_of, AllRight};
 ghost use Rattle.weedle_rules.specs.Filling.{Filling, IsUnfilled, IsFilled};
 ghost use Rattle.weedle_rules.specs.TableOfEnds.{IsCounted};
@@ -52,7 +52,7 @@ pub(crate) struct Reader<'a, C: Cell> {
 
 impl<'a, C: Cell> Model for Reader<'a, C> {
     ghost use Rattle.std.specs.Prelude.{◌+◌, ◌*◌, length, vec_capacity};
-    ghost use Rattle.weedle_grammar.specs.Bound.{rule_count};
+    ghost use Rattle.weedle_grammar.specs.written.Bound.{rule_count};
     ghost use Rattle.weedle_rules.specs.Filling.{Filling};
 
     ghost Value = { Filling };
@@ -82,7 +82,7 @@ pub(crate) struct Working {
 
 impl Model for Working {
     ghost use Rattle.std.specs.Prelude.{◌≤◌};
-    ghost use Rattle.weedle_rules.specs.Bound.{most_reads};
+    ghost use Rattle.weedle_rules.specs.written.Bound.{most_reads};
     ghost use Rattle.weedle_rules.specs.Filling.{Open};
 
     ghost Value = { Open };

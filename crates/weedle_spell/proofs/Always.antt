@@ -4,7 +4,7 @@ use Rattle.weedle_grammar.proofs.Leaves.{taken_le}
 use Rattle.weedle_grammar.proofs.Inversion.{of_bytes, of_one, of_not_next, of_run, of_past, of_choice}
 use Rattle.weedle_grammar.specs.Meaning.{Piece, piece, Raw, Yields, ReadsRow, ReadsSeq, ReadsFirst, many_end, many_stuck, many_more, last_end}
 use Rattle.weedle_grammar.specs.Rows.{Bytes, OneOf, NotNext, Run, Past, Seq, First, Opt, Many, take_bytes, take_one, take_not_next, run_length, take_past}
-use Rattle.weedle_grammar.specs.Table.{webidl, row_of, Reads}
+use Rattle.weedle_grammar.specs.written.Table.{webidl, row_of, Reads}
 use Rattle.weedle_grammar.specs.Trees.{Tree, Gives}
 use Rattle.weedle_grammar.specs.declared.class.Class.{Class}
 use Rattle.weedle_spell.specs.Forms.{Form, empty, exactly, ◌then◌, ◌or◌, perhaps, Chain, chain_ends, chain_goes_on, one, any, up_to}

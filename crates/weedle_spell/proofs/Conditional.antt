@@ -5,7 +5,7 @@ use Rattle.weedle_grammar.proofs.Inversion.{of_if}
 use Rattle.weedle_grammar.proofs.Leaves.{both}
 use Rattle.weedle_grammar.specs.Meaning.{Plain, Piece, Yields, ReadsRow, ReadsSeq, raw_of, before, given_of, last_end, gave_some, is_present}
 use Rattle.weedle_grammar.specs.Rows.{If}
-use Rattle.weedle_grammar.specs.Table.{webidl, row_of, shape_of, Reads}
+use Rattle.weedle_grammar.specs.written.Table.{webidl, row_of, shape_of, Reads}
 use Rattle.weedle_grammar.specs.Trees.{Tree, Node, Absent, trees, Outcome, Fails, Gives}
 use Rattle.weedle_spell.specs.Forms.{Form, ◌then◌}
 use Rattle.weedle_grammar.proofs.OneTree.{is_single, all_single, gives_one}

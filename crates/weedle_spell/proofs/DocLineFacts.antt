@@ -6,9 +6,9 @@ use Rattle.weedle_grammar.proofs.Inversion.{of_past}
 use Rattle.weedle_grammar.proofs.Leaves.{chosen, suc_some, taken_le}
 use Rattle.weedle_grammar.specs.Meaning.{Piece, piece, Raw, Yields, ReadsRow, many_end, many_stuck, many_more, kept, between, but_last, more_lines, joined, last_end, ends_of, given_of}
 use Rattle.weedle_grammar.specs.Rows.{Many, Past, begins, take_past, is_in}
-use Rattle.weedle_grammar.specs.Table.{webidl, Reads}
-use Rattle.weedle_grammar.specs.Table.Trivia.{RUN_BLANK}
-use Rattle.weedle_grammar.specs.Table.Leaves.{PAST_LF, BYTES_THREE_SLASHES, DOC_LINE, MANY_DOC_LINE, DOCSTRING}
+use Rattle.weedle_grammar.specs.written.Table.{webidl, Reads}
+use Rattle.weedle_grammar.specs.written.Table.Trivia.{RUN_BLANK}
+use Rattle.weedle_grammar.specs.written.Table.Leaves.{PAST_LF, BYTES_THREE_SLASHES, DOC_LINE, MANY_DOC_LINE, DOCSTRING}
 use Rattle.weedle_grammar.specs.Trees.{Tree, Lines, Items, trees, Gives}
 use Rattle.weedle_grammar.specs.declared.class.Class.TheVariants.{Blank, NotLineFeed}
 use Rattle.weedle_spell.specs.Forms.{◌then◌, exactly, any, each}

@@ -3,7 +3,7 @@ use Rattle.std.proofs.Common.{◌≡◌, ◌⊎◌, inl, inr, ℕ, suc, ◌+◌,
 use Rattle.weedle_grammar.proofs.Inversion.{at_row, of_seq, of_first, of_opt, of_no_parts, of_parts, of_choice}
 use Rattle.weedle_grammar.specs.Meaning.{Plain, Piece, piece, Raw, Breaks, Yields, ReadsRow, ReadsSeq, ReadsFirst, first_none, formed, shaped, leaf, together, raw_of, opted, before, with_piece, given_of, ends_of, last_end}
 use Rattle.weedle_grammar.specs.Rows.{Row, Seq, First, Opt}
-use Rattle.weedle_grammar.specs.Table.{webidl, row_of, shape_of, Reads}
+use Rattle.weedle_grammar.specs.written.Table.{webidl, row_of, shape_of, Reads}
 use Rattle.weedle_grammar.specs.Trees.{Tree, Alt, Absent, Present, Outcome, Fails, Gives}
 
 abbrev pub Gave : List ℕ → ℕ → Row → ℕ → ℕ → List Tree → Type 0

@@ -2,9 +2,9 @@
 use Rattle.std.proofs.Common.{◌≡◌, ℕ, List, [], ◌∷◌, refl}
 use Rattle.weedle_grammar.specs.Meaning.{Kept}
 use Rattle.weedle_grammar.specs.Rows.{Seq}
-use Rattle.weedle_grammar.specs.Table.{row_of, shape_of}
-use Rattle.weedle_grammar.specs.Table.Leaves.{OPT_BYTES_MINUS, IDENTIFIER, DEC_LIT, HEX_LIT, OCT_LIT, DIGITS, EXPONENT, FLOAT_VALUE_LIT, FLOAT_VALUE_LIT_TEXT, POINT, STRING_LIT}
-use Rattle.weedle_grammar.specs.Table.Trivia.{TRIVIA}
+use Rattle.weedle_grammar.specs.written.Table.{row_of, shape_of}
+use Rattle.weedle_grammar.specs.written.Table.Leaves.{OPT_BYTES_MINUS, IDENTIFIER, DEC_LIT, HEX_LIT, OCT_LIT, DIGITS, EXPONENT, FLOAT_VALUE_LIT, FLOAT_VALUE_LIT_TEXT, POINT, STRING_LIT}
+use Rattle.weedle_grammar.specs.written.Table.Trivia.{TRIVIA}
 use Rattle.weedle_grammar.specs.Trees.{Text}
 use Rattle.weedle_grammar.specs.declared.class.Class.TheVariants.{Digit}
 use Rattle.weedle_spell.specs.Forms.{Form, some}

@@ -3,7 +3,7 @@ use Rattle.std.proofs.Common.{string_bytes}
 use Rattle.weedle_literal.specs.LiteralTrees.{dec_tree, hex_tree, oct_tree, float_value_tree, string_tree}
 use Rattle.weedle_parts.specs.ValueTrees.{identifier_tree, docstring_tree}
 use Rattle.weedle_parts.specs.declared.common.docstring.Docstring.{Docstring}
-use Rattle.weedle_grammar.specs.Table.Leaves.{IDENTIFIER, DEC_LIT, HEX_LIT, OCT_LIT, FLOAT_VALUE_LIT, STRING_LIT, DOCSTRING}
+use Rattle.weedle_grammar.specs.written.Table.Leaves.{IDENTIFIER, DEC_LIT, HEX_LIT, OCT_LIT, FLOAT_VALUE_LIT, STRING_LIT, DOCSTRING}
 use Rattle.weedle_spell.specs.Leaves.{identifier_spelling, dec_spelling, hex_spelling, oct_spelling, float_value_spelling, string_spelling, docstring_spelling}
 use Rattle.weedle_spell.specs.Laws.{SpellsValues, SpellsExactly}
 use Rattle.weedle_spell.proofs.DocLineFacts.{doc_spelt}

@@ -6,7 +6,7 @@ use Rattle.weedle_literal.specs.declared.float.FloatLit.TheVariants.{Value, NegI
 use Rattle.weedle_literal.specs.declared.integer.IntegerLit.TheVariants.{Dec, Hex, Oct}
 use Rattle.weedle_literal.specs.declared.value.ConstValue.TheVariants.{Boolean as ConstBoolean, Float as ConstFloat, Integer as ConstInteger, Null as ConstNull}
 use Rattle.weedle_literal.specs.declared.value.DefaultValue.TheVariants.{Boolean as DefaultBoolean, EmptyArray, EmptyDictionary, Float as DefaultFloat, Integer as DefaultInteger, Null as DefaultNull, String as DefaultString}
-use Rattle.weedle_grammar.specs.Table.Literals.{INTEGER_LIT, FLOAT_LIT, BOOLEAN_LIT, EMPTY_ARRAY_LIT, EMPTY_DICTIONARY_LIT, DEFAULT_VALUE, CONST_VALUE, DEFAULT}
+use Rattle.weedle_grammar.specs.written.Table.Literals.{INTEGER_LIT, FLOAT_LIT, BOOLEAN_LIT, EMPTY_ARRAY_LIT, EMPTY_DICTIONARY_LIT, DEFAULT_VALUE, CONST_VALUE, DEFAULT}
 use Rattle.weedle_spell.specs.Laws.{SpellsValues}
 use Rattle.weedle_spell.specs.Literals.{integer_spelling, float_spelling, boolean_spelling, empty_array_spelling, empty_dictionary_spelling, default_value_spelling, const_value_spelling, default_spelling}
 use Rattle.weedle_spell.specs.Tokens.{word}

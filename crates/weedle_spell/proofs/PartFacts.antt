@@ -1,15 +1,15 @@
 -- What the generic parts take, by what their parameters take.
 use Rattle.std.proofs.Common.{◌≡◌, ℕ, List, [], ◌∷◌, Option, codes, true, refl}
 use Rattle.weedle_base.specs.Rules.{mark_tree, option_tree}
-use Rattle.weedle_term.specs.declared.symbols.QMark.{QMark}
+use Rattle.weedle_term.specs.declared.written.symbols.QMark.{QMark}
 use Rattle.weedle_parts.specs.ValueTrees.{bracket_tree, punctuated_tree, punctuated_non_empty_tree}
 use Rattle.weedle_parts.specs.declared.common.punctuated.Punctuated.{Punctuated}
 use Rattle.weedle_parts.specs.declared.common.punctuated.PunctuatedNonEmpty.{PunctuatedNonEmpty}
 use Rattle.weedle_grammar.proofs.OneTree.{is_single}
 use Rattle.weedle_grammar.specs.Meaning.{Plain, Inner}
 use Rattle.weedle_grammar.specs.Rows.{Seq, Opt, ListOf, List1, Tail}
-use Rattle.weedle_grammar.specs.Table.{row_of, shape_of}
-use Rattle.weedle_grammar.specs.Table.Symbols.{OPEN_PAREN, CLOSE_PAREN, OPEN_BRACKET, CLOSE_BRACKET, OPEN_BRACE, CLOSE_BRACE, LESS_THAN, GREATER_THAN, Q_MARK}
+use Rattle.weedle_grammar.specs.written.Table.{row_of, shape_of}
+use Rattle.weedle_grammar.specs.written.Table.Symbols.{OPEN_PAREN, CLOSE_PAREN, OPEN_BRACKET, CLOSE_BRACKET, OPEN_BRACE, CLOSE_BRACE, LESS_THAN, GREATER_THAN, Q_MARK}
 use Rattle.weedle_grammar.specs.Trees.{Tree, Node, trees}
 use Rattle.weedle_spell.specs.Forms.{Form, ◌then◌, optional}
 use Rattle.weedle_spell.specs.GenericParts.{punctuated_spelling, punctuated_non_empty_spelling}

@@ -4,7 +4,7 @@ use Rattle.weedle_parts.specs.ValueTrees.{long_long_type_tree, long_type_tree, s
 use Rattle.weedle_parts.specs.declared.types.const_type.ConstType.TheVariants.{Integer, FloatingPoint, Boolean, Byte, Octet, Identifier as Named}
 use Rattle.weedle_parts.specs.declared.types.floating_point.FloatingPointType.TheVariants.{Float, Double}
 use Rattle.weedle_parts.specs.declared.types.integer.IntegerType.TheVariants.{LongLong, Long, Short}
-use Rattle.weedle_grammar.specs.Table.SimpleTypes.{LONG_LONG_TYPE, LONG_TYPE, SHORT_TYPE, INTEGER_TYPE, FLOAT_TYPE, DOUBLE_TYPE, FLOATING_POINT_TYPE, CONST_TYPE}
+use Rattle.weedle_grammar.specs.written.Table.SimpleTypes.{LONG_LONG_TYPE, LONG_TYPE, SHORT_TYPE, INTEGER_TYPE, FLOAT_TYPE, DOUBLE_TYPE, FLOATING_POINT_TYPE, CONST_TYPE}
 use Rattle.weedle_spell.specs.Laws.{SpellsValues}
 use Rattle.weedle_spell.specs.SimpleTypes.{long_long_type_spelling, long_type_spelling, short_type_spelling, integer_type_spelling, float_type_spelling, double_type_spelling, floating_point_type_spelling, const_type_spelling}
 use Rattle.weedle_spell.proofs.LawFacts.{loose}

@@ -3,7 +3,7 @@ use Rattle.std.proofs.Common.{◌≡◌, inl, inr, ℕ, zero, suc, ◌+◌, List
 use Rattle.weedle_base.specs.Rules.{option_tree}
 use Rattle.weedle_grammar.specs.Meaning.{Kept, Plain, Piece, piece, ReadsSeq, given_of, ends_of, last_end, kept, between}
 use Rattle.weedle_grammar.specs.Rows.{Seq, First, Opt}
-use Rattle.weedle_grammar.specs.Table.{webidl, row_of, shape_of, Reads}
+use Rattle.weedle_grammar.specs.written.Table.{webidl, row_of, shape_of, Reads}
 use Rattle.weedle_grammar.specs.Trees.{Tree, Trees, Done, Then, trees, Text, Node, Alt, Absent, Present, Items, Gives}
 use Rattle.weedle_spell.specs.Forms.{Form, empty, ◌then◌, that, optional}
 use Rattle.weedle_grammar.proofs.OneTree.{is_single, gives_one}

@@ -4,7 +4,7 @@ use Rattle.weedle_base.specs.Rules.{items_tree}
 use Rattle.weedle_grammar.proofs.Inversion.{of_list, of_list1}
 use Rattle.weedle_grammar.specs.Meaning.{Inner, Plain, Piece, piece, Raw, Yields, ReadsRow, many_end, many_stuck, many_more, tail_end, tail_stuck, tail_back, tail_more, given_of, last_end}
 use Rattle.weedle_grammar.specs.Rows.{Seq, Opt, Many, ListOf, List1, Tail}
-use Rattle.weedle_grammar.specs.Table.{webidl, row_of, shape_of, Reads}
+use Rattle.weedle_grammar.specs.written.Table.{webidl, row_of, shape_of, Reads}
 use Rattle.weedle_grammar.specs.Trees.{Tree, trees, Items, Gives}
 use Rattle.weedle_spell.specs.Forms.{Form, perhaps, one, each, each_behind, separated_by, separated_non_empty}
 use Rattle.weedle_grammar.proofs.OneTree.{is_single, gives_one}

@@ -4,9 +4,9 @@ use Rattle.weedle_grammar.proofs.Inversion.{of_not_next, of_run, of_choice}
 use Rattle.weedle_grammar.proofs.Leaves.{taken_le, not_next_zero}
 use Rattle.weedle_grammar.specs.Meaning.{Piece, ReadsFirst, Marked, last_end}
 use Rattle.weedle_grammar.specs.Rows.{Bytes, Run, Seq, take_not_next, run_length}
-use Rattle.weedle_grammar.specs.Table.{webidl, row_of, shape_of, Reads}
-use Rattle.weedle_grammar.specs.Table.Keywords.{NOT_NEXT_NAME}
-use Rattle.weedle_grammar.specs.Table.Trivia.{BYTES_SLASH_SLASH, BYTES_LF, LINE_COMMENT, NOT_NEXT_SLASH, RUN_NOT_LINE_FEED, LINE_END, NOT_NEXT_ANY, BLANKS, BLOCK_COMMENT, TRIVIA}
+use Rattle.weedle_grammar.specs.written.Table.{webidl, row_of, shape_of, Reads}
+use Rattle.weedle_grammar.specs.written.Table.Keywords.{NOT_NEXT_NAME}
+use Rattle.weedle_grammar.specs.written.Table.Trivia.{BYTES_SLASH_SLASH, BYTES_LF, LINE_COMMENT, NOT_NEXT_SLASH, RUN_NOT_LINE_FEED, LINE_END, NOT_NEXT_ANY, BLANKS, BLOCK_COMMENT, TRIVIA}
 use Rattle.weedle_grammar.specs.Trees.{Tree, Mark, Gives}
 use Rattle.weedle_grammar.specs.declared.class.Class.TheVariants.{Slash, NotLineFeed, Any}
 use Rattle.weedle_spell.specs.Forms.{◌then◌, exactly, any}

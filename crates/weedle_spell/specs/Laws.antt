@@ -2,9 +2,9 @@
 use Rattle.std.specs.Prelude.{◌≡◌, ℕ, List, [], ◌∷◌, ◌++◌, ◌⊎◌}
 use Rattle.weedle_grammar.specs.Meaning.{between, Marked}
 use Rattle.weedle_grammar.specs.Rows.{Seq, Bytes}
-use Rattle.weedle_grammar.specs.Table.{Reads, row_of, shape_of}
-use Rattle.weedle_grammar.specs.Table.Keywords.{NOT_NEXT_NAME}
-use Rattle.weedle_grammar.specs.Table.Trivia.{TRIVIA}
+use Rattle.weedle_grammar.specs.written.Table.{Reads, row_of, shape_of}
+use Rattle.weedle_grammar.specs.written.Table.Keywords.{NOT_NEXT_NAME}
+use Rattle.weedle_grammar.specs.written.Table.Trivia.{TRIVIA}
 use Rattle.weedle_grammar.specs.Trees.{Tree, Mark, Gives}
 use Rattle.weedle_spell.specs.Forms.{Form}
 use Rattle.weedle_spell.specs.Pieces.{IsInPieces}

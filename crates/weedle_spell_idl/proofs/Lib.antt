@@ -1,7 +1,1 @@
-pub mod ModifierLaws
-pub mod MemberLaws
-pub mod IterableLaws
-pub mod NamespaceLaws
-pub mod StatementLaws
-pub mod InterfaceLaws
-pub mod DefinitionLaws
+pub mod written

@@ -1,7 +1,1 @@
-pub mod Modifiers
-pub mod Members
-pub mod Iterables
-pub mod Namespaces
-pub mod Statements
-pub mod Interfaces
-pub mod Definitions
+pub mod written

@@ -1,17 +1,17 @@
 -- What types, arguments and attributes take, which hold one another: by cases on the value, as their trees and spellings are.
 use Rattle.std.proofs.Common.{◌≡◌, ℕ, List, [], ◌∷◌, map, codes, Option, Some, None, true, false, refl, ap}
 use Rattle.weedle_base.specs.Rules.{mark_tree, option_tree}
-use Rattle.weedle_term.specs.declared.symbols.QMark.{QMark}
-use Rattle.weedle_term.specs.declared.type_keywords.Optional.{Optional}
+use Rattle.weedle_term.specs.declared.written.symbols.QMark.{QMark}
+use Rattle.weedle_term.specs.declared.written.type_keywords.Optional.{Optional}
 use Rattle.weedle_literal.specs.LiteralTrees.{default_tree}
 use Rattle.weedle_literal.specs.declared.default.Default.{Default}
 use Rattle.weedle_grammar.specs.Meaning.{Marked, Plain}
 use Rattle.weedle_grammar.specs.Rows.{Seq, Bytes}
-use Rattle.weedle_grammar.specs.Table.{row_of, shape_of}
-use Rattle.weedle_grammar.specs.Table.Keywords.{NOT_NEXT_NAME}
-use Rattle.weedle_grammar.specs.Table.SimpleTypes.{OPT_Q_MARK}
-use Rattle.weedle_grammar.specs.Table.Trivia.{TRIVIA}
-use Rattle.weedle_grammar.specs.Table.Types.{TYPE, NON_ANY_TYPE, UNION_MEMBER_TYPE, LIST_UNION_MEMBER_TYPE_OR, RETURN_TYPE, RECORD_KEY_TYPE, SINGLE_TYPE, ARGUMENT, ARGUMENT_LIST, EXTENDED_ATTRIBUTE, LIST_EXTENDED_ATTRIBUTE_COMMA, OPT_EXTENDED_ATTRIBUTE_LIST, OPT_DEFAULT}
+use Rattle.weedle_grammar.specs.written.Table.{row_of, shape_of}
+use Rattle.weedle_grammar.specs.written.Table.Keywords.{NOT_NEXT_NAME}
+use Rattle.weedle_grammar.specs.written.Table.SimpleTypes.{OPT_Q_MARK}
+use Rattle.weedle_grammar.specs.written.Table.Trivia.{TRIVIA}
+use Rattle.weedle_grammar.specs.written.Table.Types.{TYPE, NON_ANY_TYPE, UNION_MEMBER_TYPE, LIST_UNION_MEMBER_TYPE_OR, RETURN_TYPE, RECORD_KEY_TYPE, SINGLE_TYPE, ARGUMENT, ARGUMENT_LIST, EXTENDED_ATTRIBUTE, LIST_EXTENDED_ATTRIBUTE_COMMA, OPT_EXTENDED_ATTRIBUTE_LIST, OPT_DEFAULT}
 use Rattle.weedle_grammar.specs.Trees.{Trees, Then, Mark, Node, Items, Absent, trees}
 use Rattle.weedle_types.specs.Trees.{argument_tree, non_any_type_tree, type_tree, union_member_type_tree, held_return, held_key, held_single, held_attributes, extended_attribute_tree, attribute_row, argument_row, union_row}
 use Rattle.weedle_types.specs.declared.argument.Argument.TheBlock.{items-the_row-Argument, items-the_row-UnionMemberType, items-the_row-ExtendedAttribute, Undefined', Type_', RecordTypes-0-4-Byte', DOM', USV', RecordTypes-0-4-NonAny', Any', Type-Single-0-NonAny', None', Some', Row_of-Argument, end_of-Argument, more_of-Argument, Row_of-UnionMemberType, end_of-UnionMemberType, more_of-UnionMemberType, Row_of-ExtendedAttribute, end_of-ExtendedAttribute, more_of-ExtendedAttribute}
@@ -28,7 +28,7 @@ use Rattle.weedle_spell.proofs.Conditional.{if_spelt, present_at}
 use Rattle.weedle_spell.proofs.LeafLaws.{identifier}
 use Rattle.weedle_spell.proofs.LiteralLaws.{default}
 use Rattle.weedle_spell.proofs.PartFacts.{parenthesized, bracketed, generics, may_be_null}
-use Rattle.weedle_spell_types.proofs.PlainAttributeLaws.{extended_attribute_ident, extended_attribute_ident_list, extended_attribute_no_args}
+use Rattle.weedle_spell_types.proofs.written.PlainAttributeLaws.{extended_attribute_ident, extended_attribute_ident_list, extended_attribute_no_args}
 use Rattle.weedle_spell.proofs.SimpleTypeLaws.{integer_type, floating_point_type}
 use Rattle.weedle_spell.proofs.Spelt.{Spelt, IsSpelt, part, last, node, alternative, option_spelt, absent_spelt, present_spelt}
 use Rattle.weedle_spell.proofs.SpeltLists.{AllSpelt, all_none, all_more, list_spelt}

@@ -1,7 +1,7 @@
 -- Each variant of the types that hold one another is spelt as its member is.
 use Rattle.std.proofs.Common.{◌≡◌, refl, ap, sym, ◌∙◌, subst, Option, None, Some, Vec, Global, codes}
-use Rattle.weedle_term.specs.declared.symbols.Comma.{Comma}
-use Rattle.weedle_term.specs.declared.type_keywords.Or.{Or}
+use Rattle.weedle_term.specs.declared.written.symbols.Comma.{Comma}
+use Rattle.weedle_term.specs.declared.written.type_keywords.Or.{Or}
 use Rattle.weedle_parts.specs.declared.common.brackets.Bracketed.{Bracketed}
 use Rattle.weedle_parts.specs.declared.common.brackets.Parenthesized.{Parenthesized}
 use Rattle.weedle_parts.specs.declared.common.punctuated.Punctuated.{Punctuated}
@@ -35,9 +35,9 @@ use Rattle.weedle_spell.specs.Forms.{Form, ◌then◌, optional, separated_by}
 use Rattle.weedle_spell.specs.GenericParts.{may_be_null_spelling}
 use Rattle.weedle_spell.specs.Leaves.{terminal, identifier_spelling}
 use Rattle.weedle_spell.specs.Tokens.{word}
-use Rattle.weedle_spell_types.specs.Arguments.{attributes_spelling, single_argument_spelling, variadic_argument_spelling, extended_attribute_arg_list_spelling, extended_attribute_named_arg_list_spelling}
+use Rattle.weedle_spell_types.specs.written.Arguments.{attributes_spelling, single_argument_spelling, variadic_argument_spelling, extended_attribute_arg_list_spelling, extended_attribute_named_arg_list_spelling}
 use Rattle.weedle_spell_types.specs.RecursiveTypes.{type_spelling, non_any_type_spelling, union_member_type_spelling, argument_spelling, extended_attribute_spelling, held_attributes_spelling, held_return_spelling, held_key_spelling, attribute_row_spelling, argument_row_spelling, union_row_spelling, default_where_optional}
-use Rattle.weedle_spell_types.specs.Types.{single_type_spelling, union_type_spelling, promise_type_spelling, record_type_spelling, return_type_spelling, record_key_type_spelling, attributed_non_any_type_spelling}
+use Rattle.weedle_spell_types.specs.written.Types.{single_type_spelling, union_type_spelling, promise_type_spelling, record_type_spelling, return_type_spelling, record_key_type_spelling, attributed_non_any_type_spelling}
 use Rattle.weedle_spell_types.specs.Variants.{IsSame, VariantsAreSpelt}
 use Rattle.weedle_spell_types.proofs.RecursiveTypeFacts.{attribute_row_spelling_is, argument_row_spelling_is, union_row_spelling_is}
 

@@ -1,6 +1,6 @@
 -- How types, arguments and attributes are spelt, which hold one another: by cases on the value, as the logic holds it, in which each value stands flat with the parts of what it holds.
 use Rattle.std.specs.Prelude.{Option, Some, None, codes}
-use Rattle.weedle_term.specs.declared.type_keywords.Optional.{Optional}
+use Rattle.weedle_term.specs.declared.written.type_keywords.Optional.{Optional}
 use Rattle.weedle_literal.specs.declared.default.Default.{Default}
 use Rattle.weedle_types.specs.declared.argument.Argument.{Argument}
 use Rattle.weedle_types.specs.declared.argument.Argument.TheBlock.{Held-NonAnyType-Promise-0-4, Undefined', Type_', Held-RecordTypes-0-4, RecordTypes-0-4-Byte', DOM', USV', RecordTypes-0-4-NonAny', Held-Type-Single-0, Any', Type-Single-0-NonAny', Held-SingleArgument-attributes, None', Some', Row_of-Argument, end_of-Argument, more_of-Argument, Row_of-UnionMemberType, end_of-UnionMemberType, more_of-UnionMemberType, Row_of-ExtendedAttribute, end_of-ExtendedAttribute, more_of-ExtendedAttribute}
@@ -17,7 +17,7 @@ use Rattle.weedle_spell.specs.Forms.{Form, never, empty, ◌then◌, optional}
 use Rattle.weedle_spell.specs.GenericParts.{may_be_null_spelling}
 use Rattle.weedle_spell.specs.Leaves.{terminal, identifier_spelling}
 use Rattle.weedle_spell.specs.Literals.{default_spelling}
-use Rattle.weedle_spell_types.specs.PlainAttributes.{extended_attribute_ident_spelling, extended_attribute_ident_list_spelling, extended_attribute_no_args_spelling}
+use Rattle.weedle_spell_types.specs.written.PlainAttributes.{extended_attribute_ident_spelling, extended_attribute_ident_list_spelling, extended_attribute_no_args_spelling}
 use Rattle.weedle_spell.specs.SimpleTypes.{integer_type_spelling, floating_point_type_spelling}
 use Rattle.weedle_spell.specs.Tokens.{word}
 

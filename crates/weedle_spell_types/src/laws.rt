@@ -1,23 +1,20 @@
 //! What a rule takes spells the value that it gives, and holds the texts of the value in their
 //! order. Each of these functions does nothing when it runs: its contract is the law of one type.
-//! Written by tools/spellings.py.
 
-mod attributes;
-mod plain_attributes;
-mod types;
 mod variant_law;
+mod written;
 
-pub use attributes::{
+pub use variant_law::{variant_trees, variants};
+pub use written::attributes::{
     argument, argument_list, arguments, extended_attribute, extended_attribute_arg_list,
     extended_attribute_list, extended_attribute_named_arg_list, single_argument, variadic_argument,
 };
-pub use plain_attributes::{
+pub use written::plain_attributes::{
     extended_attribute_ident, extended_attribute_ident_list, extended_attribute_no_args,
     identifier_list, identifier_or_string,
 };
-pub use types::{
+pub use written::types::{
     attributed_non_any_type, attributed_type, frozen_array_type, non_any_type, promise_type,
     record_key_type, record_type, record_types, return_type, sequence_type, single_type, type_,
     union_member_type, union_type,
 };
-pub use variant_law::{variant_trees, variants};

@@ -4,7 +4,7 @@ use Rattle.std.specs.Prelude.{◌≡◌}
 use Rattle.weedle_base.specs.Alike.{all_alike}
 use Rattle.weedle_parts.specs.ValueTrees.{bracket_tree}
 use Rattle.weedle_grammar.specs.Trees.{Items}
-use Rattle.weedle_statements.specs.Trees.{EnumValues, enum_values_tree, enum_variant_tree}
+use Rattle.weedle_statements.specs.written.Trees.{EnumValues, enum_values_tree, enum_variant_tree}
 use Rattle.weedle_types.proofs.CopyFacts.{items_alike}
 
 -- the values of an enum

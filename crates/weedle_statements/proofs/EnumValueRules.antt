@@ -9,11 +9,11 @@ use Rattle.weedle_parts.proofs.PartRules.{braced_rule}
 use Rattle.weedle_parts.specs.Brackets.{braced_reading}
 use Rattle.weedle_parts.specs.Lists.{punctuated_non_empty_reading}
 use Rattle.weedle_parts.specs.declared.common.punctuated.PunctuatedNonEmpty.{PunctuatedNonEmpty}
-use Rattle.weedle_grammar.specs.Table.OtherMembers.{BRACED_ENUM_VALUE_LIST, ENUM_VALUE_LIST, ENUM_VARIANT, LIST1_ENUM_VARIANT_COMMA, OPT_COMMA, TAIL_ENUM_VARIANT_COMMA}
-use Rattle.weedle_grammar.specs.Table.Symbols.{COMMA}
-use Rattle.weedle_statements.specs.Trees.{EnumValues, enum_values_tree, enum_variant_tree}
+use Rattle.weedle_grammar.specs.written.Table.OtherMembers.{BRACED_ENUM_VALUE_LIST, ENUM_VALUE_LIST, ENUM_VARIANT, LIST1_ENUM_VARIANT_COMMA, OPT_COMMA, TAIL_ENUM_VARIANT_COMMA}
+use Rattle.weedle_grammar.specs.written.Table.Symbols.{COMMA}
+use Rattle.weedle_statements.specs.written.Trees.{EnumValues, enum_values_tree, enum_variant_tree}
 use Rattle.weedle_statements.specs.declared.enums.EnumVariant.{EnumVariant}
-use Rattle.weedle_term.specs.declared.symbols.Comma.{Comma}
+use Rattle.weedle_term.specs.declared.written.symbols.Comma.{Comma}
 use Rattle.weedle_types.proofs.SharedRules.{word}
 
 -- the values between braces

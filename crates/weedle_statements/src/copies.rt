@@ -1,7 +1,7 @@
 //! Copies of lists that definitions have, each with the tree of its original.
 
 ghost use Rattle.std.specs.Prelude.{IfOk, ◌≡◌};
-ghost use Rattle.weedle_statements.specs.Trees.{enum_values_tree};
+ghost use Rattle.weedle_statements.specs.written.Trees.{enum_values_tree};
 
 use crate::EnumValueList;
 use std::alloc::{AllocError, Global};

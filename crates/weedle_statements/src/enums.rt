@@ -3,9 +3,9 @@
 ghost use Rattle.weedle_base.specs.Own.{own};
 ghost use Rattle.weedle_base.specs.OwnLaws.{own_lawful};
 ghost use Rattle.weedle_base.specs.Reading.{Answers};
-ghost use Rattle.weedle_grammar.specs.Table.Definitions.{ENUM_DEFINITION};
-ghost use Rattle.weedle_grammar.specs.Table.OtherMembers.{BRACED_ENUM_VALUE_LIST};
-ghost use Rattle.weedle_statements.specs.Trees.{enum_definition_tree, enum_values_tree};
+ghost use Rattle.weedle_grammar.specs.written.Table.Definitions.{ENUM_DEFINITION};
+ghost use Rattle.weedle_grammar.specs.written.Table.OtherMembers.{BRACED_ENUM_VALUE_LIST};
+ghost use Rattle.weedle_statements.specs.written.Trees.{enum_definition_tree, enum_values_tree};
 
 mod written;
 
@@ -68,7 +68,7 @@ impl Drop for EnumDefinition<'_> {
     }
 }
 
-#[tactic(auto, using(crate::proofs::EnumRules::enum_definition_steps))]
+#[tactic(auto, using(crate::proofs::written::EnumRules::enum_definition_steps))]
 impl<'a> Parse<'a> for EnumDefinition<'a> {
     ghost reading = { own ENUM_DEFINITION enum_definition_tree (Unit {0}) };
 

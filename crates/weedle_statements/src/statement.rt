@@ -2,8 +2,8 @@
 
 ghost use Rattle.weedle_base.specs.Own.{own};
 ghost use Rattle.weedle_base.specs.OwnLaws.{own_lawful};
-ghost use Rattle.weedle_grammar.specs.Table.Definitions.{IMPLEMENTS_DEFINITION};
-ghost use Rattle.weedle_statements.specs.Trees.{implements_definition_tree};
+ghost use Rattle.weedle_grammar.specs.written.Table.Definitions.{IMPLEMENTS_DEFINITION};
+ghost use Rattle.weedle_statements.specs.written.Trees.{implements_definition_tree};
 
 mod written;
 
@@ -68,7 +68,7 @@ impl Drop for ImplementsDefinition<'_> {
     }
 }
 
-#[tactic(auto, using(crate::proofs::StatementRules::implements_definition_steps))]
+#[tactic(auto, using(crate::proofs::written::StatementRules::implements_definition_steps))]
 impl<'a> Parse<'a> for ImplementsDefinition<'a> {
     ghost reading = { own IMPLEMENTS_DEFINITION implements_definition_tree (Unit {0}) };
 

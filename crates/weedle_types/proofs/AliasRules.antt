@@ -5,8 +5,8 @@ use Rattle.weedle_base.specs.Generic.{option_reading, pair_reading, seen_reading
 use Rattle.weedle_base.specs.Own.{own}
 use Rattle.weedle_base.specs.Reading.{Reading}
 use Rattle.weedle_base.specs.Rules.{HasRule, IsRule}
-use Rattle.weedle_term.specs.declared.symbols.Comma.{Comma}
-use Rattle.weedle_term.specs.declared.type_keywords.Or.{Or}
+use Rattle.weedle_term.specs.declared.written.symbols.Comma.{Comma}
+use Rattle.weedle_term.specs.declared.written.type_keywords.Or.{Or}
 use Rattle.weedle_parts.proofs.ListRules.{punctuated_rule}
 use Rattle.weedle_parts.proofs.PartRules.{bracketed_rule, may_be_null_rule, parenthesized_rule}
 use Rattle.weedle_parts.specs.Brackets.{bracketed_reading, parenthesized_reading}
@@ -15,11 +15,11 @@ use Rattle.weedle_parts.specs.MayBeNull.{may_be_null_reading}
 use Rattle.weedle_parts.specs.ValueTrees.{identifier_tree, may_be_null_tree, parenthesized_tree, punctuated_tree}
 use Rattle.weedle_parts.specs.declared.common.identifier.Identifier.{Identifier}
 use Rattle.weedle_parts.specs.declared.common.punctuated.Punctuated.{Punctuated}
-use Rattle.weedle_grammar.specs.Table.Keywords.{OR}
-use Rattle.weedle_grammar.specs.Table.Leaves.{IDENTIFIER}
-use Rattle.weedle_grammar.specs.Table.SimpleTypes.{IDENTIFIER_LIST, PARENTHESIZED_IDENTIFIER_LIST, TAIL_IDENTIFIER_COMMA}
-use Rattle.weedle_grammar.specs.Table.Symbols.{COMMA}
-use Rattle.weedle_grammar.specs.Table.Types.{ARGUMENT, ARGUMENT_LIST, EXTENDED_ATTRIBUTE, EXTENDED_ATTRIBUTE_LIST, LIST_EXTENDED_ATTRIBUTE_COMMA, LIST_UNION_MEMBER_TYPE_OR, MAY_BE_NULL_UNION_TYPE, OPT_EXTENDED_ATTRIBUTE_LIST, TAIL_ARGUMENT_COMMA, TAIL_EXTENDED_ATTRIBUTE_COMMA, TAIL_UNION_MEMBER_TYPE_OR, UNION_MEMBER_TYPE, UNION_TYPE}
+use Rattle.weedle_grammar.specs.written.Table.Keywords.{OR}
+use Rattle.weedle_grammar.specs.written.Table.Leaves.{IDENTIFIER}
+use Rattle.weedle_grammar.specs.written.Table.SimpleTypes.{IDENTIFIER_LIST, PARENTHESIZED_IDENTIFIER_LIST, TAIL_IDENTIFIER_COMMA}
+use Rattle.weedle_grammar.specs.written.Table.Symbols.{COMMA}
+use Rattle.weedle_grammar.specs.written.Table.Types.{ARGUMENT, ARGUMENT_LIST, EXTENDED_ATTRIBUTE, EXTENDED_ATTRIBUTE_LIST, LIST_EXTENDED_ATTRIBUTE_COMMA, LIST_UNION_MEMBER_TYPE_OR, MAY_BE_NULL_UNION_TYPE, OPT_EXTENDED_ATTRIBUTE_LIST, TAIL_ARGUMENT_COMMA, TAIL_EXTENDED_ATTRIBUTE_COMMA, TAIL_UNION_MEMBER_TYPE_OR, UNION_MEMBER_TYPE, UNION_TYPE}
 use Rattle.weedle_types.specs.Trees.{argument_list_tree, argument_tree, attributes_tree, extended_attribute_list_tree, extended_attribute_tree, union_member_type_tree, union_type_tree}
 use Rattle.weedle_types.specs.declared.argument.Argument.{Argument}
 use Rattle.weedle_types.specs.declared.attribute.ExtendedAttribute.{ExtendedAttribute}

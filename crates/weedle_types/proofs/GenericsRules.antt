@@ -7,9 +7,9 @@ use Rattle.weedle_base.specs.Reading.{Reading}
 use Rattle.weedle_base.specs.Rules.{IsRule}
 use Rattle.weedle_parts.proofs.PartRules.{generics_rule}
 use Rattle.weedle_parts.specs.Brackets.{generics_reading}
-use Rattle.weedle_grammar.specs.Table.InterfaceMembers.{GENERICS_ATTRIBUTED_TYPE, GENERICS_KEY_AND_VALUE_TYPES, KEY_AND_VALUE_TYPES}
-use Rattle.weedle_grammar.specs.Table.Symbols.{COMMA}
-use Rattle.weedle_grammar.specs.Table.Types.{ATTRIBUTED_TYPE}
+use Rattle.weedle_grammar.specs.written.Table.InterfaceMembers.{GENERICS_ATTRIBUTED_TYPE, GENERICS_KEY_AND_VALUE_TYPES, KEY_AND_VALUE_TYPES}
+use Rattle.weedle_grammar.specs.written.Table.Symbols.{COMMA}
+use Rattle.weedle_grammar.specs.written.Table.Types.{ATTRIBUTED_TYPE}
 use Rattle.weedle_types.proofs.SharedRules.{word}
 use Rattle.weedle_types.specs.GenericsTrees.{KeyAndValue, OneType, TwoTypes, key_and_value_tree, one_type_tree, two_types_tree}
 use Rattle.weedle_types.specs.Trees.{attributed_type_tree}

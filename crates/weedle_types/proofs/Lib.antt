@@ -1,15 +1,9 @@
 pub mod AliasRules
-pub mod ArgumentRules
-pub mod AttributeRules
 pub mod CopyFacts
 pub mod Direct
-pub mod GenericTypeRules
 pub mod GenericsRules
 pub mod IfRows
 pub mod PlainAttributeRules
-pub mod PlainTypeRules
 pub mod SharedRules
 pub mod Smaller
 pub mod TreeLaws
-pub mod TypeRules
-pub mod UnionRules

@@ -11,8 +11,8 @@ use Rattle.weedle_base.specs.Reading.{Reading, Got, Faults}
 use Rattle.weedle_base.specs.Rules.{IsRule}
 use Rattle.weedle_base.specs.declared.fault.Err.{Err as Fault}
 use Rattle.weedle_base.specs.declared.fault.Error.{Error}
-use Rattle.weedle_term.specs.declared.symbols.Assign.{Assign}
-use Rattle.weedle_term.specs.declared.symbols.Comma.{Comma}
+use Rattle.weedle_term.specs.declared.written.symbols.Assign.{Assign}
+use Rattle.weedle_term.specs.declared.written.symbols.Comma.{Comma}
 use Rattle.weedle_parts.proofs.ListRules.{punctuated_rule}
 use Rattle.weedle_parts.proofs.PartRules.{parenthesized_rule}
 use Rattle.weedle_parts.specs.Brackets.{parenthesized_reading}
@@ -23,10 +23,10 @@ use Rattle.weedle_parts.specs.declared.common.brackets.Parenthesized.{Parenthesi
 use Rattle.weedle_parts.specs.declared.common.identifier.Identifier.{Identifier}
 use Rattle.weedle_parts.specs.declared.common.punctuated.Punctuated.{Punctuated}
 use Rattle.weedle_literal.specs.declared.string.StringLit.{StringLit}
-use Rattle.weedle_grammar.specs.Table.Leaves.{IDENTIFIER, STRING_LIT}
-use Rattle.weedle_grammar.specs.Table.SimpleTypes.{TAIL_IDENTIFIER_COMMA, IDENTIFIER_LIST, PARENTHESIZED_IDENTIFIER_LIST}
-use Rattle.weedle_grammar.specs.Table.Symbols.{ASSIGN, COMMA}
-use Rattle.weedle_grammar.specs.Table.Types.{IDENTIFIER_OR_STRING, EXTENDED_ATTRIBUTE_IDENT, EXTENDED_ATTRIBUTE_IDENT_LIST, EXTENDED_ATTRIBUTE_NO_ARGS}
+use Rattle.weedle_grammar.specs.written.Table.Leaves.{IDENTIFIER, STRING_LIT}
+use Rattle.weedle_grammar.specs.written.Table.SimpleTypes.{TAIL_IDENTIFIER_COMMA, IDENTIFIER_LIST, PARENTHESIZED_IDENTIFIER_LIST}
+use Rattle.weedle_grammar.specs.written.Table.Symbols.{ASSIGN, COMMA}
+use Rattle.weedle_grammar.specs.written.Table.Types.{IDENTIFIER_OR_STRING, EXTENDED_ATTRIBUTE_IDENT, EXTENDED_ATTRIBUTE_IDENT_LIST, EXTENDED_ATTRIBUTE_NO_ARGS}
 use Rattle.weedle_grammar.specs.Trees.{Alt}
 use Rattle.weedle_types.specs.Trees.{identifier_or_string_tree, extended_attribute_ident_tree, extended_attribute_no_args_tree, extended_attribute_ident_list_tree}
 use Rattle.weedle_types.specs.declared.attribute.ExtendedAttributeIdent.{ExtendedAttributeIdent}

@@ -14,8 +14,8 @@ use Rattle.weedle_base.specs.declared.fault.Err.{Err as Fault}
 use Rattle.weedle_base.specs.declared.fault.Error.{Error}
 use Rattle.weedle_grammar.specs.Meaning.{Plain}
 use Rattle.weedle_grammar.specs.Rows.{Many, Opt}
-use Rattle.weedle_grammar.specs.Table.Types.{OPT_EXTENDED_ATTRIBUTE_LIST}
-use Rattle.weedle_grammar.specs.Table.{row_of, shape_of}
+use Rattle.weedle_grammar.specs.written.Table.Types.{OPT_EXTENDED_ATTRIBUTE_LIST}
+use Rattle.weedle_grammar.specs.written.Table.{row_of, shape_of}
 use Rattle.weedle_grammar.specs.Trees.{Tree}
 use Rattle.weedle_types.specs.PartTrees.{Attributes, members_tree}
 use Rattle.weedle_types.specs.Trees.{attributes_tree}

@@ -2,10 +2,10 @@
 use Rattle.weedle_base.specs.Own.{own}
 use Rattle.weedle_base.specs.Reading.{Reading}
 use Rattle.weedle_base.specs.Rules.{mark_tree}
-use Rattle.weedle_term.specs.declared.symbols.Comma.{Comma}
-use Rattle.weedle_term.specs.declared.type_keywords.Or.{Or}
-use Rattle.weedle_grammar.specs.Table.Keywords.{OR}
-use Rattle.weedle_grammar.specs.Table.Symbols.{COMMA}
+use Rattle.weedle_term.specs.declared.written.symbols.Comma.{Comma}
+use Rattle.weedle_term.specs.declared.written.type_keywords.Or.{Or}
+use Rattle.weedle_grammar.specs.written.Table.Keywords.{OR}
+use Rattle.weedle_grammar.specs.written.Table.Symbols.{COMMA}
 
 -- a comma
 abbrev pub comma_reading : Reading Comma

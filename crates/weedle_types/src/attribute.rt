@@ -6,7 +6,7 @@
 
 ghost use Rattle.weedle_base.specs.Own.{own};
 ghost use Rattle.weedle_base.specs.OwnLaws.{own_lawful};
-ghost use Rattle.weedle_grammar.specs.Table.Types.{
+ghost use Rattle.weedle_grammar.specs.written.Table.Types.{
   EXTENDED_ATTRIBUTE_IDENT,
   EXTENDED_ATTRIBUTE_IDENT_LIST,
   EXTENDED_ATTRIBUTE_NO_ARGS,

@@ -10,11 +10,11 @@ ghost use Rattle.weedle_parts.specs.ValueTrees.{
   parenthesized_tree,
   punctuated_tree,
 };
-ghost use Rattle.weedle_grammar.specs.Table.SimpleTypes.{
+ghost use Rattle.weedle_grammar.specs.written.Table.SimpleTypes.{
   IDENTIFIER_LIST,
   PARENTHESIZED_IDENTIFIER_LIST,
 };
-ghost use Rattle.weedle_grammar.specs.Table.Types.{
+ghost use Rattle.weedle_grammar.specs.written.Table.Types.{
   ARGUMENT_LIST,
   EXTENDED_ATTRIBUTE_LIST,
   MAY_BE_NULL_UNION_TYPE,

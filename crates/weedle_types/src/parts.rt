@@ -2,7 +2,7 @@
 
 ghost use Rattle.weedle_base.specs.Own.{own};
 ghost use Rattle.weedle_base.specs.Reading.{Answers};
-ghost use Rattle.weedle_grammar.specs.Table.Types.{OPT_EXTENDED_ATTRIBUTE_LIST};
+ghost use Rattle.weedle_grammar.specs.written.Table.Types.{OPT_EXTENDED_ATTRIBUTE_LIST};
 ghost use Rattle.weedle_types.specs.Trees.{attributes_tree};
 
 use crate::attribute::ExtendedAttributeList;

@@ -5,7 +5,6 @@
 //! mismatch. Boxes, unions and attributes ask for memory: where it is refused, the call ends at once with a
 //! failure of code `Memory`. What each type reads stands in words in docs/GRAMMAR.md.
 
-mod from_non_any_type;
 mod written;
 
 use crate::attribute::ExtendedAttributeList;

@@ -3,7 +3,7 @@
 //! Written by tools/impls.py.
 
 ghost use Rattle.std.specs.Prelude.{◌↔◌, ◌≡◌};
-ghost use Rattle.weedle_async_iterables.specs.Trees.{
+ghost use Rattle.weedle_async_iterables.specs.written.Trees.{
   async_iterable_interface_member_tree,
   double_typed_async_iterable_tree,
   single_typed_async_iterable_tree,
@@ -11,7 +11,9 @@ ghost use Rattle.weedle_async_iterables.specs.Trees.{
 ghost use Rattle.weedle_base.specs.AlikeLaws.{equal_equivalence, seen_equivalence};
 ghost use Rattle.weedle_base.specs.Own.{own};
 ghost use Rattle.weedle_base.specs.OwnLaws.{own_lawful};
-ghost use Rattle.weedle_grammar.specs.Table.InterfaceMembers.{ASYNC_ITERABLE_INTERFACE_MEMBER};
+ghost use Rattle.weedle_grammar.specs.written.Table.InterfaceMembers.{
+  ASYNC_ITERABLE_INTERFACE_MEMBER,
+};
 
 use super::{AsyncIterableInterfaceMember, DoubleTypedAsyncIterable, SingleTypedAsyncIterable};
 use crate::copies::copy_optional_arguments;
@@ -117,7 +119,7 @@ impl<'a> DoubleTypedAsyncIterable<'a> {
     }
 }
 
-#[tactic(auto, using(crate::proofs::AsyncIterableRules::async_iterable_interface_member_steps))]
+#[tactic(auto, using(crate::proofs::written::AsyncIterableRules::async_iterable_interface_member_steps))]
 impl<'a> Parse<'a> for AsyncIterableInterfaceMember<'a> {
     ghost reading = { own ASYNC_ITERABLE_INTERFACE_MEMBER async_iterable_interface_member_tree (Unit {0}) };
 

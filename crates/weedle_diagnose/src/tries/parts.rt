@@ -1,9 +1,9 @@
 //! Rows of several parts: sequences, choices, and sequences whose last part has a condition.
 
 ghost use Rattle.std.specs.Prelude.{◌≡◌, ◌≤◌, ◌<◌, ◌*◌, ℕ, length, MatchOption, if◌then◌else◌};
-ghost use Rattle.weedle_grammar.specs.Bound.{rule_count};
+ghost use Rattle.weedle_grammar.specs.written.Bound.{rule_count};
 ghost use Rattle.weedle_grammar.specs.Rows.{If};
-ghost use Rattle.weedle_grammar.specs.Table.{row_of};
+ghost use Rattle.weedle_grammar.specs.written.Table.{row_of};
 ghost use Rattle.weedle_grammar.specs.View.{numbers_of};
 ghost use Rattle.weedle_diagnose.specs.Tries.{Tries, TriesInTurn, TriesByChoice, EndsWith};
 ghost use Rattle.weedle_diagnose.specs.Marks.{HasBit, Adds};

@@ -4,7 +4,7 @@
 
 ghost use Rattle.std.specs.Prelude.{◌↔◌, ◌≡◌};
 ghost use Rattle.weedle_base.specs.AlikeLaws.{equal_equivalence, seen_equivalence};
-ghost use Rattle.weedle_idl.specs.DefinitionTrees.{definition_tree};
+ghost use Rattle.weedle_idl.specs.written.DefinitionTrees.{definition_tree};
 
 use super::Definition;
 use std::alloc::{AllocError, Global};

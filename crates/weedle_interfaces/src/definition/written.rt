@@ -6,12 +6,12 @@ ghost use Rattle.std.specs.Prelude.{◌≡◌};
 ghost use Rattle.weedle_base.specs.AlikeLaws.{equal_equivalence, seen_equivalence};
 ghost use Rattle.weedle_base.specs.Own.{own};
 ghost use Rattle.weedle_base.specs.OwnLaws.{own_lawful};
-ghost use Rattle.weedle_grammar.specs.Table.Definitions.{
+ghost use Rattle.weedle_grammar.specs.written.Table.Definitions.{
   CALLBACK_INTERFACE_DEFINITION,
   INTERFACE_DEFINITION,
   PARTIAL_INTERFACE_DEFINITION,
 };
-ghost use Rattle.weedle_interfaces.specs.Trees.{
+ghost use Rattle.weedle_interfaces.specs.written.Trees.{
   callback_interface_definition_tree,
   interface_definition_tree,
   partial_interface_definition_tree,
@@ -30,7 +30,7 @@ use weedle_term::{Callback, Interface, Partial, SemiColon};
 use weedle_types::attribute::ExtendedAttributeList;
 use weedle_types::copies::{copy_attributes, copy_docstring};
 
-#[tactic(auto, using(crate::proofs::DefinitionRules::callback_interface_definition_steps))]
+#[tactic(auto, using(crate::proofs::written::DefinitionRules::callback_interface_definition_steps))]
 impl<'a> Parse<'a> for CallbackInterfaceDefinition<'a> {
     ghost reading = { own CALLBACK_INTERFACE_DEFINITION callback_interface_definition_tree (Unit {0}) };
 
@@ -138,7 +138,7 @@ impl<'a> CallbackInterfaceDefinition<'a> {
     }
 }
 
-#[tactic(auto, using(crate::proofs::DefinitionRules::interface_definition_steps))]
+#[tactic(auto, using(crate::proofs::written::DefinitionRules::interface_definition_steps))]
 impl<'a> Parse<'a> for InterfaceDefinition<'a> {
     ghost reading = { own INTERFACE_DEFINITION interface_definition_tree (Unit {0}) };
 
@@ -239,7 +239,7 @@ impl<'a> InterfaceDefinition<'a> {
     }
 }
 
-#[tactic(auto, using(crate::proofs::DefinitionRules::partial_interface_definition_steps))]
+#[tactic(auto, using(crate::proofs::written::DefinitionRules::partial_interface_definition_steps))]
 impl<'a> Parse<'a> for PartialInterfaceDefinition<'a> {
     ghost reading = { own PARTIAL_INTERFACE_DEFINITION partial_interface_definition_tree (Unit {0}) };
 

@@ -4,7 +4,7 @@
 
 ghost use Rattle.std.specs.Prelude.{◌↔◌, ◌≡◌};
 ghost use Rattle.weedle_base.specs.AlikeLaws.{equal_equivalence, seen_equivalence};
-ghost use Rattle.weedle_interfaces.specs.Trees.{interface_member_tree};
+ghost use Rattle.weedle_interfaces.specs.written.Trees.{interface_member_tree};
 
 use super::InterfaceMember;
 use std::alloc::{AllocError, Global};

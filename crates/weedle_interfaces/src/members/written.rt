@@ -6,15 +6,15 @@ ghost use Rattle.std.specs.Prelude.{◌≡◌};
 ghost use Rattle.weedle_base.specs.AlikeLaws.{equal_equivalence, seen_equivalence};
 ghost use Rattle.weedle_base.specs.Own.{own};
 ghost use Rattle.weedle_base.specs.OwnLaws.{own_lawful};
-ghost use Rattle.weedle_grammar.specs.Table.InterfaceMembers.{BRACED_INTERFACE_MEMBERS};
-ghost use Rattle.weedle_interfaces.specs.Trees.{braced_interface_members_tree};
+ghost use Rattle.weedle_grammar.specs.written.Table.InterfaceMembers.{BRACED_INTERFACE_MEMBERS};
+ghost use Rattle.weedle_interfaces.specs.written.Trees.{braced_interface_members_tree};
 
 use super::{BracedInterfaceMembers, InterfaceMembers, copy_interface_members};
 use std::alloc::{AllocError, Global};
 use weedle_base::{IResult, Parse, TryClone};
 use weedle_term::{CloseBrace, OpenBrace};
 
-#[tactic(auto, using(crate::proofs::MembersRules::braced_interface_members_steps))]
+#[tactic(auto, using(crate::proofs::written::MembersRules::braced_interface_members_steps))]
 impl<'a> Parse<'a> for BracedInterfaceMembers<'a> {
     ghost reading = { own BRACED_INTERFACE_MEMBERS braced_interface_members_tree (Unit {0}) };
 

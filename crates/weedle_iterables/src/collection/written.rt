@@ -6,11 +6,11 @@ ghost use Rattle.std.specs.Prelude.{◌≡◌};
 ghost use Rattle.weedle_base.specs.AlikeLaws.{equal_equivalence, seen_equivalence};
 ghost use Rattle.weedle_base.specs.Own.{own};
 ghost use Rattle.weedle_base.specs.OwnLaws.{own_lawful};
-ghost use Rattle.weedle_grammar.specs.Table.InterfaceMembers.{
+ghost use Rattle.weedle_grammar.specs.written.Table.InterfaceMembers.{
   MAPLIKE_INTERFACE_MEMBER,
   SETLIKE_INTERFACE_MEMBER,
 };
-ghost use Rattle.weedle_iterables.specs.Trees.{
+ghost use Rattle.weedle_iterables.specs.written.Trees.{
   maplike_interface_member_tree,
   setlike_interface_member_tree,
 };
@@ -25,7 +25,7 @@ use weedle_types::attribute::ExtendedAttributeList;
 use weedle_types::copies::{copy_attributes, copy_one_type, copy_two_types};
 use weedle_types::types::AttributedType;
 
-#[tactic(auto, using(crate::proofs::CollectionRules::maplike_interface_member_steps))]
+#[tactic(auto, using(crate::proofs::written::CollectionRules::maplike_interface_member_steps))]
 impl<'a> Parse<'a> for MaplikeInterfaceMember<'a> {
     ghost reading = { own MAPLIKE_INTERFACE_MEMBER maplike_interface_member_tree (Unit {0}) };
 
@@ -94,7 +94,7 @@ impl<'a> MaplikeInterfaceMember<'a> {
     }
 }
 
-#[tactic(auto, using(crate::proofs::CollectionRules::setlike_interface_member_steps))]
+#[tactic(auto, using(crate::proofs::written::CollectionRules::setlike_interface_member_steps))]
 impl<'a> Parse<'a> for SetlikeInterfaceMember<'a> {
     ghost reading = { own SETLIKE_INTERFACE_MEMBER setlike_interface_member_tree (Unit {0}) };
 

@@ -6,12 +6,12 @@ ghost use Rattle.std.specs.Prelude.{◌↔◌, ◌≡◌};
 ghost use Rattle.weedle_base.specs.AlikeLaws.{equal_equivalence, seen_equivalence};
 ghost use Rattle.weedle_base.specs.Own.{own};
 ghost use Rattle.weedle_base.specs.OwnLaws.{own_lawful};
-ghost use Rattle.weedle_grammar.specs.Table.InterfaceMembers.{
+ghost use Rattle.weedle_grammar.specs.written.Table.InterfaceMembers.{
   DOUBLE_TYPED_ITERABLE,
   ITERABLE_INTERFACE_MEMBER,
   SINGLE_TYPED_ITERABLE,
 };
-ghost use Rattle.weedle_iterables.specs.Trees.{
+ghost use Rattle.weedle_iterables.specs.written.Trees.{
   double_typed_iterable_tree,
   iterable_interface_member_tree,
   single_typed_iterable_tree,
@@ -28,7 +28,7 @@ use weedle_types::attribute::ExtendedAttributeList;
 use weedle_types::copies::{copy_attributes, copy_one_type, copy_two_types};
 use weedle_types::types::AttributedType;
 
-#[tactic(auto, using(crate::proofs::IterableRules::single_typed_iterable_steps))]
+#[tactic(auto, using(crate::proofs::written::IterableRules::single_typed_iterable_steps))]
 impl<'a> Parse<'a> for SingleTypedIterable<'a> {
     ghost reading = { own SINGLE_TYPED_ITERABLE single_typed_iterable_tree (Unit {0}) };
 
@@ -92,7 +92,7 @@ impl<'a> SingleTypedIterable<'a> {
     }
 }
 
-#[tactic(auto, using(crate::proofs::IterableRules::double_typed_iterable_steps))]
+#[tactic(auto, using(crate::proofs::written::IterableRules::double_typed_iterable_steps))]
 impl<'a> Parse<'a> for DoubleTypedIterable<'a> {
     ghost reading = { own DOUBLE_TYPED_ITERABLE double_typed_iterable_tree (Unit {0}) };
 
@@ -156,7 +156,7 @@ impl<'a> DoubleTypedIterable<'a> {
     }
 }
 
-#[tactic(auto, using(crate::proofs::IterableRules::iterable_interface_member_steps))]
+#[tactic(auto, using(crate::proofs::written::IterableRules::iterable_interface_member_steps))]
 impl<'a> Parse<'a> for IterableInterfaceMember<'a> {
     ghost reading = { own ITERABLE_INTERFACE_MEMBER iterable_interface_member_tree (Unit {0}) };
 

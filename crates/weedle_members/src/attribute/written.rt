@@ -6,8 +6,8 @@ ghost use Rattle.std.specs.Prelude.{◌≡◌};
 ghost use Rattle.weedle_base.specs.AlikeLaws.{equal_equivalence, seen_equivalence};
 ghost use Rattle.weedle_base.specs.Own.{own};
 ghost use Rattle.weedle_base.specs.OwnLaws.{own_lawful};
-ghost use Rattle.weedle_grammar.specs.Table.InterfaceMembers.{ATTRIBUTE_INTERFACE_MEMBER};
-ghost use Rattle.weedle_members.specs.Trees.{attribute_interface_member_tree};
+ghost use Rattle.weedle_grammar.specs.written.Table.InterfaceMembers.{ATTRIBUTE_INTERFACE_MEMBER};
+ghost use Rattle.weedle_members.specs.written.Trees.{attribute_interface_member_tree};
 
 use super::AttributeInterfaceMember;
 use std::alloc::{AllocError, Global};
@@ -20,7 +20,7 @@ use weedle_types::attribute::ExtendedAttributeList;
 use weedle_types::copies::copy_attributes;
 use weedle_types::types::AttributedType;
 
-#[tactic(auto, using(crate::proofs::AttributeRules::attribute_interface_member_steps))]
+#[tactic(auto, using(crate::proofs::written::AttributeRules::attribute_interface_member_steps))]
 impl<'a> Parse<'a> for AttributeInterfaceMember<'a> {
     ghost reading = { own ATTRIBUTE_INTERFACE_MEMBER attribute_interface_member_tree (Unit {0}) };
 

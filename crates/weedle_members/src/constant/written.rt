@@ -6,8 +6,8 @@ ghost use Rattle.std.specs.Prelude.{◌≡◌};
 ghost use Rattle.weedle_base.specs.AlikeLaws.{equal_equivalence, seen_equivalence};
 ghost use Rattle.weedle_base.specs.Own.{own};
 ghost use Rattle.weedle_base.specs.OwnLaws.{own_lawful};
-ghost use Rattle.weedle_grammar.specs.Table.InterfaceMembers.{CONST_MEMBER};
-ghost use Rattle.weedle_members.specs.Trees.{const_member_tree};
+ghost use Rattle.weedle_grammar.specs.written.Table.InterfaceMembers.{CONST_MEMBER};
+ghost use Rattle.weedle_members.specs.written.Trees.{const_member_tree};
 
 use super::ConstMember;
 use std::alloc::{AllocError, Global};
@@ -20,7 +20,7 @@ use weedle_term::{Assign, Const, SemiColon};
 use weedle_types::attribute::ExtendedAttributeList;
 use weedle_types::copies::copy_attributes;
 
-#[tactic(auto, using(crate::proofs::ConstantRules::const_member_steps))]
+#[tactic(auto, using(crate::proofs::written::ConstantRules::const_member_steps))]
 impl<'a> Parse<'a> for ConstMember<'a> {
     ghost reading = { own CONST_MEMBER const_member_tree (Unit {0}) };
 

@@ -6,8 +6,8 @@ ghost use Rattle.std.specs.Prelude.{◌≡◌};
 ghost use Rattle.weedle_base.specs.AlikeLaws.{equal_equivalence, seen_equivalence};
 ghost use Rattle.weedle_base.specs.Own.{own};
 ghost use Rattle.weedle_base.specs.OwnLaws.{own_lawful};
-ghost use Rattle.weedle_grammar.specs.Table.InterfaceMembers.{OPERATION_INTERFACE_MEMBER};
-ghost use Rattle.weedle_members.specs.Trees.{
+ghost use Rattle.weedle_grammar.specs.written.Table.InterfaceMembers.{OPERATION_INTERFACE_MEMBER};
+ghost use Rattle.weedle_members.specs.written.Trees.{
   constructor_interface_member_tree,
   operation_interface_member_tree,
 };
@@ -70,7 +70,7 @@ impl<'a> ConstructorInterfaceMember<'a> {
     }
 }
 
-#[tactic(auto, using(crate::proofs::OperationRules::operation_interface_member_steps))]
+#[tactic(auto, using(crate::proofs::written::OperationRules::operation_interface_member_steps))]
 impl<'a> Parse<'a> for OperationInterfaceMember<'a> {
     ghost reading = { own OPERATION_INTERFACE_MEMBER operation_interface_member_tree (Unit {0}) };
 

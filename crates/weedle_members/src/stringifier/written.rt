@@ -4,7 +4,7 @@
 
 ghost use Rattle.std.specs.Prelude.{◌≡◌};
 ghost use Rattle.weedle_base.specs.AlikeLaws.{equal_equivalence, seen_equivalence};
-ghost use Rattle.weedle_members.specs.Trees.{stringifier_member_tree};
+ghost use Rattle.weedle_members.specs.written.Trees.{stringifier_member_tree};
 
 use super::StringifierMember;
 use std::alloc::{AllocError, Global};

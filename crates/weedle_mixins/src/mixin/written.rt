@@ -6,13 +6,13 @@ ghost use Rattle.std.specs.Prelude.{◌↔◌, ◌≡◌};
 ghost use Rattle.weedle_base.specs.AlikeLaws.{equal_equivalence, seen_equivalence};
 ghost use Rattle.weedle_base.specs.Own.{own};
 ghost use Rattle.weedle_base.specs.OwnLaws.{own_lawful};
-ghost use Rattle.weedle_grammar.specs.Table.OtherMembers.{
+ghost use Rattle.weedle_grammar.specs.written.Table.OtherMembers.{
   ATTRIBUTE_MIXIN_MEMBER,
   BRACED_MIXIN_MEMBERS,
   MIXIN_MEMBER,
   OPERATION_MIXIN_MEMBER,
 };
-ghost use Rattle.weedle_mixins.specs.Trees.{
+ghost use Rattle.weedle_mixins.specs.written.Trees.{
   attribute_mixin_member_tree,
   braced_mixin_members_tree,
   mixin_member_tree,
@@ -35,7 +35,7 @@ use weedle_types::attribute::ExtendedAttributeList;
 use weedle_types::copies::copy_attributes;
 use weedle_types::types::{AttributedType, ReturnType};
 
-#[tactic(auto, using(crate::proofs::MixinRules::braced_mixin_members_steps))]
+#[tactic(auto, using(crate::proofs::written::MixinRules::braced_mixin_members_steps))]
 impl<'a> Parse<'a> for BracedMixinMembers<'a> {
     ghost reading = { own BRACED_MIXIN_MEMBERS braced_mixin_members_tree (Unit {0}) };
 
@@ -82,7 +82,7 @@ impl<'a> BracedMixinMembers<'a> {
     }
 }
 
-#[tactic(auto, using(crate::proofs::MixinRules::operation_mixin_member_steps))]
+#[tactic(auto, using(crate::proofs::written::MixinRules::operation_mixin_member_steps))]
 impl<'a> Parse<'a> for OperationMixinMember<'a> {
     ghost reading = { own OPERATION_MIXIN_MEMBER operation_mixin_member_tree (Unit {0}) };
 
@@ -166,7 +166,7 @@ impl<'a> OperationMixinMember<'a> {
     }
 }
 
-#[tactic(auto, using(crate::proofs::MixinRules::attribute_mixin_member_steps))]
+#[tactic(auto, using(crate::proofs::written::MixinRules::attribute_mixin_member_steps))]
 impl<'a> Parse<'a> for AttributeMixinMember<'a> {
     ghost reading = { own ATTRIBUTE_MIXIN_MEMBER attribute_mixin_member_tree (Unit {0}) };
 
@@ -259,7 +259,7 @@ impl<'a> AttributeMixinMember<'a> {
     }
 }
 
-#[tactic(auto, using(crate::proofs::MixinRules::mixin_member_steps))]
+#[tactic(auto, using(crate::proofs::written::MixinRules::mixin_member_steps))]
 impl<'a> Parse<'a> for MixinMember<'a> {
     ghost reading = { own MIXIN_MEMBER mixin_member_tree (Unit {0}) };
 

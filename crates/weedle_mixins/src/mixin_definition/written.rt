@@ -6,11 +6,11 @@ ghost use Rattle.std.specs.Prelude.{◌≡◌};
 ghost use Rattle.weedle_base.specs.AlikeLaws.{equal_equivalence, seen_equivalence};
 ghost use Rattle.weedle_base.specs.Own.{own};
 ghost use Rattle.weedle_base.specs.OwnLaws.{own_lawful};
-ghost use Rattle.weedle_grammar.specs.Table.Definitions.{
+ghost use Rattle.weedle_grammar.specs.written.Table.Definitions.{
   INTERFACE_MIXIN_DEFINITION,
   PARTIAL_INTERFACE_MIXIN_DEFINITION,
 };
-ghost use Rattle.weedle_mixins.specs.Trees.{
+ghost use Rattle.weedle_mixins.specs.written.Trees.{
   interface_mixin_definition_tree,
   partial_interface_mixin_definition_tree,
 };
@@ -25,7 +25,7 @@ use weedle_term::{Interface, Mixin, Partial, SemiColon};
 use weedle_types::attribute::ExtendedAttributeList;
 use weedle_types::copies::copy_attributes;
 
-#[tactic(auto, using(crate::proofs::MixinDefinitionRules::interface_mixin_definition_steps))]
+#[tactic(auto, using(crate::proofs::written::MixinDefinitionRules::interface_mixin_definition_steps))]
 impl<'a> Parse<'a> for InterfaceMixinDefinition<'a> {
     ghost reading = { own INTERFACE_MIXIN_DEFINITION interface_mixin_definition_tree (Unit {0}) };
 
@@ -102,7 +102,7 @@ impl<'a> InterfaceMixinDefinition<'a> {
     }
 }
 
-#[tactic(auto, using(crate::proofs::MixinDefinitionRules::partial_interface_mixin_definition_steps))]
+#[tactic(auto, using(crate::proofs::written::MixinDefinitionRules::partial_interface_mixin_definition_steps))]
 impl<'a> Parse<'a> for PartialInterfaceMixinDefinition<'a> {
     ghost reading = { own PARTIAL_INTERFACE_MIXIN_DEFINITION partial_interface_mixin_definition_tree (Unit {0}) };
 

@@ -4,14 +4,14 @@
 
 ghost use Rattle.weedle_base.specs.Own.{own};
 ghost use Rattle.weedle_base.specs.OwnLaws.{own_lawful};
-ghost use Rattle.weedle_grammar.specs.Table.InterfaceMembers.{INHERITANCE};
-ghost use Rattle.weedle_modifier.specs.Trees.{inheritance_tree};
+ghost use Rattle.weedle_grammar.specs.written.Table.InterfaceMembers.{INHERITANCE};
+ghost use Rattle.weedle_modifier.specs.written.Trees.{inheritance_tree};
 
 use super::Inheritance;
 use std::alloc::Global;
 use weedle_base::{IResult, Parse};
 
-#[tactic(auto, using(crate::proofs::InheritanceRules::inheritance_steps))]
+#[tactic(auto, using(crate::proofs::written::InheritanceRules::inheritance_steps))]
 impl<'a> Parse<'a> for Inheritance<'a> {
     ghost reading = { own INHERITANCE inheritance_tree ⊥ };
 

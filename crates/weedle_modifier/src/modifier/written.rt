@@ -5,12 +5,12 @@
 ghost use Rattle.std.specs.Prelude.{◌≡◌};
 ghost use Rattle.weedle_base.specs.Own.{own};
 ghost use Rattle.weedle_base.specs.OwnLaws.{own_lawful};
-ghost use Rattle.weedle_grammar.specs.Table.InterfaceMembers.{
+ghost use Rattle.weedle_grammar.specs.written.Table.InterfaceMembers.{
   SPECIAL,
   STRINGIFIER_OR_INHERIT_OR_STATIC,
   STRINGIFIER_OR_STATIC,
 };
-ghost use Rattle.weedle_modifier.specs.Trees.{
+ghost use Rattle.weedle_modifier.specs.written.Trees.{
   special_tree,
   stringifier_or_inherit_or_static_tree,
   stringifier_or_static_tree,
@@ -22,7 +22,7 @@ use weedle_base::Choice::{self, First, Second};
 use weedle_base::{IResult, Parse};
 use weedle_term::{Deleter, Getter, Inherit, LegacyCaller, Setter, Static, Stringifier};
 
-#[tactic(auto, using(crate::proofs::ModifierRules::special_steps))]
+#[tactic(auto, using(crate::proofs::written::ModifierRules::special_steps))]
 impl<'a> Parse<'a> for Special {
     ghost reading = { own SPECIAL special_tree ⊥ };
 
@@ -80,7 +80,7 @@ impl From<LegacyCaller> for Special {
     }
 }
 
-#[tactic(auto, using(crate::proofs::ModifierRules::stringifier_or_inherit_or_static_steps))]
+#[tactic(auto, using(crate::proofs::written::ModifierRules::stringifier_or_inherit_or_static_steps))]
 impl<'a> Parse<'a> for StringifierOrInheritOrStatic {
     ghost reading = { own STRINGIFIER_OR_INHERIT_OR_STATIC stringifier_or_inherit_or_static_tree ⊥ };
 
@@ -133,7 +133,7 @@ impl From<Static> for StringifierOrInheritOrStatic {
     }
 }
 
-#[tactic(auto, using(crate::proofs::ModifierRules::stringifier_or_static_steps))]
+#[tactic(auto, using(crate::proofs::written::ModifierRules::stringifier_or_static_steps))]
 impl<'a> Parse<'a> for StringifierOrStatic {
     ghost reading = { own STRINGIFIER_OR_STATIC stringifier_or_static_tree ⊥ };
 

@@ -6,11 +6,11 @@ ghost use Rattle.std.specs.Prelude.{◌≡◌};
 ghost use Rattle.weedle_base.specs.AlikeLaws.{equal_equivalence, seen_equivalence};
 ghost use Rattle.weedle_base.specs.Own.{own};
 ghost use Rattle.weedle_base.specs.OwnLaws.{own_lawful};
-ghost use Rattle.weedle_grammar.specs.Table.OtherMembers.{
+ghost use Rattle.weedle_grammar.specs.written.Table.OtherMembers.{
   BRACED_DICTIONARY_MEMBERS,
   DICTIONARY_MEMBER,
 };
-ghost use Rattle.weedle_namespaces.specs.Trees.{
+ghost use Rattle.weedle_namespaces.specs.written.Trees.{
   braced_dictionary_members_tree,
   dictionary_member_tree,
 };
@@ -27,7 +27,7 @@ use weedle_types::attribute::ExtendedAttributeList;
 use weedle_types::copies::{copy_attributes, copy_docstring};
 use weedle_types::types::Type;
 
-#[tactic(auto, using(crate::proofs::DictionaryRules::braced_dictionary_members_steps))]
+#[tactic(auto, using(crate::proofs::written::DictionaryRules::braced_dictionary_members_steps))]
 impl<'a> Parse<'a> for BracedDictionaryMembers<'a> {
     ghost reading = { own BRACED_DICTIONARY_MEMBERS braced_dictionary_members_tree (Unit {0}) };
 
@@ -74,7 +74,7 @@ impl<'a> BracedDictionaryMembers<'a> {
     }
 }
 
-#[tactic(auto, using(crate::proofs::DictionaryRules::dictionary_member_steps))]
+#[tactic(auto, using(crate::proofs::written::DictionaryRules::dictionary_member_steps))]
 impl<'a> Parse<'a> for DictionaryMember<'a> {
     ghost reading = { own DICTIONARY_MEMBER dictionary_member_tree (Unit {0}) };
 

@@ -6,11 +6,11 @@ ghost use Rattle.std.specs.Prelude.{◌≡◌};
 ghost use Rattle.weedle_base.specs.AlikeLaws.{equal_equivalence, seen_equivalence};
 ghost use Rattle.weedle_base.specs.Own.{own};
 ghost use Rattle.weedle_base.specs.OwnLaws.{own_lawful};
-ghost use Rattle.weedle_grammar.specs.Table.Definitions.{
+ghost use Rattle.weedle_grammar.specs.written.Table.Definitions.{
   DICTIONARY_DEFINITION,
   PARTIAL_DICTIONARY_DEFINITION,
 };
-ghost use Rattle.weedle_namespaces.specs.Trees.{
+ghost use Rattle.weedle_namespaces.specs.written.Trees.{
   dictionary_definition_tree,
   partial_dictionary_definition_tree,
 };
@@ -26,7 +26,7 @@ use weedle_term::{Dictionary, Partial, SemiColon};
 use weedle_types::attribute::ExtendedAttributeList;
 use weedle_types::copies::{copy_attributes, copy_docstring};
 
-#[tactic(auto, using(crate::proofs::DictionaryDefinitionRules::dictionary_definition_steps))]
+#[tactic(auto, using(crate::proofs::written::DictionaryDefinitionRules::dictionary_definition_steps))]
 impl<'a> Parse<'a> for DictionaryDefinition<'a> {
     ghost reading = { own DICTIONARY_DEFINITION dictionary_definition_tree (Unit {0}) };
 
@@ -127,7 +127,7 @@ impl<'a> DictionaryDefinition<'a> {
     }
 }
 
-#[tactic(auto, using(crate::proofs::DictionaryDefinitionRules::partial_dictionary_definition_steps))]
+#[tactic(auto, using(crate::proofs::written::DictionaryDefinitionRules::partial_dictionary_definition_steps))]
 impl<'a> Parse<'a> for PartialDictionaryDefinition<'a> {
     ghost reading = { own PARTIAL_DICTIONARY_DEFINITION partial_dictionary_definition_tree (Unit {0}) };
 

@@ -6,13 +6,13 @@ ghost use Rattle.std.specs.Prelude.{◌↔◌, ◌≡◌};
 ghost use Rattle.weedle_base.specs.AlikeLaws.{equal_equivalence, seen_equivalence};
 ghost use Rattle.weedle_base.specs.Own.{own};
 ghost use Rattle.weedle_base.specs.OwnLaws.{own_lawful};
-ghost use Rattle.weedle_grammar.specs.Table.OtherMembers.{
+ghost use Rattle.weedle_grammar.specs.written.Table.OtherMembers.{
   ATTRIBUTE_NAMESPACE_MEMBER,
   BRACED_NAMESPACE_MEMBERS,
   NAMESPACE_MEMBER,
   OPERATION_NAMESPACE_MEMBER,
 };
-ghost use Rattle.weedle_namespaces.specs.Trees.{
+ghost use Rattle.weedle_namespaces.specs.written.Trees.{
   attribute_namespace_member_tree,
   braced_namespace_members_tree,
   namespace_member_tree,
@@ -35,7 +35,7 @@ use weedle_types::attribute::ExtendedAttributeList;
 use weedle_types::copies::{copy_attributes, copy_docstring};
 use weedle_types::types::{AttributedType, ReturnType};
 
-#[tactic(auto, using(crate::proofs::NamespaceRules::braced_namespace_members_steps))]
+#[tactic(auto, using(crate::proofs::written::NamespaceRules::braced_namespace_members_steps))]
 impl<'a> Parse<'a> for BracedNamespaceMembers<'a> {
     ghost reading = { own BRACED_NAMESPACE_MEMBERS braced_namespace_members_tree (Unit {0}) };
 
@@ -82,7 +82,7 @@ impl<'a> BracedNamespaceMembers<'a> {
     }
 }
 
-#[tactic(auto, using(crate::proofs::NamespaceRules::operation_namespace_member_steps))]
+#[tactic(auto, using(crate::proofs::written::NamespaceRules::operation_namespace_member_steps))]
 impl<'a> Parse<'a> for OperationNamespaceMember<'a> {
     ghost reading = { own OPERATION_NAMESPACE_MEMBER operation_namespace_member_tree (Unit {0}) };
 
@@ -164,7 +164,7 @@ impl<'a> OperationNamespaceMember<'a> {
     }
 }
 
-#[tactic(auto, using(crate::proofs::NamespaceRules::attribute_namespace_member_steps))]
+#[tactic(auto, using(crate::proofs::written::NamespaceRules::attribute_namespace_member_steps))]
 impl<'a> Parse<'a> for AttributeNamespaceMember<'a> {
     ghost reading = { own ATTRIBUTE_NAMESPACE_MEMBER attribute_namespace_member_tree (Unit {0}) };
 
@@ -248,7 +248,7 @@ impl<'a> AttributeNamespaceMember<'a> {
     }
 }
 
-#[tactic(auto, using(crate::proofs::NamespaceRules::namespace_member_steps))]
+#[tactic(auto, using(crate::proofs::written::NamespaceRules::namespace_member_steps))]
 impl<'a> Parse<'a> for NamespaceMember<'a> {
     ghost reading = { own NAMESPACE_MEMBER namespace_member_tree (Unit {0}) };
 

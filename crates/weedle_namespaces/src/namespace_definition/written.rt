@@ -6,11 +6,11 @@ ghost use Rattle.std.specs.Prelude.{◌≡◌};
 ghost use Rattle.weedle_base.specs.AlikeLaws.{equal_equivalence, seen_equivalence};
 ghost use Rattle.weedle_base.specs.Own.{own};
 ghost use Rattle.weedle_base.specs.OwnLaws.{own_lawful};
-ghost use Rattle.weedle_grammar.specs.Table.Definitions.{
+ghost use Rattle.weedle_grammar.specs.written.Table.Definitions.{
   NAMESPACE_DEFINITION,
   PARTIAL_NAMESPACE_DEFINITION,
 };
-ghost use Rattle.weedle_namespaces.specs.Trees.{
+ghost use Rattle.weedle_namespaces.specs.written.Trees.{
   namespace_definition_tree,
   partial_namespace_definition_tree,
 };
@@ -25,7 +25,7 @@ use weedle_term::{Namespace, Partial, SemiColon};
 use weedle_types::attribute::ExtendedAttributeList;
 use weedle_types::copies::{copy_attributes, copy_docstring};
 
-#[tactic(auto, using(crate::proofs::NamespaceDefinitionRules::namespace_definition_steps))]
+#[tactic(auto, using(crate::proofs::written::NamespaceDefinitionRules::namespace_definition_steps))]
 impl<'a> Parse<'a> for NamespaceDefinition<'a> {
     ghost reading = { own NAMESPACE_DEFINITION namespace_definition_tree (Unit {0}) };
 
@@ -104,7 +104,7 @@ impl<'a> NamespaceDefinition<'a> {
     }
 }
 
-#[tactic(auto, using(crate::proofs::NamespaceDefinitionRules::partial_namespace_definition_steps))]
+#[tactic(auto, using(crate::proofs::written::NamespaceDefinitionRules::partial_namespace_definition_steps))]
 impl<'a> Parse<'a> for PartialNamespaceDefinition<'a> {
     ghost reading = { own PARTIAL_NAMESPACE_DEFINITION partial_namespace_definition_tree (Unit {0}) };
 

@@ -1,6 +1,6 @@
 //! A body between two brackets.
 
-ghost use Rattle.weedle_grammar.specs.Table.Symbols.{
+ghost use Rattle.weedle_grammar.specs.written.Table.Symbols.{
   OPEN_PAREN,
   CLOSE_PAREN,
   OPEN_BRACKET,

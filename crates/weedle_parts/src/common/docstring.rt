@@ -1,7 +1,7 @@
 //! Docstrings.
 
 ghost use Rattle.std.specs.Prelude.{◌≡◌, string_bytes};
-ghost use Rattle.weedle_grammar.specs.Table.Leaves.{DOCSTRING};
+ghost use Rattle.weedle_grammar.specs.written.Table.Leaves.{DOCSTRING};
 ghost use Rattle.weedle_base.specs.Own.{own};
 ghost use Rattle.weedle_base.specs.OwnLaws.{own_lawful};
 ghost use Rattle.weedle_base.specs.AlikeLaws.{equal_equivalence, seen_equivalence};

@@ -1,7 +1,7 @@
 //! Identifiers.
 
 ghost use Rattle.std.specs.Prelude.{◌≡◌};
-ghost use Rattle.weedle_grammar.specs.Table.Leaves.{IDENTIFIER};
+ghost use Rattle.weedle_grammar.specs.written.Table.Leaves.{IDENTIFIER};
 ghost use Rattle.weedle_parts.specs.ValueTrees.{identifier_tree};
 ghost use Rattle.weedle_base.specs.AlikeLaws.{equal_equivalence, seen_equivalence};
 ghost use Rattle.weedle_base.specs.Own.{own};

@@ -1,7 +1,7 @@
 //! The types that a constant may have.
 
 ghost use Rattle.std.specs.Prelude.{◌≡◌};
-ghost use Rattle.weedle_grammar.specs.Table.SimpleTypes.{CONST_TYPE};
+ghost use Rattle.weedle_grammar.specs.written.Table.SimpleTypes.{CONST_TYPE};
 ghost use Rattle.weedle_base.specs.Own.{own};
 ghost use Rattle.weedle_base.specs.OwnLaws.{own_lawful};
 ghost use Rattle.weedle_parts.specs.ValueTrees.{const_type_tree};

@@ -1,7 +1,7 @@
 //! The types of floating-point numbers.
 
 ghost use Rattle.std.specs.Prelude.{◌≡◌};
-ghost use Rattle.weedle_grammar.specs.Table.SimpleTypes.{
+ghost use Rattle.weedle_grammar.specs.written.Table.SimpleTypes.{
   FLOAT_TYPE,
   DOUBLE_TYPE,
   FLOATING_POINT_TYPE,

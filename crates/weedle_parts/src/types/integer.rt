@@ -1,7 +1,7 @@
 //! The types of integers.
 
 ghost use Rattle.std.specs.Prelude.{◌≡◌};
-ghost use Rattle.weedle_grammar.specs.Table.SimpleTypes.{
+ghost use Rattle.weedle_grammar.specs.written.Table.SimpleTypes.{
   LONG_LONG_TYPE,
   LONG_TYPE,
   SHORT_TYPE,

@@ -2,7 +2,7 @@
 
 ghost use Rattle.std.specs.Prelude.{◌≡◌, if◌then◌else◌};
 ghost use Rattle.weedle_grammar.specs.Rows.{Seq, First, If};
-ghost use Rattle.weedle_grammar.specs.Table.{row_of};
+ghost use Rattle.weedle_grammar.specs.written.Table.{row_of};
 ghost use Rattle.weedle_grammar.specs.View.{numbers_of};
 ghost use Rattle.weedle_rules.specs.Filling.{IsBegun, IsWorked};
 

@@ -9,7 +9,7 @@ ghost use Rattle.weedle_grammar.specs.Rows.{
   Run,
   Past,
 };
-ghost use Rattle.weedle_grammar.specs.Table.{row_of};
+ghost use Rattle.weedle_grammar.specs.written.Table.{row_of};
 ghost use Rattle.weedle_rules.specs.Filling.{IsBegun, IsWorked};
 
 use crate::READS;

@@ -8,7 +8,7 @@ ghost use Rattle.weedle_literal.specs.LiteralTrees.{
   string_tree,
 };
 ghost use Rattle.weedle_parts.specs.ValueTrees.{identifier_tree, docstring_tree};
-ghost use Rattle.weedle_grammar.specs.Table.Leaves.{
+ghost use Rattle.weedle_grammar.specs.written.Table.Leaves.{
   IDENTIFIER,
   DEC_LIT,
   HEX_LIT,

@@ -10,7 +10,7 @@ ghost use Rattle.weedle_literal.specs.LiteralTrees.{
   const_value_tree,
   default_tree,
 };
-ghost use Rattle.weedle_grammar.specs.Table.Literals.{
+ghost use Rattle.weedle_grammar.specs.written.Table.Literals.{
   INTEGER_LIT,
   FLOAT_LIT,
   BOOLEAN_LIT,

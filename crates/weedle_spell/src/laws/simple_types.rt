@@ -10,7 +10,7 @@ ghost use Rattle.weedle_parts.specs.ValueTrees.{
   floating_point_type_tree,
   const_type_tree,
 };
-ghost use Rattle.weedle_grammar.specs.Table.SimpleTypes.{
+ghost use Rattle.weedle_grammar.specs.written.Table.SimpleTypes.{
   LONG_LONG_TYPE,
   LONG_TYPE,
   SHORT_TYPE,

@@ -6,8 +6,8 @@ ghost use Rattle.std.specs.Prelude.{◌≡◌};
 ghost use Rattle.weedle_base.specs.AlikeLaws.{equal_equivalence, seen_equivalence};
 ghost use Rattle.weedle_base.specs.Own.{own};
 ghost use Rattle.weedle_base.specs.OwnLaws.{own_lawful};
-ghost use Rattle.weedle_grammar.specs.Table.Definitions.{CALLBACK_DEFINITION};
-ghost use Rattle.weedle_statements.specs.Trees.{callback_definition_tree};
+ghost use Rattle.weedle_grammar.specs.written.Table.Definitions.{CALLBACK_DEFINITION};
+ghost use Rattle.weedle_statements.specs.written.Trees.{callback_definition_tree};
 
 use super::CallbackDefinition;
 use std::alloc::{AllocError, Global};
@@ -20,7 +20,7 @@ use weedle_types::attribute::ExtendedAttributeList;
 use weedle_types::copies::copy_attributes;
 use weedle_types::types::ReturnType;
 
-#[tactic(auto, using(crate::proofs::CallbackRules::callback_definition_steps))]
+#[tactic(auto, using(crate::proofs::written::CallbackRules::callback_definition_steps))]
 impl<'a> Parse<'a> for CallbackDefinition<'a> {
     ghost reading = { own CALLBACK_DEFINITION callback_definition_tree (Unit {0}) };
 

@@ -6,8 +6,8 @@ ghost use Rattle.std.specs.Prelude.{◌≡◌};
 ghost use Rattle.weedle_base.specs.AlikeLaws.{equal_equivalence, seen_equivalence};
 ghost use Rattle.weedle_base.specs.Own.{own};
 ghost use Rattle.weedle_base.specs.OwnLaws.{own_lawful};
-ghost use Rattle.weedle_grammar.specs.Table.OtherMembers.{ENUM_VARIANT};
-ghost use Rattle.weedle_statements.specs.Trees.{enum_definition_tree, enum_variant_tree};
+ghost use Rattle.weedle_grammar.specs.written.Table.OtherMembers.{ENUM_VARIANT};
+ghost use Rattle.weedle_statements.specs.written.Trees.{enum_definition_tree, enum_variant_tree};
 
 use super::{EnumDefinition, EnumValueList, EnumVariant};
 use crate::copies::copy_enum_values;
@@ -19,7 +19,7 @@ use weedle_term::{Enum, SemiColon};
 use weedle_types::attribute::ExtendedAttributeList;
 use weedle_types::copies::{copy_attributes, copy_docstring};
 
-#[tactic(auto, using(crate::proofs::EnumVariantRules::enum_variant_steps))]
+#[tactic(auto, using(crate::proofs::written::EnumVariantRules::enum_variant_steps))]
 impl<'a> Parse<'a> for EnumVariant<'a> {
     ghost reading = { own ENUM_VARIANT enum_variant_tree (Unit {0}) };
 

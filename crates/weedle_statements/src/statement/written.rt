@@ -6,8 +6,8 @@ ghost use Rattle.std.specs.Prelude.{◌≡◌};
 ghost use Rattle.weedle_base.specs.AlikeLaws.{equal_equivalence, seen_equivalence};
 ghost use Rattle.weedle_base.specs.Own.{own};
 ghost use Rattle.weedle_base.specs.OwnLaws.{own_lawful};
-ghost use Rattle.weedle_grammar.specs.Table.Definitions.{INCLUDES_STATEMENT_DEFINITION};
-ghost use Rattle.weedle_statements.specs.Trees.{
+ghost use Rattle.weedle_grammar.specs.written.Table.Definitions.{INCLUDES_STATEMENT_DEFINITION};
+ghost use Rattle.weedle_statements.specs.written.Trees.{
   implements_definition_tree,
   includes_statement_definition_tree,
 };
@@ -21,7 +21,7 @@ use weedle_term::{Implements, Includes, SemiColon};
 use weedle_types::attribute::ExtendedAttributeList;
 use weedle_types::copies::copy_attributes;
 
-#[tactic(auto, using(crate::proofs::StatementRules::includes_statement_definition_steps))]
+#[tactic(auto, using(crate::proofs::written::StatementRules::includes_statement_definition_steps))]
 impl<'a> Parse<'a> for IncludesStatementDefinition<'a> {
     ghost reading = { own INCLUDES_STATEMENT_DEFINITION includes_statement_definition_tree (Unit {0}) };
 

@@ -6,8 +6,8 @@ ghost use Rattle.std.specs.Prelude.{◌≡◌};
 ghost use Rattle.weedle_base.specs.AlikeLaws.{equal_equivalence, seen_equivalence};
 ghost use Rattle.weedle_base.specs.Own.{own};
 ghost use Rattle.weedle_base.specs.OwnLaws.{own_lawful};
-ghost use Rattle.weedle_grammar.specs.Table.Definitions.{TYPEDEF_DEFINITION};
-ghost use Rattle.weedle_statements.specs.Trees.{typedef_definition_tree};
+ghost use Rattle.weedle_grammar.specs.written.Table.Definitions.{TYPEDEF_DEFINITION};
+ghost use Rattle.weedle_statements.specs.written.Trees.{typedef_definition_tree};
 
 use super::TypedefDefinition;
 use std::alloc::{AllocError, Global};
@@ -19,7 +19,7 @@ use weedle_types::attribute::ExtendedAttributeList;
 use weedle_types::copies::copy_attributes;
 use weedle_types::types::AttributedType;
 
-#[tactic(auto, using(crate::proofs::TypedefRules::typedef_definition_steps))]
+#[tactic(auto, using(crate::proofs::written::TypedefRules::typedef_definition_steps))]
 impl<'a> Parse<'a> for TypedefDefinition<'a> {
     ghost reading = { own TYPEDEF_DEFINITION typedef_definition_tree (Unit {0}) };
 

@@ -4,7 +4,7 @@ ghost use Rattle.std.specs.Prelude.{◌<◌, ◌≤◌, length, IfOk};
 ghost use Rattle.weedle_base.specs.Own.{own};
 ghost use Rattle.weedle_base.specs.Reading.{Answers};
 ghost use Rattle.weedle_parts.specs.Lists.{after_first};
-ghost use Rattle.weedle_grammar.specs.Table.Types.{
+ghost use Rattle.weedle_grammar.specs.written.Table.Types.{
   ARGUMENT,
   ARGUMENT_LIST,
   PARENTHESIZED_ARGUMENT_LIST,
@@ -33,7 +33,7 @@ use weedle_term::Comma;
 
 /// Reads an argument, as `long x` or `long... xs`.
 #[cycle(group)]
-#[tactic(auto, using(crate::proofs::ArgumentRules::argument_steps))]
+#[tactic(auto, using(crate::proofs::written::ArgumentRules::argument_steps))]
 pub(crate) fn argument<'a>(alloc: Global, input: &'a str) -> IResult<&'a str, Argument<'a>>
     ensures reads { Answers (own ARGUMENT argument_tree (Unit {0})) input.now result }
     ensures shorter { IfOk result (λ x. length x.0.now < length input.now) }
@@ -49,7 +49,7 @@ pub(crate) fn argument<'a>(alloc: Global, input: &'a str) -> IResult<&'a str, Ar
 
 /// Reads an argument, as `optional long x = 5`; its default only behind `optional`.
 #[cycle(group)]
-#[tactic(auto, using(crate::proofs::ArgumentRules::single_argument_steps))]
+#[tactic(auto, using(crate::proofs::written::ArgumentRules::single_argument_steps))]
 pub(crate) fn single_argument<'a>(
     alloc: Global,
     input: &'a str,
@@ -90,7 +90,7 @@ pub(crate) fn single_argument<'a>(
 
 /// Reads any number of arguments, as `long... xs`.
 #[cycle(group)]
-#[tactic(auto, using(crate::proofs::ArgumentRules::variadic_argument_steps))]
+#[tactic(auto, using(crate::proofs::written::ArgumentRules::variadic_argument_steps))]
 pub(crate) fn variadic_argument<'a>(
     alloc: Global,
     input: &'a str,
@@ -115,7 +115,7 @@ pub(crate) fn variadic_argument<'a>(
 
 /// Reads arguments in parentheses, as `(long x, long y)`.
 #[cycle(group)]
-#[tactic(auto, using(crate::proofs::ArgumentRules::arguments_steps))]
+#[tactic(auto, using(crate::proofs::written::ArgumentRules::arguments_steps))]
 pub(crate) fn arguments<'a>(
     alloc: Global,
     input: &'a str,
@@ -138,7 +138,7 @@ pub(crate) fn arguments<'a>(
 
 /// Reads arguments, as `long x, long y`, none included.
 #[cycle(group)]
-#[tactic(auto, using(crate::proofs::ArgumentRules::argument_list_steps))]
+#[tactic(auto, using(crate::proofs::written::ArgumentRules::argument_list_steps))]
 pub(crate) fn argument_list<'a>(alloc: Global, input: &'a str) -> IResult<&'a str, ArgumentList<'a>>
     ensures reads { Answers (own ARGUMENT_LIST argument_list_tree (Unit {0})) input.now result }
     ensures no_longer { IfOk result (λ x. length x.0.now ≤ length input.now) }

@@ -5,7 +5,7 @@ ghost use Rattle.weedle_base.specs.Own.{own};
 ghost use Rattle.weedle_base.specs.Reading.{Answers};
 ghost use Rattle.weedle_base.specs.Rules.{option_tree};
 ghost use Rattle.weedle_parts.specs.Lists.{after_first};
-ghost use Rattle.weedle_grammar.specs.Table.Types.{
+ghost use Rattle.weedle_grammar.specs.written.Table.Types.{
   EXTENDED_ATTRIBUTE,
   EXTENDED_ATTRIBUTE_ARG_LIST,
   EXTENDED_ATTRIBUTE_LIST,
@@ -35,7 +35,7 @@ use weedle_term::Comma;
 
 /// Reads attributes in brackets, where they stand.
 #[cycle(group)]
-#[tactic(auto, using(crate::proofs::AttributeRules::attributes_steps))]
+#[tactic(auto, using(crate::proofs::written::AttributeRules::attributes_steps))]
 pub(crate) fn attributes<'a>(
     alloc: Global,
     input: &'a str,
@@ -52,7 +52,7 @@ pub(crate) fn attributes<'a>(
 
 /// Reads attributes in brackets, as `[Exposed=Window, SecureContext]`.
 #[cycle(group)]
-#[tactic(auto, using(crate::proofs::AttributeRules::extended_attribute_list_steps))]
+#[tactic(auto, using(crate::proofs::written::AttributeRules::extended_attribute_list_steps))]
 pub(crate) fn extended_attribute_list<'a>(
     alloc: Global,
     input: &'a str,
@@ -75,7 +75,7 @@ pub(crate) fn extended_attribute_list<'a>(
 
 /// Reads an attribute, as `Exposed=Window`.
 #[cycle(group)]
-#[tactic(auto, using(crate::proofs::AttributeRules::extended_attribute_steps))]
+#[tactic(auto, using(crate::proofs::written::AttributeRules::extended_attribute_steps))]
 pub(crate) fn extended_attribute<'a>(
     alloc: Global,
     input: &'a str,
@@ -109,7 +109,7 @@ pub(crate) fn extended_attribute<'a>(
 
 /// Reads an attribute with arguments, as `Constructor(long x)`.
 #[cycle(group)]
-#[tactic(auto, using(crate::proofs::AttributeRules::extended_attribute_arg_list_steps))]
+#[tactic(auto, using(crate::proofs::written::AttributeRules::extended_attribute_arg_list_steps))]
 pub(crate) fn extended_attribute_arg_list<'a>(
     alloc: Global,
     input: &'a str,
@@ -124,7 +124,7 @@ pub(crate) fn extended_attribute_arg_list<'a>(
 
 /// Reads an attribute with a name and arguments, as `NamedConstructor=Image(long x)`.
 #[cycle(group)]
-#[tactic(auto, using(crate::proofs::AttributeRules::extended_attribute_named_arg_list_steps))]
+#[tactic(auto, using(crate::proofs::written::AttributeRules::extended_attribute_named_arg_list_steps))]
 pub(crate) fn extended_attribute_named_arg_list<'a>(
     alloc: Global,
     input: &'a str,
@@ -149,7 +149,7 @@ pub(crate) fn extended_attribute_named_arg_list<'a>(
 
 /// Reads attributes, as `Exposed=Window, SecureContext`, none included.
 #[cycle(group)]
-#[tactic(auto, using(crate::proofs::AttributeRules::extended_attributes_steps))]
+#[tactic(auto, using(crate::proofs::written::AttributeRules::extended_attributes_steps))]
 pub(crate) fn extended_attributes<'a>(
     alloc: Global,
     input: &'a str,

@@ -4,7 +4,7 @@ ghost use Rattle.std.specs.Prelude.{◌<◌, length, IfOk};
 ghost use Rattle.weedle_base.specs.Own.{own};
 ghost use Rattle.weedle_base.specs.Reading.{Answers};
 ghost use Rattle.weedle_parts.specs.ValueTrees.{generics_tree, may_be_null_tree};
-ghost use Rattle.weedle_grammar.specs.Table.Types.{
+ghost use Rattle.weedle_grammar.specs.written.Table.Types.{
   FROZEN_ARRAY_TYPE,
   GENERICS_RECORD_TYPES,
   GENERICS_RETURN_TYPE,
@@ -39,7 +39,7 @@ use weedle_parts::types::MayBeNull;
 
 /// Reads a sequence, as `sequence<long>`.
 #[cycle(group)]
-#[tactic(auto, using(crate::proofs::GenericTypeRules::sequence_type_steps))]
+#[tactic(auto, using(crate::proofs::written::GenericTypeRules::sequence_type_steps))]
 pub(crate) fn sequence_type<'a>(alloc: Global, input: &'a str) -> IResult<&'a str, SequenceType<'a>>
     ensures reads { Answers (own SEQUENCE_TYPE sequence_type_tree (Unit {0})) input.now result }
     ensures shorter { IfOk result (λ x. length x.0.now < length input.now) }
@@ -51,7 +51,7 @@ pub(crate) fn sequence_type<'a>(alloc: Global, input: &'a str) -> IResult<&'a st
 
 /// Reads an array that can't change, as `FrozenArray<long>`.
 #[cycle(group)]
-#[tactic(auto, using(crate::proofs::GenericTypeRules::frozen_array_type_steps))]
+#[tactic(auto, using(crate::proofs::written::GenericTypeRules::frozen_array_type_steps))]
 pub(crate) fn frozen_array_type<'a>(
     alloc: Global,
     input: &'a str,
@@ -72,7 +72,7 @@ pub(crate) fn frozen_array_type<'a>(
 
 /// Reads a promise, as `Promise<undefined>`.
 #[cycle(group)]
-#[tactic(auto, using(crate::proofs::GenericTypeRules::promise_type_steps))]
+#[tactic(auto, using(crate::proofs::written::GenericTypeRules::promise_type_steps))]
 pub(crate) fn promise_type<'a>(alloc: Global, input: &'a str) -> IResult<&'a str, PromiseType<'a>>
     ensures reads { Answers (own PROMISE_TYPE promise_type_tree (Unit {0})) input.now result }
     ensures shorter { IfOk result (λ x. length x.0.now < length input.now) }
@@ -84,7 +84,7 @@ pub(crate) fn promise_type<'a>(alloc: Global, input: &'a str) -> IResult<&'a str
 
 /// Reads a record, as `record<DOMString, long>`.
 #[cycle(group)]
-#[tactic(auto, using(crate::proofs::GenericTypeRules::record_type_steps))]
+#[tactic(auto, using(crate::proofs::written::GenericTypeRules::record_type_steps))]
 pub(crate) fn record_type<'a>(alloc: Global, input: &'a str) -> IResult<&'a str, RecordType<'a>>
     ensures reads { Answers (own RECORD_TYPE record_type_tree (Unit {0})) input.now result }
     ensures shorter { IfOk result (λ x. length x.0.now < length input.now) }
@@ -96,7 +96,7 @@ pub(crate) fn record_type<'a>(alloc: Global, input: &'a str) -> IResult<&'a str,
 
 /// Reads a sequence that may be null, as `sequence<long>?`.
 #[cycle(group)]
-#[tactic(auto, using(crate::proofs::GenericTypeRules::nullable_sequence_type_steps))]
+#[tactic(auto, using(crate::proofs::written::GenericTypeRules::nullable_sequence_type_steps))]
 pub(crate) fn nullable_sequence_type<'a>(
     alloc: Global,
     input: &'a str,
@@ -111,7 +111,7 @@ pub(crate) fn nullable_sequence_type<'a>(
 
 /// Reads an array that can't change and may be null, as `FrozenArray<long>?`.
 #[cycle(group)]
-#[tactic(auto, using(crate::proofs::GenericTypeRules::nullable_frozen_array_type_steps))]
+#[tactic(auto, using(crate::proofs::written::GenericTypeRules::nullable_frozen_array_type_steps))]
 pub(crate) fn nullable_frozen_array_type<'a>(
     alloc: Global,
     input: &'a str,
@@ -126,7 +126,7 @@ pub(crate) fn nullable_frozen_array_type<'a>(
 
 /// Reads a record that may be null, as `record<DOMString, long>?`.
 #[cycle(group)]
-#[tactic(auto, using(crate::proofs::GenericTypeRules::nullable_record_type_steps))]
+#[tactic(auto, using(crate::proofs::written::GenericTypeRules::nullable_record_type_steps))]
 pub(crate) fn nullable_record_type<'a>(
     alloc: Global,
     input: &'a str,
@@ -141,7 +141,7 @@ pub(crate) fn nullable_record_type<'a>(
 
 /// Reads a type in angle brackets, as `<long>`.
 #[cycle(group)]
-#[tactic(auto, using(crate::proofs::GenericTypeRules::generics_type_steps))]
+#[tactic(auto, using(crate::proofs::written::GenericTypeRules::generics_type_steps))]
 pub(crate) fn generics_type<'a>(
     alloc: Global,
     input: &'a str,
@@ -165,7 +165,7 @@ pub(crate) fn generics_type<'a>(
 
 /// Reads the type of a result in angle brackets, as `<undefined>`.
 #[cycle(group)]
-#[tactic(auto, using(crate::proofs::GenericTypeRules::generics_return_type_steps))]
+#[tactic(auto, using(crate::proofs::written::GenericTypeRules::generics_return_type_steps))]
 pub(crate) fn generics_return_type<'a>(
     alloc: Global,
     input: &'a str,
@@ -189,7 +189,7 @@ pub(crate) fn generics_return_type<'a>(
 
 /// Reads the types of a record in angle brackets, as `<DOMString, long>`.
 #[cycle(group)]
-#[tactic(auto, using(crate::proofs::GenericTypeRules::generics_record_types_steps))]
+#[tactic(auto, using(crate::proofs::written::GenericTypeRules::generics_record_types_steps))]
 pub(crate) fn generics_record_types<'a>(
     alloc: Global,
     input: &'a str,
@@ -212,7 +212,7 @@ pub(crate) fn generics_record_types<'a>(
 
 /// Reads the types of a record, as `DOMString, long`.
 #[cycle(group)]
-#[tactic(auto, using(crate::proofs::GenericTypeRules::record_types_steps))]
+#[tactic(auto, using(crate::proofs::written::GenericTypeRules::record_types_steps))]
 pub(crate) fn record_types<'a>(alloc: Global, input: &'a str) -> IResult<&'a str, RecordTypes<'a>>
     ensures reads { Answers (own RECORD_TYPES record_types_tree (Unit {0})) input.now result }
     ensures shorter { IfOk result (λ x. length x.0.now < length input.now) }

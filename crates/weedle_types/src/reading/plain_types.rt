@@ -22,7 +22,7 @@ use std::alloc::Global;
 use weedle_base::{Err, IResult};
 
 /// Reads a type of numbers, `boolean` or `byte`, as `unsigned long?`.
-#[tactic(auto, using(crate::proofs::PlainTypeRules::numbers_steps))]
+#[tactic(auto, using(crate::proofs::written::PlainTypeRules::numbers_steps))]
 pub(crate) fn numbers<'a>(alloc: Global, input: &'a str) -> IResult<&'a str, NonAnyType<'a>>
     ensures reads { Answers (members numbers_rules 1 non_any_type_tree ⊥) input.now result }
     ensures shorter { IfOk result (λ x. length x.0.now < length input.now) }
@@ -47,7 +47,7 @@ pub(crate) fn numbers<'a>(alloc: Global, input: &'a str) -> IResult<&'a str, Non
 }
 
 /// Reads `octet`, `ByteString`, `DOMString` or `USVString`.
-#[tactic(auto, using(crate::proofs::PlainTypeRules::strings_steps))]
+#[tactic(auto, using(crate::proofs::written::PlainTypeRules::strings_steps))]
 pub(crate) fn strings<'a>(alloc: Global, input: &'a str) -> IResult<&'a str, NonAnyType<'a>>
     ensures reads { Answers (members strings_rules 5 non_any_type_tree ⊥) input.now result }
     ensures shorter { IfOk result (λ x. length x.0.now < length input.now) }
@@ -72,7 +72,7 @@ pub(crate) fn strings<'a>(alloc: Global, input: &'a str) -> IResult<&'a str, Non
 }
 
 /// Reads `object`, `symbol`, `Error` or `ArrayBuffer`.
-#[tactic(auto, using(crate::proofs::PlainTypeRules::objects_steps))]
+#[tactic(auto, using(crate::proofs::written::PlainTypeRules::objects_steps))]
 pub(crate) fn objects<'a>(alloc: Global, input: &'a str) -> IResult<&'a str, NonAnyType<'a>>
     ensures reads { Answers (members objects_rules 10 non_any_type_tree ⊥) input.now result }
     ensures shorter { IfOk result (λ x. length x.0.now < length input.now) }
@@ -97,7 +97,7 @@ pub(crate) fn objects<'a>(alloc: Global, input: &'a str) -> IResult<&'a str, Non
 }
 
 /// Reads `DataView` or an array of signed numbers, as `Int8Array`.
-#[tactic(auto, using(crate::proofs::PlainTypeRules::signed_arrays_steps))]
+#[tactic(auto, using(crate::proofs::written::PlainTypeRules::signed_arrays_steps))]
 pub(crate) fn signed_arrays<'a>(alloc: Global, input: &'a str) -> IResult<&'a str, NonAnyType<'a>>
     ensures reads { Answers (members signed_arrays_rules 14 non_any_type_tree ⊥) input.now result }
     ensures shorter { IfOk result (λ x. length x.0.now < length input.now) }
@@ -122,7 +122,7 @@ pub(crate) fn signed_arrays<'a>(alloc: Global, input: &'a str) -> IResult<&'a st
 }
 
 /// Reads an array of unsigned numbers, as `Uint8Array`.
-#[tactic(auto, using(crate::proofs::PlainTypeRules::unsigned_arrays_steps))]
+#[tactic(auto, using(crate::proofs::written::PlainTypeRules::unsigned_arrays_steps))]
 pub(crate) fn unsigned_arrays<'a>(alloc: Global, input: &'a str) -> IResult<&'a str, NonAnyType<'a>>
     ensures reads { Answers (members unsigned_arrays_rules 18 non_any_type_tree ⊥) input.now result }
     ensures shorter { IfOk result (λ x. length x.0.now < length input.now) }
@@ -147,7 +147,7 @@ pub(crate) fn unsigned_arrays<'a>(alloc: Global, input: &'a str) -> IResult<&'a 
 }
 
 /// Reads an array of floating point numbers, `ArrayBufferView` or `BufferSource`.
-#[tactic(auto, using(crate::proofs::PlainTypeRules::float_arrays_steps))]
+#[tactic(auto, using(crate::proofs::written::PlainTypeRules::float_arrays_steps))]
 pub(crate) fn float_arrays<'a>(alloc: Global, input: &'a str) -> IResult<&'a str, NonAnyType<'a>>
     ensures reads { Answers (members float_arrays_rules 22 non_any_type_tree ⊥) input.now result }
     ensures shorter { IfOk result (λ x. length x.0.now < length input.now) }
@@ -172,7 +172,7 @@ pub(crate) fn float_arrays<'a>(alloc: Global, input: &'a str) -> IResult<&'a str
 }
 
 /// Reads what is tried between promises and sequences, as `unsigned long?`.
-#[tactic(auto, using(crate::proofs::PlainTypeRules::before_sequence_steps))]
+#[tactic(auto, using(crate::proofs::written::PlainTypeRules::before_sequence_steps))]
 pub(crate) fn before_sequence<'a>(alloc: Global, input: &'a str) -> IResult<&'a str, NonAnyType<'a>>
     ensures reads { Answers (members before_sequence_rules 1 non_any_type_tree ⊥) input.now result }
     ensures shorter { IfOk result (λ x. length x.0.now < length input.now) }
@@ -187,7 +187,7 @@ pub(crate) fn before_sequence<'a>(alloc: Global, input: &'a str) -> IResult<&'a 
 }
 
 /// Reads what is tried between sequences and arrays that can't change, as `Uint8Array?`.
-#[tactic(auto, using(crate::proofs::PlainTypeRules::after_sequence_steps))]
+#[tactic(auto, using(crate::proofs::written::PlainTypeRules::after_sequence_steps))]
 pub(crate) fn after_sequence<'a>(alloc: Global, input: &'a str) -> IResult<&'a str, NonAnyType<'a>>
     ensures reads { Answers (members after_sequence_rules 10 non_any_type_tree ⊥) input.now result }
     ensures shorter { IfOk result (λ x. length x.0.now < length input.now) }

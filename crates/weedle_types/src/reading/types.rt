@@ -3,7 +3,7 @@
 ghost use Rattle.std.specs.Prelude.{◌<◌, length, IfOk};
 ghost use Rattle.weedle_base.specs.Own.{own};
 ghost use Rattle.weedle_base.specs.Reading.{Answers};
-ghost use Rattle.weedle_grammar.specs.Table.Types.{
+ghost use Rattle.weedle_grammar.specs.written.Table.Types.{
   ATTRIBUTED_NON_ANY_TYPE,
   ATTRIBUTED_TYPE,
   NON_ANY_TYPE,
@@ -38,7 +38,7 @@ use weedle_base::{Err, IResult};
 
 /// Reads a type, as `long` or `(long or DOMString)?`.
 #[cycle(group)]
-#[tactic(auto, using(crate::proofs::TypeRules::type__steps))]
+#[tactic(auto, using(crate::proofs::written::TypeRules::type__steps))]
 pub(crate) fn type_<'a>(alloc: Global, input: &'a str) -> IResult<&'a str, Type<'a>>
     ensures reads { Answers (own TYPE type_tree (Unit {0})) input.now result }
     ensures shorter { IfOk result (λ x. length x.0.now < length input.now) }
@@ -54,7 +54,7 @@ pub(crate) fn type_<'a>(alloc: Global, input: &'a str) -> IResult<&'a str, Type<
 
 /// Reads a type that is no union, as `any` or `long?`.
 #[cycle(group)]
-#[tactic(auto, using(crate::proofs::TypeRules::single_type_steps))]
+#[tactic(auto, using(crate::proofs::written::TypeRules::single_type_steps))]
 pub(crate) fn single_type<'a>(alloc: Global, input: &'a str) -> IResult<&'a str, SingleType<'a>>
     ensures reads { Answers (own SINGLE_TYPE single_type_tree (Unit {0})) input.now result }
     ensures shorter { IfOk result (λ x. length x.0.now < length input.now) }
@@ -70,7 +70,7 @@ pub(crate) fn single_type<'a>(alloc: Global, input: &'a str) -> IResult<&'a str,
 
 /// Reads a type that is neither `any` nor a union, as `long?`: its variants in their order.
 #[cycle(group)]
-#[tactic(auto, using(crate::proofs::TypeRules::non_any_type_steps))]
+#[tactic(auto, using(crate::proofs::written::TypeRules::non_any_type_steps))]
 pub(crate) fn non_any_type<'a>(alloc: Global, input: &'a str) -> IResult<&'a str, NonAnyType<'a>>
     ensures reads { Answers (own NON_ANY_TYPE non_any_type_tree (Unit {0})) input.now result }
     ensures shorter { IfOk result (λ x. length x.0.now < length input.now) }
@@ -111,7 +111,7 @@ pub(crate) fn non_any_type<'a>(alloc: Global, input: &'a str) -> IResult<&'a str
 
 /// Reads the type of a record's keys, as `DOMString`.
 #[cycle(group)]
-#[tactic(auto, using(crate::proofs::TypeRules::record_key_type_steps))]
+#[tactic(auto, using(crate::proofs::written::TypeRules::record_key_type_steps))]
 pub(crate) fn record_key_type<'a>(
     alloc: Global,
     input: &'a str,
@@ -140,7 +140,7 @@ pub(crate) fn record_key_type<'a>(
 
 /// Reads the type of a result, as `undefined` or `long`.
 #[cycle(group)]
-#[tactic(auto, using(crate::proofs::TypeRules::return_type_steps))]
+#[tactic(auto, using(crate::proofs::written::TypeRules::return_type_steps))]
 pub(crate) fn return_type<'a>(alloc: Global, input: &'a str) -> IResult<&'a str, ReturnType<'a>>
     ensures reads { Answers (own RETURN_TYPE return_type_tree (Unit {0})) input.now result }
     ensures shorter { IfOk result (λ x. length x.0.now < length input.now) }
@@ -156,7 +156,7 @@ pub(crate) fn return_type<'a>(alloc: Global, input: &'a str) -> IResult<&'a str,
 
 /// Reads a type with its attributes, as `[Clamp] octet`.
 #[cycle(group)]
-#[tactic(auto, using(crate::proofs::TypeRules::attributed_type_steps))]
+#[tactic(auto, using(crate::proofs::written::TypeRules::attributed_type_steps))]
 pub(crate) fn attributed_type<'a>(
     alloc: Global,
     input: &'a str,
@@ -173,7 +173,7 @@ pub(crate) fn attributed_type<'a>(
 // It stays a call: within a member of a union its room would be held at each level of nested unions.
 #[inline(never)]
 #[cycle(group)]
-#[tactic(auto, using(crate::proofs::TypeRules::attributed_non_any_type_steps))]
+#[tactic(auto, using(crate::proofs::written::TypeRules::attributed_non_any_type_steps))]
 pub(crate) fn attributed_non_any_type<'a>(
     alloc: Global,
     input: &'a str,

@@ -5,7 +5,7 @@ ghost use Rattle.weedle_base.specs.Own.{own};
 ghost use Rattle.weedle_base.specs.Reading.{Answers};
 ghost use Rattle.weedle_parts.specs.Lists.{after_first};
 ghost use Rattle.weedle_parts.specs.ValueTrees.{may_be_null_tree};
-ghost use Rattle.weedle_grammar.specs.Table.Types.{
+ghost use Rattle.weedle_grammar.specs.written.Table.Types.{
   LIST_UNION_MEMBER_TYPE_OR,
   MAY_BE_NULL_UNION_TYPE,
   UNION_MEMBER_TYPE,
@@ -29,7 +29,7 @@ use weedle_term::Or;
 
 /// Reads a union, as `(long or DOMString)`.
 #[cycle(group)]
-#[tactic(auto, using(crate::proofs::UnionRules::union_type_steps))]
+#[tactic(auto, using(crate::proofs::written::UnionRules::union_type_steps))]
 pub(crate) fn union_type<'a>(alloc: Global, input: &'a str) -> IResult<&'a str, UnionType<'a>>
     ensures reads { Answers (own UNION_TYPE union_type_tree (Unit {0})) input.now result }
     ensures shorter { IfOk result (λ x. length x.0.now < length input.now) }
@@ -49,7 +49,7 @@ pub(crate) fn union_type<'a>(alloc: Global, input: &'a str) -> IResult<&'a str, 
 
 /// Reads a union that may be null, as `(long or DOMString)?`.
 #[cycle(group)]
-#[tactic(auto, using(crate::proofs::UnionRules::nullable_union_type_steps))]
+#[tactic(auto, using(crate::proofs::written::UnionRules::nullable_union_type_steps))]
 pub(crate) fn nullable_union_type<'a>(
     alloc: Global,
     input: &'a str,
@@ -64,7 +64,7 @@ pub(crate) fn nullable_union_type<'a>(
 
 /// Reads a member of a union, as `[Clamp] octet`.
 #[cycle(group)]
-#[tactic(auto, using(crate::proofs::UnionRules::union_member_type_steps))]
+#[tactic(auto, using(crate::proofs::written::UnionRules::union_member_type_steps))]
 pub(crate) fn union_member_type<'a>(
     alloc: Global,
     input: &'a str,
@@ -83,7 +83,7 @@ pub(crate) fn union_member_type<'a>(
 
 /// Reads the members of a union, as `long or DOMString`, none included.
 #[cycle(group)]
-#[tactic(auto, using(crate::proofs::UnionRules::union_member_types_steps))]
+#[tactic(auto, using(crate::proofs::written::UnionRules::union_member_types_steps))]
 pub(crate) fn union_member_types<'a>(
     alloc: Global,
     input: &'a str,

@@ -4,6 +4,8 @@
 
 ghost use Rattle.std.specs.Prelude.{◌≡◌};
 
+mod from_non_any_type;
+
 use super::{
     AttributedNonAnyType, NonAnyType, RecordKeyType, ReturnType, SingleType, Type, UnionMemberType,
     UnionType,

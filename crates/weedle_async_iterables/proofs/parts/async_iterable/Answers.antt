@@ -1,8 +1,8 @@
 use Rattle.std.proofs.Common.{refl}
 use Rattle.weedle_base.proofs.RuleFacts.{mark_rule, pair_rule}
 use Rattle.weedle_async_iterables.proofs.parts.async_iterable.Goals as goal
-use Rattle.weedle_grammar.specs.Table.InterfaceMembers.{ASYNC_ITERABLE}
-use Rattle.weedle_grammar.specs.Table.Keywords.{ASYNC, ITERABLE}
+use Rattle.weedle_grammar.specs.written.Table.InterfaceMembers.{ASYNC_ITERABLE}
+use Rattle.weedle_grammar.specs.written.Table.Keywords.{ASYNC, ITERABLE}
 use Rattle.weedle_types.proofs.SharedRules.{answers_rule}
 
 pub returns : goal.returns

@@ -1,6 +1,6 @@
 use Rattle.std.proofs.Common.{◌≡◌, [], ◌∷◌, ◌++◌, refl, string_bytes}
 use Rattle.weedle_grammar.specs.Trees.{Lines}
-use Rattle.weedle_grammar.specs.Table.Leaves.{DOCSTRING}
+use Rattle.weedle_grammar.specs.written.Table.Leaves.{DOCSTRING}
 use Rattle.weedle_grammar.proofs.Suffix.{fails, no_node}
 use Rattle.weedle_base.proofs.TokenFacts.{got_own, fault_own, fault_full}
 use Rattle.weedle_base.proofs.WordFacts.{rest_utf8}

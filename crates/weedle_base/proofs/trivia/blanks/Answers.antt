@@ -1,6 +1,6 @@
 use Rattle.std.proofs.Common.{refl}
 use Rattle.weedle_grammar.proofs.Suffix.{fails, no_node}
-use Rattle.weedle_grammar.specs.Table.Trivia.{BLANKS}
+use Rattle.weedle_grammar.specs.written.Table.Trivia.{BLANKS}
 use Rattle.weedle_base.proofs.SilentRules.{exit, along, last, took_seq}
 use Rattle.weedle_base.proofs.trivia.blanks.Goals as goal
 

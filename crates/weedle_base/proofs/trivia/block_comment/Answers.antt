@@ -1,7 +1,7 @@
 use Rattle.std.proofs.Common.{[], ◌∷◌, refl, Some, None}
 use Rattle.memchr.specs.Find.{FindsNeedle}
 use Rattle.weedle_grammar.proofs.Suffix.{fails, no_node}
-use Rattle.weedle_grammar.specs.Table.Trivia.{PAST_STAR_SLASH, BLOCK_COMMENT}
+use Rattle.weedle_grammar.specs.written.Table.Trivia.{PAST_STAR_SLASH, BLOCK_COMMENT}
 use Rattle.weedle_base.proofs.FindFacts.{needle_lacks, needle_took, needle_cut}
 use Rattle.weedle_base.proofs.SilentRules.{exit, along, last, lost, took_seq}
 use Rattle.weedle_base.proofs.trivia.block_comment.Goals as goal

@@ -1,6 +1,6 @@
 use Rattle.std.proofs.Common.{sym, ◌∙◌, refl}
 use Rattle.weedle_grammar.proofs.Suffix.{fails, no_node}
-use Rattle.weedle_grammar.specs.Table.Trivia.{NOT_NEXT_SLASH, LINE_COMMENT}
+use Rattle.weedle_grammar.specs.written.Table.Trivia.{NOT_NEXT_SLASH, LINE_COMMENT}
 use Rattle.weedle_base.proofs.SilentRules.{exit, along, last, lost, took_seq}
 use Rattle.weedle_base.proofs.WordFacts.{look_fails, look_took}
 use Rattle.weedle_base.proofs.trivia.line_comment.Goals as goal

@@ -1,5 +1,5 @@
 use Rattle.std.proofs.Common.{refl, arith}
-use Rattle.weedle_grammar.specs.Table.{row_of, shape_of}
+use Rattle.weedle_grammar.specs.written.Table.{row_of, shape_of}
 use Rattle.weedle_build_base.proofs.Repeats.{map_push}
 use Rattle.weedle_build_base.proofs.Separated.{fits_tail_is, listing_start, listing_next, listing_end, listing_back, behind_boundary, behind_due}
 use Rattle.weedle_build_base.proofs.lists.items.Goals as goal

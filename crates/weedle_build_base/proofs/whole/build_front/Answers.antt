@@ -1,6 +1,6 @@
 use Rattle.std.proofs.Common.{refl, arith}
 use Rattle.std.proofs.lemmas.Grind.{common_steps}
-use Rattle.weedle_grammar.specs.Table.Definitions.{DEFINITIONS}
+use Rattle.weedle_grammar.specs.written.Table.Definitions.{DEFINITIONS}
 use Rattle.weedle_build_base.specs.Built.{Builds}
 use Rattle.weedle_build_base.proofs.WholeSteps.{whole_due, whole_boundary, whole_counts, whole_few}
 use Rattle.weedle_build_base.proofs.whole.build_front.Goals as goal

@@ -1,5 +1,5 @@
 use Rattle.std.proofs.Common.{refl}
-use Rattle.weedle_grammar.specs.Table.Leaves.{DIGITS}
+use Rattle.weedle_grammar.specs.written.Table.Leaves.{DIGITS}
 use Rattle.weedle_grammar.proofs.Suffix.{fails, no_node}
 use Rattle.weedle_base.proofs.SilentRules.{exit, along, last, took_seq}
 use Rattle.weedle_literal.proofs.float.after_digits.Goals as goal

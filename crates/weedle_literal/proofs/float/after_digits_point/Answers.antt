@@ -1,5 +1,5 @@
 use Rattle.std.proofs.Common.{refl}
-use Rattle.weedle_grammar.specs.Table.Leaves.{POINT_AFTER_DIGITS}
+use Rattle.weedle_grammar.specs.written.Table.Leaves.{POINT_AFTER_DIGITS}
 use Rattle.weedle_grammar.proofs.Suffix.{fails, no_node}
 use Rattle.weedle_base.proofs.SilentRules.{exit, along, last, lost, took_seq}
 use Rattle.weedle_literal.proofs.float.after_digits_point.Goals as goal

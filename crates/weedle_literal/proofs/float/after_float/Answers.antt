@@ -1,6 +1,6 @@
 use Rattle.std.proofs.Common.{refl}
 use Rattle.weedle_grammar.proofs.Suffix.{fails, no_node}
-use Rattle.weedle_grammar.specs.Table.Leaves.{FLOAT_FORM, FLOAT_VALUE_LIT_TEXT}
+use Rattle.weedle_grammar.specs.written.Table.Leaves.{FLOAT_FORM, FLOAT_VALUE_LIT_TEXT}
 use Rattle.weedle_base.proofs.SilentRules.{along, last, lost, took_seq, decided}
 use Rattle.weedle_literal.proofs.float.after_float.Goals as goal
 

@@ -1,5 +1,5 @@
 use Rattle.std.proofs.Common.{refl}
-use Rattle.weedle_grammar.specs.Table.Leaves.{FLOAT_FORM, EXPONENT_FORM}
+use Rattle.weedle_grammar.specs.written.Table.Leaves.{FLOAT_FORM, EXPONENT_FORM}
 use Rattle.weedle_base.proofs.SilentRules.{took_first, took_second, no_first, decided}
 use Rattle.weedle_literal.proofs.float.after_float_form.Goals as goal
 

@@ -1,6 +1,6 @@
 use Rattle.std.proofs.Common.{refl}
 use Rattle.weedle_grammar.proofs.Suffix.{fails, no_node}
-use Rattle.weedle_grammar.specs.Table.Leaves.{EXPONENT, EXPONENT_FORM}
+use Rattle.weedle_grammar.specs.written.Table.Leaves.{EXPONENT, EXPONENT_FORM}
 use Rattle.weedle_base.proofs.SilentRules.{exit, along, last, lost, took_seq, decided}
 use Rattle.weedle_literal.proofs.float.after_float_whole.Goals as goal
 

@@ -1,5 +1,5 @@
 use Rattle.std.proofs.Common.{refl}
-use Rattle.weedle_grammar.specs.Table.Leaves.{POINT, POINT_BEFORE_DIGITS}
+use Rattle.weedle_grammar.specs.written.Table.Leaves.{POINT, POINT_BEFORE_DIGITS}
 use Rattle.weedle_base.proofs.SilentRules.{took_first, took_second, no_first, decided}
 use Rattle.weedle_literal.proofs.float.after_point.Goals as goal
 

@@ -1,6 +1,6 @@
 use Rattle.std.proofs.Common.{refl}
 use Rattle.weedle_grammar.proofs.Suffix.{fails, no_node}
-use Rattle.weedle_grammar.specs.Table.Leaves.{DIGITS, POINT_BEFORE_DIGITS}
+use Rattle.weedle_grammar.specs.written.Table.Leaves.{DIGITS, POINT_BEFORE_DIGITS}
 use Rattle.weedle_base.proofs.SilentRules.{exit, along, last, lost, took_seq, decided}
 use Rattle.weedle_literal.proofs.float.after_point_digits.Goals as goal
 

@@ -1,5 +1,5 @@
 use Rattle.std.proofs.Common.{refl}
-use Rattle.weedle_grammar.specs.Table.Leaves.{OPT_ONE_OF_SIGN}
+use Rattle.weedle_grammar.specs.written.Table.Leaves.{OPT_ONE_OF_SIGN}
 use Rattle.weedle_base.proofs.SilentRules.{took_opt}
 use Rattle.weedle_literal.proofs.float.skip_sign.Goals as goal
 

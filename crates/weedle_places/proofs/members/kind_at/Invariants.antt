@@ -1,6 +1,6 @@
 use Rattle.std.proofs.Common.{drop}
-use Rattle.weedle_grammar.specs.Table.{row_of}
-use Rattle.weedle_grammar.specs.Table.Definitions.{DEFINITION}
+use Rattle.weedle_grammar.specs.written.Table.{row_of}
+use Rattle.weedle_grammar.specs.written.Table.Definitions.{DEFINITION}
 use Rattle.weedle_grammar.specs.View.{numbers_of}
 use Rattle.weedle_places.specs.Members.{choices_in}
 use Rattle.weedle_places.proofs.KindFacts.{Trying}

@@ -1,5 +1,5 @@
 use Rattle.std.proofs.Common.{sym, subst, ◌∙◌, ap, length, eqb-true, eq-eqb}
-use Rattle.weedle_grammar.specs.Table.Definitions.{DEFINITIONS}
+use Rattle.weedle_grammar.specs.written.Table.Definitions.{DEFINITIONS}
 use Rattle.weedle_rules.specs.Outcomes.{EndsAt}
 use Rattle.weedle_rules.proofs.OutcomeFacts.{it_ends, it_fails, one_end, not_both}
 use Rattle.weedle_places.proofs.place.is_whole.Goals as goal

@@ -8,19 +8,19 @@ use Rattle.weedle_base.proofs.Reached.{reached_none}
 use Rattle.weedle_base.proofs.RuleFacts.{mark}
 use Rattle.weedle_base.proofs.Steps.{exit_answers, got_pair}
 use Rattle.weedle_base.specs.Own.{own}
-use Rattle.weedle_grammar.specs.Table.Keywords.{OR}
-use Rattle.weedle_grammar.specs.Table.Symbols.{COMMA}
-use Rattle.weedle_grammar.specs.Table.Types.{ARGUMENT, EXTENDED_ATTRIBUTE, UNION_MEMBER_TYPE}
+use Rattle.weedle_grammar.specs.written.Table.Keywords.{OR}
+use Rattle.weedle_grammar.specs.written.Table.Symbols.{COMMA}
+use Rattle.weedle_grammar.specs.written.Table.Types.{ARGUMENT, EXTENDED_ATTRIBUTE, UNION_MEMBER_TYPE}
 use Rattle.weedle_parts.proofs.ReachedLists.{ends_behind, item_fault, list_ends, list_full, reached_next, separator_fault}
 use Rattle.weedle_parts.specs.Lists.{next_step}
-use Rattle.weedle_term.specs.declared.symbols.Comma.{Comma}
-use Rattle.weedle_term.specs.declared.type_keywords.Or.{Or}
-use Rattle.weedle_types.proofs.ArgumentRules.{argument_fault, argument_got_0, argument_got_1, argument_list_fault, argument_list_none, single_argument_fault_when, single_argument_when}
-use Rattle.weedle_types.proofs.AttributeRules.{attributes_fault, attributes_none, attributes_some, extended_attribute_fault, extended_attribute_got_0, extended_attribute_got_1, extended_attribute_got_2, extended_attribute_got_3, extended_attribute_got_4, extended_attributes_fault, extended_attributes_none}
+use Rattle.weedle_term.specs.declared.written.symbols.Comma.{Comma}
+use Rattle.weedle_term.specs.declared.written.type_keywords.Or.{Or}
 use Rattle.weedle_types.proofs.Direct.{direct_stop, refused_by}
-use Rattle.weedle_types.proofs.TypeRules.{non_any_type_fault, non_any_type_got_0, non_any_type_got_1, non_any_type_got_2, non_any_type_got_3, non_any_type_got_4, non_any_type_got_5, non_any_type_got_6, record_key_type_fault, record_key_type_got_0, record_key_type_got_1, record_key_type_got_2, record_key_type_got_3, return_type_fault, return_type_got_0, return_type_got_1, single_type_fault, single_type_got_0, single_type_got_1, type__fault, type__got_0, type__got_1}
-use Rattle.weedle_types.proofs.UnionRules.{union_member_type_fault, union_member_type_got_0, union_member_type_got_1, union_member_types_fault, union_member_types_none}
 use Rattle.weedle_types.proofs.reading.+group.Goals as goal
+use Rattle.weedle_types.proofs.written.ArgumentRules.{argument_fault, argument_got_0, argument_got_1, argument_list_fault, argument_list_none, single_argument_fault_when, single_argument_when}
+use Rattle.weedle_types.proofs.written.AttributeRules.{attributes_fault, attributes_none, attributes_some, extended_attribute_fault, extended_attribute_got_0, extended_attribute_got_1, extended_attribute_got_2, extended_attribute_got_3, extended_attribute_got_4, extended_attributes_fault, extended_attributes_none}
+use Rattle.weedle_types.proofs.written.TypeRules.{non_any_type_fault, non_any_type_got_0, non_any_type_got_1, non_any_type_got_2, non_any_type_got_3, non_any_type_got_4, non_any_type_got_5, non_any_type_got_6, record_key_type_fault, record_key_type_got_0, record_key_type_got_1, record_key_type_got_2, record_key_type_got_3, return_type_fault, return_type_got_0, return_type_got_1, single_type_fault, single_type_got_0, single_type_got_1, type__fault, type__got_0, type__got_1}
+use Rattle.weedle_types.proofs.written.UnionRules.{union_member_type_fault, union_member_type_got_0, union_member_type_got_1, union_member_types_fault, union_member_types_none}
 use Rattle.weedle_types.specs.Trees.{argument_tree, extended_attribute_tree, union_member_type_tree}
 use Rattle.weedle_types.specs.declared.argument.Argument.{Argument}
 use Rattle.weedle_types.specs.declared.attribute.ExtendedAttribute.{ExtendedAttribute}

@@ -1,5 +1,5 @@
 use Rattle.std.proofs.Common.{refl, sym}
-use Rattle.weedle_grammar.specs.Table.{row_of, shape_of}
+use Rattle.weedle_grammar.specs.written.Table.{row_of, shape_of}
 use Rattle.weedle_build_base.proofs.Finding.{absent, present}
 use Rattle.weedle_build_base.proofs.Separated.{fits_list_is, due_list, list_built, list_empty}
 use Rattle.weedle_build_base.proofs.lists.PunctuatedBuild.build.Goals as goal

@@ -1,6 +1,6 @@
 -- Alternatives, each where those before it were a mismatch. Written by tools/idl_proofs.py.
 use Rattle.weedle_base.proofs.Steps.{exit_answers}
-use Rattle.weedle_idl.proofs.DefinitionRules.{definition_fault, definition_got_0, definition_got_1, definition_got_2, definition_got_3}
+use Rattle.weedle_idl.proofs.written.DefinitionRules.{definition_fault, definition_got_0, definition_got_1, definition_got_2, definition_got_3}
 use Rattle.weedle_idl.proofs.definition.DefinitionParse.parse.Goals as goal
 use Rattle.weedle_base.proofs.Direct.{stop_first, stop_next, take_first, take_next}
 

@@ -1,6 +1,6 @@
 -- Alternatives, each where those before it were a mismatch. Written by tools/idl_proofs.py.
 use Rattle.weedle_base.proofs.Steps.{exit_answers}
-use Rattle.weedle_interfaces.proofs.MemberRules.{interface_member_fault, interface_member_got_0, interface_member_got_1, interface_member_got_2}
+use Rattle.weedle_interfaces.proofs.written.MemberRules.{interface_member_fault, interface_member_got_0, interface_member_got_1, interface_member_got_2}
 use Rattle.weedle_interfaces.proofs.member.InterfaceMemberParse.parse.Goals as goal
 use Rattle.weedle_base.proofs.Direct.{stop_first, stop_next, take_first, take_next}
 

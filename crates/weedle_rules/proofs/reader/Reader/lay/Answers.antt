@@ -3,7 +3,7 @@ use Rattle.std.proofs.lemmas.List.{length-append, length-replicate}
 use Rattle.weedle_rules.proofs.CellRows.{cells_length}
 use Rattle.weedle_rules.proofs.ReaderFacts.{reader_lays, lays_known}
 use Rattle.weedle_rules.specs.ReaderView.{known_of}
-use Rattle.weedle_grammar.specs.Bound.{rule_count}
+use Rattle.weedle_grammar.specs.written.Bound.{rule_count}
 use Rattle.weedle_rules.proofs.reader.Reader.lay.Goals as goal
 
 pub invariant_of-self : goal.invariant_of-self

@@ -3,8 +3,8 @@
 -- Written by tools/types_proofs.py.
 use Rattle.weedle_base.proofs.Direct.{stop_first, stop_next, take_first, take_next}
 use Rattle.weedle_base.proofs.Steps.{exit_answers}
-use Rattle.weedle_types.proofs.PlainTypeRules.{float_arrays_fault, float_arrays_got_0, float_arrays_got_1, float_arrays_got_2, float_arrays_got_3}
 use Rattle.weedle_types.proofs.reading.plain_types.float_arrays.Goals as goal
+use Rattle.weedle_types.proofs.written.PlainTypeRules.{float_arrays_fault, float_arrays_got_0, float_arrays_got_1, float_arrays_got_2, float_arrays_got_3}
 
 pub returns-in-Ok-clause-reads : goal.returns-in-Ok-clause-reads
 returns-in-Ok-clause-reads c = float_arrays_got_0 (take_first _ _ c.in-Ok.ensures.reads)

@@ -3,8 +3,8 @@
 -- Written by tools/types_proofs.py.
 use Rattle.weedle_base.proofs.Direct.{stop_first, stop_next, take_first, take_next}
 use Rattle.weedle_base.proofs.Steps.{exit_answers}
-use Rattle.weedle_types.proofs.PlainTypeRules.{objects_fault, objects_got_0, objects_got_1, objects_got_2, objects_got_3}
 use Rattle.weedle_types.proofs.reading.plain_types.objects.Goals as goal
+use Rattle.weedle_types.proofs.written.PlainTypeRules.{objects_fault, objects_got_0, objects_got_1, objects_got_2, objects_got_3}
 
 pub returns-in-Ok-clause-reads : goal.returns-in-Ok-clause-reads
 returns-in-Ok-clause-reads c = objects_got_0 (take_first _ _ c.in-Ok.ensures.reads)

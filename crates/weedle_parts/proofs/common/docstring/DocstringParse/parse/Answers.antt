@@ -1,6 +1,6 @@
 use Rattle.std.proofs.Common.{refl, string_bytes}
 use Rattle.weedle_grammar.specs.Trees.{Lines}
-use Rattle.weedle_grammar.specs.Table.Leaves.{DOCSTRING}
+use Rattle.weedle_grammar.specs.written.Table.Leaves.{DOCSTRING}
 use Rattle.weedle_base.proofs.RuleFacts.{own_rule, got_rule, fault_rule}
 use Rattle.weedle_base.proofs.Steps.{exit_answers}
 use Rattle.weedle_parts.proofs.common.docstring.DocstringParse.parse.Goals as goal

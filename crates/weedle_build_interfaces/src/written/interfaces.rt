@@ -1,0 +1,296 @@
+//! Interfaces and their members.
+//!
+//! Written by tools/builds.py.
+#![tactic(auto, using(weedle_build_base::proofs::Finding::own_steps))]
+
+ghost use Rattle.std.specs.Prelude.{◌≡◌};
+ghost use Rattle.weedle_build_base.specs.Fits.{bracket_fits, fits_seq};
+ghost use Rattle.weedle_build_types.specs.Fits.{many_fits};
+ghost use Rattle.weedle_grammar.specs.written.Table.{row_of as row_of_rule, shape_of};
+ghost use Rattle.weedle_grammar.specs.written.Table.Definitions.{
+  CALLBACK_INTERFACE_DEFINITION,
+  INTERFACE_DEFINITION,
+  PARTIAL_INTERFACE_DEFINITION,
+};
+ghost use Rattle.weedle_grammar.specs.written.Table.InterfaceMembers.{INTERFACE_MEMBER};
+ghost use Rattle.weedle_grammar.specs.written.Table.Symbols.{CLOSE_BRACE, OPEN_BRACE};
+ghost use Rattle.weedle_interfaces.specs.written.Trees.{
+  braced_interface_members_tree,
+  callback_interface_definition_tree,
+  interface_definition_tree,
+  interface_member_tree,
+  partial_interface_definition_tree,
+};
+
+use crate::part::InterfacePart;
+use std::alloc::Global;
+use weedle_async_iterables::AsyncIterableInterfaceMember;
+use weedle_build_base::{
+    At, Build, BuildResult, alternative, choice, eight_fields, seven_fields, six_fields,
+    three_fields,
+};
+use weedle_build_members::MemberPart;
+use weedle_build_types::Attributes;
+use weedle_interfaces::{
+    BracedInterfaceMembers, CallbackInterfaceDefinition, InterfaceDefinition, InterfaceMember,
+    PartialInterfaceDefinition,
+};
+use weedle_iterables::{IterableInterfaceMember, MaplikeInterfaceMember, SetlikeInterfaceMember};
+use weedle_members::{
+    AttributeInterfaceMember, ConstMember, ConstructorInterfaceMember, OperationInterfaceMember,
+    StringifierMember,
+};
+use weedle_modifier::Inheritance;
+use weedle_parts::common::{Docstring, Identifier};
+use weedle_rules::{Ends, Rule};
+use weedle_term::{Callback, CloseBrace, Interface, OpenBrace, Partial, SemiColon};
+
+impl<'a> Build<'a> for InterfacePart<InterfaceMember<'a>> {
+    type Value = InterfaceMember<'a>;
+
+    ghost fits = { λ r. r ≡ INTERFACE_MEMBER };
+
+    ghost tree = { interface_member_tree };
+
+    fn build(
+        alloc: Global,
+        table: &Ends<'a>,
+        _rule: Rule,
+        at: At,
+    ) -> BuildResult<InterfaceMember<'a>> {
+        let rule = Rule::INTERFACE_MEMBER;
+        match choice(table, rule, at.place) {
+            0 => {
+                let (member, at) = alternative::<MemberPart<ConstMember<'a>>>(
+                    alloc, table, rule, 0, at,
+                )?;
+                Ok((InterfaceMember::Const(member), at))
+            }
+            1 => {
+                let (member, at) = alternative::<MemberPart<AttributeInterfaceMember<'a>>>(
+                    alloc, table, rule, 1, at,
+                )?;
+                Ok((InterfaceMember::Attribute(member), at))
+            }
+            2 => {
+                let (member, at) = alternative::<MemberPart<ConstructorInterfaceMember<'a>>>(
+                    alloc, table, rule, 2, at,
+                )?;
+                Ok((InterfaceMember::Constructor(member), at))
+            }
+            3 => {
+                let (member, at) = alternative::<MemberPart<OperationInterfaceMember<'a>>>(
+                    alloc, table, rule, 3, at,
+                )?;
+                Ok((InterfaceMember::Operation(member), at))
+            }
+            4 => {
+                let (member, at) = alternative::<MemberPart<IterableInterfaceMember<'a>>>(
+                    alloc, table, rule, 4, at,
+                )?;
+                Ok((InterfaceMember::Iterable(member), at))
+            }
+            5 => {
+                let (member, at) = alternative::<MemberPart<AsyncIterableInterfaceMember<'a>>>(
+                    alloc, table, rule, 5, at,
+                )?;
+                Ok((InterfaceMember::AsyncIterable(member), at))
+            }
+            6 => {
+                let (member, at) = alternative::<MemberPart<MaplikeInterfaceMember<'a>>>(
+                    alloc, table, rule, 6, at,
+                )?;
+                Ok((InterfaceMember::Maplike(member), at))
+            }
+            7 => {
+                let (member, at) = alternative::<MemberPart<SetlikeInterfaceMember<'a>>>(
+                    alloc, table, rule, 7, at,
+                )?;
+                Ok((InterfaceMember::Setlike(member), at))
+            }
+            8 => {
+                let (member, at) = alternative::<MemberPart<StringifierMember<'a>>>(
+                    alloc, table, rule, 8, at,
+                )?;
+                Ok((InterfaceMember::Stringifier(member), at))
+            }
+            _ => unreachable!(),
+        }
+    }
+}
+
+impl<'a> Build<'a> for InterfacePart<BracedInterfaceMembers<'a>> {
+    type Value = BracedInterfaceMembers<'a>;
+
+    ghost fits = { λ r. fits_seq (bracket_fits OPEN_BRACE (many_fits (λ x. x ≡ INTERFACE_MEMBER)) CLOSE_BRACE) (row_of_rule r) (shape_of r) };
+
+    ghost tree = { braced_interface_members_tree };
+
+    fn build(
+        alloc: Global,
+        table: &Ends<'a>,
+        rule: Rule,
+        at: At,
+    ) -> BuildResult<BracedInterfaceMembers<'a>> {
+        match three_fields::<OpenBrace, Vec<InterfacePart<InterfaceMember<'a>>>, CloseBrace>(
+            alloc, table, rule, at,
+        ) {
+            Ok(((open_brace, body, close_brace), at)) => Ok((
+                BracedInterfaceMembers {
+                    open_brace,
+                    body,
+                    close_brace,
+                },
+                at,
+            )),
+            Err(error) => Err(error),
+        }
+    }
+}
+
+impl<'a> Build<'a> for InterfacePart<CallbackInterfaceDefinition<'a>> {
+    type Value = CallbackInterfaceDefinition<'a>;
+
+    ghost fits = { λ r. r ≡ CALLBACK_INTERFACE_DEFINITION };
+
+    ghost tree = { callback_interface_definition_tree };
+
+    fn build(
+        alloc: Global,
+        table: &Ends<'a>,
+        _rule: Rule,
+        at: At,
+    ) -> BuildResult<CallbackInterfaceDefinition<'a>> {
+        match eight_fields::<
+            Option<Docstring>,
+            Attributes<'a>,
+            Callback,
+            Interface,
+            Identifier<'a>,
+            Option<Inheritance<'a>>,
+            InterfacePart<BracedInterfaceMembers<'a>>,
+            SemiColon,
+        >(alloc, table, Rule::CALLBACK_INTERFACE_DEFINITION, at)
+        {
+            Ok(
+                (
+                    (
+                        docstring,
+                        attributes,
+                        callback,
+                        interface,
+                        identifier,
+                        inheritance,
+                        members,
+                        semi_colon,
+                    ),
+                    at,
+                ),
+            ) => Ok((
+                CallbackInterfaceDefinition {
+                    docstring,
+                    attributes,
+                    callback,
+                    interface,
+                    identifier,
+                    inheritance,
+                    members,
+                    semi_colon,
+                },
+                at,
+            )),
+            Err(error) => Err(error),
+        }
+    }
+}
+
+impl<'a> Build<'a> for InterfacePart<InterfaceDefinition<'a>> {
+    type Value = InterfaceDefinition<'a>;
+
+    ghost fits = { λ r. r ≡ INTERFACE_DEFINITION };
+
+    ghost tree = { interface_definition_tree };
+
+    fn build(
+        alloc: Global,
+        table: &Ends<'a>,
+        _rule: Rule,
+        at: At,
+    ) -> BuildResult<InterfaceDefinition<'a>> {
+        match seven_fields::<
+            Option<Docstring>,
+            Attributes<'a>,
+            Interface,
+            Identifier<'a>,
+            Option<Inheritance<'a>>,
+            InterfacePart<BracedInterfaceMembers<'a>>,
+            SemiColon,
+        >(alloc, table, Rule::INTERFACE_DEFINITION, at)
+        {
+            Ok(
+                (
+                    (
+                        docstring,
+                        attributes,
+                        interface,
+                        identifier,
+                        inheritance,
+                        members,
+                        semi_colon,
+                    ),
+                    at,
+                ),
+            ) => Ok((
+                InterfaceDefinition {
+                    docstring,
+                    attributes,
+                    interface,
+                    identifier,
+                    inheritance,
+                    members,
+                    semi_colon,
+                },
+                at,
+            )),
+            Err(error) => Err(error),
+        }
+    }
+}
+
+impl<'a> Build<'a> for InterfacePart<PartialInterfaceDefinition<'a>> {
+    type Value = PartialInterfaceDefinition<'a>;
+
+    ghost fits = { λ r. r ≡ PARTIAL_INTERFACE_DEFINITION };
+
+    ghost tree = { partial_interface_definition_tree };
+
+    fn build(
+        alloc: Global,
+        table: &Ends<'a>,
+        _rule: Rule,
+        at: At,
+    ) -> BuildResult<PartialInterfaceDefinition<'a>> {
+        match six_fields::<
+            Attributes<'a>,
+            Partial,
+            Interface,
+            Identifier<'a>,
+            InterfacePart<BracedInterfaceMembers<'a>>,
+            SemiColon,
+        >(alloc, table, Rule::PARTIAL_INTERFACE_DEFINITION, at)
+        {
+            Ok(((attributes, partial, interface, identifier, members, semi_colon), at)) => Ok((
+                PartialInterfaceDefinition {
+                    attributes,
+                    partial,
+                    interface,
+                    identifier,
+                    members,
+                    semi_colon,
+                },
+                at,
+            )),
+            Err(error) => Err(error),
+        }
+    }
+}

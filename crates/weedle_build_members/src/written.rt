@@ -1,0 +1,6 @@
+//! What scripts write.
+//!
+//! Written by tools/modules.py.
+
+pub mod iterables;
+pub mod members;

@@ -1,0 +1,11 @@
+//! What scripts write.
+//!
+//! Written by tools/modules.py.
+
+pub mod arguments;
+pub mod attributes;
+pub mod generic_types;
+pub mod kinds;
+pub mod plain_attributes;
+pub mod plain_types;
+pub mod unions;

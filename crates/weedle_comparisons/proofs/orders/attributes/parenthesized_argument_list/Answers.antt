@@ -1,6 +1,0 @@
--- Written by tools/orders.py.
-use Rattle.weedle_types.specs.contracts.argument.ParenthesizedArgumentListOrd.TheImpl.Laws as order
-use Rattle.weedle_comparisons.proofs.orders.attributes.parenthesized_argument_list.Goals as goal
-
-pub returns : goal.returns
-returns c = order.is

@@ -1,6 +1,0 @@
--- Written by tools/orders.py.
-use Rattle.weedle_types.specs.contracts.types.AttributedNonAnyTypeOrd.TheImpl.Laws as order
-use Rattle.weedle_comparisons.proofs.orders.types.attributed_non_any_type.Goals as goal
-
-pub returns : goal.returns
-returns c = order.is

@@ -1,0 +1,38 @@
+-- Which rules always take a byte. Written by tools/grammar.py.
+use Rattle.std.proofs.Common.{ℕ, zero, suc, List, [], ◌∷◌, ◌++◌, Bool, false}
+use Rattle.weedle_grammar.proofs.written.Takes.Trivia.{trivia}
+use Rattle.weedle_grammar.proofs.written.Takes.Symbols.{symbols}
+use Rattle.weedle_grammar.proofs.written.Takes.Keywords.{keywords}
+use Rattle.weedle_grammar.proofs.written.Takes.CapitalizedKeywords.{capitalized_keywords}
+use Rattle.weedle_grammar.proofs.written.Takes.Leaves.{leaves}
+use Rattle.weedle_grammar.proofs.written.Takes.Literals.{literals}
+use Rattle.weedle_grammar.proofs.written.Takes.SimpleTypes.{simple_types}
+use Rattle.weedle_grammar.proofs.written.Takes.Types.{types}
+use Rattle.weedle_grammar.proofs.written.Takes.InterfaceMembers.{interface_members}
+use Rattle.weedle_grammar.proofs.written.Takes.OtherMembers.{other_members}
+use Rattle.weedle_grammar.proofs.written.Takes.Definitions.{definitions}
+pub mod Trivia
+pub mod Symbols
+pub mod Keywords
+pub mod CapitalizedKeywords
+pub mod Leaves
+pub mod Literals
+pub mod SimpleTypes
+pub mod Types
+pub mod InterfaceMembers
+pub mod OtherMembers
+pub mod Definitions
+
+-- whether each rule does, in the order of their numbers
+abbrev pub flags : List Bool
+flags = trivia ++ (symbols ++ (keywords ++ (capitalized_keywords ++ (leaves ++ (literals ++ (simple_types ++ (types ++ (interface_members ++ (other_members ++ definitions)))))))))
+
+-- the flag at a place; past the end none is set
+abbrev pub flag_at : List Bool → ℕ → Bool
+flag_at [] r = false
+flag_at (b ∷ bs) zero = b
+flag_at (b ∷ bs) (suc r) = flag_at bs r
+
+-- the rule takes a byte wherever it doesn't fail
+abbrev pub takes : ℕ → Bool
+takes r = flag_at flags r

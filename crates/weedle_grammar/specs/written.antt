@@ -1,0 +1,3 @@
+-- What scripts write. Written by tools/modules.py.
+pub mod Bound
+pub mod Table

@@ -1,0 +1,48 @@
+-- The grammar: the rows and shapes of all rules, section by section. Written by tools/grammar.py.
+use Rattle.std.specs.Prelude.{ℕ, zero, suc, List, [], ◌∷◌, ◌++◌}
+use Rattle.weedle_grammar.specs.Rows.{Row, First}
+use Rattle.weedle_grammar.specs.Trees.{Outcome}
+use Rattle.weedle_grammar.specs.Meaning.{Shape, Silent, Grammar, ReadsBy}
+use Rattle.weedle_grammar.specs.Entry.{Entry, entry_at}
+use Rattle.weedle_grammar.specs.written.Table.Trivia.{trivia}
+use Rattle.weedle_grammar.specs.written.Table.Symbols.{symbols}
+use Rattle.weedle_grammar.specs.written.Table.Keywords.{keywords}
+use Rattle.weedle_grammar.specs.written.Table.CapitalizedKeywords.{capitalized_keywords}
+use Rattle.weedle_grammar.specs.written.Table.Leaves.{leaves}
+use Rattle.weedle_grammar.specs.written.Table.Literals.{literals}
+use Rattle.weedle_grammar.specs.written.Table.SimpleTypes.{simple_types}
+use Rattle.weedle_grammar.specs.written.Table.Types.{types}
+use Rattle.weedle_grammar.specs.written.Table.InterfaceMembers.{interface_members}
+use Rattle.weedle_grammar.specs.written.Table.OtherMembers.{other_members}
+use Rattle.weedle_grammar.specs.written.Table.Definitions.{definitions}
+pub mod Trivia
+pub mod Symbols
+pub mod Keywords
+pub mod CapitalizedKeywords
+pub mod Leaves
+pub mod Literals
+pub mod SimpleTypes
+pub mod Types
+pub mod InterfaceMembers
+pub mod OtherMembers
+pub mod Definitions
+
+-- all rules, in the order of their numbers
+abbrev pub table : List Entry
+table = trivia ++ (symbols ++ (keywords ++ (capitalized_keywords ++ (leaves ++ (literals ++ (simple_types ++ (types ++ (interface_members ++ (other_members ++ definitions)))))))))
+
+-- the row of a rule
+abbrev pub row_of : ℕ → Row
+row_of r = (entry_at table r).row
+
+-- its shape
+abbrev pub shape_of : ℕ → Shape
+shape_of r = (entry_at table r).shape
+
+-- the grammar
+abbrev pub webidl : Grammar
+webidl = record { row = row_of; shape = shape_of }
+
+-- rule r at place p of the text has the outcome o
+abbrev pub Reads : List ℕ → ℕ → ℕ → Outcome → Type 0
+Reads text r p o = ReadsBy webidl text r p o

@@ -1,0 +1,4 @@
+-- What scripts write. Written by tools/modules.py.
+pub mod DefinitionRules
+pub mod MemberRules
+pub mod MembersRules

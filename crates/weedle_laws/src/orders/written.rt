@@ -1,0 +1,10 @@
+//! What scripts write.
+//!
+//! Written by tools/modules.py.
+
+pub mod definitions;
+pub mod interfaces;
+pub mod iterables;
+pub mod mixins;
+pub mod namespaces;
+pub mod statements;

@@ -1,0 +1,5 @@
+//! What scripts write.
+//!
+//! Written by tools/modules.py.
+
+pub mod terminals;

@@ -1,0 +1,2 @@
+-- What scripts write. Written by tools/modules.py.
+pub mod Bound

@@ -1,0 +1,86 @@
+//! The laws of the members of interfaces, of interfaces and of mixins.
+//! Written by tools/spellings.py.
+
+ghost use Rattle.weedle_grammar.specs.written.Table.Definitions.{
+  CALLBACK_INTERFACE_DEFINITION,
+  INTERFACE_DEFINITION,
+  INTERFACE_MIXIN_DEFINITION,
+  PARTIAL_INTERFACE_DEFINITION,
+  PARTIAL_INTERFACE_MIXIN_DEFINITION,
+};
+ghost use Rattle.weedle_grammar.specs.written.Table.InterfaceMembers.{
+  BRACED_INTERFACE_MEMBERS,
+  INTERFACE_MEMBER,
+  INTERFACE_MEMBERS,
+};
+ghost use Rattle.weedle_interfaces.specs.written.Trees.{
+  braced_interface_members_tree,
+  callback_interface_definition_tree,
+  interface_definition_tree,
+  interface_member_tree,
+  partial_interface_definition_tree,
+};
+ghost use Rattle.weedle_mixins.specs.written.Trees.{
+  interface_mixin_definition_tree,
+  partial_interface_mixin_definition_tree,
+};
+ghost use Rattle.weedle_spell.specs.Laws.{SpellsValues};
+ghost use Rattle.weedle_spell_idl.specs.written.Interfaces.{
+  braced_interface_members_spelling,
+  callback_interface_definition_spelling,
+  interface_definition_spelling,
+  interface_member_spelling,
+  interface_members_spelling,
+  interface_mixin_definition_spelling,
+  partial_interface_definition_spelling,
+  partial_interface_mixin_definition_spelling,
+};
+ghost use Rattle.weedle_types.specs.PartTrees.{members_tree};
+
+/// A member of an interface, as `attribute long length;`.
+#[tactic(auto, using(crate::proofs::written::InterfaceLaws::interface_member_law))]
+pub fn interface_member()
+    ensures { SpellsValues INTERFACE_MEMBER interface_member_tree interface_member_spelling }
+{}
+
+/// The members of an interface, one after another, as `long f(); long g();`.
+#[tactic(auto, using(crate::proofs::written::InterfaceLaws::interface_members_law))]
+pub fn interface_members()
+    ensures { SpellsValues INTERFACE_MEMBERS (members_tree interface_member_tree) interface_members_spelling }
+{}
+
+/// The members of an interface between braces, as `{ attribute long length; }`.
+#[tactic(auto, using(crate::proofs::written::InterfaceLaws::braced_interface_members_law))]
+pub fn braced_interface_members()
+    ensures { SpellsValues BRACED_INTERFACE_MEMBERS braced_interface_members_tree braced_interface_members_spelling }
+{}
+
+/// A callback interface, as `callback interface A {};`.
+#[tactic(auto, using(crate::proofs::written::InterfaceLaws::callback_interface_definition_law))]
+pub fn callback_interface_definition()
+    ensures { SpellsValues CALLBACK_INTERFACE_DEFINITION callback_interface_definition_tree callback_interface_definition_spelling }
+{}
+
+/// An interface, as `interface A : B { attribute long x; };`.
+#[tactic(auto, using(crate::proofs::written::InterfaceLaws::interface_definition_law))]
+pub fn interface_definition()
+    ensures { SpellsValues INTERFACE_DEFINITION interface_definition_tree interface_definition_spelling }
+{}
+
+/// A part of an interface, as `partial interface A {};`.
+#[tactic(auto, using(crate::proofs::written::InterfaceLaws::partial_interface_definition_law))]
+pub fn partial_interface_definition()
+    ensures { SpellsValues PARTIAL_INTERFACE_DEFINITION partial_interface_definition_tree partial_interface_definition_spelling }
+{}
+
+/// A mixin, as `interface mixin A {};`.
+#[tactic(auto, using(crate::proofs::written::InterfaceLaws::interface_mixin_definition_law))]
+pub fn interface_mixin_definition()
+    ensures { SpellsValues INTERFACE_MIXIN_DEFINITION interface_mixin_definition_tree interface_mixin_definition_spelling }
+{}
+
+/// A part of a mixin, as `partial interface mixin A {};`.
+#[tactic(auto, using(crate::proofs::written::InterfaceLaws::partial_interface_mixin_definition_law))]
+pub fn partial_interface_mixin_definition()
+    ensures { SpellsValues PARTIAL_INTERFACE_MIXIN_DEFINITION partial_interface_mixin_definition_tree partial_interface_mixin_definition_spelling }
+{}

@@ -1,0 +1,118 @@
+//! The laws of namespaces and dictionaries, and of their members. Written by tools/spellings.py.
+
+ghost use Rattle.weedle_grammar.specs.written.Table.Definitions.{
+  DICTIONARY_DEFINITION,
+  NAMESPACE_DEFINITION,
+  PARTIAL_DICTIONARY_DEFINITION,
+  PARTIAL_NAMESPACE_DEFINITION,
+};
+ghost use Rattle.weedle_grammar.specs.written.Table.OtherMembers.{
+  ATTRIBUTE_NAMESPACE_MEMBER,
+  BRACED_DICTIONARY_MEMBERS,
+  BRACED_NAMESPACE_MEMBERS,
+  DICTIONARY_MEMBER,
+  DICTIONARY_MEMBERS,
+  NAMESPACE_MEMBER,
+  NAMESPACE_MEMBERS,
+  OPERATION_NAMESPACE_MEMBER,
+};
+ghost use Rattle.weedle_namespaces.specs.written.Trees.{
+  attribute_namespace_member_tree,
+  braced_dictionary_members_tree,
+  braced_namespace_members_tree,
+  dictionary_definition_tree,
+  dictionary_member_tree,
+  namespace_definition_tree,
+  namespace_member_tree,
+  operation_namespace_member_tree,
+  partial_dictionary_definition_tree,
+  partial_namespace_definition_tree,
+};
+ghost use Rattle.weedle_spell.specs.Laws.{SpellsValues};
+ghost use Rattle.weedle_spell_idl.specs.written.Namespaces.{
+  attribute_namespace_member_spelling,
+  braced_dictionary_members_spelling,
+  braced_namespace_members_spelling,
+  dictionary_definition_spelling,
+  dictionary_member_spelling,
+  dictionary_members_spelling,
+  namespace_definition_spelling,
+  namespace_member_spelling,
+  namespace_members_spelling,
+  operation_namespace_member_spelling,
+  partial_dictionary_definition_spelling,
+  partial_namespace_definition_spelling,
+};
+ghost use Rattle.weedle_types.specs.PartTrees.{members_tree};
+
+/// A member of a dictionary, as `required long x;` or `long x = 5;`.
+#[tactic(auto, using(crate::proofs::written::NamespaceLaws::dictionary_member_law))]
+pub fn dictionary_member()
+    ensures { SpellsValues DICTIONARY_MEMBER dictionary_member_tree dictionary_member_spelling }
+{}
+
+/// The members of a dictionary, one after another, as `long x; long y = 5;`.
+#[tactic(auto, using(crate::proofs::written::NamespaceLaws::dictionary_members_law))]
+pub fn dictionary_members()
+    ensures { SpellsValues DICTIONARY_MEMBERS (members_tree dictionary_member_tree) dictionary_members_spelling }
+{}
+
+/// The members of a dictionary between braces, as `{ long x = 5; }`.
+#[tactic(auto, using(crate::proofs::written::NamespaceLaws::braced_dictionary_members_law))]
+pub fn braced_dictionary_members()
+    ensures { SpellsValues BRACED_DICTIONARY_MEMBERS braced_dictionary_members_tree braced_dictionary_members_spelling }
+{}
+
+/// A dictionary, as `dictionary A : B { long x = 5; };`.
+#[tactic(auto, using(crate::proofs::written::NamespaceLaws::dictionary_definition_law))]
+pub fn dictionary_definition()
+    ensures { SpellsValues DICTIONARY_DEFINITION dictionary_definition_tree dictionary_definition_spelling }
+{}
+
+/// A part of a dictionary, as `partial dictionary A {};`.
+#[tactic(auto, using(crate::proofs::written::NamespaceLaws::partial_dictionary_definition_law))]
+pub fn partial_dictionary_definition()
+    ensures { SpellsValues PARTIAL_DICTIONARY_DEFINITION partial_dictionary_definition_tree partial_dictionary_definition_spelling }
+{}
+
+/// An operation of a namespace, as `long f(long x);`.
+#[tactic(auto, using(crate::proofs::written::NamespaceLaws::operation_namespace_member_law))]
+pub fn operation_namespace_member()
+    ensures { SpellsValues OPERATION_NAMESPACE_MEMBER operation_namespace_member_tree operation_namespace_member_spelling }
+{}
+
+/// An attribute of a namespace, as `readonly attribute long x;`.
+#[tactic(auto, using(crate::proofs::written::NamespaceLaws::attribute_namespace_member_law))]
+pub fn attribute_namespace_member()
+    ensures { SpellsValues ATTRIBUTE_NAMESPACE_MEMBER attribute_namespace_member_tree attribute_namespace_member_spelling }
+{}
+
+/// A member of a namespace, as `long f(long x);`.
+#[tactic(auto, using(crate::proofs::written::NamespaceLaws::namespace_member_law))]
+pub fn namespace_member()
+    ensures { SpellsValues NAMESPACE_MEMBER namespace_member_tree namespace_member_spelling }
+{}
+
+/// The members of a namespace, one after another, as `long f(); long g();`.
+#[tactic(auto, using(crate::proofs::written::NamespaceLaws::namespace_members_law))]
+pub fn namespace_members()
+    ensures { SpellsValues NAMESPACE_MEMBERS (members_tree namespace_member_tree) namespace_members_spelling }
+{}
+
+/// The members of a namespace between braces, as `{ long f(); }`.
+#[tactic(auto, using(crate::proofs::written::NamespaceLaws::braced_namespace_members_law))]
+pub fn braced_namespace_members()
+    ensures { SpellsValues BRACED_NAMESPACE_MEMBERS braced_namespace_members_tree braced_namespace_members_spelling }
+{}
+
+/// A namespace, as `namespace A { long f(); };`.
+#[tactic(auto, using(crate::proofs::written::NamespaceLaws::namespace_definition_law))]
+pub fn namespace_definition()
+    ensures { SpellsValues NAMESPACE_DEFINITION namespace_definition_tree namespace_definition_spelling }
+{}
+
+/// A part of a namespace, as `partial namespace A {};`.
+#[tactic(auto, using(crate::proofs::written::NamespaceLaws::partial_namespace_definition_law))]
+pub fn partial_namespace_definition()
+    ensures { SpellsValues PARTIAL_NAMESPACE_DEFINITION partial_namespace_definition_tree partial_namespace_definition_spelling }
+{}

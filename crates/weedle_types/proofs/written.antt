@@ -1,0 +1,7 @@
+-- What scripts write. Written by tools/modules.py.
+pub mod ArgumentRules
+pub mod AttributeRules
+pub mod GenericTypeRules
+pub mod PlainTypeRules
+pub mod TypeRules
+pub mod UnionRules
