@@ -71,6 +71,7 @@ impl<'a, T: Parse<'a>> Parse<'a> for Vec<T> {
         loop {
             let (after, read) = Option::<T>::parse(alloc, rest)?;
             let Some(item) = read else {
+                list.shrink_to_fit();
                 return Ok((rest, list));
             };
             if after.len() == rest.len() {

@@ -30,7 +30,8 @@ impl<'a, T: Parse<'a>, S: Parse<'a> + Default> Parse<'a> for Punctuated<T, S> {
     fn parse(alloc: Global, input: &'a str) -> IResult<&'a str, Self> {
         match T::parse(alloc, input) {
             Ok((rest, first)) => {
-                let (rest, list) = following::<T, S>(alloc, first, rest)?;
+                let (rest, mut list) = following::<T, S>(alloc, first, rest)?;
+                list.shrink_to_fit();
                 let separator = S::default();
                 Ok((rest, Punctuated { list, separator }))
             }
@@ -74,7 +75,8 @@ impl<'a, T: Parse<'a>, S: Parse<'a> + Default> Parse<'a> for PunctuatedNonEmpty<
 
     fn parse(alloc: Global, input: &'a str) -> IResult<&'a str, Self> {
         let (rest, first) = T::parse(alloc, input)?;
-        let (rest, list) = following::<T, S>(alloc, first, rest)?;
+        let (rest, mut list) = following::<T, S>(alloc, first, rest)?;
+        list.shrink_to_fit();
         let (rest, _) = Option::<S>::parse(alloc, rest)?;
         let separator = S::default();
         Ok((rest, PunctuatedNonEmpty { list, separator }))
