@@ -10,7 +10,8 @@
 //! ```
 //!
 //! What a rule reads from a text, and what it gives, is said once for any such table, in
-//! `specs/Meaning.antt`; the table itself is `specs/written/Table`, and [`laws`] has what always holds.
+//! `specs/Meaning.antt`; the table itself is `specs/written/Table`, and [`laws`] has what always
+//! holds.
 #![tactic(auto)]
 
 mod class;
