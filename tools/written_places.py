@@ -31,9 +31,15 @@ FOLDERS = """
 """.split()
 # How the names of files begin that stand below the module whose types they are of, whatever it is.
 BELOW = "from_"
-# Proofs of functions by hand. They stand where the prover looks for them, and only their heads say that they are
-# written.
-FIXED = "weedle_idl/proofs/definition weedle_interfaces/proofs/member weedle_types/proofs/reading".split()
+# Proofs of which only their heads say that they are written: those of functions by hand, which stand where the
+# prover looks for them, and one that other crates name, since a crate doesn't hand on the folder `written` of its
+# proofs where its code has one too.
+FIXED = """
+    weedle_grammar/proofs/Takes
+    weedle_idl/proofs/definition
+    weedle_interfaces/proofs/member
+    weedle_types/proofs/reading
+""".split()
 # Modules that scripts write where files stand beside those by hand, and that are by hand where they are apart:
 # they name modules of both kinds. tools/modules.py keeps the names that they give.
 BY_HAND_APART = {
@@ -57,6 +63,11 @@ def is_below(path, folders):
     return any(path.startswith(f"{folder}/") for folder in folders)
 
 
+def is_fixed(path):
+    """Whether a path is that of a file or module of FIXED, or below it."""
+    return Path(path).with_suffix("").as_posix() in FIXED or is_below(path, FIXED)
+
+
 def folder_above(path):
     """The folder by hand of a written file's path."""
     crate, part, *_ = path.split("/")
@@ -67,7 +78,7 @@ def folder_above(path):
 
 def apart(path):
     """A path below crates/, with the folder of its own where a written file has one."""
-    if not IS_APART or is_below(path, FIXED) or Path(path).stem == FOLDER:
+    if not IS_APART or is_fixed(path) or Path(path).stem == FOLDER:
         return path
     folder = folder_above(path)
     return f"{folder}/{FOLDER}/{path[len(folder) + 1:]}"

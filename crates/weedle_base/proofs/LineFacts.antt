@@ -12,7 +12,7 @@ use Rattle.weedle_grammar.specs.written.Table.Trivia.{RUN_BLANK}
 use Rattle.weedle_grammar.specs.written.Table.Leaves.{BYTES_THREE_SLASHES, PAST_LF, DOC_LINE, MANY_DOC_LINE, DOCSTRING}
 use Rattle.weedle_grammar.proofs.Suffix.{then_on, fails, nothing, no_node}
 use Rattle.weedle_grammar.proofs.Checked.{rank, ranked}
-use Rattle.weedle_grammar.proofs.written.Takes.{takes}
+use Rattle.weedle_grammar.proofs.Takes.{takes}
 use Rattle.weedle_grammar.proofs.Exists.{advances}
 use Rattle.weedle_base.proofs.RuleFacts.{of_row}
 use Rattle.weedle_base.proofs.RunRules.{row_forth}

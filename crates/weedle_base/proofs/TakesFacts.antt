@@ -9,7 +9,7 @@ use Rattle.weedle_base.specs.declared.fault.Err.TheVariants.{Error as Recoverabl
 use Rattle.weedle_base.specs.declared.fault.Error.{Error}
 use Rattle.weedle_grammar.proofs.Checked.{rank, ranked}
 use Rattle.weedle_grammar.proofs.Exists.{advances}
-use Rattle.weedle_grammar.proofs.written.Takes.{takes}
+use Rattle.weedle_grammar.proofs.Takes.{takes}
 use Rattle.weedle_grammar.specs.written.Table.{webidl}
 use Rattle.weedle_grammar.specs.Trees.{Tree}
 

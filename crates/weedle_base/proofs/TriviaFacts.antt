@@ -10,7 +10,7 @@ use Rattle.weedle_base.proofs.RunRules.{row_forth}
 use Rattle.weedle_base.specs.Trivia.{Took, Trial}
 use Rattle.weedle_grammar.proofs.Checked.{rank, ranked}
 use Rattle.weedle_grammar.proofs.Exists.{advances}
-use Rattle.weedle_grammar.proofs.written.Takes.{takes}
+use Rattle.weedle_grammar.proofs.Takes.{takes}
 use Rattle.weedle_grammar.specs.Meaning.{Yields, ReadsRow, by_first, first_here, first_next, first_none, many_end, many_more}
 use Rattle.weedle_grammar.specs.Rows.{Many, run_length, is_in}
 use Rattle.weedle_grammar.specs.written.Table.{webidl, Reads}

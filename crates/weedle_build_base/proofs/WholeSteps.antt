@@ -8,7 +8,7 @@ use Rattle.weedle_grammar.specs.Meaning.{Shape, Raw, Breaks, Yields, before, sha
 use Rattle.weedle_grammar.specs.written.Table.{webidl, shape_of, Reads}
 use Rattle.weedle_grammar.specs.written.Table.Definitions.{DEFINITION, DEFINITIONS}
 use Rattle.weedle_grammar.proofs.Inversion.{at_row}
-use Rattle.weedle_grammar.proofs.written.Takes.{takes}
+use Rattle.weedle_grammar.proofs.Takes.{takes}
 use Rattle.weedle_grammar.proofs.Checked.{ranked}
 use Rattle.weedle_grammar.proofs.Exists.{advances, stays_inside}
 use Rattle.weedle_grammar.proofs.GrammarFacts.{one, at_boundary}

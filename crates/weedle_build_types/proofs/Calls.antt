@@ -5,7 +5,7 @@ use Rattle.weedle_grammar.specs.Rows.{If, Opt}
 use Rattle.weedle_grammar.specs.written.Table.{webidl, row_of, shape_of}
 use Rattle.weedle_grammar.specs.Trees.{Tree}
 use Rattle.weedle_grammar.specs.Meaning.{Plain}
-use Rattle.weedle_grammar.proofs.written.Takes.{takes}
+use Rattle.weedle_grammar.proofs.Takes.{takes}
 use Rattle.weedle_grammar.proofs.Checked.{ranked}
 use Rattle.weedle_grammar.proofs.Exists.{advances, grows}
 use Rattle.weedle_build_base.specs.Built.{Answers, Builds, Due, Rest}

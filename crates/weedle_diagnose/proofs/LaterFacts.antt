@@ -9,7 +9,7 @@ use Rattle.weedle_grammar.specs.written.Table.{webidl, row_of}
 use Rattle.weedle_rules.specs.Cells.{cell_number}
 use Rattle.weedle_grammar.proofs.Leaves.{both, one_of}
 use Rattle.weedle_grammar.proofs.Ranked.{is_low, low_parts, all_low}
-use Rattle.weedle_grammar.proofs.written.Takes.{takes}
+use Rattle.weedle_grammar.proofs.Takes.{takes}
 use Rattle.weedle_grammar.proofs.Checked.{rank, ranked}
 use Rattle.weedle_grammar.proofs.Entries.{passes}
 use Rattle.weedle_grammar.proofs.Exists.{grows, stays_inside, advances, seq_grows, seq_stays_inside, seq_advances}

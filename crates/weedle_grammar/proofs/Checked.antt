@@ -3,7 +3,7 @@ use Rattle.std.proofs.Common.{◌≡◌, ℕ, Bool, true, false, refl}
 use Rattle.std.specs.Prelude.{◌&&◌, ◌||◌, not}
 use Rattle.weedle_grammar.specs.Entry.{Entry, entry_at}
 use Rattle.weedle_grammar.specs.written.Table.{table, webidl}
-use Rattle.weedle_grammar.proofs.written.Takes.{takes}
+use Rattle.weedle_grammar.proofs.Takes.{takes}
 use Rattle.weedle_grammar.proofs.Leaves.{both}
 use Rattle.weedle_grammar.proofs.Ranked.{is_ranked}
 use Rattle.weedle_grammar.proofs.Boundary.{is_safe}

@@ -5,7 +5,7 @@ use Rattle.weedle_grammar.specs.Trees.{Outcome, Fails, Gives}
 use Rattle.weedle_grammar.specs.Meaning.{moved}
 use Rattle.weedle_grammar.specs.written.Table.{webidl, Reads}
 use Rattle.weedle_grammar.specs.Laws.{HasOneOutcome, IsShifted, EndsAtBoundary}
-use Rattle.weedle_grammar.proofs.written.Takes.{takes}
+use Rattle.weedle_grammar.proofs.Takes.{takes}
 use Rattle.weedle_grammar.proofs.Checked.{rank, ranked, safe}
 use Rattle.weedle_grammar.proofs.Unique.{one_outcome}
 use Rattle.weedle_grammar.proofs.Exists.{has_outcome}

@@ -7,6 +7,7 @@ pub mod Leaves
 pub mod Exists
 pub mod Classes
 pub mod Boundary
+pub mod Takes
 pub mod Checked
 pub mod GrammarFacts
 pub mod Suffix

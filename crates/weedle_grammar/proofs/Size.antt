@@ -11,7 +11,7 @@ use Rattle.weedle_grammar.specs.written.Table.{table, webidl, row_of}
 use Rattle.weedle_grammar.specs.Size.{total_size, in_turn, gives, giving, IsSmallWhereEmpty, HasFewParts, IsBounded}
 use Rattle.weedle_grammar.proofs.Inversion.{choice_of}
 use Rattle.weedle_grammar.proofs.Leaves.{both}
-use Rattle.weedle_grammar.proofs.written.Takes.{takes}
+use Rattle.weedle_grammar.proofs.Takes.{takes}
 use Rattle.weedle_grammar.proofs.Checked.{ranked}
 use Rattle.weedle_grammar.proofs.Entries.{all_pass, passes}
 use Rattle.weedle_grammar.proofs.Size.Slim.{is_short, is_slim}

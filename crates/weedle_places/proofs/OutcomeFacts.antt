@@ -3,7 +3,7 @@ use Rattle.std.proofs.Common.{◌≡◌, inl, inr, ℕ, ◌<◌, ◌≤◌, List
 use Rattle.weedle_grammar.specs.Rows.{Row, Many}
 use Rattle.weedle_grammar.specs.Meaning.{ReadsRow}
 use Rattle.weedle_grammar.specs.written.Table.{webidl, row_of}
-use Rattle.weedle_grammar.proofs.written.Takes.{takes}
+use Rattle.weedle_grammar.proofs.Takes.{takes}
 use Rattle.weedle_grammar.proofs.Checked.{rank, ranked}
 use Rattle.weedle_grammar.proofs.Entries.{passes}
 use Rattle.weedle_grammar.proofs.Exists.{grows, stays_inside, advances}

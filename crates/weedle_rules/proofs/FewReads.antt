@@ -5,7 +5,7 @@ use borrow.Author.Tests.{ltb-true}
 use Rattle.weedle_grammar.specs.Rows.{Row, Bytes, OneOf, NotNext, Run, Past, Seq, First, Opt, Many, ListOf, List1, Tail, If}
 use Rattle.weedle_grammar.specs.written.Table.{row_of, shape_of}
 use Rattle.weedle_grammar.specs.Meaning.{Shape, Silent, Marked, Kept, Line, Joined, Inner, Plain}
-use Rattle.weedle_grammar.proofs.written.Takes.{takes}
+use Rattle.weedle_grammar.proofs.Takes.{takes}
 use Rattle.weedle_grammar.specs.written.Bound.{rule_count}
 use Rattle.weedle_rules.specs.written.Bound.{most_reads}
 use Rattle.weedle_grammar.proofs.Leaves.{both}

@@ -15,7 +15,7 @@ loop-list-preserved g c =
 
 pub returns-in_default : goal.returns-in_default
 returns-in_default g c =
-    reached_ends (vec_step g.T.Parse.reading) (λ v. v.items) c.args.input.now c.loop-list.rest.now c.loop-list.list c.loop-list.invariant.1 (of_none g.T.Parse.reading c.in_ok-after.ensures c.in_default.is)
+    reached_ends (vec_step g.T.Parse.reading) (λ v. v.items) c.args.input.now c.loop-list.rest.now c.shrink_to_fit.new.self (rw c.shrink_to_fit.ensures.items c.loop-list.invariant.1) (of_none g.T.Parse.reading c.in_ok-after.ensures c.in_default.is)
 
 pub returns-then-after-rest : goal.returns-then-after-rest
 returns-then-after-rest g c = run_stuck (λ v. v.items) g.T.Parse.reading c.loop-list.invariant.1 (of_some g.T.Parse.reading c.in_ok-after.ensures c.in-Some.is) c.if-after-rest.true c.mismatch.ensures

@@ -1,6 +1,6 @@
 use Rattle.std.proofs.Common.{arith, rules}
 use Rattle.weedle_grammar.specs.written.Table.{webidl}
-use Rattle.weedle_grammar.proofs.written.Takes.{takes}
+use Rattle.weedle_grammar.proofs.Takes.{takes}
 use Rattle.weedle_grammar.proofs.Checked.{ranked}
 use Rattle.weedle_rules.proofs.RowEnds.{row_ends, many_ends, many_fails, many_goes}
 use Rattle.weedle_rules.proofs.PartEnds.{many_low}

@@ -3,7 +3,7 @@ use Rattle.weedle_grammar.specs.written.Table.{webidl}
 use Rattle.weedle_grammar.specs.View.{numbers_of}
 use Rattle.weedle_grammar.specs.Trees.{Gives}
 use Rattle.weedle_grammar.specs.Meaning.{is_present, ReadsBy}
-use Rattle.weedle_grammar.proofs.written.Takes.{takes}
+use Rattle.weedle_grammar.proofs.Takes.{takes}
 use Rattle.weedle_grammar.proofs.Checked.{ranked}
 use Rattle.weedle_rules.proofs.ConditionEnds.{if_start, if_known, if_step, if_along_fails, if_along_ends, if_ends_none, if_ends_absent, if_ends_present, if_next_low, present, note_more, note_high, note_low, chosen_here, chosen_other}
 use Rattle.weedle_rules.proofs.FewReads.{if_switch}

@@ -1,7 +1,7 @@
 use Rattle.std.proofs.Common.{drop}
 use Rattle.weedle_grammar.specs.written.Table.{webidl}
 use Rattle.weedle_grammar.specs.View.{numbers_of}
-use Rattle.weedle_grammar.proofs.written.Takes.{takes}
+use Rattle.weedle_grammar.proofs.Takes.{takes}
 use Rattle.weedle_rules.proofs.ConditionEnds.{AlongIf, note_at}
 use Rattle.weedle_rules.proofs.Looks.{Looked}
 use Rattle.weedle_rules.proofs.work.parts.conditional.Given as goal

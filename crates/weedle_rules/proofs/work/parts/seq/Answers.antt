@@ -1,7 +1,7 @@
 use Rattle.std.proofs.Common.{arith}
 use Rattle.weedle_grammar.specs.written.Table.{webidl}
 use Rattle.weedle_grammar.specs.View.{numbers_of}
-use Rattle.weedle_grammar.proofs.written.Takes.{takes}
+use Rattle.weedle_grammar.proofs.Takes.{takes}
 use Rattle.weedle_grammar.proofs.Checked.{ranked}
 use Rattle.weedle_rules.proofs.PartEnds.{along_start, along_known, along_step, along_fails, along_ends}
 use Rattle.weedle_rules.proofs.RowEnds.{seq_ends}

@@ -1,16 +1,16 @@
 -- Which rules always take a byte. Written by tools/grammar.py.
 use Rattle.std.proofs.Common.{ℕ, zero, suc, List, [], ◌∷◌, ◌++◌, Bool, false}
-use Rattle.weedle_grammar.proofs.written.Takes.Trivia.{trivia}
-use Rattle.weedle_grammar.proofs.written.Takes.Symbols.{symbols}
-use Rattle.weedle_grammar.proofs.written.Takes.Keywords.{keywords}
-use Rattle.weedle_grammar.proofs.written.Takes.CapitalizedKeywords.{capitalized_keywords}
-use Rattle.weedle_grammar.proofs.written.Takes.Leaves.{leaves}
-use Rattle.weedle_grammar.proofs.written.Takes.Literals.{literals}
-use Rattle.weedle_grammar.proofs.written.Takes.SimpleTypes.{simple_types}
-use Rattle.weedle_grammar.proofs.written.Takes.Types.{types}
-use Rattle.weedle_grammar.proofs.written.Takes.InterfaceMembers.{interface_members}
-use Rattle.weedle_grammar.proofs.written.Takes.OtherMembers.{other_members}
-use Rattle.weedle_grammar.proofs.written.Takes.Definitions.{definitions}
+use Rattle.weedle_grammar.proofs.Takes.Trivia.{trivia}
+use Rattle.weedle_grammar.proofs.Takes.Symbols.{symbols}
+use Rattle.weedle_grammar.proofs.Takes.Keywords.{keywords}
+use Rattle.weedle_grammar.proofs.Takes.CapitalizedKeywords.{capitalized_keywords}
+use Rattle.weedle_grammar.proofs.Takes.Leaves.{leaves}
+use Rattle.weedle_grammar.proofs.Takes.Literals.{literals}
+use Rattle.weedle_grammar.proofs.Takes.SimpleTypes.{simple_types}
+use Rattle.weedle_grammar.proofs.Takes.Types.{types}
+use Rattle.weedle_grammar.proofs.Takes.InterfaceMembers.{interface_members}
+use Rattle.weedle_grammar.proofs.Takes.OtherMembers.{other_members}
+use Rattle.weedle_grammar.proofs.Takes.Definitions.{definitions}
 pub mod Trivia
 pub mod Symbols
 pub mod Keywords

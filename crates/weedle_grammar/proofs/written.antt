@@ -1,2 +1,0 @@
--- What scripts write. Written by tools/modules.py.
-pub mod Takes
