@@ -26,7 +26,7 @@ from description.layout import use_line
 from description.names import upper
 from description.readings import CRATES
 from description.uses import ghost_line
-from description.webidl import BY_NAME, KEYWORDS, NUMBER, SCANNED, SECTIONS
+from description.webidl import BY_NAME, KEYWORDS, NUMBER, SECTIONS
 from written.imports import imported
 from written_places import files_in, in_logic, module_in, put
 
@@ -172,11 +172,6 @@ class Built:
             return self.text
         return f"{self.over}<{self.text}>" if self.over else f"Any{self.name}"
 
-    @property
-    def has_constant(self):
-        """Whether `Rule` has a constant for its rule, so that it is built at that rule alone."""
-        return bool(BY_NAME[self.rule].doc) or self.rule in SCANNED
-
     def alternatives(self):
         """What its alternatives are built by, each with the pattern of a value and what is made of it."""
         if self.is_flag:
@@ -200,27 +195,11 @@ class Built:
         return set(TYPE_NAME.findall(" ".join(texts))) - PRELUDE
 
 
-def fits_of(it):
-    """Of which rules a value is: of its own, or of those whose row puts its members in brackets."""
-    if it.has_constant:
-        return f"λ r. r ≡ {it.rule}"
-    opening, body, closing = BY_NAME[it.rule].row[1]
-    members = f"many_fits (λ x. x ≡ {BY_NAME[body].row[1]})"
-    row = f"bracket_fits {opening} ({members}) {closing}"
-    return f"λ r. fits_seq ({row}) (row_of_rule r) (shape_of r)"
-
-
-def rules_in(it):
-    """The rules that its `fits` names."""
-    return set(re.findall(r"\b[A-Z][A-Z0-9_]+\b", fits_of(it)))
-
-
 def body_of_struct(it):
     """The call that builds the fields, with its answer taken apart."""
-    rule = f"Rule::{it.rule}" if it.has_constant else "rule"
     names = ", ".join(name for name, _ in it.fields)
     [function] = it.calls()
-    call = f"{function}::<{', '.join(text for _, text in it.fields)}>(alloc, table, {rule}, at)"
+    call = f"{function}::<{', '.join(text for _, text in it.fields)}>(alloc, table, Rule::{it.rule}, at)"
     value = f"({it.name} {{ {names} }}, at)"
     # The prover takes a little less for a `match` than for `?`; with two fields that doesn't count.
     if len(it.fields) == 2:
@@ -241,7 +220,7 @@ def body_of_choice(it):
 def impl(it):
     """The `impl Build` of a type; where no crate has a part for it, behind a struct that stands for it."""
     is_choice = it.item.is_enum or it.is_flag
-    value, rule = "Self" if it.is_own else it.text, "_rule" if it.has_constant else "rule"
+    value = "Self" if it.is_own else it.text
     own = "" if it.is_own or it.over else f"""/// How a {it.name.lower()} is built.
 pub(crate) struct {it.part};
 
@@ -249,11 +228,11 @@ pub(crate) struct {it.part};
     return own + f"""impl<'a> Build<'a> for {it.part} {{
     type Value = {value};
 
-    ghost fits = {{ {fits_of(it)} }};
+    ghost fits = {{ λ r. r ≡ {it.rule} }};
 
     ghost tree = {{ {it.tree} }};
 
-    fn build(alloc: Global, table: &Ends<'a>, {rule}: Rule, at: At) -> BuildResult<{value}> {{
+    fn build(alloc: Global, table: &Ends<'a>, _rule: Rule, at: At) -> BuildResult<{value}> {{
         {body_of_choice(it) if is_choice else body_of_struct(it)}
     }}
 }}
@@ -297,12 +276,8 @@ class File:
 
     def ghost_lines(self):
         """What the contracts name, brought in."""
-        paths, rules = {}, set().union(*map(rules_in, self.built))
+        paths, rules = {}, {it.rule for it in self.built}
         add(paths, "Rattle.std.specs.Prelude", "◌≡◌")
-        if not all(it.has_constant for it in self.built):
-            add(paths, f"Rattle.{BASE}.specs.Fits", "bracket_fits", "fits_seq")
-            add(paths, "Rattle.weedle_build_types.specs.Fits", "many_fits")
-            add(paths, TABLE, "row_of as row_of_rule", "shape_of")
         for section in sorted(SECTIONS, key=lambda it: it.name):
             if found := rules & {it.name for it in section.rules}:
                 add(paths, f"{TABLE}.{section.name}", *found)

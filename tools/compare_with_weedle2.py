@@ -60,8 +60,7 @@ DEPTH = 20_000
 
 # The names that differ from weedle2's on purpose: of variants and tuples, of structs, and of fields.
 RENAMED = {
-    "Type_": "Type", "RecordTypes": None, "ParenthesizedArgumentList": "Parenthesized", "BracedInterfaceMembers": "Braced",
-    "BracedMixinMembers": "Braced", "BracedNamespaceMembers": "Braced", "BracedDictionaryMembers": "Braced",
+    "Type_": "Type", "RecordTypes": None, "ParenthesizedArgumentList": "Parenthesized",
 }
 RENAMED_FIELDS = {"record_": "record"}
 

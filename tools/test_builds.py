@@ -42,10 +42,12 @@ MIXIN = """//! Mixins.
 /// Members.
 pub type MixinMembers<'a> = Vec<MixinMember<'a>>;
 
-pub struct BracedMixinMembers<'a> {
-    pub open_brace: OpenBrace,
-    pub body: MixinMembers<'a>,
-    pub close_brace: CloseBrace,
+/// A mixin.
+pub struct InterfaceMixinDefinition<'a> {
+    /// The sign.
+    pub assign: Assign,
+    /// The members, between braces.
+    pub members: Braced<MixinMembers<'a>>,
 }
 
 /// One of two.
@@ -67,7 +69,7 @@ TREES = """-- Trees.
 abbrev pub default_tree : Default → Tree
 default_tree v = Mark
 
-abbrev pub braced_tree : BracedMixinMembers → Tree
+abbrev pub definition_tree : InterfaceMixinDefinition → Tree
 abbrev pub mixin_tree : MixinMember → Tree
 abbrev pub boolean_tree : BooleanLit → Tree
 """
@@ -82,7 +84,7 @@ BASE = """//! The second pass.
 pub use alternatives::{alternative, choice};
 pub use at::At;
 pub use build::{Build, BuildResult};
-pub use structs::{three_fields, two_fields};
+pub use structs::two_fields;
 """
 HIGH = """//! High.
 
@@ -99,10 +101,12 @@ pub enum Definition<'a> {
 TERMS = """//! Terminals.
 
 pub struct Assign;
-pub struct OpenBrace;
-pub struct CloseBrace;
 pub struct True;
 pub struct False;
+
+pub struct Braced<T> {
+    pub body: T,
+}
 """
 FILES = {
     "build_low/low": ("What is low.", "low::mixin"),
@@ -156,18 +160,14 @@ impl<'a> Build<'a> for LowPart<Default<'a>> {
 }
 """
 BRACED = """
-    ghost fits = { λ r. fits_seq
-        (bracket_fits OPEN_BRACE (many_fits (λ x. x ≡ MIXIN_MEMBER)) CLOSE_BRACE)
-        (row_of_rule r) (shape_of r) };
+    ghost fits = { λ r. r ≡ INTERFACE_MIXIN_DEFINITION };
 
-    ghost tree = { braced_tree };
+    ghost tree = { definition_tree };
 
-    fn build(alloc: Global, table: &Ends<'a>, rule: Rule, at: At) -> BuildResult<BracedMixinMembers<'a>> {
-        match three_fields::<OpenBrace, Vec<LowPart<MixinMember<'a>>>, CloseBrace>(alloc, table, rule, at) {
-            Ok(((open_brace, body, close_brace), at)) =>
-                Ok((BracedMixinMembers { open_brace, body, close_brace }, at)),
-            Err(error) => Err(error),
-        }
+    fn build(alloc: Global, table: &Ends<'a>, _rule: Rule, at: At) -> BuildResult<InterfaceMixinDefinition<'a>> {
+        let ((assign, members), at) = two_fields::<Assign, Braced<Vec<LowPart<MixinMember<'a>>>>>(alloc, \
+table, Rule::INTERFACE_MIXIN_DEFINITION, at)?;
+        Ok((InterfaceMixinDefinition { assign, members }, at))
     }
 }
 """
@@ -243,10 +243,10 @@ class BuildsTest(unittest.TestCase):
         text = DEFAULTS_WRITTEN.replace("TABLE", in_logic("weedle_grammar.specs.Table"))
         self.assertEqual(self.written("build_low/src/defaults.rt"), flat(text))
 
-    def test_members_in_brackets_are_built_at_each_rule_of_that_row(self):
+    def test_members_in_braces_are_built_by_the_generic_part(self):
         text = self.written("build_low/src/low.rt")
         self.assertIn(flat(BRACED), text)
-        self.assertIn("ghost use Rattle.weedle_build_types.specs.Fits.{many_fits};", text)
+        self.assertIn("use weedle_term::{Assign, Braced, False, True};", text)
 
     def test_an_enum_is_built_by_its_alternatives(self):
         self.assertIn(flat(CHOICE), self.written("build_low/src/low.rt"))
@@ -259,7 +259,7 @@ class BuildsTest(unittest.TestCase):
 
     def test_rules_are_in_the_order_of_the_grammar(self):
         text = self.written("build_low/src/low.rt")
-        names = ("Boolean", "MixinMember", "Braced")
+        names = ("Boolean", "MixinMember", "InterfaceMixin")
         places = [text.index(f"Build<'a> for LowPart<{name}") for name in names]
         self.assertEqual(places, sorted(places))
 

@@ -8,8 +8,8 @@ Run it at the top of the repository.
 
 import unittest
 
-from description.declarations import Declaration, Part
-from proofs.idl_parts import ABOUT, CRATES, DECLARED, files, pieces_of
+from description.declarations import Declaration, Part, type_of
+from proofs.idl_parts import ABOUT, CRATES, DECLARED, files, part_of, pieces_of
 
 FUNCTION = """
 fn {}<'a>(alloc: Global, input: &'a str) -> IResult<&'a str, Member<'a>>
@@ -31,6 +31,17 @@ class Files(unittest.TestCase):
     def test_what_is_said_otherwise_is_of_modules_and_types_that_there_are(self):
         modules = {f"{it.crate}.{it.module}" for it in DECLARED.types.values()}
         self.assertEqual(set(ABOUT) - modules - set(DECLARED.types), set())
+
+
+class Parts(unittest.TestCase):
+    def test_members_in_braces_are_read_as_the_generic_part(self):
+        part = part_of(type_of("Braced<DictionaryMembers<'a>>"), False)
+        member = "DICTIONARY_MEMBER dictionary_member_tree (Unit {0})"
+        members = f"(members_rule (own_rule {member}) DICTIONARY_MEMBERS refl refl)"
+        self.assertEqual(part.type, "(Braced (Vec DictionaryMember))")
+        self.assertEqual(part.reading, f"(braced_reading (members_reading (own {member})))")
+        self.assertEqual(part.rule, f"(braced_rule {members} BRACED_DICTIONARY_MEMBERS refl refl)")
+        self.assertEqual(part.tree_of("v"), "braced_tree (members_tree dictionary_member_tree) v")
 
 
 class Pieces(unittest.TestCase):

@@ -28,15 +28,13 @@ pub struct PartOfList<'a> {
     pub value: ConstValue<'a>,
 }
 
-/// Parts between braces, as `{ part A = 5; }`.
+/// A list of parts, as `{ part A = 5; };`.
 #[derive(Debug)]
-pub struct BracedParts<'a> {
-    /// The `{`.
-    pub open_brace: OpenBrace,
-    /// The parts, one after another; none included.
-    pub body: Vec<MixinMember<'a>>,
-    /// The `}`.
-    pub close_brace: CloseBrace,
+pub struct ListOfParts<'a> {
+    /// Its parts, between braces: `body` is their list.
+    pub parts: Braced<Vec<MixinMember<'a>>>,
+    /// The `;` at the end.
+    pub semi_colon: SemiColon,
 }
 
 /// The word before a part, as `getter`: one of two.
@@ -62,9 +60,9 @@ abbrev pub part_of_list_tree : PartOfList → Tree
 part_of_list_tree v = Node (trees (attributes_tree v.attributes ∷ option_tree special_tree v.special\
  ∷ identifier_tree v.identifier ∷ Mark ∷ const_value_tree v.value ∷ []))
 """
-BRACED = """-- parts between braces
-abbrev pub braced_parts_tree : BracedParts → Tree
-braced_parts_tree v = bracket_tree (members_tree mixin_member_tree v.body)
+LIST = """-- a list of parts: its parts, `;`
+abbrev pub list_of_parts_tree : ListOfParts → Tree
+list_of_parts_tree v = Node (trees (braced_tree (members_tree mixin_member_tree) v.parts ∷ Mark ∷ []))
 """
 EITHER = """-- the word before a part: `getter`, `setter`
 abbrev pub either_tree : Either → Tree
@@ -93,7 +91,7 @@ optional_arguments_tree = option_tree arguments_tree
 class Definitions(unittest.TestCase):
     def test_the_tree_of_each_declaration(self):
         told = [trees.declared(it) for it in declared_in(TEXT)]
-        self.assertEqual(told, [PART, BRACED, EITHER, MEMBER])
+        self.assertEqual(told, [PART, LIST, EITHER, MEMBER])
 
     def test_parts_that_have_a_name(self):
         values = trees.helper("BRACED_ENUM_VALUE_LIST", type_of("Braced<EnumValueList<'a>>"))
@@ -105,7 +103,7 @@ class Definitions(unittest.TestCase):
 class Orders(unittest.TestCase):
     def test_each_stands_behind_what_it_is_made_of(self):
         text = "\n".join(trees.Order("weedle_interfaces").texts["Trees"])
-        names = ["interface_member", "braced_interface_members", "callback_interface_definition"]
+        names = ["interface_member", "callback_interface_definition"]
         places = [text.index(f"pub {name}_tree :") for name in names]
         self.assertEqual(places, sorted(places))
 

@@ -96,8 +96,6 @@ def node(trees):
 
 def struct(it):
     parts = [(field, part_of(field.type, it.is_copied)) for field in it.parts]
-    if it.parts[0].text == "OpenBrace":
-        return about(it.doc), [("v", f"bracket_tree ({parts[1][1].tree_of(f'v.{parts[1][0].name}')})")]
     said = f"{about(it.doc)}: {', '.join(field_about(field) for field in it.parts)}"
     return said, [("v", node([part.tree_of(f"v.{field.name}") for field, part in parts]))]
 

@@ -69,17 +69,13 @@ ABOUT = {
     "AsyncIterableInterfaceMember": "either",
     "StringifierMember": "a stringifier",
     "InterfaceMember": "any of them",
-    "BracedInterfaceMembers": "its members between braces",
     "OperationMixinMember": "an operation",
     "AttributeMixinMember": "an attribute",
     "MixinMember": "any of them",
-    "BracedMixinMembers": "its members between braces",
     "OperationNamespaceMember": "an operation",
     "AttributeNamespaceMember": "an attribute",
     "NamespaceMember": "either",
-    "BracedNamespaceMembers": "its members between braces",
     "DictionaryMember": "a member",
-    "BracedDictionaryMembers": "its members between braces",
     "EnumVariant": "a value",
     "IncludesStatementDefinition": "the use of a mixin",
     "ImplementsDefinition": "the older form",
@@ -99,7 +95,8 @@ class Part:
         self.type, self.reading, self.rule, self.tree = type_, reading, rule, tree
 
     def tree_of(self, value):
-        return "Mark" if self.tree == "mark_tree" else f"{self.tree.strip('()')} {value}"
+        tree = self.tree[1:-1] if self.tree.startswith("(") else self.tree
+        return "Mark" if tree == "mark_tree" else f"{tree} {value}"
 
 
 def word(name, keep):
@@ -134,6 +131,13 @@ def items(rule, item):
     return Part(f"(Vec {part.type})", f"(members_reading {part.reading})", fact, f"(members_tree {part.tree})")
 
 
+def braced(rule, body):
+    """What stands between braces, in the generic part."""
+    part = part_of(body, False)
+    fact = f"(braced_rule {part.rule} {rule} refl refl)"
+    return Part(f"(Braced {part.type})", f"(braced_reading {part.reading})", fact, f"(braced_tree {part.tree})")
+
+
 def part_of(type_, keep):
     """How a type is read; `keep` says that what it is a part of takes no memory either."""
     rule, whole = DECLARED.rule_of(type_), DECLARED.expanded(type_)
@@ -144,6 +148,8 @@ def part_of(type_, keep):
         return perhaps(rule, *whole.arguments)
     if whole.name == "Vec":
         return items(rule, *whole.arguments)
+    if whole.name == "Braced":
+        return braced(rule, *whole.arguments)
     if not DECLARED.is_copied(type_):
         return own(type_)
     return still(whole.name, keep) if DECLARED.types[whole.name].parts else word(whole.name, keep)

@@ -15,7 +15,7 @@ from proofs.spelt import (
 
 BOXES = {"type": "a type in a box: the type", "return_type": "the type of a result in a box: that type"}
 # The facts of structs whose first and last fields are brackets.
-OPENING = {"OpenBrace": "braced", "OpenParen": "parenthesized"}
+OPENING = {"OpenParen": "parenthesized"}
 # The list that a whole text is: it is one of the logic, since no struct holds it.
 WHOLE = "Definitions"
 

@@ -13,7 +13,7 @@ fn an_interface_gives_its_parts(rt: HostRuntime) -> Result<(), Fail> {
     assert!(rt; docstring.is_none() && attributes.is_some());
     assert_eq!(rt; identifier.0, "A");
     assert_eq!(rt; inheritance.expect(&rt, "a parent").identifier.0, "B");
-    let (_, mut body, _) = members.into_fields();
+    let mut body = members.body;
     let operation = body.pop().expect(&rt, "two members").into_operation();
     let (_, _, modifier, special, _, name, args, _) = operation
         .expect(&rt, "an operation")

@@ -3,7 +3,7 @@
 pub use weedle_async_iterables::{
     AsyncIterableInterfaceMember, DoubleTypedAsyncIterable, SingleTypedAsyncIterable,
 };
-pub use weedle_interfaces::{BracedInterfaceMembers, InterfaceMember, InterfaceMembers};
+pub use weedle_interfaces::{InterfaceMember, InterfaceMembers};
 pub use weedle_iterables::{
     DoubleTypedIterable, IterableInterfaceMember, MaplikeInterfaceMember, SetlikeInterfaceMember,
     SingleTypedIterable,

@@ -1,4 +1,3 @@
 -- What scripts write. Written by tools/modules.py.
 pub mod DefinitionRules
 pub mod MemberRules
-pub mod MembersRules

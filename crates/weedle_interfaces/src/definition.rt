@@ -2,9 +2,9 @@
 
 mod written;
 
-use crate::BracedInterfaceMembers;
+use crate::InterfaceMembers;
 use weedle_modifier::Inheritance;
-use weedle_parts::common::{Docstring, Identifier};
+use weedle_parts::common::{Braced, Docstring, Identifier};
 use weedle_term::{Callback, Interface, Partial, SemiColon};
 use weedle_types::attribute::ExtendedAttributeList;
 
@@ -24,7 +24,7 @@ pub struct CallbackInterfaceDefinition<'a> {
     /// The interface that it inherits from, as `: EventTarget`, where one is named.
     pub inheritance: Option<Inheritance<'a>>,
     /// Its members, between braces: `body` is their list.
-    pub members: BracedInterfaceMembers<'a>,
+    pub members: Braced<InterfaceMembers<'a>>,
     /// The `;` at the end.
     pub semi_colon: SemiColon,
 }
@@ -58,7 +58,7 @@ pub struct InterfaceDefinition<'a> {
     /// The interface that it inherits from, as `: EventTarget`, where one is named.
     pub inheritance: Option<Inheritance<'a>>,
     /// Its members, between braces: `body` is their list.
-    pub members: BracedInterfaceMembers<'a>,
+    pub members: Braced<InterfaceMembers<'a>>,
     /// The `;` at the end.
     pub semi_colon: SemiColon,
 }
@@ -89,7 +89,7 @@ pub struct PartialInterfaceDefinition<'a> {
     /// The name of the interface that it is a part of.
     pub identifier: Identifier<'a>,
     /// Its members, between braces: `body` is their list.
-    pub members: BracedInterfaceMembers<'a>,
+    pub members: Braced<InterfaceMembers<'a>>,
     /// The `;` at the end.
     pub semi_colon: SemiColon,
 }

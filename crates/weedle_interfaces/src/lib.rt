@@ -23,4 +23,4 @@ pub use definition::{
     CallbackInterfaceDefinition, InterfaceDefinition, PartialInterfaceDefinition,
 };
 pub use member::InterfaceMember;
-pub use members::{BracedInterfaceMembers, InterfaceMembers};
+pub use members::InterfaceMembers;

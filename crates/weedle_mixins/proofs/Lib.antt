@@ -1,1 +1,2 @@
+pub mod CopyFacts
 pub mod written

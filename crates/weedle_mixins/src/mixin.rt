@@ -4,34 +4,13 @@ mod written;
 
 use weedle_members::{ConstMember, StringifierMember};
 use weedle_parts::common::Identifier;
-use weedle_term::{Attribute, CloseBrace, OpenBrace, ReadOnly, SemiColon, Stringifier};
+use weedle_term::{Attribute, ReadOnly, SemiColon, Stringifier};
 use weedle_types::argument::ParenthesizedArgumentList;
 use weedle_types::attribute::ExtendedAttributeList;
 use weedle_types::types::{AttributedType, ReturnType};
 
 /// The members of a mixin, one after another, as `long f(); long g();`; none included.
 pub type MixinMembers<'a> = Vec<MixinMember<'a>>;
-
-/// The members of a mixin between braces, as `{ long f(); }`.
-#[derive(Debug, PartialEq, Eq, PartialOrd, Ord, Hash)]
-pub struct BracedMixinMembers<'a> {
-    /// The `{`.
-    pub open_brace: OpenBrace,
-    /// The members, one after another; none included.
-    pub body: MixinMembers<'a>,
-    /// The `}`.
-    pub close_brace: CloseBrace,
-}
-
-impl Drop for BracedMixinMembers<'_> {
-    fn drop(self) {
-        let BracedMixinMembers {
-            open_brace: _,
-            body: _,
-            close_brace: _,
-        } = self;
-    }
-}
 
 /// An operation of a mixin, as `stringifier long f(long x);`. It may lack a name, and no docstring may
 /// stand before it.

@@ -2,8 +2,8 @@
 
 mod written;
 
-use crate::mixin::BracedMixinMembers;
-use weedle_parts::common::Identifier;
+use crate::mixin::MixinMembers;
+use weedle_parts::common::{Braced, Identifier};
 use weedle_term::{Interface, Mixin, Partial, SemiColon};
 use weedle_types::attribute::ExtendedAttributeList;
 
@@ -19,7 +19,7 @@ pub struct InterfaceMixinDefinition<'a> {
     /// Its name.
     pub identifier: Identifier<'a>,
     /// Its members, between braces: `body` is their list.
-    pub members: BracedMixinMembers<'a>,
+    pub members: Braced<MixinMembers<'a>>,
     /// The `;` at the end.
     pub semi_colon: SemiColon,
 }
@@ -51,7 +51,7 @@ pub struct PartialInterfaceMixinDefinition<'a> {
     /// The name of the mixin that it is a part of.
     pub identifier: Identifier<'a>,
     /// Its members, between braces: `body` is their list.
-    pub members: BracedMixinMembers<'a>,
+    pub members: Braced<MixinMembers<'a>>,
     /// The `;` at the end.
     pub semi_colon: SemiColon,
 }

@@ -4,33 +4,12 @@ mod written;
 
 use weedle_literal::Default;
 use weedle_parts::common::{Docstring, Identifier};
-use weedle_term::{CloseBrace, OpenBrace, Required, SemiColon};
+use weedle_term::{Required, SemiColon};
 use weedle_types::attribute::ExtendedAttributeList;
 use weedle_types::types::Type;
 
 /// The members of a dictionary, one after another, as `long x; long y = 5;`; none included.
 pub type DictionaryMembers<'a> = Vec<DictionaryMember<'a>>;
-
-/// The members of a dictionary between braces, as `{ long x = 5; }`.
-#[derive(Debug, PartialEq, Eq, PartialOrd, Ord, Hash)]
-pub struct BracedDictionaryMembers<'a> {
-    /// The `{`.
-    pub open_brace: OpenBrace,
-    /// The members, one after another; none included.
-    pub body: DictionaryMembers<'a>,
-    /// The `}`.
-    pub close_brace: CloseBrace,
-}
-
-impl Drop for BracedDictionaryMembers<'_> {
-    fn drop(self) {
-        let BracedDictionaryMembers {
-            open_brace: _,
-            body: _,
-            close_brace: _,
-        } = self;
-    }
-}
 
 /// A member of a dictionary, as `required long x;` or `long x = 5;`. A docstring may stand before it.
 #[derive(Debug, PartialEq, Eq, PartialOrd, Ord, Hash)]

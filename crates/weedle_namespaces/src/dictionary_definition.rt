@@ -2,9 +2,9 @@
 
 mod written;
 
-use crate::dictionary::BracedDictionaryMembers;
+use crate::dictionary::DictionaryMembers;
 use weedle_modifier::Inheritance;
-use weedle_parts::common::{Docstring, Identifier};
+use weedle_parts::common::{Braced, Docstring, Identifier};
 use weedle_term::{Dictionary, Partial, SemiColon};
 use weedle_types::attribute::ExtendedAttributeList;
 
@@ -22,7 +22,7 @@ pub struct DictionaryDefinition<'a> {
     /// The dictionary that it inherits from, as `: EventInit`, where one is named.
     pub inheritance: Option<Inheritance<'a>>,
     /// Its members, between braces: `body` is their list.
-    pub members: BracedDictionaryMembers<'a>,
+    pub members: Braced<DictionaryMembers<'a>>,
     /// The `;` at the end.
     pub semi_colon: SemiColon,
 }
@@ -53,7 +53,7 @@ pub struct PartialDictionaryDefinition<'a> {
     /// The name of the dictionary that it is a part of.
     pub identifier: Identifier<'a>,
     /// Its members, between braces: `body` is their list.
-    pub members: BracedDictionaryMembers<'a>,
+    pub members: Braced<DictionaryMembers<'a>>,
     /// The `;` at the end.
     pub semi_colon: SemiColon,
 }

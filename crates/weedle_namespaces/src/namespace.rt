@@ -3,34 +3,13 @@
 mod written;
 
 use weedle_parts::common::{Docstring, Identifier};
-use weedle_term::{Attribute, CloseBrace, OpenBrace, ReadOnly, SemiColon};
+use weedle_term::{Attribute, ReadOnly, SemiColon};
 use weedle_types::argument::ParenthesizedArgumentList;
 use weedle_types::attribute::ExtendedAttributeList;
 use weedle_types::types::{AttributedType, ReturnType};
 
 /// The members of a namespace, one after another, as `long f(); long g();`; none included.
 pub type NamespaceMembers<'a> = Vec<NamespaceMember<'a>>;
-
-/// The members of a namespace between braces, as `{ long f(); }`.
-#[derive(Debug, PartialEq, Eq, PartialOrd, Ord, Hash)]
-pub struct BracedNamespaceMembers<'a> {
-    /// The `{`.
-    pub open_brace: OpenBrace,
-    /// The members, one after another; none included.
-    pub body: NamespaceMembers<'a>,
-    /// The `}`.
-    pub close_brace: CloseBrace,
-}
-
-impl Drop for BracedNamespaceMembers<'_> {
-    fn drop(self) {
-        let BracedNamespaceMembers {
-            open_brace: _,
-            body: _,
-            close_brace: _,
-        } = self;
-    }
-}
 
 /// An operation of a namespace, as `long f(long x);`. It may lack a name, and a docstring may stand
 /// before it.

@@ -2,8 +2,8 @@
 
 mod written;
 
-use crate::namespace::BracedNamespaceMembers;
-use weedle_parts::common::{Docstring, Identifier};
+use crate::namespace::NamespaceMembers;
+use weedle_parts::common::{Braced, Docstring, Identifier};
 use weedle_term::{Namespace, Partial, SemiColon};
 use weedle_types::attribute::ExtendedAttributeList;
 
@@ -19,7 +19,7 @@ pub struct NamespaceDefinition<'a> {
     /// Its name.
     pub identifier: Identifier<'a>,
     /// Its members, between braces: `body` is their list.
-    pub members: BracedNamespaceMembers<'a>,
+    pub members: Braced<NamespaceMembers<'a>>,
     /// The `;` at the end.
     pub semi_colon: SemiColon,
 }
@@ -49,7 +49,7 @@ pub struct PartialNamespaceDefinition<'a> {
     /// The name of the namespace that it is a part of.
     pub identifier: Identifier<'a>,
     /// Its members, between braces: `body` is their list.
-    pub members: BracedNamespaceMembers<'a>,
+    pub members: Braced<NamespaceMembers<'a>>,
     /// The `;` at the end.
     pub semi_colon: SemiColon,
 }

@@ -2,7 +2,8 @@
 
 use std::alloc::{AllocError, Global};
 use std::test::Fail;
-use weedle::interface::{BracedInterfaceMembers, InterfaceMember, InterfaceMembers};
+use weedle::common::Braced;
+use weedle::interface::{InterfaceMember, InterfaceMembers};
 use weedle::{Definition, Definitions, name_of, parse_quick};
 
 /// All members of the interface of this name and of its parts, in the order of the definitions.
@@ -16,7 +17,7 @@ fn members_of<'a>(
         if name_of(&definition) == name
             && let Some(members) = members_in(definition)
         {
-            let (_, mut body, _) = members.into_fields();
+            let mut body = members.body;
             all.append(&mut body)?;
         }
     }
@@ -24,7 +25,7 @@ fn members_of<'a>(
 }
 
 /// The members of a definition that is an interface or a part of one.
-fn members_in(definition: Definition<'_>) -> Option<BracedInterfaceMembers<'_>> {
+fn members_in(definition: Definition<'_>) -> Option<Braced<InterfaceMembers<'_>>> {
     if let Definition::PartialInterface(_) = &definition {
         let (_, _, _, _, members, _) = definition.into_partial_interface()?.into_fields();
         return Some(members);

@@ -15,7 +15,7 @@ use weedle_testing::{Unlike, reads_whole};
 const WINDOW_VALUE: &str = "\
     [Interface(InterfaceDefinition { docstring: None, attributes: None, interface: Interface, \
     identifier: Identifier(\"Window\"), inheritance: None, \
-    members: BracedInterfaceMembers { open_brace: OpenBrace, \
+    members: Braced { open_brace: OpenBrace, \
     body: [Attribute(AttributeInterfaceMember { attributes: None, modifier: None, \
     readonly: Some(ReadOnly), attribute: Attribute, \
     type_: AttributedType { attributes: None, type_: Single(NonAny(Identifier(MayBeNull { \
@@ -71,35 +71,35 @@ fn reads_texts_whole(rt: HostRuntime) -> Result<(), Fail> {
                 "/*/*/interface A {};",
                 "[Interface(InterfaceDefinition { docstring: None, attributes: None, \
                  interface: Interface, identifier: Identifier(\"A\"), inheritance: None, \
-                 members: BracedInterfaceMembers { open_brace: OpenBrace, body: [], \
+                 members: Braced { open_brace: OpenBrace, body: [], \
                  close_brace: CloseBrace }, semi_colon: SemiColon })]",
             ),
             (
                 "/**/interface A {};",
                 "[Interface(InterfaceDefinition { docstring: None, attributes: None, \
                  interface: Interface, identifier: Identifier(\"A\"), inheritance: None, \
-                 members: BracedInterfaceMembers { open_brace: OpenBrace, body: [], \
+                 members: Braced { open_brace: OpenBrace, body: [], \
                  close_brace: CloseBrace }, semi_colon: SemiColon })]",
             ),
             (
                 "interface A {}; // end",
                 "[Interface(InterfaceDefinition { docstring: None, attributes: None, \
                  interface: Interface, identifier: Identifier(\"A\"), inheritance: None, \
-                 members: BracedInterfaceMembers { open_brace: OpenBrace, body: [], \
+                 members: Braced { open_brace: OpenBrace, body: [], \
                  close_brace: CloseBrace }, semi_colon: SemiColon })]",
             ),
             (
                 "interface mixin {};",
                 "[Interface(InterfaceDefinition { docstring: None, attributes: None, \
                  interface: Interface, identifier: Identifier(\"mixin\"), inheritance: None, \
-                 members: BracedInterfaceMembers { open_brace: OpenBrace, body: [], \
+                 members: Braced { open_brace: OpenBrace, body: [], \
                  close_brace: CloseBrace }, semi_colon: SemiColon })]",
             ),
             (
                 "interface A { attribute long x; };",
                 "[Interface(InterfaceDefinition { docstring: None, attributes: None, \
                  interface: Interface, identifier: Identifier(\"A\"), inheritance: None, \
-                 members: BracedInterfaceMembers { open_brace: OpenBrace, \
+                 members: Braced { open_brace: OpenBrace, \
                  body: [Attribute(AttributeInterfaceMember { attributes: None, modifier: None, \
                  readonly: None, attribute: Attribute, \
                  type_: AttributedType { attributes: None, \
@@ -122,18 +122,18 @@ fn a_docstring_stands_where_the_grammar_has_one(rt: HostRuntime) -> Result<(), F
                 "interface A {}; // c\n///d\ninterface B {};",
                 "[Interface(InterfaceDefinition { docstring: None, attributes: None, \
                  interface: Interface, identifier: Identifier(\"A\"), inheritance: None, \
-                 members: BracedInterfaceMembers { open_brace: OpenBrace, body: [], \
+                 members: Braced { open_brace: OpenBrace, body: [], \
                  close_brace: CloseBrace }, semi_colon: SemiColon }), \
                  Interface(InterfaceDefinition { docstring: Some(Docstring(\"d\")), \
                  attributes: None, interface: Interface, identifier: Identifier(\"B\"), \
-                 inheritance: None, members: BracedInterfaceMembers { open_brace: OpenBrace, \
+                 inheritance: None, members: Braced { open_brace: OpenBrace, \
                  body: [], close_brace: CloseBrace }, semi_colon: SemiColon })]",
             ),
             (
                 "interface A { ///d\n void f(); };",
                 "[Interface(InterfaceDefinition { docstring: None, attributes: None, \
                  interface: Interface, identifier: Identifier(\"A\"), inheritance: None, \
-                 members: BracedInterfaceMembers { open_brace: OpenBrace, \
+                 members: Braced { open_brace: OpenBrace, \
                  body: [Operation(OperationInterfaceMember { docstring: Some(Docstring(\"d\")), \
                  attributes: None, modifier: None, special: None, \
                  return_type: Type_(Single(NonAny(Identifier(MayBeNull { \
@@ -174,7 +174,7 @@ fn a_keyword_may_be_a_name(rt: HostRuntime) -> Result<(), Fail> {
                 "interface mixin M {};",
                 "[InterfaceMixin(InterfaceMixinDefinition { attributes: None, \
                  interface: Interface, mixin: Mixin, identifier: Identifier(\"M\"), \
-                 members: BracedMixinMembers { open_brace: OpenBrace, body: [], \
+                 members: Braced { open_brace: OpenBrace, body: [], \
                  close_brace: CloseBrace }, semi_colon: SemiColon })]",
             ),
             (

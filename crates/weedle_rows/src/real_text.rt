@@ -14,7 +14,7 @@ const PLAYER_OPTIONS: &str = "\
     docstring: Some(Docstring(\" How a player begins.\\n Each member may be left out but the first.\")), \
     attributes: None, dictionary: Dictionary, identifier: Identifier(\"PlayerOptions\"), \
     inheritance: None, \
-    members: BracedDictionaryMembers { open_brace: OpenBrace, \
+    members: Braced { open_brace: OpenBrace, \
     body: [DictionaryMember { docstring: None, attributes: None, required: Some(Required), \
     type_: Single(NonAny(DOMString(MayBeNull { type_: DOMString, q_mark: None }))), \
     identifier: Identifier(\"title\"), default: None, semi_colon: SemiColon }, \
@@ -40,7 +40,7 @@ const PLAYER_OPTIONS: &str = "\
 const MORE_OF_PLAYER: &str = "\
     PartialInterface(PartialInterfaceDefinition { attributes: None, partial: Partial, \
     interface: Interface, identifier: Identifier(\"Player\"), \
-    members: BracedInterfaceMembers { open_brace: OpenBrace, \
+    members: Braced { open_brace: OpenBrace, \
     body: [Attribute(AttributeInterfaceMember { \
     attributes: Some(Bracketed { open_bracket: OpenBracket, \
     body: Punctuated { list: [NoArgs(ExtendedAttributeNoArgs(Identifier(\"SameObject\")))], \

@@ -5,9 +5,8 @@ mod written;
 
 pub use written::all_definitions::{definition, definitions};
 pub use written::interfaces::{
-    braced_interface_members, callback_interface_definition, interface_definition,
-    interface_member, interface_members, interface_mixin_definition, partial_interface_definition,
-    partial_interface_mixin_definition,
+    callback_interface_definition, interface_definition, interface_member, interface_members,
+    interface_mixin_definition, partial_interface_definition, partial_interface_mixin_definition,
 };
 pub use written::iterables::{
     async_iterable_interface_member, double_typed_async_iterable, double_typed_iterable,
@@ -15,18 +14,17 @@ pub use written::iterables::{
     single_typed_async_iterable, single_typed_iterable,
 };
 pub use written::members::{
-    attribute_interface_member, attribute_mixin_member, braced_mixin_members, const_member,
-    constructor_interface_member, mixin_member, mixin_members, operation_interface_member,
-    operation_mixin_member, stringifier_member,
+    attribute_interface_member, attribute_mixin_member, const_member, constructor_interface_member,
+    mixin_member, mixin_members, operation_interface_member, operation_mixin_member,
+    stringifier_member,
 };
 pub use written::modifiers::{
     inheritance, special, stringifier_or_inherit_or_static, stringifier_or_static,
 };
 pub use written::namespaces::{
-    attribute_namespace_member, braced_dictionary_members, braced_namespace_members,
-    dictionary_definition, dictionary_member, dictionary_members, namespace_definition,
-    namespace_member, namespace_members, operation_namespace_member, partial_dictionary_definition,
-    partial_namespace_definition,
+    attribute_namespace_member, dictionary_definition, dictionary_member, dictionary_members,
+    namespace_definition, namespace_member, namespace_members, operation_namespace_member,
+    partial_dictionary_definition, partial_namespace_definition,
 };
 pub use written::statements::{
     callback_definition, enum_definition, enum_value_list, enum_variant, implements_definition,

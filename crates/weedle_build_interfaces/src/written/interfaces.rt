@@ -4,18 +4,13 @@
 #![tactic(auto, using(weedle_build_base::proofs::Finding::own_steps))]
 
 ghost use Rattle.std.specs.Prelude.{◌≡◌};
-ghost use Rattle.weedle_build_base.specs.Fits.{bracket_fits, fits_seq};
-ghost use Rattle.weedle_build_types.specs.Fits.{many_fits};
-ghost use Rattle.weedle_grammar.specs.written.Table.{row_of as row_of_rule, shape_of};
 ghost use Rattle.weedle_grammar.specs.written.Table.Definitions.{
   CALLBACK_INTERFACE_DEFINITION,
   INTERFACE_DEFINITION,
   PARTIAL_INTERFACE_DEFINITION,
 };
 ghost use Rattle.weedle_grammar.specs.written.Table.InterfaceMembers.{INTERFACE_MEMBER};
-ghost use Rattle.weedle_grammar.specs.written.Table.Symbols.{CLOSE_BRACE, OPEN_BRACE};
 ghost use Rattle.weedle_interfaces.specs.written.Trees.{
-  braced_interface_members_tree,
   callback_interface_definition_tree,
   interface_definition_tree,
   interface_member_tree,
@@ -27,13 +22,11 @@ use std::alloc::Global;
 use weedle_async_iterables::AsyncIterableInterfaceMember;
 use weedle_build_base::{
     At, Build, BuildResult, alternative, choice, eight_fields, seven_fields, six_fields,
-    three_fields,
 };
 use weedle_build_members::MemberPart;
 use weedle_build_types::Attributes;
 use weedle_interfaces::{
-    BracedInterfaceMembers, CallbackInterfaceDefinition, InterfaceDefinition, InterfaceMember,
-    PartialInterfaceDefinition,
+    CallbackInterfaceDefinition, InterfaceDefinition, InterfaceMember, PartialInterfaceDefinition,
 };
 use weedle_iterables::{IterableInterfaceMember, MaplikeInterfaceMember, SetlikeInterfaceMember};
 use weedle_members::{
@@ -41,9 +34,9 @@ use weedle_members::{
     StringifierMember,
 };
 use weedle_modifier::Inheritance;
-use weedle_parts::common::{Docstring, Identifier};
+use weedle_parts::common::{Braced, Docstring, Identifier};
 use weedle_rules::{Ends, Rule};
-use weedle_term::{Callback, CloseBrace, Interface, OpenBrace, Partial, SemiColon};
+use weedle_term::{Callback, Interface, Partial, SemiColon};
 
 impl<'a> Build<'a> for InterfacePart<InterfaceMember<'a>> {
     type Value = InterfaceMember<'a>;
@@ -119,35 +112,6 @@ impl<'a> Build<'a> for InterfacePart<InterfaceMember<'a>> {
     }
 }
 
-impl<'a> Build<'a> for InterfacePart<BracedInterfaceMembers<'a>> {
-    type Value = BracedInterfaceMembers<'a>;
-
-    ghost fits = { λ r. fits_seq (bracket_fits OPEN_BRACE (many_fits (λ x. x ≡ INTERFACE_MEMBER)) CLOSE_BRACE) (row_of_rule r) (shape_of r) };
-
-    ghost tree = { braced_interface_members_tree };
-
-    fn build(
-        alloc: Global,
-        table: &Ends<'a>,
-        rule: Rule,
-        at: At,
-    ) -> BuildResult<BracedInterfaceMembers<'a>> {
-        match three_fields::<OpenBrace, Vec<InterfacePart<InterfaceMember<'a>>>, CloseBrace>(
-            alloc, table, rule, at,
-        ) {
-            Ok(((open_brace, body, close_brace), at)) => Ok((
-                BracedInterfaceMembers {
-                    open_brace,
-                    body,
-                    close_brace,
-                },
-                at,
-            )),
-            Err(error) => Err(error),
-        }
-    }
-}
-
 impl<'a> Build<'a> for InterfacePart<CallbackInterfaceDefinition<'a>> {
     type Value = CallbackInterfaceDefinition<'a>;
 
@@ -168,7 +132,7 @@ impl<'a> Build<'a> for InterfacePart<CallbackInterfaceDefinition<'a>> {
             Interface,
             Identifier<'a>,
             Option<Inheritance<'a>>,
-            InterfacePart<BracedInterfaceMembers<'a>>,
+            Braced<Vec<InterfacePart<InterfaceMember<'a>>>>,
             SemiColon,
         >(alloc, table, Rule::CALLBACK_INTERFACE_DEFINITION, at)
         {
@@ -223,7 +187,7 @@ impl<'a> Build<'a> for InterfacePart<InterfaceDefinition<'a>> {
             Interface,
             Identifier<'a>,
             Option<Inheritance<'a>>,
-            InterfacePart<BracedInterfaceMembers<'a>>,
+            Braced<Vec<InterfacePart<InterfaceMember<'a>>>>,
             SemiColon,
         >(alloc, table, Rule::INTERFACE_DEFINITION, at)
         {
@@ -275,7 +239,7 @@ impl<'a> Build<'a> for InterfacePart<PartialInterfaceDefinition<'a>> {
             Partial,
             Interface,
             Identifier<'a>,
-            InterfacePart<BracedInterfaceMembers<'a>>,
+            Braced<Vec<InterfacePart<InterfaceMember<'a>>>>,
             SemiColon,
         >(alloc, table, Rule::PARTIAL_INTERFACE_DEFINITION, at)
         {

@@ -4,9 +4,6 @@
 #![tactic(auto, using(weedle_build_base::proofs::Finding::own_steps))]
 
 ghost use Rattle.std.specs.Prelude.{◌≡◌};
-ghost use Rattle.weedle_build_base.specs.Fits.{bracket_fits, fits_seq};
-ghost use Rattle.weedle_build_types.specs.Fits.{many_fits};
-ghost use Rattle.weedle_grammar.specs.written.Table.{row_of as row_of_rule, shape_of};
 ghost use Rattle.weedle_grammar.specs.written.Table.Definitions.{
   INTERFACE_MIXIN_DEFINITION,
   PARTIAL_INTERFACE_MIXIN_DEFINITION,
@@ -16,10 +13,8 @@ ghost use Rattle.weedle_grammar.specs.written.Table.OtherMembers.{
   MIXIN_MEMBER,
   OPERATION_MIXIN_MEMBER,
 };
-ghost use Rattle.weedle_grammar.specs.written.Table.Symbols.{CLOSE_BRACE, OPEN_BRACE};
 ghost use Rattle.weedle_mixins.specs.written.Trees.{
   attribute_mixin_member_tree,
-  braced_mixin_members_tree,
   interface_mixin_definition_tree,
   mixin_member_tree,
   operation_mixin_member_tree,
@@ -28,21 +23,15 @@ ghost use Rattle.weedle_mixins.specs.written.Trees.{
 
 use crate::part::MixinPart;
 use std::alloc::Global;
-use weedle_build_base::{
-    At, Build, BuildResult, alternative, choice, seven_fields, six_fields, three_fields,
-};
+use weedle_build_base::{At, Build, BuildResult, alternative, choice, seven_fields, six_fields};
 use weedle_build_members::MemberPart;
 use weedle_build_types::{Arguments, Attributes, Held};
 use weedle_members::{ConstMember, StringifierMember};
-use weedle_mixins::mixin::{
-    AttributeMixinMember, BracedMixinMembers, MixinMember, OperationMixinMember,
-};
+use weedle_mixins::mixin::{AttributeMixinMember, MixinMember, OperationMixinMember};
 use weedle_mixins::{InterfaceMixinDefinition, PartialInterfaceMixinDefinition};
-use weedle_parts::common::Identifier;
+use weedle_parts::common::{Braced, Identifier};
 use weedle_rules::{Ends, Rule};
-use weedle_term::{
-    Attribute, CloseBrace, Interface, Mixin, OpenBrace, Partial, ReadOnly, SemiColon, Stringifier,
-};
+use weedle_term::{Attribute, Interface, Mixin, Partial, ReadOnly, SemiColon, Stringifier};
 use weedle_types::types::{AttributedType, ReturnType};
 
 impl<'a> Build<'a> for MixinPart<OperationMixinMember<'a>> {
@@ -164,35 +153,6 @@ impl<'a> Build<'a> for MixinPart<MixinMember<'a>> {
     }
 }
 
-impl<'a> Build<'a> for MixinPart<BracedMixinMembers<'a>> {
-    type Value = BracedMixinMembers<'a>;
-
-    ghost fits = { λ r. fits_seq (bracket_fits OPEN_BRACE (many_fits (λ x. x ≡ MIXIN_MEMBER)) CLOSE_BRACE) (row_of_rule r) (shape_of r) };
-
-    ghost tree = { braced_mixin_members_tree };
-
-    fn build(
-        alloc: Global,
-        table: &Ends<'a>,
-        rule: Rule,
-        at: At,
-    ) -> BuildResult<BracedMixinMembers<'a>> {
-        match three_fields::<OpenBrace, Vec<MixinPart<MixinMember<'a>>>, CloseBrace>(
-            alloc, table, rule, at,
-        ) {
-            Ok(((open_brace, body, close_brace), at)) => Ok((
-                BracedMixinMembers {
-                    open_brace,
-                    body,
-                    close_brace,
-                },
-                at,
-            )),
-            Err(error) => Err(error),
-        }
-    }
-}
-
 impl<'a> Build<'a> for MixinPart<InterfaceMixinDefinition<'a>> {
     type Value = InterfaceMixinDefinition<'a>;
 
@@ -211,7 +171,7 @@ impl<'a> Build<'a> for MixinPart<InterfaceMixinDefinition<'a>> {
             Interface,
             Mixin,
             Identifier<'a>,
-            MixinPart<BracedMixinMembers<'a>>,
+            Braced<Vec<MixinPart<MixinMember<'a>>>>,
             SemiColon,
         >(alloc, table, Rule::INTERFACE_MIXIN_DEFINITION, at)
         {
@@ -250,7 +210,7 @@ impl<'a> Build<'a> for MixinPart<PartialInterfaceMixinDefinition<'a>> {
             Interface,
             Mixin,
             Identifier<'a>,
-            MixinPart<BracedMixinMembers<'a>>,
+            Braced<Vec<MixinPart<MixinMember<'a>>>>,
             SemiColon,
         >(alloc, table, Rule::PARTIAL_INTERFACE_MIXIN_DEFINITION, at)
         {

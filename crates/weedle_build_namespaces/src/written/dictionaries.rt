@@ -4,17 +4,12 @@
 #![tactic(auto, using(weedle_build_base::proofs::Finding::own_steps))]
 
 ghost use Rattle.std.specs.Prelude.{◌≡◌};
-ghost use Rattle.weedle_build_base.specs.Fits.{bracket_fits, fits_seq};
-ghost use Rattle.weedle_build_types.specs.Fits.{many_fits};
-ghost use Rattle.weedle_grammar.specs.written.Table.{row_of as row_of_rule, shape_of};
 ghost use Rattle.weedle_grammar.specs.written.Table.Definitions.{
   DICTIONARY_DEFINITION,
   PARTIAL_DICTIONARY_DEFINITION,
 };
 ghost use Rattle.weedle_grammar.specs.written.Table.OtherMembers.{DICTIONARY_MEMBER};
-ghost use Rattle.weedle_grammar.specs.written.Table.Symbols.{CLOSE_BRACE, OPEN_BRACE};
 ghost use Rattle.weedle_namespaces.specs.written.Trees.{
-  braced_dictionary_members_tree,
   dictionary_definition_tree,
   dictionary_member_tree,
   partial_dictionary_definition_tree,
@@ -22,15 +17,15 @@ ghost use Rattle.weedle_namespaces.specs.written.Trees.{
 
 use crate::part::NamespacePart;
 use std::alloc::Global;
-use weedle_build_base::{At, Build, BuildResult, seven_fields, six_fields, three_fields};
+use weedle_build_base::{At, Build, BuildResult, seven_fields, six_fields};
 use weedle_build_types::{Attributes, Held};
 use weedle_literal::Default;
 use weedle_modifier::Inheritance;
-use weedle_namespaces::dictionary::{BracedDictionaryMembers, DictionaryMember};
+use weedle_namespaces::dictionary::DictionaryMember;
 use weedle_namespaces::{DictionaryDefinition, PartialDictionaryDefinition};
-use weedle_parts::common::{Docstring, Identifier};
+use weedle_parts::common::{Braced, Docstring, Identifier};
 use weedle_rules::{Ends, Rule};
-use weedle_term::{CloseBrace, Dictionary, OpenBrace, Partial, Required, SemiColon};
+use weedle_term::{Dictionary, Partial, Required, SemiColon};
 use weedle_types::types::Type;
 
 impl<'a> Build<'a> for NamespacePart<DictionaryMember<'a>> {
@@ -74,35 +69,6 @@ impl<'a> Build<'a> for NamespacePart<DictionaryMember<'a>> {
     }
 }
 
-impl<'a> Build<'a> for NamespacePart<BracedDictionaryMembers<'a>> {
-    type Value = BracedDictionaryMembers<'a>;
-
-    ghost fits = { λ r. fits_seq (bracket_fits OPEN_BRACE (many_fits (λ x. x ≡ DICTIONARY_MEMBER)) CLOSE_BRACE) (row_of_rule r) (shape_of r) };
-
-    ghost tree = { braced_dictionary_members_tree };
-
-    fn build(
-        alloc: Global,
-        table: &Ends<'a>,
-        rule: Rule,
-        at: At,
-    ) -> BuildResult<BracedDictionaryMembers<'a>> {
-        match three_fields::<OpenBrace, Vec<NamespacePart<DictionaryMember<'a>>>, CloseBrace>(
-            alloc, table, rule, at,
-        ) {
-            Ok(((open_brace, body, close_brace), at)) => Ok((
-                BracedDictionaryMembers {
-                    open_brace,
-                    body,
-                    close_brace,
-                },
-                at,
-            )),
-            Err(error) => Err(error),
-        }
-    }
-}
-
 impl<'a> Build<'a> for NamespacePart<DictionaryDefinition<'a>> {
     type Value = DictionaryDefinition<'a>;
 
@@ -122,7 +88,7 @@ impl<'a> Build<'a> for NamespacePart<DictionaryDefinition<'a>> {
             Dictionary,
             Identifier<'a>,
             Option<Inheritance<'a>>,
-            NamespacePart<BracedDictionaryMembers<'a>>,
+            Braced<Vec<NamespacePart<DictionaryMember<'a>>>>,
             SemiColon,
         >(alloc, table, Rule::DICTIONARY_DEFINITION, at)
         {
@@ -174,7 +140,7 @@ impl<'a> Build<'a> for NamespacePart<PartialDictionaryDefinition<'a>> {
             Partial,
             Dictionary,
             Identifier<'a>,
-            NamespacePart<BracedDictionaryMembers<'a>>,
+            Braced<Vec<NamespacePart<DictionaryMember<'a>>>>,
             SemiColon,
         >(alloc, table, Rule::PARTIAL_DICTIONARY_DEFINITION, at)
         {

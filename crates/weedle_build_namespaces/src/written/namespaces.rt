@@ -4,9 +4,6 @@
 #![tactic(auto, using(weedle_build_base::proofs::Finding::own_steps))]
 
 ghost use Rattle.std.specs.Prelude.{◌≡◌};
-ghost use Rattle.weedle_build_base.specs.Fits.{bracket_fits, fits_seq};
-ghost use Rattle.weedle_build_types.specs.Fits.{many_fits};
-ghost use Rattle.weedle_grammar.specs.written.Table.{row_of as row_of_rule, shape_of};
 ghost use Rattle.weedle_grammar.specs.written.Table.Definitions.{
   NAMESPACE_DEFINITION,
   PARTIAL_NAMESPACE_DEFINITION,
@@ -16,10 +13,8 @@ ghost use Rattle.weedle_grammar.specs.written.Table.OtherMembers.{
   NAMESPACE_MEMBER,
   OPERATION_NAMESPACE_MEMBER,
 };
-ghost use Rattle.weedle_grammar.specs.written.Table.Symbols.{CLOSE_BRACE, OPEN_BRACE};
 ghost use Rattle.weedle_namespaces.specs.written.Trees.{
   attribute_namespace_member_tree,
-  braced_namespace_members_tree,
   namespace_definition_tree,
   namespace_member_tree,
   operation_namespace_member_tree,
@@ -28,17 +23,15 @@ ghost use Rattle.weedle_namespaces.specs.written.Trees.{
 
 use crate::part::NamespacePart;
 use std::alloc::Global;
-use weedle_build_base::{
-    At, Build, BuildResult, alternative, choice, seven_fields, six_fields, three_fields,
-};
+use weedle_build_base::{At, Build, BuildResult, alternative, choice, seven_fields, six_fields};
 use weedle_build_types::{Arguments, Attributes, Held};
 use weedle_namespaces::namespace::{
-    AttributeNamespaceMember, BracedNamespaceMembers, NamespaceMember, OperationNamespaceMember,
+    AttributeNamespaceMember, NamespaceMember, OperationNamespaceMember,
 };
 use weedle_namespaces::{NamespaceDefinition, PartialNamespaceDefinition};
-use weedle_parts::common::{Docstring, Identifier};
+use weedle_parts::common::{Braced, Docstring, Identifier};
 use weedle_rules::{Ends, Rule};
-use weedle_term::{Attribute, CloseBrace, Namespace, OpenBrace, Partial, ReadOnly, SemiColon};
+use weedle_term::{Attribute, Namespace, Partial, ReadOnly, SemiColon};
 use weedle_types::types::{AttributedType, ReturnType};
 
 impl<'a> Build<'a> for NamespacePart<OperationNamespaceMember<'a>> {
@@ -152,35 +145,6 @@ impl<'a> Build<'a> for NamespacePart<NamespaceMember<'a>> {
     }
 }
 
-impl<'a> Build<'a> for NamespacePart<BracedNamespaceMembers<'a>> {
-    type Value = BracedNamespaceMembers<'a>;
-
-    ghost fits = { λ r. fits_seq (bracket_fits OPEN_BRACE (many_fits (λ x. x ≡ NAMESPACE_MEMBER)) CLOSE_BRACE) (row_of_rule r) (shape_of r) };
-
-    ghost tree = { braced_namespace_members_tree };
-
-    fn build(
-        alloc: Global,
-        table: &Ends<'a>,
-        rule: Rule,
-        at: At,
-    ) -> BuildResult<BracedNamespaceMembers<'a>> {
-        match three_fields::<OpenBrace, Vec<NamespacePart<NamespaceMember<'a>>>, CloseBrace>(
-            alloc, table, rule, at,
-        ) {
-            Ok(((open_brace, body, close_brace), at)) => Ok((
-                BracedNamespaceMembers {
-                    open_brace,
-                    body,
-                    close_brace,
-                },
-                at,
-            )),
-            Err(error) => Err(error),
-        }
-    }
-}
-
 impl<'a> Build<'a> for NamespacePart<NamespaceDefinition<'a>> {
     type Value = NamespaceDefinition<'a>;
 
@@ -199,7 +163,7 @@ impl<'a> Build<'a> for NamespacePart<NamespaceDefinition<'a>> {
             Attributes<'a>,
             Namespace,
             Identifier<'a>,
-            NamespacePart<BracedNamespaceMembers<'a>>,
+            Braced<Vec<NamespacePart<NamespaceMember<'a>>>>,
             SemiColon,
         >(alloc, table, Rule::NAMESPACE_DEFINITION, at)
         {
@@ -237,7 +201,7 @@ impl<'a> Build<'a> for NamespacePart<PartialNamespaceDefinition<'a>> {
             Partial,
             Namespace,
             Identifier<'a>,
-            NamespacePart<BracedNamespaceMembers<'a>>,
+            Braced<Vec<NamespacePart<NamespaceMember<'a>>>>,
             SemiColon,
         >(alloc, table, Rule::PARTIAL_NAMESPACE_DEFINITION, at)
         {

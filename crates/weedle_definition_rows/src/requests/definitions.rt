@@ -84,7 +84,7 @@ fn definitions_are_read_and_copied_or_want_memory(rt: HostRuntime) -> Result<(),
                 "interface A {};",
                 "[Interface(InterfaceDefinition { docstring: None, attributes: None, \
                  interface: Interface, identifier: Identifier(\"A\"), inheritance: None, \
-                 members: BracedInterfaceMembers { open_brace: OpenBrace, body: [], \
+                 members: Braced { open_brace: OpenBrace, body: [], \
                  close_brace: CloseBrace }, semi_colon: SemiColon })]",
             ),
             (

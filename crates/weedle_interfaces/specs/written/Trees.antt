@@ -8,11 +8,10 @@ use Rattle.weedle_interfaces.specs.declared.definition.InterfaceDefinition.{Inte
 use Rattle.weedle_interfaces.specs.declared.definition.PartialInterfaceDefinition.{PartialInterfaceDefinition}
 use Rattle.weedle_interfaces.specs.declared.member.InterfaceMember.TheVariants.{Const as InterfaceMember-Const, Attribute as InterfaceMember-Attribute, Constructor as InterfaceMember-Constructor, Operation as InterfaceMember-Operation, Iterable as InterfaceMember-Iterable, AsyncIterable as InterfaceMember-AsyncIterable, Maplike as InterfaceMember-Maplike, Setlike as InterfaceMember-Setlike, Stringifier as InterfaceMember-Stringifier}
 use Rattle.weedle_interfaces.specs.declared.member.InterfaceMember.{InterfaceMember}
-use Rattle.weedle_interfaces.specs.declared.members.BracedInterfaceMembers.{BracedInterfaceMembers}
 use Rattle.weedle_iterables.specs.written.Trees.{iterable_interface_member_tree, maplike_interface_member_tree, setlike_interface_member_tree}
 use Rattle.weedle_members.specs.written.Trees.{attribute_interface_member_tree, const_member_tree, constructor_interface_member_tree, operation_interface_member_tree, stringifier_member_tree}
 use Rattle.weedle_modifier.specs.written.Trees.{inheritance_tree}
-use Rattle.weedle_parts.specs.ValueTrees.{bracket_tree, docstring_tree, identifier_tree}
+use Rattle.weedle_parts.specs.ValueTrees.{braced_tree, docstring_tree, identifier_tree}
 use Rattle.weedle_types.specs.PartTrees.{members_tree}
 use Rattle.weedle_types.specs.Trees.{attributes_tree}
 
@@ -29,21 +28,17 @@ interface_member_tree (InterfaceMember-Maplike v) = Alt 6 (maplike_interface_mem
 interface_member_tree (InterfaceMember-Setlike v) = Alt 7 (setlike_interface_member_tree v)
 interface_member_tree (InterfaceMember-Stringifier v) = Alt 8 (stringifier_member_tree v)
 
--- the members of an interface between braces
-abbrev pub braced_interface_members_tree : BracedInterfaceMembers → Tree
-braced_interface_members_tree v = bracket_tree (members_tree interface_member_tree v.body)
-
 -- a callback interface: its docstring where one stands, its attributes where they stand, `callback`,
 -- `interface`, its name, the interface that it inherits from where one is named, its members, `;`
 abbrev pub callback_interface_definition_tree : CallbackInterfaceDefinition → Tree
-callback_interface_definition_tree v = Node (trees (option_tree docstring_tree v.docstring ∷ attributes_tree v.attributes ∷ Mark ∷ Mark ∷ identifier_tree v.identifier ∷ option_tree inheritance_tree v.inheritance ∷ braced_interface_members_tree v.members ∷ Mark ∷ []))
+callback_interface_definition_tree v = Node (trees (option_tree docstring_tree v.docstring ∷ attributes_tree v.attributes ∷ Mark ∷ Mark ∷ identifier_tree v.identifier ∷ option_tree inheritance_tree v.inheritance ∷ braced_tree (members_tree interface_member_tree) v.members ∷ Mark ∷ []))
 
 -- an interface: its docstring where one stands, its attributes where they stand, `interface`, its name, the
 -- interface that it inherits from where one is named, its members, `;`
 abbrev pub interface_definition_tree : InterfaceDefinition → Tree
-interface_definition_tree v = Node (trees (option_tree docstring_tree v.docstring ∷ attributes_tree v.attributes ∷ Mark ∷ identifier_tree v.identifier ∷ option_tree inheritance_tree v.inheritance ∷ braced_interface_members_tree v.members ∷ Mark ∷ []))
+interface_definition_tree v = Node (trees (option_tree docstring_tree v.docstring ∷ attributes_tree v.attributes ∷ Mark ∷ identifier_tree v.identifier ∷ option_tree inheritance_tree v.inheritance ∷ braced_tree (members_tree interface_member_tree) v.members ∷ Mark ∷ []))
 
 -- a part of an interface: its attributes where they stand, `partial`, `interface`, the name of the interface
 -- that it is a part of, its members, `;`
 abbrev pub partial_interface_definition_tree : PartialInterfaceDefinition → Tree
-partial_interface_definition_tree v = Node (trees (attributes_tree v.attributes ∷ Mark ∷ Mark ∷ identifier_tree v.identifier ∷ braced_interface_members_tree v.members ∷ Mark ∷ []))
+partial_interface_definition_tree v = Node (trees (attributes_tree v.attributes ∷ Mark ∷ Mark ∷ identifier_tree v.identifier ∷ braced_tree (members_tree interface_member_tree) v.members ∷ Mark ∷ []))

@@ -18,14 +18,15 @@ ghost use Rattle.weedle_interfaces.specs.written.Trees.{
 };
 
 use super::{CallbackInterfaceDefinition, InterfaceDefinition, PartialInterfaceDefinition};
-use crate::BracedInterfaceMembers;
+use crate::InterfaceMembers;
+use crate::members::copy_interface_members;
 use std::alloc::{AllocError, Global};
 use weedle_base::{IResult, Parse, TryClone};
 use weedle_fields::{
     attributes_and_five, docstring_attributes_and_five, docstring_attributes_and_six,
 };
 use weedle_modifier::Inheritance;
-use weedle_parts::common::{Docstring, Identifier};
+use weedle_parts::common::{Braced, Docstring, Identifier};
 use weedle_term::{Callback, Interface, Partial, SemiColon};
 use weedle_types::attribute::ExtendedAttributeList;
 use weedle_types::copies::{copy_attributes, copy_docstring};
@@ -81,7 +82,7 @@ impl TryClone for CallbackInterfaceDefinition<'_> {
             interface: self.interface,
             identifier: self.identifier,
             inheritance: self.inheritance,
-            members: self.members.try_clone(alloc)?,
+            members: copy_interface_members(&self.members, alloc)?,
             semi_colon: self.semi_colon,
         })
     }
@@ -101,7 +102,7 @@ impl<'a> CallbackInterfaceDefinition<'a> {
         Interface,
         Identifier<'a>,
         Option<Inheritance<'a>>,
-        BracedInterfaceMembers<'a>,
+        Braced<InterfaceMembers<'a>>,
         SemiColon,
     )
         ensures { result ≡ (
@@ -186,7 +187,7 @@ impl TryClone for InterfaceDefinition<'_> {
             interface: self.interface,
             identifier: self.identifier,
             inheritance: self.inheritance,
-            members: self.members.try_clone(alloc)?,
+            members: copy_interface_members(&self.members, alloc)?,
             semi_colon: self.semi_colon,
         })
     }
@@ -205,7 +206,7 @@ impl<'a> InterfaceDefinition<'a> {
         Interface,
         Identifier<'a>,
         Option<Inheritance<'a>>,
-        BracedInterfaceMembers<'a>,
+        Braced<InterfaceMembers<'a>>,
         SemiColon,
     )
         ensures { result ≡ (
@@ -272,7 +273,7 @@ impl TryClone for PartialInterfaceDefinition<'_> {
             partial: self.partial,
             interface: self.interface,
             identifier: self.identifier,
-            members: self.members.try_clone(alloc)?,
+            members: copy_interface_members(&self.members, alloc)?,
             semi_colon: self.semi_colon,
         })
     }
@@ -290,7 +291,7 @@ impl<'a> PartialInterfaceDefinition<'a> {
         Partial,
         Interface,
         Identifier<'a>,
-        BracedInterfaceMembers<'a>,
+        Braced<InterfaceMembers<'a>>,
         SemiColon,
     )
         ensures { result ≡ (

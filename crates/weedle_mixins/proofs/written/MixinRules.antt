@@ -1,7 +1,6 @@
 -- Members of mixins. Written by tools/idl_proofs.py.
 use Rattle.std.proofs.Common.{refl}
 use Rattle.std.specs.Borrow.{Bor}
-use Rattle.std.specs.Global.{Vec}
 use Rattle.std.specs.Prelude.{ℕ, List, [], ◌∷◌, Option}
 use Rattle.weedle_base.proofs.ChoiceFacts.{choice_tree, first_last, first_more, first_rule}
 use Rattle.weedle_base.proofs.ChoiceSteps.{first_seen}
@@ -19,28 +18,25 @@ use Rattle.weedle_grammar.specs.Trees.{Alt, Mark, Node, trees}
 use Rattle.weedle_grammar.specs.written.Table.InterfaceMembers.{CONST_MEMBER, OPT_IDENTIFIER, OPT_READ_ONLY, STRINGIFIER_MEMBER}
 use Rattle.weedle_grammar.specs.written.Table.Keywords.{ATTRIBUTE, READ_ONLY, STRINGIFIER}
 use Rattle.weedle_grammar.specs.written.Table.Leaves.{IDENTIFIER}
-use Rattle.weedle_grammar.specs.written.Table.OtherMembers.{ATTRIBUTE_MIXIN_MEMBER, BRACED_MIXIN_MEMBERS, MIXIN_MEMBER, MIXIN_MEMBERS, OPERATION_MIXIN_MEMBER, OPT_STRINGIFIER}
-use Rattle.weedle_grammar.specs.written.Table.Symbols.{CLOSE_BRACE, OPEN_BRACE, SEMI_COLON}
+use Rattle.weedle_grammar.specs.written.Table.OtherMembers.{ATTRIBUTE_MIXIN_MEMBER, MIXIN_MEMBER, OPERATION_MIXIN_MEMBER, OPT_STRINGIFIER}
+use Rattle.weedle_grammar.specs.written.Table.Symbols.{SEMI_COLON}
 use Rattle.weedle_grammar.specs.written.Table.Types.{ATTRIBUTED_TYPE, PARENTHESIZED_ARGUMENT_LIST, RETURN_TYPE}
 use Rattle.weedle_members.specs.declared.constant.ConstMember.{ConstMember}
 use Rattle.weedle_members.specs.declared.stringifier.StringifierMember.{StringifierMember}
 use Rattle.weedle_members.specs.written.Trees.{const_member_tree, stringifier_member_tree}
 use Rattle.weedle_mixins.specs.declared.mixin.AttributeMixinMember.{AttributeMixinMember}
-use Rattle.weedle_mixins.specs.declared.mixin.BracedMixinMembers.{BracedMixinMembers}
 use Rattle.weedle_mixins.specs.declared.mixin.MixinMember.TheVariants.{Const as IsConst, Operation as IsOperation, Attribute as IsAttribute, Stringifier as IsStringifier}
 use Rattle.weedle_mixins.specs.declared.mixin.MixinMember.{MixinMember}
 use Rattle.weedle_mixins.specs.declared.mixin.OperationMixinMember.{OperationMixinMember}
-use Rattle.weedle_mixins.specs.written.Trees.{attribute_mixin_member_tree, braced_mixin_members_tree, mixin_member_tree, operation_mixin_member_tree}
+use Rattle.weedle_mixins.specs.written.Trees.{attribute_mixin_member_tree, mixin_member_tree, operation_mixin_member_tree}
 use Rattle.weedle_parts.specs.ValueTrees.{identifier_tree}
 use Rattle.weedle_parts.specs.declared.common.identifier.Identifier.{Identifier}
 use Rattle.weedle_term.specs.declared.written.definition_keywords.Attribute.{Attribute}
 use Rattle.weedle_term.specs.declared.written.definition_keywords.ReadOnly.{ReadOnly}
 use Rattle.weedle_term.specs.declared.written.definition_keywords.Stringifier.{Stringifier}
-use Rattle.weedle_term.specs.declared.written.symbols.CloseBrace.{CloseBrace}
-use Rattle.weedle_term.specs.declared.written.symbols.OpenBrace.{OpenBrace}
 use Rattle.weedle_term.specs.declared.written.symbols.SemiColon.{SemiColon}
-use Rattle.weedle_types.proofs.SharedRules.{attributes_reading, attributes_rule, members_reading, members_rule, perhaps, word}
-use Rattle.weedle_types.specs.PartTrees.{Attributes, members_tree}
+use Rattle.weedle_types.proofs.SharedRules.{attributes_reading, attributes_rule, perhaps, word}
+use Rattle.weedle_types.specs.PartTrees.{Attributes}
 use Rattle.weedle_types.specs.Trees.{arguments_tree, attributed_type_tree, attributes_tree, return_type_tree}
 use Rattle.weedle_types.specs.declared.argument.ParenthesizedArgumentList.{ParenthesizedArgumentList}
 use Rattle.weedle_types.specs.declared.formers.ReturnType.{ReturnType}
@@ -102,21 +98,6 @@ mixin_member_got (IsStringifier v) h = got_rule mixin_member_rule mixin_member_t
 pub mixin_member_fault : {s : List ℕ} {e : Fault (Error (Bor (List ℕ)))} → Faults mixin_member_parts s e → Faults (own MIXIN_MEMBER mixin_member_tree (Unit {0})) s e
 mixin_member_fault h = fault_rule mixin_member_rule mixin_member_tree h
 
--- its members between braces
-abbrev braced_mixin_members_parts : Reading (OpenBrace × ((Vec MixinMember) × CloseBrace))
-braced_mixin_members_parts = pair_reading (mark OPEN_BRACE) (pair_reading (members_reading (own MIXIN_MEMBER mixin_member_tree (Unit {0}))) (mark CLOSE_BRACE))
-
-braced_mixin_members_rule : IsRule braced_mixin_members_parts BRACED_MIXIN_MEMBERS (λ x. Node (trees (Mark ∷ members_tree mixin_member_tree x.1.0 ∷ Mark ∷ []))) (Unit {0})
-braced_mixin_members_rule = seq_rule (seq_next (word OPEN_BRACE) (seq_next (members_rule (own_rule MIXIN_MEMBER mixin_member_tree (Unit {0})) MIXIN_MEMBERS refl refl) (seq_last (word CLOSE_BRACE)))) BRACED_MIXIN_MEMBERS refl refl
-
--- the parts give what the rule gives
-pub braced_mixin_members_got : {s rest : List ℕ} (x : BracedMixinMembers) → Got braced_mixin_members_parts s (x.open_brace, (x.body, x.close_brace)) rest → Got (own BRACED_MIXIN_MEMBERS braced_mixin_members_tree (Unit {0})) s x rest
-braced_mixin_members_got x h = got_rule braced_mixin_members_rule braced_mixin_members_tree x h refl
-
--- a fault of the parts is one of the rule
-pub braced_mixin_members_fault : {s : List ℕ} {e : Fault (Error (Bor (List ℕ)))} → Faults braced_mixin_members_parts s e → Faults (own BRACED_MIXIN_MEMBERS braced_mixin_members_tree (Unit {0})) s e
-braced_mixin_members_fault h = fault_rule braced_mixin_members_rule braced_mixin_members_tree h
-
 -- what the search for the proof of its `parse` uses
 pub ruleset operation_mixin_member_steps = (operation_mixin_member_got, operation_mixin_member_fault)
 
@@ -125,6 +106,3 @@ pub ruleset attribute_mixin_member_steps = (attribute_mixin_member_got, attribut
 
 -- what the search for the proof of its `parse` uses
 pub ruleset mixin_member_steps = (mixin_member_got, mixin_member_fault)
-
--- what the search for the proof of its `parse` uses
-pub ruleset braced_mixin_members_steps = (braced_mixin_members_got, braced_mixin_members_fault)

@@ -4,13 +4,12 @@ use Rattle.weedle_base.specs.Rules.{mark_tree, option_tree}
 use Rattle.weedle_grammar.specs.Trees.{Alt, Mark, Node, Tree, trees}
 use Rattle.weedle_members.specs.written.Trees.{const_member_tree, stringifier_member_tree}
 use Rattle.weedle_mixins.specs.declared.mixin.AttributeMixinMember.{AttributeMixinMember}
-use Rattle.weedle_mixins.specs.declared.mixin.BracedMixinMembers.{BracedMixinMembers}
 use Rattle.weedle_mixins.specs.declared.mixin.MixinMember.TheVariants.{Const as MixinMember-Const, Operation as MixinMember-Operation, Attribute as MixinMember-Attribute, Stringifier as MixinMember-Stringifier}
 use Rattle.weedle_mixins.specs.declared.mixin.MixinMember.{MixinMember}
 use Rattle.weedle_mixins.specs.declared.mixin.OperationMixinMember.{OperationMixinMember}
 use Rattle.weedle_mixins.specs.declared.mixin_definition.InterfaceMixinDefinition.{InterfaceMixinDefinition}
 use Rattle.weedle_mixins.specs.declared.mixin_definition.PartialInterfaceMixinDefinition.{PartialInterfaceMixinDefinition}
-use Rattle.weedle_parts.specs.ValueTrees.{bracket_tree, identifier_tree}
+use Rattle.weedle_parts.specs.ValueTrees.{braced_tree, identifier_tree}
 use Rattle.weedle_types.specs.PartTrees.{members_tree}
 use Rattle.weedle_types.specs.Trees.{arguments_tree, attributed_type_tree, attributes_tree, return_type_tree}
 
@@ -31,15 +30,11 @@ mixin_member_tree (MixinMember-Operation v) = Alt 1 (operation_mixin_member_tree
 mixin_member_tree (MixinMember-Attribute v) = Alt 2 (attribute_mixin_member_tree v)
 mixin_member_tree (MixinMember-Stringifier v) = Alt 3 (stringifier_member_tree v)
 
--- the members of a mixin between braces
-abbrev pub braced_mixin_members_tree : BracedMixinMembers → Tree
-braced_mixin_members_tree v = bracket_tree (members_tree mixin_member_tree v.body)
-
 -- a mixin: its attributes where they stand, `interface`, `mixin`, its name, its members, `;`
 abbrev pub interface_mixin_definition_tree : InterfaceMixinDefinition → Tree
-interface_mixin_definition_tree v = Node (trees (attributes_tree v.attributes ∷ Mark ∷ Mark ∷ identifier_tree v.identifier ∷ braced_mixin_members_tree v.members ∷ Mark ∷ []))
+interface_mixin_definition_tree v = Node (trees (attributes_tree v.attributes ∷ Mark ∷ Mark ∷ identifier_tree v.identifier ∷ braced_tree (members_tree mixin_member_tree) v.members ∷ Mark ∷ []))
 
 -- a part of a mixin: its attributes where they stand, `partial`, `interface`, `mixin`, the name of the mixin
 -- that it is a part of, its members, `;`
 abbrev pub partial_interface_mixin_definition_tree : PartialInterfaceMixinDefinition → Tree
-partial_interface_mixin_definition_tree v = Node (trees (attributes_tree v.attributes ∷ Mark ∷ Mark ∷ Mark ∷ identifier_tree v.identifier ∷ braced_mixin_members_tree v.members ∷ Mark ∷ []))
+partial_interface_mixin_definition_tree v = Node (trees (attributes_tree v.attributes ∷ Mark ∷ Mark ∷ Mark ∷ identifier_tree v.identifier ∷ braced_tree (members_tree mixin_member_tree) v.members ∷ Mark ∷ []))

@@ -8,79 +8,27 @@ ghost use Rattle.weedle_base.specs.Own.{own};
 ghost use Rattle.weedle_base.specs.OwnLaws.{own_lawful};
 ghost use Rattle.weedle_grammar.specs.written.Table.OtherMembers.{
   ATTRIBUTE_MIXIN_MEMBER,
-  BRACED_MIXIN_MEMBERS,
   MIXIN_MEMBER,
   OPERATION_MIXIN_MEMBER,
 };
 ghost use Rattle.weedle_mixins.specs.written.Trees.{
   attribute_mixin_member_tree,
-  braced_mixin_members_tree,
   mixin_member_tree,
   operation_mixin_member_tree,
 };
 
-use super::{
-    AttributeMixinMember, BracedMixinMembers, MixinMember, MixinMembers, OperationMixinMember,
-};
-use crate::copies::copy_mixin_members;
+use super::{AttributeMixinMember, MixinMember, OperationMixinMember};
 use std::alloc::{AllocError, Global};
 use weedle_base::Choice::{self, First, Second};
 use weedle_base::{IResult, Parse, TryClone};
 use weedle_fields::{attributes_and_five, attributes_and_six};
 use weedle_members::{ConstMember, StringifierMember};
 use weedle_parts::common::Identifier;
-use weedle_term::{Attribute, CloseBrace, OpenBrace, ReadOnly, SemiColon, Stringifier};
+use weedle_term::{Attribute, ReadOnly, SemiColon, Stringifier};
 use weedle_types::argument::ParenthesizedArgumentList;
 use weedle_types::attribute::ExtendedAttributeList;
 use weedle_types::copies::copy_attributes;
 use weedle_types::types::{AttributedType, ReturnType};
-
-#[tactic(auto, using(crate::proofs::written::MixinRules::braced_mixin_members_steps))]
-impl<'a> Parse<'a> for BracedMixinMembers<'a> {
-    ghost reading = { own BRACED_MIXIN_MEMBERS braced_mixin_members_tree (Unit {0}) };
-
-    fn parse(alloc: Global, input: &'a str) -> IResult<&'a str, Self> {
-        let (rest, (open_brace, (body, close_brace))) = Parse::parse(alloc, input)?;
-        Ok((
-            rest,
-            BracedMixinMembers {
-                open_brace,
-                body,
-                close_brace,
-            },
-        ))
-    }
-
-    ghost lawful = { own_lawful BRACED_MIXIN_MEMBERS braced_mixin_members_tree (Unit {0}) };
-}
-
-impl TryClone for BracedMixinMembers<'_> {
-    ghost alike = { λ a b. braced_mixin_members_tree a ≡ braced_mixin_members_tree b };
-
-    fn try_clone(&self, alloc: Global) -> Result<Self, AllocError> {
-        Ok(BracedMixinMembers {
-            open_brace: self.open_brace,
-            body: copy_mixin_members(&self.body, alloc)?,
-            close_brace: self.close_brace,
-        })
-    }
-
-    ghost equivalence = { seen_equivalence braced_mixin_members_tree equal_equivalence };
-}
-
-impl<'a> BracedMixinMembers<'a> {
-    /// Its fields, in order: `open_brace`, `body` and `close_brace`.
-    pub fn into_fields(self) -> (OpenBrace, MixinMembers<'a>, CloseBrace)
-        ensures { result ≡ (self.entry.open_brace, self.entry.body, self.entry.close_brace) }
-    {
-        let BracedMixinMembers {
-            open_brace,
-            body,
-            close_brace,
-        } = self;
-        (open_brace, body, close_brace)
-    }
-}
 
 #[tactic(auto, using(crate::proofs::written::MixinRules::operation_mixin_member_steps))]
 impl<'a> Parse<'a> for OperationMixinMember<'a> {

@@ -16,11 +16,12 @@ ghost use Rattle.weedle_mixins.specs.written.Trees.{
 };
 
 use super::{InterfaceMixinDefinition, PartialInterfaceMixinDefinition};
-use crate::mixin::BracedMixinMembers;
+use crate::copies::copy_mixin_members;
+use crate::mixin::MixinMembers;
 use std::alloc::{AllocError, Global};
 use weedle_base::{IResult, Parse, TryClone};
 use weedle_fields::{attributes_and_five, attributes_and_six};
-use weedle_parts::common::Identifier;
+use weedle_parts::common::{Braced, Identifier};
 use weedle_term::{Interface, Mixin, Partial, SemiColon};
 use weedle_types::attribute::ExtendedAttributeList;
 use weedle_types::copies::copy_attributes;
@@ -58,7 +59,7 @@ impl TryClone for InterfaceMixinDefinition<'_> {
             interface: self.interface,
             mixin: self.mixin,
             identifier: self.identifier,
-            members: self.members.try_clone(alloc)?,
+            members: copy_mixin_members(&self.members, alloc)?,
             semi_colon: self.semi_colon,
         })
     }
@@ -76,7 +77,7 @@ impl<'a> InterfaceMixinDefinition<'a> {
         Interface,
         Mixin,
         Identifier<'a>,
-        BracedMixinMembers<'a>,
+        Braced<MixinMembers<'a>>,
         SemiColon,
     )
         ensures { result ≡ (
@@ -138,7 +139,7 @@ impl TryClone for PartialInterfaceMixinDefinition<'_> {
             interface: self.interface,
             mixin: self.mixin,
             identifier: self.identifier,
-            members: self.members.try_clone(alloc)?,
+            members: copy_mixin_members(&self.members, alloc)?,
             semi_colon: self.semi_colon,
         })
     }
@@ -157,7 +158,7 @@ impl<'a> PartialInterfaceMixinDefinition<'a> {
         Interface,
         Mixin,
         Identifier<'a>,
-        BracedMixinMembers<'a>,
+        Braced<MixinMembers<'a>>,
         SemiColon,
     )
         ensures { result ≡ (

@@ -1,7 +1,6 @@
 -- Members of dictionaries. Written by tools/idl_proofs.py.
 use Rattle.std.proofs.Common.{refl}
 use Rattle.std.specs.Borrow.{Bor}
-use Rattle.std.specs.Global.{Vec}
 use Rattle.std.specs.Prelude.{ℕ, List, [], ◌∷◌, Option}
 use Rattle.weedle_base.proofs.RuleFacts.{fault_rule, got_rule, mark, mark_rule, option_rule, own_rule, seq_last, seq_next, seq_rule, still_rule}
 use Rattle.weedle_base.specs.Generic.{option_reading, pair_reading}
@@ -15,23 +14,20 @@ use Rattle.weedle_grammar.specs.written.Table.InterfaceMembers.{OPT_DOCSTRING}
 use Rattle.weedle_grammar.specs.written.Table.Keywords.{REQUIRED}
 use Rattle.weedle_grammar.specs.written.Table.Leaves.{DOCSTRING, IDENTIFIER}
 use Rattle.weedle_grammar.specs.written.Table.Literals.{DEFAULT}
-use Rattle.weedle_grammar.specs.written.Table.OtherMembers.{BRACED_DICTIONARY_MEMBERS, DICTIONARY_MEMBER, DICTIONARY_MEMBERS, OPT_REQUIRED}
-use Rattle.weedle_grammar.specs.written.Table.Symbols.{CLOSE_BRACE, OPEN_BRACE, SEMI_COLON}
+use Rattle.weedle_grammar.specs.written.Table.OtherMembers.{DICTIONARY_MEMBER, OPT_REQUIRED}
+use Rattle.weedle_grammar.specs.written.Table.Symbols.{SEMI_COLON}
 use Rattle.weedle_grammar.specs.written.Table.Types.{OPT_DEFAULT, TYPE}
 use Rattle.weedle_literal.specs.LiteralTrees.{default_tree}
 use Rattle.weedle_literal.specs.declared.default.Default.{Default}
-use Rattle.weedle_namespaces.specs.declared.dictionary.BracedDictionaryMembers.{BracedDictionaryMembers}
 use Rattle.weedle_namespaces.specs.declared.dictionary.DictionaryMember.{DictionaryMember}
-use Rattle.weedle_namespaces.specs.written.Trees.{braced_dictionary_members_tree, dictionary_member_tree}
+use Rattle.weedle_namespaces.specs.written.Trees.{dictionary_member_tree}
 use Rattle.weedle_parts.specs.ValueTrees.{docstring_tree, identifier_tree}
 use Rattle.weedle_parts.specs.declared.common.docstring.Docstring.{Docstring}
 use Rattle.weedle_parts.specs.declared.common.identifier.Identifier.{Identifier}
 use Rattle.weedle_term.specs.declared.written.definition_keywords.Required.{Required}
-use Rattle.weedle_term.specs.declared.written.symbols.CloseBrace.{CloseBrace}
-use Rattle.weedle_term.specs.declared.written.symbols.OpenBrace.{OpenBrace}
 use Rattle.weedle_term.specs.declared.written.symbols.SemiColon.{SemiColon}
-use Rattle.weedle_types.proofs.SharedRules.{attributes_reading, attributes_rule, members_reading, members_rule, perhaps, word}
-use Rattle.weedle_types.specs.PartTrees.{Attributes, members_tree}
+use Rattle.weedle_types.proofs.SharedRules.{attributes_reading, attributes_rule, perhaps, word}
+use Rattle.weedle_types.specs.PartTrees.{Attributes}
 use Rattle.weedle_types.specs.Trees.{attributes_tree, type_tree}
 use Rattle.weedle_types.specs.declared.types.«Type».{«Type»}
 
@@ -50,23 +46,5 @@ dictionary_member_got x h = got_rule dictionary_member_rule dictionary_member_tr
 pub dictionary_member_fault : {s : List ℕ} {e : Fault (Error (Bor (List ℕ)))} → Faults dictionary_member_parts s e → Faults (own DICTIONARY_MEMBER dictionary_member_tree (Unit {0})) s e
 dictionary_member_fault h = fault_rule dictionary_member_rule dictionary_member_tree h
 
--- its members between braces
-abbrev braced_dictionary_members_parts : Reading (OpenBrace × ((Vec DictionaryMember) × CloseBrace))
-braced_dictionary_members_parts = pair_reading (mark OPEN_BRACE) (pair_reading (members_reading (own DICTIONARY_MEMBER dictionary_member_tree (Unit {0}))) (mark CLOSE_BRACE))
-
-braced_dictionary_members_rule : IsRule braced_dictionary_members_parts BRACED_DICTIONARY_MEMBERS (λ x. Node (trees (Mark ∷ members_tree dictionary_member_tree x.1.0 ∷ Mark ∷ []))) (Unit {0})
-braced_dictionary_members_rule = seq_rule (seq_next (word OPEN_BRACE) (seq_next (members_rule (own_rule DICTIONARY_MEMBER dictionary_member_tree (Unit {0})) DICTIONARY_MEMBERS refl refl) (seq_last (word CLOSE_BRACE)))) BRACED_DICTIONARY_MEMBERS refl refl
-
--- the parts give what the rule gives
-pub braced_dictionary_members_got : {s rest : List ℕ} (x : BracedDictionaryMembers) → Got braced_dictionary_members_parts s (x.open_brace, (x.body, x.close_brace)) rest → Got (own BRACED_DICTIONARY_MEMBERS braced_dictionary_members_tree (Unit {0})) s x rest
-braced_dictionary_members_got x h = got_rule braced_dictionary_members_rule braced_dictionary_members_tree x h refl
-
--- a fault of the parts is one of the rule
-pub braced_dictionary_members_fault : {s : List ℕ} {e : Fault (Error (Bor (List ℕ)))} → Faults braced_dictionary_members_parts s e → Faults (own BRACED_DICTIONARY_MEMBERS braced_dictionary_members_tree (Unit {0})) s e
-braced_dictionary_members_fault h = fault_rule braced_dictionary_members_rule braced_dictionary_members_tree h
-
 -- what the search for the proof of its `parse` uses
 pub ruleset dictionary_member_steps = (dictionary_member_got, dictionary_member_fault)
-
--- what the search for the proof of its `parse` uses
-pub ruleset braced_dictionary_members_steps = (braced_dictionary_members_got, braced_dictionary_members_fault)

@@ -1,7 +1,6 @@
 -- Members of namespaces. Written by tools/idl_proofs.py.
 use Rattle.std.proofs.Common.{refl}
 use Rattle.std.specs.Borrow.{Bor}
-use Rattle.std.specs.Global.{Vec}
 use Rattle.std.specs.Prelude.{ℕ, List, [], ◌∷◌, Option}
 use Rattle.weedle_base.proofs.ChoiceFacts.{choice_tree, first_last, first_more, first_rule}
 use Rattle.weedle_base.proofs.ChoiceSteps.{first_seen}
@@ -19,25 +18,22 @@ use Rattle.weedle_grammar.specs.Trees.{Alt, Mark, Node, trees}
 use Rattle.weedle_grammar.specs.written.Table.InterfaceMembers.{OPT_DOCSTRING, OPT_IDENTIFIER}
 use Rattle.weedle_grammar.specs.written.Table.Keywords.{ATTRIBUTE, READ_ONLY}
 use Rattle.weedle_grammar.specs.written.Table.Leaves.{DOCSTRING, IDENTIFIER}
-use Rattle.weedle_grammar.specs.written.Table.OtherMembers.{ATTRIBUTE_NAMESPACE_MEMBER, BRACED_NAMESPACE_MEMBERS, NAMESPACE_MEMBER, NAMESPACE_MEMBERS, OPERATION_NAMESPACE_MEMBER}
-use Rattle.weedle_grammar.specs.written.Table.Symbols.{CLOSE_BRACE, OPEN_BRACE, SEMI_COLON}
+use Rattle.weedle_grammar.specs.written.Table.OtherMembers.{ATTRIBUTE_NAMESPACE_MEMBER, NAMESPACE_MEMBER, OPERATION_NAMESPACE_MEMBER}
+use Rattle.weedle_grammar.specs.written.Table.Symbols.{SEMI_COLON}
 use Rattle.weedle_grammar.specs.written.Table.Types.{ATTRIBUTED_TYPE, PARENTHESIZED_ARGUMENT_LIST, RETURN_TYPE}
 use Rattle.weedle_namespaces.specs.declared.namespace.AttributeNamespaceMember.{AttributeNamespaceMember}
-use Rattle.weedle_namespaces.specs.declared.namespace.BracedNamespaceMembers.{BracedNamespaceMembers}
 use Rattle.weedle_namespaces.specs.declared.namespace.NamespaceMember.TheVariants.{Operation as IsOperation, Attribute as IsAttribute}
 use Rattle.weedle_namespaces.specs.declared.namespace.NamespaceMember.{NamespaceMember}
 use Rattle.weedle_namespaces.specs.declared.namespace.OperationNamespaceMember.{OperationNamespaceMember}
-use Rattle.weedle_namespaces.specs.written.Trees.{attribute_namespace_member_tree, braced_namespace_members_tree, namespace_member_tree, operation_namespace_member_tree}
+use Rattle.weedle_namespaces.specs.written.Trees.{attribute_namespace_member_tree, namespace_member_tree, operation_namespace_member_tree}
 use Rattle.weedle_parts.specs.ValueTrees.{docstring_tree, identifier_tree}
 use Rattle.weedle_parts.specs.declared.common.docstring.Docstring.{Docstring}
 use Rattle.weedle_parts.specs.declared.common.identifier.Identifier.{Identifier}
 use Rattle.weedle_term.specs.declared.written.definition_keywords.Attribute.{Attribute}
 use Rattle.weedle_term.specs.declared.written.definition_keywords.ReadOnly.{ReadOnly}
-use Rattle.weedle_term.specs.declared.written.symbols.CloseBrace.{CloseBrace}
-use Rattle.weedle_term.specs.declared.written.symbols.OpenBrace.{OpenBrace}
 use Rattle.weedle_term.specs.declared.written.symbols.SemiColon.{SemiColon}
-use Rattle.weedle_types.proofs.SharedRules.{attributes_reading, attributes_rule, members_reading, members_rule, perhaps, word}
-use Rattle.weedle_types.specs.PartTrees.{Attributes, members_tree}
+use Rattle.weedle_types.proofs.SharedRules.{attributes_reading, attributes_rule, perhaps, word}
+use Rattle.weedle_types.specs.PartTrees.{Attributes}
 use Rattle.weedle_types.specs.Trees.{arguments_tree, attributed_type_tree, attributes_tree, return_type_tree}
 use Rattle.weedle_types.specs.declared.argument.ParenthesizedArgumentList.{ParenthesizedArgumentList}
 use Rattle.weedle_types.specs.declared.formers.ReturnType.{ReturnType}
@@ -95,21 +91,6 @@ namespace_member_got (IsAttribute v) h = got_rule namespace_member_rule namespac
 pub namespace_member_fault : {s : List ℕ} {e : Fault (Error (Bor (List ℕ)))} → Faults namespace_member_parts s e → Faults (own NAMESPACE_MEMBER namespace_member_tree (Unit {0})) s e
 namespace_member_fault h = fault_rule namespace_member_rule namespace_member_tree h
 
--- its members between braces
-abbrev braced_namespace_members_parts : Reading (OpenBrace × ((Vec NamespaceMember) × CloseBrace))
-braced_namespace_members_parts = pair_reading (mark OPEN_BRACE) (pair_reading (members_reading (own NAMESPACE_MEMBER namespace_member_tree (Unit {0}))) (mark CLOSE_BRACE))
-
-braced_namespace_members_rule : IsRule braced_namespace_members_parts BRACED_NAMESPACE_MEMBERS (λ x. Node (trees (Mark ∷ members_tree namespace_member_tree x.1.0 ∷ Mark ∷ []))) (Unit {0})
-braced_namespace_members_rule = seq_rule (seq_next (word OPEN_BRACE) (seq_next (members_rule (own_rule NAMESPACE_MEMBER namespace_member_tree (Unit {0})) NAMESPACE_MEMBERS refl refl) (seq_last (word CLOSE_BRACE)))) BRACED_NAMESPACE_MEMBERS refl refl
-
--- the parts give what the rule gives
-pub braced_namespace_members_got : {s rest : List ℕ} (x : BracedNamespaceMembers) → Got braced_namespace_members_parts s (x.open_brace, (x.body, x.close_brace)) rest → Got (own BRACED_NAMESPACE_MEMBERS braced_namespace_members_tree (Unit {0})) s x rest
-braced_namespace_members_got x h = got_rule braced_namespace_members_rule braced_namespace_members_tree x h refl
-
--- a fault of the parts is one of the rule
-pub braced_namespace_members_fault : {s : List ℕ} {e : Fault (Error (Bor (List ℕ)))} → Faults braced_namespace_members_parts s e → Faults (own BRACED_NAMESPACE_MEMBERS braced_namespace_members_tree (Unit {0})) s e
-braced_namespace_members_fault h = fault_rule braced_namespace_members_rule braced_namespace_members_tree h
-
 -- what the search for the proof of its `parse` uses
 pub ruleset operation_namespace_member_steps = (operation_namespace_member_got, operation_namespace_member_fault)
 
@@ -118,6 +99,3 @@ pub ruleset attribute_namespace_member_steps = (attribute_namespace_member_got, 
 
 -- what the search for the proof of its `parse` uses
 pub ruleset namespace_member_steps = (namespace_member_got, namespace_member_fault)
-
--- what the search for the proof of its `parse` uses
-pub ruleset braced_namespace_members_steps = (braced_namespace_members_got, braced_namespace_members_fault)

@@ -6,73 +6,19 @@ ghost use Rattle.std.specs.Prelude.{◌≡◌};
 ghost use Rattle.weedle_base.specs.AlikeLaws.{equal_equivalence, seen_equivalence};
 ghost use Rattle.weedle_base.specs.Own.{own};
 ghost use Rattle.weedle_base.specs.OwnLaws.{own_lawful};
-ghost use Rattle.weedle_grammar.specs.written.Table.OtherMembers.{
-  BRACED_DICTIONARY_MEMBERS,
-  DICTIONARY_MEMBER,
-};
-ghost use Rattle.weedle_namespaces.specs.written.Trees.{
-  braced_dictionary_members_tree,
-  dictionary_member_tree,
-};
+ghost use Rattle.weedle_grammar.specs.written.Table.OtherMembers.{DICTIONARY_MEMBER};
+ghost use Rattle.weedle_namespaces.specs.written.Trees.{dictionary_member_tree};
 
-use super::{BracedDictionaryMembers, DictionaryMember, DictionaryMembers};
-use crate::copies::copy_dictionary_members;
+use super::DictionaryMember;
 use std::alloc::{AllocError, Global};
 use weedle_base::{IResult, Parse, TryClone};
 use weedle_fields::docstring_attributes_and_five;
 use weedle_literal::Default;
 use weedle_parts::common::{Docstring, Identifier};
-use weedle_term::{CloseBrace, OpenBrace, Required, SemiColon};
+use weedle_term::{Required, SemiColon};
 use weedle_types::attribute::ExtendedAttributeList;
 use weedle_types::copies::{copy_attributes, copy_docstring};
 use weedle_types::types::Type;
-
-#[tactic(auto, using(crate::proofs::written::DictionaryRules::braced_dictionary_members_steps))]
-impl<'a> Parse<'a> for BracedDictionaryMembers<'a> {
-    ghost reading = { own BRACED_DICTIONARY_MEMBERS braced_dictionary_members_tree (Unit {0}) };
-
-    fn parse(alloc: Global, input: &'a str) -> IResult<&'a str, Self> {
-        let (rest, (open_brace, (body, close_brace))) = Parse::parse(alloc, input)?;
-        Ok((
-            rest,
-            BracedDictionaryMembers {
-                open_brace,
-                body,
-                close_brace,
-            },
-        ))
-    }
-
-    ghost lawful = { own_lawful BRACED_DICTIONARY_MEMBERS braced_dictionary_members_tree (Unit {0}) };
-}
-
-impl TryClone for BracedDictionaryMembers<'_> {
-    ghost alike = { λ a b. braced_dictionary_members_tree a ≡ braced_dictionary_members_tree b };
-
-    fn try_clone(&self, alloc: Global) -> Result<Self, AllocError> {
-        Ok(BracedDictionaryMembers {
-            open_brace: self.open_brace,
-            body: copy_dictionary_members(&self.body, alloc)?,
-            close_brace: self.close_brace,
-        })
-    }
-
-    ghost equivalence = { seen_equivalence braced_dictionary_members_tree equal_equivalence };
-}
-
-impl<'a> BracedDictionaryMembers<'a> {
-    /// Its fields, in order: `open_brace`, `body` and `close_brace`.
-    pub fn into_fields(self) -> (OpenBrace, DictionaryMembers<'a>, CloseBrace)
-        ensures { result ≡ (self.entry.open_brace, self.entry.body, self.entry.close_brace) }
-    {
-        let BracedDictionaryMembers {
-            open_brace,
-            body,
-            close_brace,
-        } = self;
-        (open_brace, body, close_brace)
-    }
-}
 
 #[tactic(auto, using(crate::proofs::written::DictionaryRules::dictionary_member_steps))]
 impl<'a> Parse<'a> for DictionaryMember<'a> {

@@ -16,12 +16,13 @@ ghost use Rattle.weedle_namespaces.specs.written.Trees.{
 };
 
 use super::{DictionaryDefinition, PartialDictionaryDefinition};
-use crate::dictionary::BracedDictionaryMembers;
+use crate::copies::copy_dictionary_members;
+use crate::dictionary::DictionaryMembers;
 use std::alloc::{AllocError, Global};
 use weedle_base::{IResult, Parse, TryClone};
 use weedle_fields::{attributes_and_five, docstring_attributes_and_five};
 use weedle_modifier::Inheritance;
-use weedle_parts::common::{Docstring, Identifier};
+use weedle_parts::common::{Braced, Docstring, Identifier};
 use weedle_term::{Dictionary, Partial, SemiColon};
 use weedle_types::attribute::ExtendedAttributeList;
 use weedle_types::copies::{copy_attributes, copy_docstring};
@@ -74,7 +75,7 @@ impl TryClone for DictionaryDefinition<'_> {
             dictionary: self.dictionary,
             identifier: self.identifier,
             inheritance: self.inheritance,
-            members: self.members.try_clone(alloc)?,
+            members: copy_dictionary_members(&self.members, alloc)?,
             semi_colon: self.semi_colon,
         })
     }
@@ -93,7 +94,7 @@ impl<'a> DictionaryDefinition<'a> {
         Dictionary,
         Identifier<'a>,
         Option<Inheritance<'a>>,
-        BracedDictionaryMembers<'a>,
+        Braced<DictionaryMembers<'a>>,
         SemiColon,
     )
         ensures { result ≡ (
@@ -160,7 +161,7 @@ impl TryClone for PartialDictionaryDefinition<'_> {
             partial: self.partial,
             dictionary: self.dictionary,
             identifier: self.identifier,
-            members: self.members.try_clone(alloc)?,
+            members: copy_dictionary_members(&self.members, alloc)?,
             semi_colon: self.semi_colon,
         })
     }
@@ -178,7 +179,7 @@ impl<'a> PartialDictionaryDefinition<'a> {
         Partial,
         Dictionary,
         Identifier<'a>,
-        BracedDictionaryMembers<'a>,
+        Braced<DictionaryMembers<'a>>,
         SemiColon,
     )
         ensures { result ≡ (

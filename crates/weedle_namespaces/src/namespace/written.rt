@@ -8,79 +8,26 @@ ghost use Rattle.weedle_base.specs.Own.{own};
 ghost use Rattle.weedle_base.specs.OwnLaws.{own_lawful};
 ghost use Rattle.weedle_grammar.specs.written.Table.OtherMembers.{
   ATTRIBUTE_NAMESPACE_MEMBER,
-  BRACED_NAMESPACE_MEMBERS,
   NAMESPACE_MEMBER,
   OPERATION_NAMESPACE_MEMBER,
 };
 ghost use Rattle.weedle_namespaces.specs.written.Trees.{
   attribute_namespace_member_tree,
-  braced_namespace_members_tree,
   namespace_member_tree,
   operation_namespace_member_tree,
 };
 
-use super::{
-    AttributeNamespaceMember, BracedNamespaceMembers, NamespaceMember, NamespaceMembers,
-    OperationNamespaceMember,
-};
-use crate::copies::copy_namespace_members;
+use super::{AttributeNamespaceMember, NamespaceMember, OperationNamespaceMember};
 use std::alloc::{AllocError, Global};
 use weedle_base::Choice::{self, First, Second};
 use weedle_base::{IResult, Parse, TryClone};
 use weedle_fields::{docstring_attributes_and_five, docstring_attributes_and_four};
 use weedle_parts::common::{Docstring, Identifier};
-use weedle_term::{Attribute, CloseBrace, OpenBrace, ReadOnly, SemiColon};
+use weedle_term::{Attribute, ReadOnly, SemiColon};
 use weedle_types::argument::ParenthesizedArgumentList;
 use weedle_types::attribute::ExtendedAttributeList;
 use weedle_types::copies::{copy_attributes, copy_docstring};
 use weedle_types::types::{AttributedType, ReturnType};
-
-#[tactic(auto, using(crate::proofs::written::NamespaceRules::braced_namespace_members_steps))]
-impl<'a> Parse<'a> for BracedNamespaceMembers<'a> {
-    ghost reading = { own BRACED_NAMESPACE_MEMBERS braced_namespace_members_tree (Unit {0}) };
-
-    fn parse(alloc: Global, input: &'a str) -> IResult<&'a str, Self> {
-        let (rest, (open_brace, (body, close_brace))) = Parse::parse(alloc, input)?;
-        Ok((
-            rest,
-            BracedNamespaceMembers {
-                open_brace,
-                body,
-                close_brace,
-            },
-        ))
-    }
-
-    ghost lawful = { own_lawful BRACED_NAMESPACE_MEMBERS braced_namespace_members_tree (Unit {0}) };
-}
-
-impl TryClone for BracedNamespaceMembers<'_> {
-    ghost alike = { λ a b. braced_namespace_members_tree a ≡ braced_namespace_members_tree b };
-
-    fn try_clone(&self, alloc: Global) -> Result<Self, AllocError> {
-        Ok(BracedNamespaceMembers {
-            open_brace: self.open_brace,
-            body: copy_namespace_members(&self.body, alloc)?,
-            close_brace: self.close_brace,
-        })
-    }
-
-    ghost equivalence = { seen_equivalence braced_namespace_members_tree equal_equivalence };
-}
-
-impl<'a> BracedNamespaceMembers<'a> {
-    /// Its fields, in order: `open_brace`, `body` and `close_brace`.
-    pub fn into_fields(self) -> (OpenBrace, NamespaceMembers<'a>, CloseBrace)
-        ensures { result ≡ (self.entry.open_brace, self.entry.body, self.entry.close_brace) }
-    {
-        let BracedNamespaceMembers {
-            open_brace,
-            body,
-            close_brace,
-        } = self;
-        (open_brace, body, close_brace)
-    }
-}
 
 #[tactic(auto, using(crate::proofs::written::NamespaceRules::operation_namespace_member_steps))]
 impl<'a> Parse<'a> for OperationNamespaceMember<'a> {

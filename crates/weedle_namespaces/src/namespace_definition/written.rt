@@ -16,11 +16,12 @@ ghost use Rattle.weedle_namespaces.specs.written.Trees.{
 };
 
 use super::{NamespaceDefinition, PartialNamespaceDefinition};
-use crate::namespace::BracedNamespaceMembers;
+use crate::copies::copy_namespace_members;
+use crate::namespace::NamespaceMembers;
 use std::alloc::{AllocError, Global};
 use weedle_base::{IResult, Parse, TryClone};
 use weedle_fields::{attributes_and_five, docstring_attributes_and_four};
-use weedle_parts::common::{Docstring, Identifier};
+use weedle_parts::common::{Braced, Docstring, Identifier};
 use weedle_term::{Namespace, Partial, SemiColon};
 use weedle_types::attribute::ExtendedAttributeList;
 use weedle_types::copies::{copy_attributes, copy_docstring};
@@ -60,7 +61,7 @@ impl TryClone for NamespaceDefinition<'_> {
             attributes: copy_attributes(&self.attributes, alloc)?,
             namespace: self.namespace,
             identifier: self.identifier,
-            members: self.members.try_clone(alloc)?,
+            members: copy_namespace_members(&self.members, alloc)?,
             semi_colon: self.semi_colon,
         })
     }
@@ -78,7 +79,7 @@ impl<'a> NamespaceDefinition<'a> {
         Option<ExtendedAttributeList<'a>>,
         Namespace,
         Identifier<'a>,
-        BracedNamespaceMembers<'a>,
+        Braced<NamespaceMembers<'a>>,
         SemiColon,
     )
         ensures { result ≡ (
@@ -137,7 +138,7 @@ impl TryClone for PartialNamespaceDefinition<'_> {
             partial: self.partial,
             namespace: self.namespace,
             identifier: self.identifier,
-            members: self.members.try_clone(alloc)?,
+            members: copy_namespace_members(&self.members, alloc)?,
             semi_colon: self.semi_colon,
         })
     }
@@ -155,7 +156,7 @@ impl<'a> PartialNamespaceDefinition<'a> {
         Partial,
         Namespace,
         Identifier<'a>,
-        BracedNamespaceMembers<'a>,
+        Braced<NamespaceMembers<'a>>,
         SemiColon,
     )
         ensures { result ≡ (

@@ -72,7 +72,7 @@ fn characters_and_docstrings_are_kept(rt: HostRuntime) -> Result<(), Fail> {
              body: Punctuated { list: [NoArgs(ExtendedAttributeNoArgs(Identifier(\"A\")))], \
              separator: Comma }, close_bracket: CloseBracket }), interface: Interface, \
              identifier: Identifier(\"B\"), inheritance: None, \
-             members: BracedInterfaceMembers { open_brace: OpenBrace, body: [], \
+             members: Braced { open_brace: OpenBrace, body: [], \
              close_brace: CloseBrace }, semi_colon: SemiColon })]",
         ),
         (
@@ -80,7 +80,7 @@ fn characters_and_docstrings_are_kept(rt: HostRuntime) -> Result<(), Fail> {
             Outcome::Read(1, "interface", "A"),
             "[Interface(InterfaceDefinition { docstring: Some(Docstring(\"a\")), \
              attributes: None, interface: Interface, identifier: Identifier(\"A\"), \
-             inheritance: None, members: BracedInterfaceMembers { open_brace: OpenBrace, \
+             inheritance: None, members: Braced { open_brace: OpenBrace, \
              body: [], close_brace: CloseBrace }, semi_colon: SemiColon })]",
         ),
         (
@@ -88,7 +88,7 @@ fn characters_and_docstrings_are_kept(rt: HostRuntime) -> Result<(), Fail> {
             Outcome::Read(1, "dictionary", "D"),
             "[Dictionary(DictionaryDefinition { docstring: None, attributes: None, \
              dictionary: Dictionary, identifier: Identifier(\"D\"), inheritance: None, \
-             members: BracedDictionaryMembers { open_brace: OpenBrace, \
+             members: Braced { open_brace: OpenBrace, \
              body: [DictionaryMember { docstring: Some(Docstring(\"d\")), attributes: None, \
              required: None, type_: Single(NonAny(Integer(MayBeNull { \
              type_: Long(LongType { unsigned: None, long: Long }), q_mark: None }))), \

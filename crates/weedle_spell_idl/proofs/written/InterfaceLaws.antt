@@ -2,9 +2,9 @@
 -- Written by tools/spellings.py.
 use Rattle.std.proofs.Common.{refl}
 use Rattle.weedle_grammar.specs.written.Table.Definitions.{CALLBACK_INTERFACE_DEFINITION, INTERFACE_DEFINITION, INTERFACE_MIXIN_DEFINITION, PARTIAL_INTERFACE_DEFINITION, PARTIAL_INTERFACE_MIXIN_DEFINITION}
-use Rattle.weedle_grammar.specs.written.Table.InterfaceMembers.{BRACED_INTERFACE_MEMBERS, INTERFACE_MEMBER, INTERFACE_MEMBERS}
+use Rattle.weedle_grammar.specs.written.Table.InterfaceMembers.{INTERFACE_MEMBER, INTERFACE_MEMBERS}
 use Rattle.weedle_interfaces.specs.declared.member.InterfaceMember.TheVariants.{Const as InterfaceMember-Const, Attribute as InterfaceMember-Attribute, Constructor as InterfaceMember-Constructor, Operation as InterfaceMember-Operation, Iterable as InterfaceMember-Iterable, AsyncIterable as InterfaceMember-AsyncIterable, Maplike as InterfaceMember-Maplike, Setlike as InterfaceMember-Setlike, Stringifier as InterfaceMember-Stringifier}
-use Rattle.weedle_interfaces.specs.written.Trees.{braced_interface_members_tree, callback_interface_definition_tree, interface_definition_tree, interface_member_tree, partial_interface_definition_tree}
+use Rattle.weedle_interfaces.specs.written.Trees.{callback_interface_definition_tree, interface_definition_tree, interface_member_tree, partial_interface_definition_tree}
 use Rattle.weedle_mixins.specs.written.Trees.{interface_mixin_definition_tree, partial_interface_mixin_definition_tree}
 use Rattle.weedle_spell.proofs.LawFacts.{loose}
 use Rattle.weedle_spell.proofs.LeafLaws.{docstring, identifier}
@@ -14,9 +14,9 @@ use Rattle.weedle_spell.proofs.SpeltLists.{all_spelt, many_spelt}
 use Rattle.weedle_spell.proofs.TriviaFacts.{keyword, symbol}
 use Rattle.weedle_spell.specs.Laws.{SpellsValues}
 use Rattle.weedle_spell_idl.proofs.written.IterableLaws.{async_iterable_interface_member, iterable_interface_member, maplike_interface_member, setlike_interface_member}
-use Rattle.weedle_spell_idl.proofs.written.MemberLaws.{attribute_interface_member, braced_mixin_members, const_member, constructor_interface_member, operation_interface_member, stringifier_member}
+use Rattle.weedle_spell_idl.proofs.written.MemberLaws.{attribute_interface_member, const_member, constructor_interface_member, mixin_members, operation_interface_member, stringifier_member}
 use Rattle.weedle_spell_idl.proofs.written.ModifierLaws.{inheritance}
-use Rattle.weedle_spell_idl.specs.written.Interfaces.{braced_interface_members_spelling, callback_interface_definition_spelling, interface_definition_spelling, interface_member_spelling, interface_members_spelling, interface_mixin_definition_spelling, partial_interface_definition_spelling, partial_interface_mixin_definition_spelling}
+use Rattle.weedle_spell_idl.specs.written.Interfaces.{callback_interface_definition_spelling, interface_definition_spelling, interface_member_spelling, interface_members_spelling, interface_mixin_definition_spelling, partial_interface_definition_spelling, partial_interface_mixin_definition_spelling}
 use Rattle.weedle_spell_types.proofs.written.ArgumentLaws.{attributes}
 use Rattle.weedle_types.specs.PartTrees.{members_tree}
 
@@ -36,40 +36,37 @@ interface_member (InterfaceMember-Stringifier v) = alternative 8 refl refl refl 
 pub interface_members : IsSpelt INTERFACE_MEMBERS (members_tree interface_member_tree) interface_members_spelling
 interface_members v = many_spelt refl refl refl v.items (all_spelt interface_member v.items)
 
-pub braced_interface_members : IsSpelt BRACED_INTERFACE_MEMBERS braced_interface_members_tree braced_interface_members_spelling
-braced_interface_members v = braced (interface_members v.body) refl refl
-
 pub callback_interface_definition : IsSpelt CALLBACK_INTERFACE_DEFINITION callback_interface_definition_tree callback_interface_definition_spelling
 callback_interface_definition v =
     node refl refl (part (option_spelt refl refl refl docstring v.docstring) (part (attributes v.attributes)
     (part (keyword refl refl refl) (part (keyword refl refl refl) (part (identifier v.identifier)
-    (part (option_spelt refl refl refl inheritance v.inheritance) (part (braced_interface_members v.members)
-    (last (symbol refl refl refl)))))))))
+    (part (option_spelt refl refl refl inheritance v.inheritance)
+    (part (braced (interface_members v.members.body) refl refl) (last (symbol refl refl refl)))))))))
 
 pub interface_definition : IsSpelt INTERFACE_DEFINITION interface_definition_tree interface_definition_spelling
 interface_definition v =
     node refl refl (part (option_spelt refl refl refl docstring v.docstring) (part (attributes v.attributes)
     (part (keyword refl refl refl) (part (identifier v.identifier)
-    (part (option_spelt refl refl refl inheritance v.inheritance) (part (braced_interface_members v.members)
-    (last (symbol refl refl refl))))))))
+    (part (option_spelt refl refl refl inheritance v.inheritance)
+    (part (braced (interface_members v.members.body) refl refl) (last (symbol refl refl refl))))))))
 
 pub partial_interface_definition : IsSpelt PARTIAL_INTERFACE_DEFINITION partial_interface_definition_tree partial_interface_definition_spelling
 partial_interface_definition v =
     node refl refl (part (attributes v.attributes) (part (keyword refl refl refl)
-    (part (keyword refl refl refl) (part (identifier v.identifier) (part (braced_interface_members v.members)
-    (last (symbol refl refl refl)))))))
+    (part (keyword refl refl refl) (part (identifier v.identifier)
+    (part (braced (interface_members v.members.body) refl refl) (last (symbol refl refl refl)))))))
 
 pub interface_mixin_definition : IsSpelt INTERFACE_MIXIN_DEFINITION interface_mixin_definition_tree interface_mixin_definition_spelling
 interface_mixin_definition v =
     node refl refl (part (attributes v.attributes) (part (keyword refl refl refl)
-    (part (keyword refl refl refl) (part (identifier v.identifier) (part (braced_mixin_members v.members)
-    (last (symbol refl refl refl)))))))
+    (part (keyword refl refl refl) (part (identifier v.identifier)
+    (part (braced (mixin_members v.members.body) refl refl) (last (symbol refl refl refl)))))))
 
 pub partial_interface_mixin_definition : IsSpelt PARTIAL_INTERFACE_MIXIN_DEFINITION partial_interface_mixin_definition_tree partial_interface_mixin_definition_spelling
 partial_interface_mixin_definition v =
     node refl refl (part (attributes v.attributes) (part (keyword refl refl refl)
     (part (keyword refl refl refl) (part (keyword refl refl refl) (part (identifier v.identifier)
-    (part (braced_mixin_members v.members) (last (symbol refl refl refl))))))))
+    (part (braced (mixin_members v.members.body) refl refl) (last (symbol refl refl refl))))))))
 
 -- the laws
 pub interface_member_law : SpellsValues INTERFACE_MEMBER interface_member_tree interface_member_spelling
@@ -77,9 +74,6 @@ interface_member_law = loose interface_member
 
 pub interface_members_law : SpellsValues INTERFACE_MEMBERS (members_tree interface_member_tree) interface_members_spelling
 interface_members_law = loose interface_members
-
-pub braced_interface_members_law : SpellsValues BRACED_INTERFACE_MEMBERS braced_interface_members_tree braced_interface_members_spelling
-braced_interface_members_law = loose braced_interface_members
 
 pub callback_interface_definition_law : SpellsValues CALLBACK_INTERFACE_DEFINITION callback_interface_definition_tree callback_interface_definition_spelling
 callback_interface_definition_law = loose callback_interface_definition

@@ -2,21 +2,20 @@
 -- of the members of mixins. Written by tools/spellings.py.
 use Rattle.std.proofs.Common.{refl}
 use Rattle.weedle_grammar.specs.written.Table.InterfaceMembers.{ATTRIBUTE_INTERFACE_MEMBER, CONSTRUCTOR_INTERFACE_MEMBER, CONST_MEMBER, OPERATION_INTERFACE_MEMBER, STRINGIFIER_MEMBER}
-use Rattle.weedle_grammar.specs.written.Table.OtherMembers.{ATTRIBUTE_MIXIN_MEMBER, BRACED_MIXIN_MEMBERS, MIXIN_MEMBER, MIXIN_MEMBERS, OPERATION_MIXIN_MEMBER}
+use Rattle.weedle_grammar.specs.written.Table.OtherMembers.{ATTRIBUTE_MIXIN_MEMBER, MIXIN_MEMBER, MIXIN_MEMBERS, OPERATION_MIXIN_MEMBER}
 use Rattle.weedle_members.specs.written.Trees.{attribute_interface_member_tree, const_member_tree, constructor_interface_member_tree, operation_interface_member_tree, stringifier_member_tree}
 use Rattle.weedle_mixins.specs.declared.mixin.MixinMember.TheVariants.{Const as MixinMember-Const, Operation as MixinMember-Operation, Attribute as MixinMember-Attribute, Stringifier as MixinMember-Stringifier}
-use Rattle.weedle_mixins.specs.written.Trees.{attribute_mixin_member_tree, braced_mixin_members_tree, mixin_member_tree, operation_mixin_member_tree}
+use Rattle.weedle_mixins.specs.written.Trees.{attribute_mixin_member_tree, mixin_member_tree, operation_mixin_member_tree}
 use Rattle.weedle_spell.proofs.LawFacts.{loose}
 use Rattle.weedle_spell.proofs.LeafLaws.{docstring, identifier}
 use Rattle.weedle_spell.proofs.LiteralLaws.{const_value}
-use Rattle.weedle_spell.proofs.PartFacts.{braced}
 use Rattle.weedle_spell.proofs.SimpleTypeLaws.{const_type}
 use Rattle.weedle_spell.proofs.Spelt.{IsSpelt, alternative, last, node, option_spelt, part}
 use Rattle.weedle_spell.proofs.SpeltLists.{all_spelt, many_spelt}
 use Rattle.weedle_spell.proofs.TriviaFacts.{keyword, symbol}
 use Rattle.weedle_spell.specs.Laws.{SpellsValues}
 use Rattle.weedle_spell_idl.proofs.written.ModifierLaws.{special, stringifier_or_inherit_or_static, stringifier_or_static}
-use Rattle.weedle_spell_idl.specs.written.Members.{attribute_interface_member_spelling, attribute_mixin_member_spelling, braced_mixin_members_spelling, const_member_spelling, constructor_interface_member_spelling, mixin_member_spelling, mixin_members_spelling, operation_interface_member_spelling, operation_mixin_member_spelling, stringifier_member_spelling}
+use Rattle.weedle_spell_idl.specs.written.Members.{attribute_interface_member_spelling, attribute_mixin_member_spelling, const_member_spelling, constructor_interface_member_spelling, mixin_member_spelling, mixin_members_spelling, operation_interface_member_spelling, operation_mixin_member_spelling, stringifier_member_spelling}
 use Rattle.weedle_spell_types.proofs.written.ArgumentLaws.{arguments, attributes}
 use Rattle.weedle_spell_types.proofs.written.TypeLaws.{attributed_type, return_type}
 use Rattle.weedle_types.specs.PartTrees.{members_tree}
@@ -77,9 +76,6 @@ mixin_member (MixinMember-Stringifier v) = alternative 3 refl refl refl (stringi
 pub mixin_members : IsSpelt MIXIN_MEMBERS (members_tree mixin_member_tree) mixin_members_spelling
 mixin_members v = many_spelt refl refl refl v.items (all_spelt mixin_member v.items)
 
-pub braced_mixin_members : IsSpelt BRACED_MIXIN_MEMBERS braced_mixin_members_tree braced_mixin_members_spelling
-braced_mixin_members v = braced (mixin_members v.body) refl refl
-
 -- the laws
 pub attribute_interface_member_law : SpellsValues ATTRIBUTE_INTERFACE_MEMBER attribute_interface_member_tree attribute_interface_member_spelling
 attribute_interface_member_law = loose attribute_interface_member
@@ -107,6 +103,3 @@ mixin_member_law = loose mixin_member
 
 pub mixin_members_law : SpellsValues MIXIN_MEMBERS (members_tree mixin_member_tree) mixin_members_spelling
 mixin_members_law = loose mixin_members
-
-pub braced_mixin_members_law : SpellsValues BRACED_MIXIN_MEMBERS braced_mixin_members_tree braced_mixin_members_spelling
-braced_mixin_members_law = loose braced_mixin_members

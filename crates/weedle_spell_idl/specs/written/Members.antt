@@ -8,7 +8,6 @@ use Rattle.weedle_members.specs.declared.operation.ConstructorInterfaceMember.{C
 use Rattle.weedle_members.specs.declared.operation.OperationInterfaceMember.{OperationInterfaceMember}
 use Rattle.weedle_members.specs.declared.stringifier.StringifierMember.{StringifierMember}
 use Rattle.weedle_mixins.specs.declared.mixin.AttributeMixinMember.{AttributeMixinMember}
-use Rattle.weedle_mixins.specs.declared.mixin.BracedMixinMembers.{BracedMixinMembers}
 use Rattle.weedle_mixins.specs.declared.mixin.MixinMember.TheVariants.{Const as MixinMember-Const, Operation as MixinMember-Operation, Attribute as MixinMember-Attribute, Stringifier as MixinMember-Stringifier}
 use Rattle.weedle_mixins.specs.declared.mixin.MixinMember.{MixinMember}
 use Rattle.weedle_mixins.specs.declared.mixin.OperationMixinMember.{OperationMixinMember}
@@ -82,9 +81,3 @@ mixin_member_spelling (MixinMember-Stringifier v) = stringifier_member_spelling 
 -- the members of a mixin, one after another
 abbrev pub mixin_members_spelling : Vec MixinMember → Form
 mixin_members_spelling v = each mixin_member_spelling v.items
-
--- the members of a mixin between braces
-abbrev pub braced_mixin_members_spelling : BracedMixinMembers → Form
-braced_mixin_members_spelling v =
-    terminal (codes "{") v.open_brace then mixin_members_spelling v.body
-    then terminal (codes "}") v.close_brace

@@ -1,18 +1,17 @@
 -- How namespaces and dictionaries are spelt, and their members. Written by tools/spellings.py.
 use Rattle.std.specs.Global.{Vec}
 use Rattle.std.specs.Prelude.{codes}
-use Rattle.weedle_namespaces.specs.declared.dictionary.BracedDictionaryMembers.{BracedDictionaryMembers}
 use Rattle.weedle_namespaces.specs.declared.dictionary.DictionaryMember.{DictionaryMember}
 use Rattle.weedle_namespaces.specs.declared.dictionary_definition.DictionaryDefinition.{DictionaryDefinition}
 use Rattle.weedle_namespaces.specs.declared.dictionary_definition.PartialDictionaryDefinition.{PartialDictionaryDefinition}
 use Rattle.weedle_namespaces.specs.declared.namespace.AttributeNamespaceMember.{AttributeNamespaceMember}
-use Rattle.weedle_namespaces.specs.declared.namespace.BracedNamespaceMembers.{BracedNamespaceMembers}
 use Rattle.weedle_namespaces.specs.declared.namespace.NamespaceMember.TheVariants.{Operation as NamespaceMember-Operation, Attribute as NamespaceMember-Attribute}
 use Rattle.weedle_namespaces.specs.declared.namespace.NamespaceMember.{NamespaceMember}
 use Rattle.weedle_namespaces.specs.declared.namespace.OperationNamespaceMember.{OperationNamespaceMember}
 use Rattle.weedle_namespaces.specs.declared.namespace_definition.NamespaceDefinition.{NamespaceDefinition}
 use Rattle.weedle_namespaces.specs.declared.namespace_definition.PartialNamespaceDefinition.{PartialNamespaceDefinition}
 use Rattle.weedle_spell.specs.Forms.{Form, each, optional, ◌then◌}
+use Rattle.weedle_spell.specs.GenericParts.{braced_spelling}
 use Rattle.weedle_spell.specs.Leaves.{docstring_spelling, identifier_spelling, terminal}
 use Rattle.weedle_spell.specs.Literals.{default_spelling}
 use Rattle.weedle_spell_idl.specs.written.Modifiers.{inheritance_spelling}
@@ -32,26 +31,20 @@ dictionary_member_spelling v =
 abbrev pub dictionary_members_spelling : Vec DictionaryMember → Form
 dictionary_members_spelling v = each dictionary_member_spelling v.items
 
--- the members of a dictionary between braces
-abbrev pub braced_dictionary_members_spelling : BracedDictionaryMembers → Form
-braced_dictionary_members_spelling v =
-    terminal (codes "{") v.open_brace then dictionary_members_spelling v.body
-    then terminal (codes "}") v.close_brace
-
 -- a dictionary
 abbrev pub dictionary_definition_spelling : DictionaryDefinition → Form
 dictionary_definition_spelling v =
     optional docstring_spelling v.docstring then attributes_spelling v.attributes
     then terminal (codes "dictionary") v.dictionary then identifier_spelling v.identifier
-    then optional inheritance_spelling v.inheritance then braced_dictionary_members_spelling v.members
-    then terminal (codes ";") v.semi_colon
+    then optional inheritance_spelling v.inheritance
+    then braced_spelling dictionary_members_spelling v.members then terminal (codes ";") v.semi_colon
 
 -- a part of a dictionary
 abbrev pub partial_dictionary_definition_spelling : PartialDictionaryDefinition → Form
 partial_dictionary_definition_spelling v =
     attributes_spelling v.attributes then terminal (codes "partial") v.partial
     then terminal (codes "dictionary") v.dictionary then identifier_spelling v.identifier
-    then braced_dictionary_members_spelling v.members then terminal (codes ";") v.semi_colon
+    then braced_spelling dictionary_members_spelling v.members then terminal (codes ";") v.semi_colon
 
 -- an operation of a namespace
 abbrev pub operation_namespace_member_spelling : OperationNamespaceMember → Form
@@ -77,22 +70,16 @@ namespace_member_spelling (NamespaceMember-Attribute v) = attribute_namespace_me
 abbrev pub namespace_members_spelling : Vec NamespaceMember → Form
 namespace_members_spelling v = each namespace_member_spelling v.items
 
--- the members of a namespace between braces
-abbrev pub braced_namespace_members_spelling : BracedNamespaceMembers → Form
-braced_namespace_members_spelling v =
-    terminal (codes "{") v.open_brace then namespace_members_spelling v.body
-    then terminal (codes "}") v.close_brace
-
 -- a namespace
 abbrev pub namespace_definition_spelling : NamespaceDefinition → Form
 namespace_definition_spelling v =
     optional docstring_spelling v.docstring then attributes_spelling v.attributes
     then terminal (codes "namespace") v.namespace then identifier_spelling v.identifier
-    then braced_namespace_members_spelling v.members then terminal (codes ";") v.semi_colon
+    then braced_spelling namespace_members_spelling v.members then terminal (codes ";") v.semi_colon
 
 -- a part of a namespace
 abbrev pub partial_namespace_definition_spelling : PartialNamespaceDefinition → Form
 partial_namespace_definition_spelling v =
     attributes_spelling v.attributes then terminal (codes "partial") v.partial
     then terminal (codes "namespace") v.namespace then identifier_spelling v.identifier
-    then braced_namespace_members_spelling v.members then terminal (codes ";") v.semi_colon
+    then braced_spelling namespace_members_spelling v.members then terminal (codes ";") v.semi_colon

@@ -9,8 +9,8 @@ ghost use Rattle.weedle_laws.specs.written.Places.{interface_member_place};
 use std::cmp::Ordering;
 use weedle_async_iterables::AsyncIterableInterfaceMember;
 use weedle_interfaces::{
-    BracedInterfaceMembers, CallbackInterfaceDefinition, InterfaceDefinition, InterfaceMember,
-    InterfaceMembers, PartialInterfaceDefinition,
+    CallbackInterfaceDefinition, InterfaceDefinition, InterfaceMember, InterfaceMembers,
+    PartialInterfaceDefinition,
 };
 use weedle_iterables::{IterableInterfaceMember, MaplikeInterfaceMember, SetlikeInterfaceMember};
 use weedle_members::{
@@ -18,8 +18,8 @@ use weedle_members::{
     StringifierMember,
 };
 use weedle_modifier::Inheritance;
-use weedle_parts::common::{Docstring, Identifier};
-use weedle_term::{Callback, CloseBrace, Interface, OpenBrace, Partial, SemiColon};
+use weedle_parts::common::{Braced, Docstring, Identifier};
+use weedle_term::{Callback, Interface, Partial, SemiColon};
 use weedle_types::attribute::ExtendedAttributeList;
 
 /// `CallbackInterfaceDefinition` goes by its fields, in order.
@@ -32,7 +32,7 @@ pub fn callback_interface_definition<'a>()
         (ordering_then (⟦<Interface as Ord>⟧.cmp a.interface b.interface)
         (ordering_then (⟦<Identifier<'a> as Ord>⟧.cmp a.identifier b.identifier)
         (ordering_then (⟦<Option<Inheritance<'a>> as Ord>⟧.cmp a.inheritance b.inheritance)
-        (ordering_then (⟦<BracedInterfaceMembers<'a> as Ord>⟧.cmp a.members b.members)
+        (ordering_then (⟦<Braced<InterfaceMembers<'a>> as Ord>⟧.cmp a.members b.members)
         (⟦<SemiColon as Ord>⟧.cmp a.semi_colon b.semi_colon))))))) }
 {}
 
@@ -45,7 +45,7 @@ pub fn interface_definition<'a>()
         (ordering_then (⟦<Interface as Ord>⟧.cmp a.interface b.interface)
         (ordering_then (⟦<Identifier<'a> as Ord>⟧.cmp a.identifier b.identifier)
         (ordering_then (⟦<Option<Inheritance<'a>> as Ord>⟧.cmp a.inheritance b.inheritance)
-        (ordering_then (⟦<BracedInterfaceMembers<'a> as Ord>⟧.cmp a.members b.members)
+        (ordering_then (⟦<Braced<InterfaceMembers<'a>> as Ord>⟧.cmp a.members b.members)
         (⟦<SemiColon as Ord>⟧.cmp a.semi_colon b.semi_colon)))))) }
 {}
 
@@ -57,7 +57,7 @@ pub fn partial_interface_definition<'a>()
         (ordering_then (⟦<Partial as Ord>⟧.cmp a.partial b.partial)
         (ordering_then (⟦<Interface as Ord>⟧.cmp a.interface b.interface)
         (ordering_then (⟦<Identifier<'a> as Ord>⟧.cmp a.identifier b.identifier)
-        (ordering_then (⟦<BracedInterfaceMembers<'a> as Ord>⟧.cmp a.members b.members)
+        (ordering_then (⟦<Braced<InterfaceMembers<'a>> as Ord>⟧.cmp a.members b.members)
         (⟦<SemiColon as Ord>⟧.cmp a.semi_colon b.semi_colon))))) }
 {}
 
@@ -104,13 +104,4 @@ pub fn interface_member<'a>()
         → ⟦<InterfaceMember<'a> as Ord>⟧.cmp (InterfaceMember.Stringifier a)
         (InterfaceMember.Stringifier b)
         ≡ ⟦<StringifierMember<'a> as Ord>⟧.cmp a b }
-{}
-
-/// `BracedInterfaceMembers` goes by its fields, in order.
-pub fn braced_interface_members<'a>()
-    ensures { (a b : BracedInterfaceMembers)
-        → ⟦<BracedInterfaceMembers<'a> as Ord>⟧.cmp a b
-        ≡ ordering_then (⟦<OpenBrace as Ord>⟧.cmp a.open_brace b.open_brace)
-        (ordering_then (⟦<InterfaceMembers<'a> as Ord>⟧.cmp a.body b.body)
-        (⟦<CloseBrace as Ord>⟧.cmp a.close_brace b.close_brace)) }
 {}

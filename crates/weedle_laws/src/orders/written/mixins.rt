@@ -8,26 +8,13 @@ ghost use Rattle.weedle_laws.specs.written.Places.{mixin_member_place};
 
 use std::cmp::Ordering;
 use weedle_members::{ConstMember, StringifierMember};
-use weedle_mixins::mixin::{
-    AttributeMixinMember, BracedMixinMembers, MixinMember, MixinMembers, OperationMixinMember,
-};
+use weedle_mixins::mixin::{AttributeMixinMember, MixinMember, MixinMembers, OperationMixinMember};
 use weedle_mixins::{InterfaceMixinDefinition, PartialInterfaceMixinDefinition};
-use weedle_parts::common::Identifier;
-use weedle_term::{
-    Attribute, CloseBrace, Interface, Mixin, OpenBrace, Partial, ReadOnly, SemiColon, Stringifier,
-};
+use weedle_parts::common::{Braced, Identifier};
+use weedle_term::{Attribute, Interface, Mixin, Partial, ReadOnly, SemiColon, Stringifier};
 use weedle_types::argument::ParenthesizedArgumentList;
 use weedle_types::attribute::ExtendedAttributeList;
 use weedle_types::types::{AttributedType, ReturnType};
-
-/// `BracedMixinMembers` goes by its fields, in order.
-pub fn braced_mixin_members<'a>()
-    ensures { (a b : BracedMixinMembers)
-        → ⟦<BracedMixinMembers<'a> as Ord>⟧.cmp a b
-        ≡ ordering_then (⟦<OpenBrace as Ord>⟧.cmp a.open_brace b.open_brace)
-        (ordering_then (⟦<MixinMembers<'a> as Ord>⟧.cmp a.body b.body)
-        (⟦<CloseBrace as Ord>⟧.cmp a.close_brace b.close_brace)) }
-{}
 
 /// `OperationMixinMember` goes by its fields, in order.
 pub fn operation_mixin_member<'a>()
@@ -84,7 +71,7 @@ pub fn interface_mixin_definition<'a>()
         (ordering_then (⟦<Interface as Ord>⟧.cmp a.interface b.interface)
         (ordering_then (⟦<Mixin as Ord>⟧.cmp a.mixin b.mixin)
         (ordering_then (⟦<Identifier<'a> as Ord>⟧.cmp a.identifier b.identifier)
-        (ordering_then (⟦<BracedMixinMembers<'a> as Ord>⟧.cmp a.members b.members)
+        (ordering_then (⟦<Braced<MixinMembers<'a>> as Ord>⟧.cmp a.members b.members)
         (⟦<SemiColon as Ord>⟧.cmp a.semi_colon b.semi_colon))))) }
 {}
 
@@ -97,6 +84,6 @@ pub fn partial_interface_mixin_definition<'a>()
         (ordering_then (⟦<Interface as Ord>⟧.cmp a.interface b.interface)
         (ordering_then (⟦<Mixin as Ord>⟧.cmp a.mixin b.mixin)
         (ordering_then (⟦<Identifier<'a> as Ord>⟧.cmp a.identifier b.identifier)
-        (ordering_then (⟦<BracedMixinMembers<'a> as Ord>⟧.cmp a.members b.members)
+        (ordering_then (⟦<Braced<MixinMembers<'a>> as Ord>⟧.cmp a.members b.members)
         (⟦<SemiColon as Ord>⟧.cmp a.semi_colon b.semi_colon)))))) }
 {}

@@ -9,31 +9,19 @@ ghost use Rattle.weedle_laws.specs.written.Places.{namespace_member_place};
 use std::cmp::Ordering;
 use weedle_literal::Default;
 use weedle_modifier::Inheritance;
-use weedle_namespaces::dictionary::{BracedDictionaryMembers, DictionaryMember, DictionaryMembers};
+use weedle_namespaces::dictionary::{DictionaryMember, DictionaryMembers};
 use weedle_namespaces::namespace::{
-    AttributeNamespaceMember, BracedNamespaceMembers, NamespaceMember, NamespaceMembers,
-    OperationNamespaceMember,
+    AttributeNamespaceMember, NamespaceMember, NamespaceMembers, OperationNamespaceMember,
 };
 use weedle_namespaces::{
     DictionaryDefinition, NamespaceDefinition, PartialDictionaryDefinition,
     PartialNamespaceDefinition,
 };
-use weedle_parts::common::{Docstring, Identifier};
-use weedle_term::{
-    Attribute, CloseBrace, Dictionary, Namespace, OpenBrace, Partial, ReadOnly, Required, SemiColon,
-};
+use weedle_parts::common::{Braced, Docstring, Identifier};
+use weedle_term::{Attribute, Dictionary, Namespace, Partial, ReadOnly, Required, SemiColon};
 use weedle_types::argument::ParenthesizedArgumentList;
 use weedle_types::attribute::ExtendedAttributeList;
 use weedle_types::types::{AttributedType, ReturnType, Type};
-
-/// `BracedDictionaryMembers` goes by its fields, in order.
-pub fn braced_dictionary_members<'a>()
-    ensures { (a b : BracedDictionaryMembers)
-        → ⟦<BracedDictionaryMembers<'a> as Ord>⟧.cmp a b
-        ≡ ordering_then (⟦<OpenBrace as Ord>⟧.cmp a.open_brace b.open_brace)
-        (ordering_then (⟦<DictionaryMembers<'a> as Ord>⟧.cmp a.body b.body)
-        (⟦<CloseBrace as Ord>⟧.cmp a.close_brace b.close_brace)) }
-{}
 
 /// `DictionaryMember` goes by its fields, in order.
 pub fn dictionary_member<'a>()
@@ -57,7 +45,7 @@ pub fn dictionary_definition<'a>()
         (ordering_then (⟦<Dictionary as Ord>⟧.cmp a.dictionary b.dictionary)
         (ordering_then (⟦<Identifier<'a> as Ord>⟧.cmp a.identifier b.identifier)
         (ordering_then (⟦<Option<Inheritance<'a>> as Ord>⟧.cmp a.inheritance b.inheritance)
-        (ordering_then (⟦<BracedDictionaryMembers<'a> as Ord>⟧.cmp a.members b.members)
+        (ordering_then (⟦<Braced<DictionaryMembers<'a>> as Ord>⟧.cmp a.members b.members)
         (⟦<SemiColon as Ord>⟧.cmp a.semi_colon b.semi_colon)))))) }
 {}
 
@@ -69,17 +57,8 @@ pub fn partial_dictionary_definition<'a>()
         (ordering_then (⟦<Partial as Ord>⟧.cmp a.partial b.partial)
         (ordering_then (⟦<Dictionary as Ord>⟧.cmp a.dictionary b.dictionary)
         (ordering_then (⟦<Identifier<'a> as Ord>⟧.cmp a.identifier b.identifier)
-        (ordering_then (⟦<BracedDictionaryMembers<'a> as Ord>⟧.cmp a.members b.members)
+        (ordering_then (⟦<Braced<DictionaryMembers<'a>> as Ord>⟧.cmp a.members b.members)
         (⟦<SemiColon as Ord>⟧.cmp a.semi_colon b.semi_colon))))) }
-{}
-
-/// `BracedNamespaceMembers` goes by its fields, in order.
-pub fn braced_namespace_members<'a>()
-    ensures { (a b : BracedNamespaceMembers)
-        → ⟦<BracedNamespaceMembers<'a> as Ord>⟧.cmp a b
-        ≡ ordering_then (⟦<OpenBrace as Ord>⟧.cmp a.open_brace b.open_brace)
-        (ordering_then (⟦<NamespaceMembers<'a> as Ord>⟧.cmp a.body b.body)
-        (⟦<CloseBrace as Ord>⟧.cmp a.close_brace b.close_brace)) }
 {}
 
 /// `OperationNamespaceMember` goes by its fields, in order.
@@ -133,7 +112,7 @@ pub fn namespace_definition<'a>()
         (ordering_then (⟦<Option<ExtendedAttributeList<'a>> as Ord>⟧.cmp a.attributes b.attributes)
         (ordering_then (⟦<Namespace as Ord>⟧.cmp a.namespace b.namespace)
         (ordering_then (⟦<Identifier<'a> as Ord>⟧.cmp a.identifier b.identifier)
-        (ordering_then (⟦<BracedNamespaceMembers<'a> as Ord>⟧.cmp a.members b.members)
+        (ordering_then (⟦<Braced<NamespaceMembers<'a>> as Ord>⟧.cmp a.members b.members)
         (⟦<SemiColon as Ord>⟧.cmp a.semi_colon b.semi_colon))))) }
 {}
 
@@ -145,6 +124,6 @@ pub fn partial_namespace_definition<'a>()
         (ordering_then (⟦<Partial as Ord>⟧.cmp a.partial b.partial)
         (ordering_then (⟦<Namespace as Ord>⟧.cmp a.namespace b.namespace)
         (ordering_then (⟦<Identifier<'a> as Ord>⟧.cmp a.identifier b.identifier)
-        (ordering_then (⟦<BracedNamespaceMembers<'a> as Ord>⟧.cmp a.members b.members)
+        (ordering_then (⟦<Braced<NamespaceMembers<'a>> as Ord>⟧.cmp a.members b.members)
         (⟦<SemiColon as Ord>⟧.cmp a.semi_colon b.semi_colon))))) }
 {}

@@ -13,9 +13,8 @@ text: [] interface A {};\n\
 list: [(\"interface\", \"A\")]\n\
 tree: [Interface(InterfaceDefinition { docstring: None, attributes: Some(Bracketed { open_bracket: \
 OpenBracket, body: Punctuated { list: [], separator: Comma }, close_bracket: CloseBracket }), \
-interface: Interface, identifier: Identifier(\"A\"), inheritance: None, members: \
-BracedInterfaceMembers { open_brace: OpenBrace, body: [], close_brace: CloseBrace }, \
-semi_colon: SemiColon })]\n\
+interface: Interface, identifier: Identifier(\"A\"), inheritance: None, members: Braced { \
+open_brace: OpenBrace, body: [], close_brace: CloseBrace }, semi_colon: SemiColon })]\n\
 text: [X, Y=Z, Y=\"s\", W=(a,b), V(long x), U=T(long... x, any y)] interface A {};\n\
 list: [(\"interface\", \"A\")]\n\
 tree: [Interface(InterfaceDefinition { docstring: None, attributes: Some(Bracketed { open_bracket: \
@@ -40,8 +39,8 @@ identifier: Identifier(\"x\") }), Single(SingleArgument { attributes: None, opti
 type_: AttributedType { attributes: None, type_: Single(Any(Any)) }, identifier: \
 Identifier(\"y\"), default: None })], separator: Comma }, close_paren: CloseParen } })], \
 separator: Comma }, close_bracket: CloseBracket }), interface: Interface, identifier: \
-Identifier(\"A\"), inheritance: None, members: BracedInterfaceMembers { open_brace: OpenBrace, \
-body: [], close_brace: CloseBrace }, semi_colon: SemiColon })]\n\
+Identifier(\"A\"), inheritance: None, members: Braced { open_brace: OpenBrace, body: [], \
+close_brace: CloseBrace }, semi_colon: SemiColon })]\n\
 text: [X=()] interface A {};\n\
 list: [(\"interface\", \"A\")]\n\
 tree: [Interface(InterfaceDefinition { docstring: None, attributes: Some(Bracketed { open_bracket: \
@@ -49,8 +48,8 @@ OpenBracket, body: Punctuated { list: [IdentList(ExtendedAttributeIdentList { id
 Identifier(\"X\"), assign: Assign, list: Parenthesized { open_paren: OpenParen, body: \
 Punctuated { list: [], separator: Comma }, close_paren: CloseParen } })], separator: Comma }, \
 close_bracket: CloseBracket }), interface: Interface, identifier: Identifier(\"A\"), \
-inheritance: None, members: BracedInterfaceMembers { open_brace: OpenBrace, body: [], \
-close_brace: CloseBrace }, semi_colon: SemiColon })]\n\
+inheritance: None, members: Braced { open_brace: OpenBrace, body: [], close_brace: CloseBrace \
+}, semi_colon: SemiColon })]\n\
 text: [X()] interface A {};\n\
 list: [(\"interface\", \"A\")]\n\
 tree: [Interface(InterfaceDefinition { docstring: None, attributes: Some(Bracketed { open_bracket: \
@@ -58,8 +57,8 @@ OpenBracket, body: Punctuated { list: [ArgList(ExtendedAttributeArgList { identi
 Identifier(\"X\"), args: ParenthesizedArgumentList { open_paren: OpenParen, body: Punctuated { \
 list: [], separator: Comma }, close_paren: CloseParen } })], separator: Comma }, \
 close_bracket: CloseBracket }), interface: Interface, identifier: Identifier(\"A\"), \
-inheritance: None, members: BracedInterfaceMembers { open_brace: OpenBrace, body: [], \
-close_brace: CloseBrace }, semi_colon: SemiColon })]\n\
+inheritance: None, members: Braced { open_brace: OpenBrace, body: [], close_brace: CloseBrace \
+}, semi_colon: SemiColon })]\n\
 text: [X([Y(any z)] long w)] interface A {};\n\
 list: [(\"interface\", \"A\")]\n\
 tree: [Interface(InterfaceDefinition { docstring: None, attributes: Some(Bracketed { open_bracket: \
@@ -75,16 +74,16 @@ optional: None, type_: AttributedType { attributes: None, type_: \
 Single(NonAny(Integer(MayBeNull { type_: Long(LongType { unsigned: None, long: Long }), \
 q_mark: None }))) }, identifier: Identifier(\"w\"), default: None })], separator: Comma }, \
 close_paren: CloseParen } })], separator: Comma }, close_bracket: CloseBracket }), interface: \
-Interface, identifier: Identifier(\"A\"), inheritance: None, members: BracedInterfaceMembers { \
-open_brace: OpenBrace, body: [], close_brace: CloseBrace }, semi_colon: SemiColon })]\n\
+Interface, identifier: Identifier(\"A\"), inheritance: None, members: Braced { open_brace: \
+OpenBrace, body: [], close_brace: CloseBrace }, semi_colon: SemiColon })]\n\
 text: [Reflect=\"a\nb\"] interface A {};\n\
 list: [(\"interface\", \"A\")]\n\
 tree: [Interface(InterfaceDefinition { docstring: None, attributes: Some(Bracketed { open_bracket: \
 OpenBracket, body: Punctuated { list: [Ident(ExtendedAttributeIdent { lhs_identifier: \
 Identifier(\"Reflect\"), assign: Assign, rhs: String(StringLit(\"a\\nb\")) })], separator: \
 Comma }, close_bracket: CloseBracket }), interface: Interface, identifier: Identifier(\"A\"), \
-inheritance: None, members: BracedInterfaceMembers { open_brace: OpenBrace, body: [], \
-close_brace: CloseBrace }, semi_colon: SemiColon })]\n\
+inheritance: None, members: Braced { open_brace: OpenBrace, body: [], close_brace: CloseBrace \
+}, semi_colon: SemiColon })]\n\
 text: [long=sequence, interface(any optional)] interface A {};\n\
 list: [(\"interface\", \"A\")]\n\
 tree: [Interface(InterfaceDefinition { docstring: None, attributes: Some(Bracketed { open_bracket: \
@@ -96,8 +95,8 @@ ParenthesizedArgumentList { open_paren: OpenParen, body: Punctuated { list: \
 None, type_: Single(Any(Any)) }, identifier: Identifier(\"optional\"), default: None })], \
 separator: Comma }, close_paren: CloseParen } })], separator: Comma }, close_bracket: \
 CloseBracket }), interface: Interface, identifier: Identifier(\"A\"), inheritance: None, \
-members: BracedInterfaceMembers { open_brace: OpenBrace, body: [], close_brace: CloseBrace }, \
-semi_colon: SemiColon })]\n\
+members: Braced { open_brace: OpenBrace, body: [], close_brace: CloseBrace }, semi_colon: \
+SemiColon })]\n\
 text: callback A = undefined (long x, long... y, optional any z = \"z\");\n\
 list: [(\"callback\", \"A\")]\n\
 tree: [Callback(CallbackDefinition { attributes: None, callback: Callback, identifier: \
@@ -170,25 +169,24 @@ None, long: Long }), q_mark: None }))) }, identifier: Identifier(\"A\"), semi_co
 text: /// d\ninterface /* e */ A // f\n{ } ;\n\
 list: [(\"interface\", \"A\")]\n\
 tree: [Interface(InterfaceDefinition { docstring: Some(Docstring(\" d\")), attributes: None, \
-interface: Interface, identifier: Identifier(\"A\"), inheritance: None, members: \
-BracedInterfaceMembers { open_brace: OpenBrace, body: [], close_brace: CloseBrace }, \
-semi_colon: SemiColon })]\n\
+interface: Interface, identifier: Identifier(\"A\"), inheritance: None, members: Braced { \
+open_brace: OpenBrace, body: [], close_brace: CloseBrace }, semi_colon: SemiColon })]\n\
 text: interface A-b_9 {}; interface _a {};\n\
 list: [(\"interface\", \"A-b_9\"), (\"interface\", \"a\")]\n\
 tree: [Interface(InterfaceDefinition { docstring: None, attributes: None, interface: Interface, \
-identifier: Identifier(\"A-b_9\"), inheritance: None, members: BracedInterfaceMembers { \
-open_brace: OpenBrace, body: [], close_brace: CloseBrace }, semi_colon: SemiColon }), \
-Interface(InterfaceDefinition { docstring: None, attributes: None, interface: Interface, \
-identifier: Identifier(\"a\"), inheritance: None, members: BracedInterfaceMembers { \
-open_brace: OpenBrace, body: [], close_brace: CloseBrace }, semi_colon: SemiColon })]\n\
+identifier: Identifier(\"A-b_9\"), inheritance: None, members: Braced { open_brace: OpenBrace, \
+body: [], close_brace: CloseBrace }, semi_colon: SemiColon }), Interface(InterfaceDefinition { \
+docstring: None, attributes: None, interface: Interface, identifier: Identifier(\"a\"), \
+inheritance: None, members: Braced { open_brace: OpenBrace, body: [], close_brace: CloseBrace \
+}, semi_colon: SemiColon })]\n\
 text: interface A { const long a = 1; const long b=0; const long c= 00; const double d=1.0e-7; };\n\
 list: [(\"interface\", \"A\")]\n\
 tree: [Interface(InterfaceDefinition { docstring: None, attributes: None, interface: Interface, \
-identifier: Identifier(\"A\"), inheritance: None, members: BracedInterfaceMembers { \
-open_brace: OpenBrace, body: [Const(ConstMember { attributes: None, const_: Const, const_type: \
-Integer(MayBeNull { type_: Long(LongType { unsigned: None, long: Long }), q_mark: None }), \
-identifier: Identifier(\"a\"), assign: Assign, const_value: Integer(Dec(DecLit(\"1\"))), \
-semi_colon: SemiColon }), Const(ConstMember { attributes: None, const_: Const, const_type: \
+identifier: Identifier(\"A\"), inheritance: None, members: Braced { open_brace: OpenBrace, \
+body: [Const(ConstMember { attributes: None, const_: Const, const_type: Integer(MayBeNull { \
+type_: Long(LongType { unsigned: None, long: Long }), q_mark: None }), identifier: \
+Identifier(\"a\"), assign: Assign, const_value: Integer(Dec(DecLit(\"1\"))), semi_colon: \
+SemiColon }), Const(ConstMember { attributes: None, const_: Const, const_type: \
 Integer(MayBeNull { type_: Long(LongType { unsigned: None, long: Long }), q_mark: None }), \
 identifier: Identifier(\"b\"), assign: Assign, const_value: Integer(Oct(OctLit(\"0\"))), \
 semi_colon: SemiColon }), Const(ConstMember { attributes: None, const_: Const, const_type: \

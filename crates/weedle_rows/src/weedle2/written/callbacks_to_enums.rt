@@ -48,8 +48,8 @@ CloseParen }, semi_colon: SemiColon })]\n\
 text: interface A {};\n\
 list: [(\"interface\", \"A\")]\n\
 tree: [Interface(InterfaceDefinition { docstring: None, attributes: None, interface: Interface, \
-identifier: Identifier(\"A\"), inheritance: None, members: BracedInterfaceMembers { \
-open_brace: OpenBrace, body: [], close_brace: CloseBrace }, semi_colon: SemiColon })]\n\
+identifier: Identifier(\"A\"), inheritance: None, members: Braced { open_brace: OpenBrace, \
+body: [], close_brace: CloseBrace }, semi_colon: SemiColon })]\n\
 text: ///a\n///b\n[Exposed=(Window,Worker), SecureContext] interface B : _C {};\n\
 list: [(\"interface\", \"B\")]\n\
 tree: [Interface(InterfaceDefinition { docstring: Some(Docstring(\"a\\nb\")), attributes: \
@@ -60,19 +60,18 @@ Identifier(\"Worker\")], separator: Comma }, close_paren: CloseParen } }), \
 NoArgs(ExtendedAttributeNoArgs(Identifier(\"SecureContext\")))], separator: Comma }, \
 close_bracket: CloseBracket }), interface: Interface, identifier: Identifier(\"B\"), \
 inheritance: Some(Inheritance { colon: Colon, identifier: Identifier(\"C\") }), members: \
-BracedInterfaceMembers { open_brace: OpenBrace, body: [], close_brace: CloseBrace }, \
-semi_colon: SemiColon })]\n\
+Braced { open_brace: OpenBrace, body: [], close_brace: CloseBrace }, semi_colon: SemiColon })]\n\
 text: interface mixin A {};\n\
 list: [(\"interface mixin\", \"A\")]\n\
 tree: [InterfaceMixin(InterfaceMixinDefinition { attributes: None, interface: Interface, mixin: \
-Mixin, identifier: Identifier(\"A\"), members: BracedMixinMembers { open_brace: OpenBrace, \
-body: [], close_brace: CloseBrace }, semi_colon: SemiColon })]\n\
+Mixin, identifier: Identifier(\"A\"), members: Braced { open_brace: OpenBrace, body: [], \
+close_brace: CloseBrace }, semi_colon: SemiColon })]\n\
 text: [X] interface mixin B { readonly attribute long x; };\n\
 list: [(\"interface mixin\", \"B\")]\n\
 tree: [InterfaceMixin(InterfaceMixinDefinition { attributes: Some(Bracketed { open_bracket: \
 OpenBracket, body: Punctuated { list: [NoArgs(ExtendedAttributeNoArgs(Identifier(\"X\")))], \
 separator: Comma }, close_bracket: CloseBracket }), interface: Interface, mixin: Mixin, \
-identifier: Identifier(\"B\"), members: BracedMixinMembers { open_brace: OpenBrace, body: \
+identifier: Identifier(\"B\"), members: Braced { open_brace: OpenBrace, body: \
 [Attribute(AttributeMixinMember { attributes: None, stringifier: None, readonly: \
 Some(ReadOnly), attribute: Attribute, type_: AttributedType { attributes: None, type_: \
 Single(NonAny(Integer(MayBeNull { type_: Long(LongType { unsigned: None, long: Long }), \
@@ -81,20 +80,19 @@ CloseBrace }, semi_colon: SemiColon })]\n\
 text: dictionary A {};\n\
 list: [(\"dictionary\", \"A\")]\n\
 tree: [Dictionary(DictionaryDefinition { docstring: None, attributes: None, dictionary: Dictionary, \
-identifier: Identifier(\"A\"), inheritance: None, members: BracedDictionaryMembers { \
-open_brace: OpenBrace, body: [], close_brace: CloseBrace }, semi_colon: SemiColon })]\n\
+identifier: Identifier(\"A\"), inheritance: None, members: Braced { open_brace: OpenBrace, \
+body: [], close_brace: CloseBrace }, semi_colon: SemiColon })]\n\
 text: ///d\n[X] dictionary B : C { required long x; };\n\
 list: [(\"dictionary\", \"B\")]\n\
 tree: [Dictionary(DictionaryDefinition { docstring: Some(Docstring(\"d\")), attributes: \
 Some(Bracketed { open_bracket: OpenBracket, body: Punctuated { list: \
 [NoArgs(ExtendedAttributeNoArgs(Identifier(\"X\")))], separator: Comma }, close_bracket: \
 CloseBracket }), dictionary: Dictionary, identifier: Identifier(\"B\"), inheritance: \
-Some(Inheritance { colon: Colon, identifier: Identifier(\"C\") }), members: \
-BracedDictionaryMembers { open_brace: OpenBrace, body: [DictionaryMember { docstring: None, \
-attributes: None, required: Some(Required), type_: Single(NonAny(Integer(MayBeNull { type_: \
-Long(LongType { unsigned: None, long: Long }), q_mark: None }))), identifier: \
-Identifier(\"x\"), default: None, semi_colon: SemiColon }], close_brace: CloseBrace }, \
-semi_colon: SemiColon })]\n\
+Some(Inheritance { colon: Colon, identifier: Identifier(\"C\") }), members: Braced { \
+open_brace: OpenBrace, body: [DictionaryMember { docstring: None, attributes: None, required: \
+Some(Required), type_: Single(NonAny(Integer(MayBeNull { type_: Long(LongType { unsigned: \
+None, long: Long }), q_mark: None }))), identifier: Identifier(\"x\"), default: None, \
+semi_colon: SemiColon }], close_brace: CloseBrace }, semi_colon: SemiColon })]\n\
 text: enum A { \"\" };\n\
 list: [(\"enum\", \"A\")]\n\
 tree: [Enum(EnumDefinition { docstring: None, attributes: None, enum_: Enum, identifier: \
@@ -122,21 +120,21 @@ list: [(\"includes\", \"A\"), (\"interface\", \"A\"), (\"enum\", \"C\")]\n\
 tree: [IncludesStatement(IncludesStatementDefinition { attributes: None, lhs_identifier: \
 Identifier(\"A\"), includes: Includes, rhs_identifier: Identifier(\"B\"), semi_colon: \
 SemiColon }), Interface(InterfaceDefinition { docstring: None, attributes: None, interface: \
-Interface, identifier: Identifier(\"A\"), inheritance: None, members: BracedInterfaceMembers { \
-open_brace: OpenBrace, body: [], close_brace: CloseBrace }, semi_colon: SemiColon }), \
-Enum(EnumDefinition { docstring: None, attributes: None, enum_: Enum, identifier: \
-Identifier(\"C\"), values: Braced { open_brace: OpenBrace, body: PunctuatedNonEmpty { list: \
-[EnumVariant { docstring: None, value: StringLit(\"c\") }], separator: Comma }, close_brace: \
-CloseBrace }, semi_colon: SemiColon })]\n\
+Interface, identifier: Identifier(\"A\"), inheritance: None, members: Braced { open_brace: \
+OpenBrace, body: [], close_brace: CloseBrace }, semi_colon: SemiColon }), Enum(EnumDefinition \
+{ docstring: None, attributes: None, enum_: Enum, identifier: Identifier(\"C\"), values: \
+Braced { open_brace: OpenBrace, body: PunctuatedNonEmpty { list: [EnumVariant { docstring: \
+None, value: StringLit(\"c\") }], separator: Comma }, close_brace: CloseBrace }, semi_colon: \
+SemiColon })]\n\
 text: interface interface {}; typedef typedef callback; dictionary dictionary : enum {};\n\
 list: [(\"interface\", \"interface\"), (\"typedef\", \"callback\"), (\"dictionary\", \"dictionary\")]\n\
 tree: [Interface(InterfaceDefinition { docstring: None, attributes: None, interface: Interface, \
-identifier: Identifier(\"interface\"), inheritance: None, members: BracedInterfaceMembers { \
-open_brace: OpenBrace, body: [], close_brace: CloseBrace }, semi_colon: SemiColon }), \
+identifier: Identifier(\"interface\"), inheritance: None, members: Braced { open_brace: \
+OpenBrace, body: [], close_brace: CloseBrace }, semi_colon: SemiColon }), \
 Typedef(TypedefDefinition { attributes: None, typedef: Typedef, type_: AttributedType { \
 attributes: None, type_: Single(NonAny(Identifier(MayBeNull { type_: Identifier(\"typedef\"), \
 q_mark: None }))) }, identifier: Identifier(\"callback\"), semi_colon: SemiColon }), \
 Dictionary(DictionaryDefinition { docstring: None, attributes: None, dictionary: Dictionary, \
 identifier: Identifier(\"dictionary\"), inheritance: Some(Inheritance { colon: Colon, \
-identifier: Identifier(\"enum\") }), members: BracedDictionaryMembers { open_brace: OpenBrace, \
-body: [], close_brace: CloseBrace }, semi_colon: SemiColon })]";
+identifier: Identifier(\"enum\") }), members: Braced { open_brace: OpenBrace, body: [], \
+close_brace: CloseBrace }, semi_colon: SemiColon })]";

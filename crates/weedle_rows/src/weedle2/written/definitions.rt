@@ -71,39 +71,39 @@ Identifier(\"mixin\"), semi_colon: SemiColon })]\n\
 text: namespace A {};\n\
 list: [(\"namespace\", \"A\")]\n\
 tree: [Namespace(NamespaceDefinition { docstring: None, attributes: None, namespace: Namespace, \
-identifier: Identifier(\"A\"), members: BracedNamespaceMembers { open_brace: OpenBrace, body: \
-[], close_brace: CloseBrace }, semi_colon: SemiColon })]\n\
+identifier: Identifier(\"A\"), members: Braced { open_brace: OpenBrace, body: [], close_brace: \
+CloseBrace }, semi_colon: SemiColon })]\n\
 text: ///d\n[Exposed=Window] namespace B { undefined f(optional (long or [X] DOMString) x = 5); };\n\
 list: [(\"namespace\", \"B\")]\n\
 tree: [Namespace(NamespaceDefinition { docstring: Some(Docstring(\"d\")), attributes: Some(Bracketed \
 { open_bracket: OpenBracket, body: Punctuated { list: [Ident(ExtendedAttributeIdent { \
 lhs_identifier: Identifier(\"Exposed\"), assign: Assign, rhs: \
 Identifier(Identifier(\"Window\")) })], separator: Comma }, close_bracket: CloseBracket }), \
-namespace: Namespace, identifier: Identifier(\"B\"), members: BracedNamespaceMembers { \
-open_brace: OpenBrace, body: [Operation(OperationNamespaceMember { docstring: None, \
-attributes: None, return_type: Undefined(Undefined), identifier: Some(Identifier(\"f\")), \
-args: ParenthesizedArgumentList { open_paren: OpenParen, body: Punctuated { list: \
-[Single(SingleArgument { attributes: None, optional: Some(Optional), type_: AttributedType { \
-attributes: None, type_: Union(MayBeNull { type_: Parenthesized { open_paren: OpenParen, body: \
-Punctuated { list: [Single(AttributedNonAnyType { attributes: None, type_: Integer(MayBeNull { \
-type_: Long(LongType { unsigned: None, long: Long }), q_mark: None }) }), \
-Single(AttributedNonAnyType { attributes: Some(Bracketed { open_bracket: OpenBracket, body: \
-Punctuated { list: [NoArgs(ExtendedAttributeNoArgs(Identifier(\"X\")))], separator: Comma }, \
-close_bracket: CloseBracket }), type_: DOMString(MayBeNull { type_: DOMString, q_mark: None }) \
-})], separator: Or }, close_paren: CloseParen }, q_mark: None }) }, identifier: \
-Identifier(\"x\"), default: Some(Default { assign: Assign, value: Integer(Dec(DecLit(\"5\"))) \
-}) })], separator: Comma }, close_paren: CloseParen }, semi_colon: SemiColon })], close_brace: \
-CloseBrace }, semi_colon: SemiColon })]\n\
+namespace: Namespace, identifier: Identifier(\"B\"), members: Braced { open_brace: OpenBrace, \
+body: [Operation(OperationNamespaceMember { docstring: None, attributes: None, return_type: \
+Undefined(Undefined), identifier: Some(Identifier(\"f\")), args: ParenthesizedArgumentList { \
+open_paren: OpenParen, body: Punctuated { list: [Single(SingleArgument { attributes: None, \
+optional: Some(Optional), type_: AttributedType { attributes: None, type_: Union(MayBeNull { \
+type_: Parenthesized { open_paren: OpenParen, body: Punctuated { list: \
+[Single(AttributedNonAnyType { attributes: None, type_: Integer(MayBeNull { type_: \
+Long(LongType { unsigned: None, long: Long }), q_mark: None }) }), Single(AttributedNonAnyType \
+{ attributes: Some(Bracketed { open_bracket: OpenBracket, body: Punctuated { list: \
+[NoArgs(ExtendedAttributeNoArgs(Identifier(\"X\")))], separator: Comma }, close_bracket: \
+CloseBracket }), type_: DOMString(MayBeNull { type_: DOMString, q_mark: None }) })], \
+separator: Or }, close_paren: CloseParen }, q_mark: None }) }, identifier: Identifier(\"x\"), \
+default: Some(Default { assign: Assign, value: Integer(Dec(DecLit(\"5\"))) }) })], separator: \
+Comma }, close_paren: CloseParen }, semi_colon: SemiColon })], close_brace: CloseBrace }, \
+semi_colon: SemiColon })]\n\
 text: /// d\n///\nnamespace C {\n///e\n[X] readonly attribute [Y] FrozenArray<Promise<any>> x; };\n\
 list: [(\"namespace\", \"C\")]\n\
 tree: [Namespace(NamespaceDefinition { docstring: Some(Docstring(\" d\\n\")), attributes: None, \
-namespace: Namespace, identifier: Identifier(\"C\"), members: BracedNamespaceMembers { \
-open_brace: OpenBrace, body: [Attribute(AttributeNamespaceMember { docstring: \
-Some(Docstring(\"e\")), attributes: Some(Bracketed { open_bracket: OpenBracket, body: \
-Punctuated { list: [NoArgs(ExtendedAttributeNoArgs(Identifier(\"X\")))], separator: Comma }, \
-close_bracket: CloseBracket }), readonly: ReadOnly, attribute: Attribute, type_: \
-AttributedType { attributes: Some(Bracketed { open_bracket: OpenBracket, body: Punctuated { \
-list: [NoArgs(ExtendedAttributeNoArgs(Identifier(\"Y\")))], separator: Comma }, close_bracket: \
+namespace: Namespace, identifier: Identifier(\"C\"), members: Braced { open_brace: OpenBrace, \
+body: [Attribute(AttributeNamespaceMember { docstring: Some(Docstring(\"e\")), attributes: \
+Some(Bracketed { open_bracket: OpenBracket, body: Punctuated { list: \
+[NoArgs(ExtendedAttributeNoArgs(Identifier(\"X\")))], separator: Comma }, close_bracket: \
+CloseBracket }), readonly: ReadOnly, attribute: Attribute, type_: AttributedType { attributes: \
+Some(Bracketed { open_bracket: OpenBracket, body: Punctuated { list: \
+[NoArgs(ExtendedAttributeNoArgs(Identifier(\"Y\")))], separator: Comma }, close_bracket: \
 CloseBracket }), type_: Single(NonAny(FrozenArrayType(MayBeNull { type_: FrozenArrayType { \
 frozen_array: FrozenArray, generics: Generics { open_angle: LessThan, body: \
 Single(NonAny(Promise(PromiseType { promise: Promise, generics: Generics { open_angle: \
@@ -114,8 +114,7 @@ text: callback interface A {};\n\
 list: [(\"callback interface\", \"A\")]\n\
 tree: [CallbackInterface(CallbackInterfaceDefinition { docstring: None, attributes: None, callback: \
 Callback, interface: Interface, identifier: Identifier(\"A\"), inheritance: None, members: \
-BracedInterfaceMembers { open_brace: OpenBrace, body: [], close_brace: CloseBrace }, \
-semi_colon: SemiColon })]\n\
+Braced { open_brace: OpenBrace, body: [], close_brace: CloseBrace }, semi_colon: SemiColon })]\n\
 text: /// d\n[X(long y)] callback interface B : C { const octet? D = 0x0F; };\n\
 list: [(\"callback interface\", \"B\")]\n\
 tree: [CallbackInterface(CallbackInterfaceDefinition { docstring: Some(Docstring(\" d\")), \
@@ -127,11 +126,11 @@ None, type_: Single(NonAny(Integer(MayBeNull { type_: Long(LongType { unsigned: 
 Long }), q_mark: None }))) }, identifier: Identifier(\"y\"), default: None })], separator: \
 Comma }, close_paren: CloseParen } })], separator: Comma }, close_bracket: CloseBracket }), \
 callback: Callback, interface: Interface, identifier: Identifier(\"B\"), inheritance: \
-Some(Inheritance { colon: Colon, identifier: Identifier(\"C\") }), members: \
-BracedInterfaceMembers { open_brace: OpenBrace, body: [Const(ConstMember { attributes: None, \
-const_: Const, const_type: Octet(MayBeNull { type_: Octet, q_mark: Some(QMark) }), identifier: \
-Identifier(\"D\"), assign: Assign, const_value: Integer(Hex(HexLit(\"0x0F\"))), semi_colon: \
-SemiColon })], close_brace: CloseBrace }, semi_colon: SemiColon })]\n\
+Some(Inheritance { colon: Colon, identifier: Identifier(\"C\") }), members: Braced { \
+open_brace: OpenBrace, body: [Const(ConstMember { attributes: None, const_: Const, const_type: \
+Octet(MayBeNull { type_: Octet, q_mark: Some(QMark) }), identifier: Identifier(\"D\"), assign: \
+Assign, const_value: Integer(Hex(HexLit(\"0x0F\"))), semi_colon: SemiColon })], close_brace: \
+CloseBrace }, semi_colon: SemiColon })]\n\
 text: ///d\n\t///e\n[X] callback interface E { undefined handle(record<DOMString, sequence<any>>... \
 rest); };\n\
 list: [(\"callback interface\", \"E\")]\n\
@@ -139,7 +138,7 @@ tree: [CallbackInterface(CallbackInterfaceDefinition { docstring: Some(Docstring
 attributes: Some(Bracketed { open_bracket: OpenBracket, body: Punctuated { list: \
 [NoArgs(ExtendedAttributeNoArgs(Identifier(\"X\")))], separator: Comma }, close_bracket: \
 CloseBracket }), callback: Callback, interface: Interface, identifier: Identifier(\"E\"), \
-inheritance: None, members: BracedInterfaceMembers { open_brace: OpenBrace, body: \
+inheritance: None, members: Braced { open_brace: OpenBrace, body: \
 [Operation(OperationInterfaceMember { docstring: None, attributes: None, modifier: None, \
 special: None, return_type: Undefined(Undefined), identifier: Some(Identifier(\"handle\")), \
 args: ParenthesizedArgumentList { open_paren: OpenParen, body: Punctuated { list: \

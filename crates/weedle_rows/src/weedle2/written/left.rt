@@ -24,18 +24,18 @@ tree: []\n\
 text: interface A {};;\n\
 rest: ;\n\
 tree: [Interface(InterfaceDefinition { docstring: None, attributes: None, interface: Interface, \
-identifier: Identifier(\"A\"), inheritance: None, members: BracedInterfaceMembers { \
-open_brace: OpenBrace, body: [], close_brace: CloseBrace }, semi_colon: SemiColon })]\n\
+identifier: Identifier(\"A\"), inheritance: None, members: Braced { open_brace: OpenBrace, \
+body: [], close_brace: CloseBrace }, semi_colon: SemiColon })]\n\
 text: interface A {}; interface B {\n\
 rest: interface B {\n\
 tree: [Interface(InterfaceDefinition { docstring: None, attributes: None, interface: Interface, \
-identifier: Identifier(\"A\"), inheritance: None, members: BracedInterfaceMembers { \
-open_brace: OpenBrace, body: [], close_brace: CloseBrace }, semi_colon: SemiColon })]\n\
+identifier: Identifier(\"A\"), inheritance: None, members: Braced { open_brace: OpenBrace, \
+body: [], close_brace: CloseBrace }, semi_colon: SemiColon })]\n\
 text: interface A { };}\n\
 rest: }\n\
 tree: [Interface(InterfaceDefinition { docstring: None, attributes: None, interface: Interface, \
-identifier: Identifier(\"A\"), inheritance: None, members: BracedInterfaceMembers { \
-open_brace: OpenBrace, body: [], close_brace: CloseBrace }, semi_colon: SemiColon })]\n\
+identifier: Identifier(\"A\"), inheritance: None, members: Braced { open_brace: OpenBrace, \
+body: [], close_brace: CloseBrace }, semi_colon: SemiColon })]\n\
 text: interface A : {};\n\
 rest: interface A : {};\n\
 tree: []\n\
@@ -207,18 +207,18 @@ tree: []\n\
 text: interface A {}; /* c\n\
 rest: /* c\n\
 tree: [Interface(InterfaceDefinition { docstring: None, attributes: None, interface: Interface, \
-identifier: Identifier(\"A\"), inheritance: None, members: BracedInterfaceMembers { \
-open_brace: OpenBrace, body: [], close_brace: CloseBrace }, semi_colon: SemiColon })]\n\
+identifier: Identifier(\"A\"), inheritance: None, members: Braced { open_brace: OpenBrace, \
+body: [], close_brace: CloseBrace }, semi_colon: SemiColon })]\n\
 text: interface A {}; / / c\n\
 rest: / / c\n\
 tree: [Interface(InterfaceDefinition { docstring: None, attributes: None, interface: Interface, \
-identifier: Identifier(\"A\"), inheritance: None, members: BracedInterfaceMembers { \
-open_brace: OpenBrace, body: [], close_brace: CloseBrace }, semi_colon: SemiColon })]\n\
+identifier: Identifier(\"A\"), inheritance: None, members: Braced { open_brace: OpenBrace, \
+body: [], close_brace: CloseBrace }, semi_colon: SemiColon })]\n\
 text: interface A {}; é\n\
 rest: é\n\
 tree: [Interface(InterfaceDefinition { docstring: None, attributes: None, interface: Interface, \
-identifier: Identifier(\"A\"), inheritance: None, members: BracedInterfaceMembers { \
-open_brace: OpenBrace, body: [], close_brace: CloseBrace }, semi_colon: SemiColon })]\n\
+identifier: Identifier(\"A\"), inheritance: None, members: Braced { open_brace: OpenBrace, \
+body: [], close_brace: CloseBrace }, semi_colon: SemiColon })]\n\
 text: interface Aé {};\n\
 rest: interface Aé {};\n\
 tree: []\n\

@@ -12,8 +12,8 @@ pub const ROWS: &str = "\
 text: partial interface mixin A {};\n\
 list: [(\"partial interface mixin\", \"A\")]\n\
 tree: [PartialInterfaceMixin(PartialInterfaceMixinDefinition { attributes: None, partial: Partial, \
-interface: Interface, mixin: Mixin, identifier: Identifier(\"A\"), members: BracedMixinMembers \
-{ open_brace: OpenBrace, body: [], close_brace: CloseBrace }, semi_colon: SemiColon })]\n\
+interface: Interface, mixin: Mixin, identifier: Identifier(\"A\"), members: Braced { \
+open_brace: OpenBrace, body: [], close_brace: CloseBrace }, semi_colon: SemiColon })]\n\
 text: [X=\"s\"] partial interface mixin B { [Y] stringifier readonly attribute unsigned long long? \
 x; };\n\
 list: [(\"partial interface mixin\", \"B\")]\n\
@@ -21,10 +21,10 @@ tree: [PartialInterfaceMixin(PartialInterfaceMixinDefinition { attributes: Some(
 open_bracket: OpenBracket, body: Punctuated { list: [Ident(ExtendedAttributeIdent { \
 lhs_identifier: Identifier(\"X\"), assign: Assign, rhs: String(StringLit(\"s\")) })], \
 separator: Comma }, close_bracket: CloseBracket }), partial: Partial, interface: Interface, \
-mixin: Mixin, identifier: Identifier(\"B\"), members: BracedMixinMembers { open_brace: \
-OpenBrace, body: [Attribute(AttributeMixinMember { attributes: Some(Bracketed { open_bracket: \
-OpenBracket, body: Punctuated { list: [NoArgs(ExtendedAttributeNoArgs(Identifier(\"Y\")))], \
-separator: Comma }, close_bracket: CloseBracket }), stringifier: Some(Stringifier), readonly: \
+mixin: Mixin, identifier: Identifier(\"B\"), members: Braced { open_brace: OpenBrace, body: \
+[Attribute(AttributeMixinMember { attributes: Some(Bracketed { open_bracket: OpenBracket, \
+body: Punctuated { list: [NoArgs(ExtendedAttributeNoArgs(Identifier(\"Y\")))], separator: \
+Comma }, close_bracket: CloseBracket }), stringifier: Some(Stringifier), readonly: \
 Some(ReadOnly), attribute: Attribute, type_: AttributedType { attributes: None, type_: \
 Single(NonAny(Integer(MayBeNull { type_: LongLong(LongLongType { unsigned: Some(Unsigned), \
 long_long: (Long, Long) }), q_mark: Some(QMark) }))) }, identifier: Identifier(\"x\"), \
@@ -32,28 +32,28 @@ semi_colon: SemiColon })], close_brace: CloseBrace }, semi_colon: SemiColon })]\
 text: partial interface mixin C { const boolean D = true; Promise<undefined> f(); stringifier; };\n\
 list: [(\"partial interface mixin\", \"C\")]\n\
 tree: [PartialInterfaceMixin(PartialInterfaceMixinDefinition { attributes: None, partial: Partial, \
-interface: Interface, mixin: Mixin, identifier: Identifier(\"C\"), members: BracedMixinMembers \
-{ open_brace: OpenBrace, body: [Const(ConstMember { attributes: None, const_: Const, \
-const_type: Boolean(MayBeNull { type_: Boolean, q_mark: None }), identifier: \
-Identifier(\"D\"), assign: Assign, const_value: Boolean(BooleanLit(true)), semi_colon: \
-SemiColon }), Operation(OperationMixinMember { attributes: None, stringifier: None, \
-return_type: Type_(Single(NonAny(Promise(PromiseType { promise: Promise, generics: Generics { \
-open_angle: LessThan, body: Undefined(Undefined), close_angle: GreaterThan } })))), \
-identifier: Some(Identifier(\"f\")), args: ParenthesizedArgumentList { open_paren: OpenParen, \
-body: Punctuated { list: [], separator: Comma }, close_paren: CloseParen }, semi_colon: \
-SemiColon }), Stringifier(StringifierMember { attributes: None, stringifier: Stringifier, \
-semi_colon: SemiColon })], close_brace: CloseBrace }, semi_colon: SemiColon })]\n\
+interface: Interface, mixin: Mixin, identifier: Identifier(\"C\"), members: Braced { \
+open_brace: OpenBrace, body: [Const(ConstMember { attributes: None, const_: Const, const_type: \
+Boolean(MayBeNull { type_: Boolean, q_mark: None }), identifier: Identifier(\"D\"), assign: \
+Assign, const_value: Boolean(BooleanLit(true)), semi_colon: SemiColon }), \
+Operation(OperationMixinMember { attributes: None, stringifier: None, return_type: \
+Type_(Single(NonAny(Promise(PromiseType { promise: Promise, generics: Generics { open_angle: \
+LessThan, body: Undefined(Undefined), close_angle: GreaterThan } })))), identifier: \
+Some(Identifier(\"f\")), args: ParenthesizedArgumentList { open_paren: OpenParen, body: \
+Punctuated { list: [], separator: Comma }, close_paren: CloseParen }, semi_colon: SemiColon \
+}), Stringifier(StringifierMember { attributes: None, stringifier: Stringifier, semi_colon: \
+SemiColon })], close_brace: CloseBrace }, semi_colon: SemiColon })]\n\
 text: partial dictionary A {};\n\
 list: [(\"partial dictionary\", \"A\")]\n\
 tree: [PartialDictionary(PartialDictionaryDefinition { attributes: None, partial: Partial, \
-dictionary: Dictionary, identifier: Identifier(\"A\"), members: BracedDictionaryMembers { \
-open_brace: OpenBrace, body: [], close_brace: CloseBrace }, semi_colon: SemiColon })]\n\
+dictionary: Dictionary, identifier: Identifier(\"A\"), members: Braced { open_brace: \
+OpenBrace, body: [], close_brace: CloseBrace }, semi_colon: SemiColon })]\n\
 text: [X] partial dictionary B {\n/// d\n[Y] required sequence<(long or DOMString)> x; };\n\
 list: [(\"partial dictionary\", \"B\")]\n\
 tree: [PartialDictionary(PartialDictionaryDefinition { attributes: Some(Bracketed { open_bracket: \
 OpenBracket, body: Punctuated { list: [NoArgs(ExtendedAttributeNoArgs(Identifier(\"X\")))], \
 separator: Comma }, close_bracket: CloseBracket }), partial: Partial, dictionary: Dictionary, \
-identifier: Identifier(\"B\"), members: BracedDictionaryMembers { open_brace: OpenBrace, body: \
+identifier: Identifier(\"B\"), members: Braced { open_brace: OpenBrace, body: \
 [DictionaryMember { docstring: Some(Docstring(\" d\")), attributes: Some(Bracketed { \
 open_bracket: OpenBracket, body: Punctuated { list: \
 [NoArgs(ExtendedAttributeNoArgs(Identifier(\"Y\")))], separator: Comma }, close_bracket: \
@@ -69,10 +69,10 @@ close_brace: CloseBrace }, semi_colon: SemiColon })]\n\
 text: partial dictionary C { record<ByteString, Type?>? x = null; double y = -1.5e+3; };\n\
 list: [(\"partial dictionary\", \"C\")]\n\
 tree: [PartialDictionary(PartialDictionaryDefinition { attributes: None, partial: Partial, \
-dictionary: Dictionary, identifier: Identifier(\"C\"), members: BracedDictionaryMembers { \
-open_brace: OpenBrace, body: [DictionaryMember { docstring: None, attributes: None, required: \
-None, type_: Single(NonAny(RecordType(MayBeNull { type_: RecordType { record_: Record, \
-generics: Generics { open_angle: LessThan, body: RecordTypes(Byte(ByteString), Comma, \
+dictionary: Dictionary, identifier: Identifier(\"C\"), members: Braced { open_brace: \
+OpenBrace, body: [DictionaryMember { docstring: None, attributes: None, required: None, type_: \
+Single(NonAny(RecordType(MayBeNull { type_: RecordType { record_: Record, generics: Generics { \
+open_angle: LessThan, body: RecordTypes(Byte(ByteString), Comma, \
 Single(NonAny(Identifier(MayBeNull { type_: Identifier(\"Type\"), q_mark: Some(QMark) })))), \
 close_angle: GreaterThan } }, q_mark: Some(QMark) }))), identifier: Identifier(\"x\"), \
 default: Some(Default { assign: Assign, value: Null(Null) }), semi_colon: SemiColon }, \
@@ -84,15 +84,15 @@ close_brace: CloseBrace }, semi_colon: SemiColon })]\n\
 text: partial namespace A {};\n\
 list: [(\"partial namespace\", \"A\")]\n\
 tree: [PartialNamespace(PartialNamespaceDefinition { attributes: None, partial: Partial, namespace: \
-Namespace, identifier: Identifier(\"A\"), members: BracedNamespaceMembers { open_brace: \
-OpenBrace, body: [], close_brace: CloseBrace }, semi_colon: SemiColon })]\n\
+Namespace, identifier: Identifier(\"A\"), members: Braced { open_brace: OpenBrace, body: [], \
+close_brace: CloseBrace }, semi_colon: SemiColon })]\n\
 text: [X=Y] partial namespace B {\n///d\n[Z] Promise<sequence<long?>> f(any x); };\n\
 list: [(\"partial namespace\", \"B\")]\n\
 tree: [PartialNamespace(PartialNamespaceDefinition { attributes: Some(Bracketed { open_bracket: \
 OpenBracket, body: Punctuated { list: [Ident(ExtendedAttributeIdent { lhs_identifier: \
 Identifier(\"X\"), assign: Assign, rhs: Identifier(Identifier(\"Y\")) })], separator: Comma }, \
 close_bracket: CloseBracket }), partial: Partial, namespace: Namespace, identifier: \
-Identifier(\"B\"), members: BracedNamespaceMembers { open_brace: OpenBrace, body: \
+Identifier(\"B\"), members: Braced { open_brace: OpenBrace, body: \
 [Operation(OperationNamespaceMember { docstring: Some(Docstring(\"d\")), attributes: \
 Some(Bracketed { open_bracket: OpenBracket, body: Punctuated { list: \
 [NoArgs(ExtendedAttributeNoArgs(Identifier(\"Z\")))], separator: Comma }, close_bracket: \
@@ -109,10 +109,10 @@ identifier: Identifier(\"x\"), default: None })], separator: Comma }, close_pare
 text: partial namespace C { readonly attribute (A or B)? x; undefined (); };\n\
 list: [(\"partial namespace\", \"C\")]\n\
 tree: [PartialNamespace(PartialNamespaceDefinition { attributes: None, partial: Partial, namespace: \
-Namespace, identifier: Identifier(\"C\"), members: BracedNamespaceMembers { open_brace: \
-OpenBrace, body: [Attribute(AttributeNamespaceMember { docstring: None, attributes: None, \
-readonly: ReadOnly, attribute: Attribute, type_: AttributedType { attributes: None, type_: \
-Union(MayBeNull { type_: Parenthesized { open_paren: OpenParen, body: Punctuated { list: \
+Namespace, identifier: Identifier(\"C\"), members: Braced { open_brace: OpenBrace, body: \
+[Attribute(AttributeNamespaceMember { docstring: None, attributes: None, readonly: ReadOnly, \
+attribute: Attribute, type_: AttributedType { attributes: None, type_: Union(MayBeNull { \
+type_: Parenthesized { open_paren: OpenParen, body: Punctuated { list: \
 [Single(AttributedNonAnyType { attributes: None, type_: Identifier(MayBeNull { type_: \
 Identifier(\"A\"), q_mark: None }) }), Single(AttributedNonAnyType { attributes: None, type_: \
 Identifier(MayBeNull { type_: Identifier(\"B\"), q_mark: None }) })], separator: Or }, \
@@ -124,8 +124,8 @@ CloseParen }, semi_colon: SemiColon })], close_brace: CloseBrace }, semi_colon: 
 text: partial interface A {};\n\
 list: [(\"partial interface\", \"A\")]\n\
 tree: [PartialInterface(PartialInterfaceDefinition { attributes: None, partial: Partial, interface: \
-Interface, identifier: Identifier(\"A\"), members: BracedInterfaceMembers { open_brace: \
-OpenBrace, body: [], close_brace: CloseBrace }, semi_colon: SemiColon })]\n\
+Interface, identifier: Identifier(\"A\"), members: Braced { open_brace: OpenBrace, body: [], \
+close_brace: CloseBrace }, semi_colon: SemiColon })]\n\
 text: [X=Y(any... z)] partial interface B { constructor(); iterable<[Clamp] long>; };\n\
 list: [(\"partial interface\", \"B\")]\n\
 tree: [PartialInterface(PartialInterfaceDefinition { attributes: Some(Bracketed { open_bracket: \
@@ -135,7 +135,7 @@ ParenthesizedArgumentList { open_paren: OpenParen, body: Punctuated { list: \
 [Variadic(VariadicArgument { attributes: None, type_: Single(Any(Any)), ellipsis: Ellipsis, \
 identifier: Identifier(\"z\") })], separator: Comma }, close_paren: CloseParen } })], \
 separator: Comma }, close_bracket: CloseBracket }), partial: Partial, interface: Interface, \
-identifier: Identifier(\"B\"), members: BracedInterfaceMembers { open_brace: OpenBrace, body: \
+identifier: Identifier(\"B\"), members: Braced { open_brace: OpenBrace, body: \
 [Constructor(ConstructorInterfaceMember { docstring: None, attributes: None, constructor: \
 Constructor, args: ParenthesizedArgumentList { open_paren: OpenParen, body: Punctuated { list: \
 [], separator: Comma }, close_paren: CloseParen }, semi_colon: SemiColon }), \

@@ -9,12 +9,10 @@ ghost use Rattle.weedle_grammar.specs.written.Table.Definitions.{
   PARTIAL_INTERFACE_MIXIN_DEFINITION,
 };
 ghost use Rattle.weedle_grammar.specs.written.Table.InterfaceMembers.{
-  BRACED_INTERFACE_MEMBERS,
   INTERFACE_MEMBER,
   INTERFACE_MEMBERS,
 };
 ghost use Rattle.weedle_interfaces.specs.written.Trees.{
-  braced_interface_members_tree,
   callback_interface_definition_tree,
   interface_definition_tree,
   interface_member_tree,
@@ -26,7 +24,6 @@ ghost use Rattle.weedle_mixins.specs.written.Trees.{
 };
 ghost use Rattle.weedle_spell.specs.Laws.{SpellsValues};
 ghost use Rattle.weedle_spell_idl.specs.written.Interfaces.{
-  braced_interface_members_spelling,
   callback_interface_definition_spelling,
   interface_definition_spelling,
   interface_member_spelling,
@@ -47,12 +44,6 @@ pub fn interface_member()
 #[tactic(auto, using(crate::proofs::written::InterfaceLaws::interface_members_law))]
 pub fn interface_members()
     ensures { SpellsValues INTERFACE_MEMBERS (members_tree interface_member_tree) interface_members_spelling }
-{}
-
-/// The members of an interface between braces, as `{ attribute long length; }`.
-#[tactic(auto, using(crate::proofs::written::InterfaceLaws::braced_interface_members_law))]
-pub fn braced_interface_members()
-    ensures { SpellsValues BRACED_INTERFACE_MEMBERS braced_interface_members_tree braced_interface_members_spelling }
 {}
 
 /// A callback interface, as `callback interface A {};`.

@@ -10,7 +10,6 @@ ghost use Rattle.weedle_grammar.specs.written.Table.InterfaceMembers.{
 };
 ghost use Rattle.weedle_grammar.specs.written.Table.OtherMembers.{
   ATTRIBUTE_MIXIN_MEMBER,
-  BRACED_MIXIN_MEMBERS,
   MIXIN_MEMBER,
   MIXIN_MEMBERS,
   OPERATION_MIXIN_MEMBER,
@@ -24,7 +23,6 @@ ghost use Rattle.weedle_members.specs.written.Trees.{
 };
 ghost use Rattle.weedle_mixins.specs.written.Trees.{
   attribute_mixin_member_tree,
-  braced_mixin_members_tree,
   mixin_member_tree,
   operation_mixin_member_tree,
 };
@@ -32,7 +30,6 @@ ghost use Rattle.weedle_spell.specs.Laws.{SpellsValues};
 ghost use Rattle.weedle_spell_idl.specs.written.Members.{
   attribute_interface_member_spelling,
   attribute_mixin_member_spelling,
-  braced_mixin_members_spelling,
   const_member_spelling,
   constructor_interface_member_spelling,
   mixin_member_spelling,
@@ -95,10 +92,4 @@ pub fn mixin_member()
 #[tactic(auto, using(crate::proofs::written::MemberLaws::mixin_members_law))]
 pub fn mixin_members()
     ensures { SpellsValues MIXIN_MEMBERS (members_tree mixin_member_tree) mixin_members_spelling }
-{}
-
-/// The members of a mixin between braces, as `{ long f(); }`.
-#[tactic(auto, using(crate::proofs::written::MemberLaws::braced_mixin_members_law))]
-pub fn braced_mixin_members()
-    ensures { SpellsValues BRACED_MIXIN_MEMBERS braced_mixin_members_tree braced_mixin_members_spelling }
 {}

@@ -8,8 +8,6 @@ ghost use Rattle.weedle_grammar.specs.written.Table.Definitions.{
 };
 ghost use Rattle.weedle_grammar.specs.written.Table.OtherMembers.{
   ATTRIBUTE_NAMESPACE_MEMBER,
-  BRACED_DICTIONARY_MEMBERS,
-  BRACED_NAMESPACE_MEMBERS,
   DICTIONARY_MEMBER,
   DICTIONARY_MEMBERS,
   NAMESPACE_MEMBER,
@@ -18,8 +16,6 @@ ghost use Rattle.weedle_grammar.specs.written.Table.OtherMembers.{
 };
 ghost use Rattle.weedle_namespaces.specs.written.Trees.{
   attribute_namespace_member_tree,
-  braced_dictionary_members_tree,
-  braced_namespace_members_tree,
   dictionary_definition_tree,
   dictionary_member_tree,
   namespace_definition_tree,
@@ -31,8 +27,6 @@ ghost use Rattle.weedle_namespaces.specs.written.Trees.{
 ghost use Rattle.weedle_spell.specs.Laws.{SpellsValues};
 ghost use Rattle.weedle_spell_idl.specs.written.Namespaces.{
   attribute_namespace_member_spelling,
-  braced_dictionary_members_spelling,
-  braced_namespace_members_spelling,
   dictionary_definition_spelling,
   dictionary_member_spelling,
   dictionary_members_spelling,
@@ -55,12 +49,6 @@ pub fn dictionary_member()
 #[tactic(auto, using(crate::proofs::written::NamespaceLaws::dictionary_members_law))]
 pub fn dictionary_members()
     ensures { SpellsValues DICTIONARY_MEMBERS (members_tree dictionary_member_tree) dictionary_members_spelling }
-{}
-
-/// The members of a dictionary between braces, as `{ long x = 5; }`.
-#[tactic(auto, using(crate::proofs::written::NamespaceLaws::braced_dictionary_members_law))]
-pub fn braced_dictionary_members()
-    ensures { SpellsValues BRACED_DICTIONARY_MEMBERS braced_dictionary_members_tree braced_dictionary_members_spelling }
 {}
 
 /// A dictionary, as `dictionary A : B { long x = 5; };`.
@@ -97,12 +85,6 @@ pub fn namespace_member()
 #[tactic(auto, using(crate::proofs::written::NamespaceLaws::namespace_members_law))]
 pub fn namespace_members()
     ensures { SpellsValues NAMESPACE_MEMBERS (members_tree namespace_member_tree) namespace_members_spelling }
-{}
-
-/// The members of a namespace between braces, as `{ long f(); }`.
-#[tactic(auto, using(crate::proofs::written::NamespaceLaws::braced_namespace_members_law))]
-pub fn braced_namespace_members()
-    ensures { SpellsValues BRACED_NAMESPACE_MEMBERS braced_namespace_members_tree braced_namespace_members_spelling }
 {}
 
 /// A namespace, as `namespace A { long f(); };`.
