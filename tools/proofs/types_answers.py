@@ -69,6 +69,7 @@ def list_answers(name):
     let pushed : c.push-in-Ok-{call}.new.self.items ≡ c.items.list.items ++ ({read}.item ∷ []) = rw c.if-is_err-2.ensures.negation at c.push-in-Ok-{call}.ensures.items in
     let next = reached_next {one} {mark} {known}.2.2 c.in-Ok.ensures.reads {took} {read}.ensures.reads in
     (search rules, omega (arith, {known}.1, c.in-Ok.ensures.shorter, {read}.ensures.shorter), ({known}.2.0 ++ ({read}.item ∷ []), pushed ∙ ap (λ (l : List {item}). l ++ ({read}.item ∷ [])) {known}.2.1, next))""")
+    answer(name, "returns-in_ok-rest-in-Ok-clause-reads", f"{name}_some _ c.in-Ok.ensures.reads c.in_ok-rest-in-Ok.ensures.reads c.shrink_to_fit.ensures.items")
     answer(name, "returns-in-Err-Error-clause-reads", f"{name}_none _ c.in-Err-Error.ensures.reads c.in-Err-Error.field-0-is (search rules) c.new-list.ensures.items")
     answer(name, "returns-in-Err-Failure-clause-reads", f"{name}_fault c.in-Err-Failure.ensures.reads c.in-Err-Failure.field-0-is")
     return lines

@@ -132,8 +132,8 @@ argument_list_rule = punctuated_rule (own_rule ARGUMENT argument_tree (Unit {0})
 pub argument_list_none : {s : List ℕ} {f : Fault (Error (Bor (List ℕ)))} {e : Error (Bor (List ℕ))} (x : Punctuated Argument Comma) → Faults (own ARGUMENT argument_tree (Unit {0})) s f → f ≡ Recoverable e → IsUtf8 s → x.list.items ≡ [] → Got (own ARGUMENT_LIST argument_list_tree (Unit {0})) s x s
 argument_list_none {s = s} x h i u e = got_rule argument_list_rule argument_list_tree x (got_none (own ARGUMENT argument_tree (Unit {0})) (mark {V = Comma} COMMA) (λ p. p.list.items) (λ p. Unit {0}) (λ (l : Vec Argument). l.items) s x u (refused_by _ h i) e tt) refl
 
-pub argument_list_some : {s rest end : List ℕ} {v : Argument} (x : Punctuated Argument Comma) → Got (own ARGUMENT argument_tree (Unit {0})) s v rest → Got (after_first (own ARGUMENT argument_tree (Unit {0})) (mark {V = Comma} COMMA) (λ (l : Vec Argument). l.items) v) rest x.list end → Got (own ARGUMENT_LIST argument_list_tree (Unit {0})) s x end
-argument_list_some x a b = got_rule argument_list_rule argument_list_tree x (got_some (own ARGUMENT argument_tree (Unit {0})) (mark {V = Comma} COMMA) (λ p. p.list.items) (λ p. Unit {0}) (λ (l : Vec Argument). l.items) x x.list a b refl tt) refl
+pub argument_list_some : {s rest end : List ℕ} {v : Argument} {read : Vec Argument} (x : Punctuated Argument Comma) → Got (own ARGUMENT argument_tree (Unit {0})) s v rest → Got (after_first (own ARGUMENT argument_tree (Unit {0})) (mark {V = Comma} COMMA) (λ (l : Vec Argument). l.items) v) rest read end → x.list.items ≡ read.items → Got (own ARGUMENT_LIST argument_list_tree (Unit {0})) s x end
+argument_list_some {read = read} x a b e = got_rule argument_list_rule argument_list_tree x (got_some (own ARGUMENT argument_tree (Unit {0})) (mark {V = Comma} COMMA) (λ p. p.list.items) (λ p. Unit {0}) (λ (l : Vec Argument). l.items) x read a b e tt) refl
 
 pub argument_list_after : {s rest : List ℕ} {v : Argument} {e : Fault (Error (Bor (List ℕ)))} → Got (own ARGUMENT argument_tree (Unit {0})) s v rest → Faults (after_first (own ARGUMENT argument_tree (Unit {0})) (mark {V = Comma} COMMA) (λ (l : Vec Argument). l.items) v) rest e → Faults (own ARGUMENT_LIST argument_list_tree (Unit {0})) s e
 argument_list_after a h = fault_rule argument_list_rule argument_list_tree (fault_some (own ARGUMENT argument_tree (Unit {0})) (mark {V = Comma} COMMA) (λ p. p.list.items) (λ p. Unit {0}) (λ (l : Vec Argument). l.items) a h)

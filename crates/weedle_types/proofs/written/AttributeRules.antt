@@ -126,8 +126,8 @@ extended_attributes_rule = punctuated_rule (own_rule EXTENDED_ATTRIBUTE extended
 pub extended_attributes_none : {s : List ℕ} {f : Fault (Error (Bor (List ℕ)))} {e : Error (Bor (List ℕ))} (x : Punctuated ExtendedAttribute Comma) → Faults (own EXTENDED_ATTRIBUTE extended_attribute_tree (Unit {0})) s f → f ≡ Recoverable e → IsUtf8 s → x.list.items ≡ [] → Got (own LIST_EXTENDED_ATTRIBUTE_COMMA extended_attributes_tree (Unit {0})) s x s
 extended_attributes_none {s = s} x h i u e = got_rule extended_attributes_rule extended_attributes_tree x (got_none (own EXTENDED_ATTRIBUTE extended_attribute_tree (Unit {0})) (mark {V = Comma} COMMA) (λ p. p.list.items) (λ p. Unit {0}) (λ (l : Vec ExtendedAttribute). l.items) s x u (refused_by _ h i) e tt) refl
 
-pub extended_attributes_some : {s rest end : List ℕ} {v : ExtendedAttribute} (x : Punctuated ExtendedAttribute Comma) → Got (own EXTENDED_ATTRIBUTE extended_attribute_tree (Unit {0})) s v rest → Got (after_first (own EXTENDED_ATTRIBUTE extended_attribute_tree (Unit {0})) (mark {V = Comma} COMMA) (λ (l : Vec ExtendedAttribute). l.items) v) rest x.list end → Got (own LIST_EXTENDED_ATTRIBUTE_COMMA extended_attributes_tree (Unit {0})) s x end
-extended_attributes_some x a b = got_rule extended_attributes_rule extended_attributes_tree x (got_some (own EXTENDED_ATTRIBUTE extended_attribute_tree (Unit {0})) (mark {V = Comma} COMMA) (λ p. p.list.items) (λ p. Unit {0}) (λ (l : Vec ExtendedAttribute). l.items) x x.list a b refl tt) refl
+pub extended_attributes_some : {s rest end : List ℕ} {v : ExtendedAttribute} {read : Vec ExtendedAttribute} (x : Punctuated ExtendedAttribute Comma) → Got (own EXTENDED_ATTRIBUTE extended_attribute_tree (Unit {0})) s v rest → Got (after_first (own EXTENDED_ATTRIBUTE extended_attribute_tree (Unit {0})) (mark {V = Comma} COMMA) (λ (l : Vec ExtendedAttribute). l.items) v) rest read end → x.list.items ≡ read.items → Got (own LIST_EXTENDED_ATTRIBUTE_COMMA extended_attributes_tree (Unit {0})) s x end
+extended_attributes_some {read = read} x a b e = got_rule extended_attributes_rule extended_attributes_tree x (got_some (own EXTENDED_ATTRIBUTE extended_attribute_tree (Unit {0})) (mark {V = Comma} COMMA) (λ p. p.list.items) (λ p. Unit {0}) (λ (l : Vec ExtendedAttribute). l.items) x read a b e tt) refl
 
 pub extended_attributes_after : {s rest : List ℕ} {v : ExtendedAttribute} {e : Fault (Error (Bor (List ℕ)))} → Got (own EXTENDED_ATTRIBUTE extended_attribute_tree (Unit {0})) s v rest → Faults (after_first (own EXTENDED_ATTRIBUTE extended_attribute_tree (Unit {0})) (mark {V = Comma} COMMA) (λ (l : Vec ExtendedAttribute). l.items) v) rest e → Faults (own LIST_EXTENDED_ATTRIBUTE_COMMA extended_attributes_tree (Unit {0})) s e
 extended_attributes_after a h = fault_rule extended_attributes_rule extended_attributes_tree (fault_some (own EXTENDED_ATTRIBUTE extended_attribute_tree (Unit {0})) (mark {V = Comma} COMMA) (λ p. p.list.items) (λ p. Unit {0}) (λ (l : Vec ExtendedAttribute). l.items) a h)

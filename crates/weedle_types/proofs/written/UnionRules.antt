@@ -89,8 +89,8 @@ union_member_types_rule = punctuated_rule (own_rule UNION_MEMBER_TYPE union_memb
 pub union_member_types_none : {s : List ℕ} {f : Fault (Error (Bor (List ℕ)))} {e : Error (Bor (List ℕ))} (x : Punctuated UnionMemberType Or) → Faults (own UNION_MEMBER_TYPE union_member_type_tree (Unit {0})) s f → f ≡ Recoverable e → IsUtf8 s → x.list.items ≡ [] → Got (own LIST_UNION_MEMBER_TYPE_OR union_member_types_tree (Unit {0})) s x s
 union_member_types_none {s = s} x h i u e = got_rule union_member_types_rule union_member_types_tree x (got_none (own UNION_MEMBER_TYPE union_member_type_tree (Unit {0})) (mark {V = Or} OR) (λ p. p.list.items) (λ p. Unit {0}) (λ (l : Vec UnionMemberType). l.items) s x u (refused_by _ h i) e tt) refl
 
-pub union_member_types_some : {s rest end : List ℕ} {v : UnionMemberType} (x : Punctuated UnionMemberType Or) → Got (own UNION_MEMBER_TYPE union_member_type_tree (Unit {0})) s v rest → Got (after_first (own UNION_MEMBER_TYPE union_member_type_tree (Unit {0})) (mark {V = Or} OR) (λ (l : Vec UnionMemberType). l.items) v) rest x.list end → Got (own LIST_UNION_MEMBER_TYPE_OR union_member_types_tree (Unit {0})) s x end
-union_member_types_some x a b = got_rule union_member_types_rule union_member_types_tree x (got_some (own UNION_MEMBER_TYPE union_member_type_tree (Unit {0})) (mark {V = Or} OR) (λ p. p.list.items) (λ p. Unit {0}) (λ (l : Vec UnionMemberType). l.items) x x.list a b refl tt) refl
+pub union_member_types_some : {s rest end : List ℕ} {v : UnionMemberType} {read : Vec UnionMemberType} (x : Punctuated UnionMemberType Or) → Got (own UNION_MEMBER_TYPE union_member_type_tree (Unit {0})) s v rest → Got (after_first (own UNION_MEMBER_TYPE union_member_type_tree (Unit {0})) (mark {V = Or} OR) (λ (l : Vec UnionMemberType). l.items) v) rest read end → x.list.items ≡ read.items → Got (own LIST_UNION_MEMBER_TYPE_OR union_member_types_tree (Unit {0})) s x end
+union_member_types_some {read = read} x a b e = got_rule union_member_types_rule union_member_types_tree x (got_some (own UNION_MEMBER_TYPE union_member_type_tree (Unit {0})) (mark {V = Or} OR) (λ p. p.list.items) (λ p. Unit {0}) (λ (l : Vec UnionMemberType). l.items) x read a b e tt) refl
 
 pub union_member_types_after : {s rest : List ℕ} {v : UnionMemberType} {e : Fault (Error (Bor (List ℕ)))} → Got (own UNION_MEMBER_TYPE union_member_type_tree (Unit {0})) s v rest → Faults (after_first (own UNION_MEMBER_TYPE union_member_type_tree (Unit {0})) (mark {V = Or} OR) (λ (l : Vec UnionMemberType). l.items) v) rest e → Faults (own LIST_UNION_MEMBER_TYPE_OR union_member_types_tree (Unit {0})) s e
 union_member_types_after a h = fault_rule union_member_types_rule union_member_types_tree (fault_some (own UNION_MEMBER_TYPE union_member_type_tree (Unit {0})) (mark {V = Or} OR) (λ p. p.list.items) (λ p. Unit {0}) (λ (l : Vec UnionMemberType). l.items) a h)

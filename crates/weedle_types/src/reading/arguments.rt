@@ -145,7 +145,8 @@ pub(crate) fn argument_list<'a>(alloc: Global, input: &'a str) -> IResult<&'a st
 {
     match argument(alloc, input) {
         Ok((rest, first)) => {
-            let (rest, list) = more_arguments(alloc, first, rest)?;
+            let (rest, mut list) = more_arguments(alloc, first, rest)?;
+            list.shrink_to_fit();
             Ok((
                 rest,
                 Punctuated {

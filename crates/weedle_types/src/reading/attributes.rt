@@ -159,7 +159,8 @@ pub(crate) fn extended_attributes<'a>(
 {
     match extended_attribute(alloc, input) {
         Ok((rest, first)) => {
-            let (rest, list) = more_extended_attributes(alloc, first, rest)?;
+            let (rest, mut list) = more_extended_attributes(alloc, first, rest)?;
+            list.shrink_to_fit();
             Ok((
                 rest,
                 Punctuated {

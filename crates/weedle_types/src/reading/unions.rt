@@ -93,7 +93,8 @@ pub(crate) fn union_member_types<'a>(
 {
     match union_member_type(alloc, input) {
         Ok((rest, first)) => {
-            let (rest, list) = more_union_member_types(alloc, first, rest)?;
+            let (rest, mut list) = more_union_member_types(alloc, first, rest)?;
+            list.shrink_to_fit();
             Ok((
                 rest,
                 Punctuated {

@@ -17,10 +17,10 @@ use Rattle.weedle_term.specs.declared.written.symbols.Comma.{Comma}
 use Rattle.weedle_term.specs.declared.written.type_keywords.Or.{Or}
 use Rattle.weedle_types.proofs.Direct.{direct_stop, refused_by}
 use Rattle.weedle_types.proofs.reading.+group.Goals as goal
-use Rattle.weedle_types.proofs.written.ArgumentRules.{argument_fault, argument_got_0, argument_got_1, argument_list_fault, argument_list_none, single_argument_fault_when, single_argument_when}
-use Rattle.weedle_types.proofs.written.AttributeRules.{attributes_fault, attributes_none, attributes_some, extended_attribute_fault, extended_attribute_got_0, extended_attribute_got_1, extended_attribute_got_2, extended_attribute_got_3, extended_attribute_got_4, extended_attributes_fault, extended_attributes_none}
+use Rattle.weedle_types.proofs.written.ArgumentRules.{argument_fault, argument_got_0, argument_got_1, argument_list_fault, argument_list_none, argument_list_some, single_argument_fault_when, single_argument_when}
+use Rattle.weedle_types.proofs.written.AttributeRules.{attributes_fault, attributes_none, attributes_some, extended_attribute_fault, extended_attribute_got_0, extended_attribute_got_1, extended_attribute_got_2, extended_attribute_got_3, extended_attribute_got_4, extended_attributes_fault, extended_attributes_none, extended_attributes_some}
 use Rattle.weedle_types.proofs.written.TypeRules.{non_any_type_fault, non_any_type_got_0, non_any_type_got_1, non_any_type_got_2, non_any_type_got_3, non_any_type_got_4, non_any_type_got_5, non_any_type_got_6, record_key_type_fault, record_key_type_got_0, record_key_type_got_1, record_key_type_got_2, record_key_type_got_3, return_type_fault, return_type_got_0, return_type_got_1, single_type_fault, single_type_got_0, single_type_got_1, type__fault, type__got_0, type__got_1}
-use Rattle.weedle_types.proofs.written.UnionRules.{union_member_type_fault, union_member_type_got_0, union_member_type_got_1, union_member_types_fault, union_member_types_none}
+use Rattle.weedle_types.proofs.written.UnionRules.{union_member_type_fault, union_member_type_got_0, union_member_type_got_1, union_member_types_fault, union_member_types_none, union_member_types_some}
 use Rattle.weedle_types.specs.Trees.{argument_tree, extended_attribute_tree, union_member_type_tree}
 use Rattle.weedle_types.specs.declared.argument.Argument.{Argument}
 use Rattle.weedle_types.specs.declared.attribute.ExtendedAttribute.{ExtendedAttribute}
@@ -170,6 +170,9 @@ unions::more_union_member_types-items-preserved t c =
     let next = reached_next (own UNION_MEMBER_TYPE union_member_type_tree (Unit {0})) (mark {V = Or} OR) c.items.invariant.2.2 c.in-Ok.ensures.reads (λ e. omega (arith, e, c.in-Ok.ensures.shorter)) c.in-Ok-union_member_type.ensures.reads in
     (search rules, omega (arith, c.items.invariant.1, c.in-Ok.ensures.shorter, c.in-Ok-union_member_type.ensures.shorter), (c.items.invariant.2.0 ++ (c.in-Ok-union_member_type.item ∷ []), pushed ∙ ap (λ (l : List UnionMemberType). l ++ (c.in-Ok-union_member_type.item ∷ [])) c.items.invariant.2.1, next))
 
+pub unions::union_member_types-returns-in_ok-rest-in-Ok-clause-reads : goal.unions::union_member_types-returns-in_ok-rest-in-Ok-clause-reads
+unions::union_member_types-returns-in_ok-rest-in-Ok-clause-reads t c = union_member_types_some _ c.in-Ok.ensures.reads c.in_ok-rest-in-Ok.ensures.reads c.shrink_to_fit.ensures.items
+
 pub unions::union_member_types-returns-in-Err-Error-clause-reads : goal.unions::union_member_types-returns-in-Err-Error-clause-reads
 unions::union_member_types-returns-in-Err-Error-clause-reads t c = union_member_types_none _ c.in-Err-Error.ensures.reads c.in-Err-Error.field-0-is (search rules) c.new-list.ensures.items
 
@@ -245,6 +248,9 @@ attributes::more_extended_attributes-items-preserved t c =
     let next = reached_next (own EXTENDED_ATTRIBUTE extended_attribute_tree (Unit {0})) (mark {V = Comma} COMMA) c.items.invariant.2.2 c.in-Ok.ensures.reads (λ e. omega (arith, e, c.in-Ok.ensures.shorter)) c.in-Ok-extended_attribute.ensures.reads in
     (search rules, omega (arith, c.items.invariant.1, c.in-Ok.ensures.shorter, c.in-Ok-extended_attribute.ensures.shorter), (c.items.invariant.2.0 ++ (c.in-Ok-extended_attribute.item ∷ []), pushed ∙ ap (λ (l : List ExtendedAttribute). l ++ (c.in-Ok-extended_attribute.item ∷ [])) c.items.invariant.2.1, next))
 
+pub attributes::extended_attributes-returns-in_ok-rest-in-Ok-clause-reads : goal.attributes::extended_attributes-returns-in_ok-rest-in-Ok-clause-reads
+attributes::extended_attributes-returns-in_ok-rest-in-Ok-clause-reads t c = extended_attributes_some _ c.in-Ok.ensures.reads c.in_ok-rest-in-Ok.ensures.reads c.shrink_to_fit.ensures.items
+
 pub attributes::extended_attributes-returns-in-Err-Error-clause-reads : goal.attributes::extended_attributes-returns-in-Err-Error-clause-reads
 attributes::extended_attributes-returns-in-Err-Error-clause-reads t c = extended_attributes_none _ c.in-Err-Error.ensures.reads c.in-Err-Error.field-0-is (search rules) c.new-list.ensures.items
 
@@ -302,6 +308,9 @@ arguments::more_arguments-items-preserved t c =
     let pushed : c.push-in-Ok-argument.new.self.items ≡ c.items.list.items ++ (c.in-Ok-argument.item ∷ []) = rw c.if-is_err-2.ensures.negation at c.push-in-Ok-argument.ensures.items in
     let next = reached_next (own ARGUMENT argument_tree (Unit {0})) (mark {V = Comma} COMMA) c.items.invariant.2.2 c.in-Ok.ensures.reads (λ e. omega (arith, e, c.in-Ok.ensures.shorter)) c.in-Ok-argument.ensures.reads in
     (search rules, omega (arith, c.items.invariant.1, c.in-Ok.ensures.shorter, c.in-Ok-argument.ensures.shorter), (c.items.invariant.2.0 ++ (c.in-Ok-argument.item ∷ []), pushed ∙ ap (λ (l : List Argument). l ++ (c.in-Ok-argument.item ∷ [])) c.items.invariant.2.1, next))
+
+pub arguments::argument_list-returns-in_ok-rest-in-Ok-clause-reads : goal.arguments::argument_list-returns-in_ok-rest-in-Ok-clause-reads
+arguments::argument_list-returns-in_ok-rest-in-Ok-clause-reads t c = argument_list_some _ c.in-Ok.ensures.reads c.in_ok-rest-in-Ok.ensures.reads c.shrink_to_fit.ensures.items
 
 pub arguments::argument_list-returns-in-Err-Error-clause-reads : goal.arguments::argument_list-returns-in-Err-Error-clause-reads
 arguments::argument_list-returns-in-Err-Error-clause-reads t c = argument_list_none _ c.in-Err-Error.ensures.reads c.in-Err-Error.field-0-is (search rules) c.new-list.ensures.items
