@@ -7,7 +7,7 @@ use Rattle.std.proofs.lemmas.List.{get_or-replicate, get_or_past, length-replica
 use lib.Dec.{eqb}
 use Rattle.std.proofs.lemmas.Nat.Bits.{bit_at_set_same, bit_at_set_other, bit_at-zero, shr_and_one}
 use mir.Syntax.{w64}
-use Rattle.weedle_diagnose.specs.Marks.{IsSet}
+use Rattle.weedle_diagnose.specs.Marks.{IsSet, IsClear}
 
 -- the words with the cell's bit
 abbrev pub with_bit : List ℕ → ℕ → List ℕ
@@ -48,6 +48,13 @@ unfolding IsSet
 unset_word words word cell z e s =
     let a : bit_at (get_or words (cell / 64) 0) (63 - cell % 64) ≡ 0 = subst (λ w. bit_at (get_or words w 0) (63 - cell % 64) ≡ 0) (sym e) (subst (λ v. bit_at v (63 - cell % 64) ≡ 0) (sym z) (bit_at-zero (63 - cell % 64))) in
     absurd (omega (arith, a, s))
+
+-- one word more that has no marks
+pub clear_on : (words : List ℕ) (left behind : ℕ) → 0 < left → get_or words (left - 1) 0 ≡ 0 → IsClear words (64 * left) behind → IsClear words (64 * (left - 1)) behind
+clear_on words left behind some z clear cell a b s = elim (cases_lt cell (64 * left)) [
+  | inl k ↦ unset_word words (left - 1) cell z (omega arith) s
+  | inr k ↦ clear cell k b s
+]
 
 pub set_tests : (words : List ℕ) (cell : ℕ) → (eqb (bit_and (get_or words (cell / 64) 0 / 2 ^ (63 - cell % 64)) 1) 1 ≡ true) ↔ IsSet words cell
 unfolding IsSet

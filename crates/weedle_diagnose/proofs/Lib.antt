@@ -4,6 +4,7 @@ pub mod AddingFacts
 pub mod ConditionFacts
 pub mod FailureFacts
 pub mod ListingFacts
+pub mod WayFacts
 pub mod BitFacts
 pub mod LastBit
 pub mod MarkingFacts

@@ -30,8 +30,9 @@ pub struct Diagnosis {
 /// comment. A text that is read whole has an answer too: what could follow at its end.
 ///
 /// It asks for memory once, 48.25 bytes for each byte of the text from this place on, and then for the
-/// list. Where that is refused, the answer is an error. Each rule is gone through at most once at each
-/// place; there is no recursion, however deep the text nests.
+/// list. Where that is refused, the answer is an error. Some 15 kB of the stack hold the grammar's rows.
+/// Each rule is gone through at most once at each place; there is no recursion, however deep the text
+/// nests.
 pub fn diagnose_from(alloc: Global, ends: &Ends<'_>, start: usize) -> Result<Diagnosis, AllocError>
     requires { start ≤ length ends.now.text }
     ensures { IfOk result (λ d. IsDiagnosis ends.now.text start d.place d.expected.items) }

@@ -19,5 +19,6 @@ mod marking;
 mod marks;
 mod tries;
 mod unmet;
+mod ways;
 
 pub use diagnosis::{Diagnosis, diagnose_from};

@@ -6,17 +6,27 @@
 ghost use Rattle.std.specs.Prelude.{◌≡◌, ◌≤◌, ◌<◌, ◌+◌, ◌-◌, ◌*◌, ℕ, length, IfOk};
 ghost use Rattle.weedle_grammar.specs.written.Bound.{rule_count};
 ghost use Rattle.weedle_diagnose.specs.Marks.{AreTried, IsSet, IsMarking};
+ghost use Rattle.weedle_diagnose.specs.Ways.{AreWays};
 
-use crate::marks::{last_set, mark};
+use crate::marks::{behind_marks, last_set, mark};
 use crate::tries::mark_tries;
+use crate::ways::{Ways, lay_ways};
 use std::alloc::{AllocError, Global};
 use weedle_grammar::{RULES, Rule, rule_of};
 use weedle_rules::Ends;
 
 /// Marks what the rule of a marked cell tries. The last word may have cells of no place.
-fn close_cell(marks: &mut [u64], ends: &Ends<'_>, last: usize, start: usize, cell: usize)
+fn close_cell(
+    marks: &mut [u64],
+    ends: &Ends<'_>,
+    ways: &Ways,
+    last: usize,
+    start: usize,
+    cell: usize,
+)
     requires last { last ≡ length ends.now.text }
     requires fits { 64 * length marks.old < 18446744073709551616 }
+    requires ways { AreWays ways.now rule_count }
     requires within { cell < 64 * length marks.old }
     requires marked { IsSet marks.old cell }
     requires before { IsMarking ends.now.text start marks.old (cell + 1) }
@@ -25,7 +35,7 @@ fn close_cell(marks: &mut [u64], ends: &Ends<'_>, last: usize, start: usize, cel
     let row = cell / RULES;
     if row <= last {
         let rule = rule_of((cell % RULES) as u16);
-        mark_tries(marks, ends, last, rule, last - row);
+        mark_tries(marks, ends, ways, last, rule, last - row);
     }
 }
 
@@ -38,15 +48,16 @@ fn mark_all(marks: &mut [u64], ends: &Ends<'_>, last: usize, start: usize)
     requires clear { (cell : ℕ) → IsSet marks.old cell → ⊥ }
     ensures { AreTried ends.now.text start marks.new }
 {
+    let ways = lay_ways();
     mark(marks, last, Rule::DEFINITIONS, start);
     let mut left = 64 * marks.len();
     while left > 0 {
         match last_set(marks, left) {
             Some(cell) => {
-                close_cell(marks, ends, last, start, cell);
+                close_cell(marks, ends, &ways, last, start, cell);
                 left = cell;
             }
-            None => left = (left - 1) / 64 * 64,
+            None => left = behind_marks(marks, (left - 1) / 64),
         }
     }
 }

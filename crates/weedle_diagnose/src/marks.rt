@@ -58,6 +58,20 @@ pub(crate) fn last_set(marks: &[u64], behind: usize) -> Option<usize>
     Some(cell - bits.trailing_zeros() as usize)
 }
 
+/// The cell behind the last of so many words that has a mark, or 0 where none has.
+pub(crate) fn behind_marks(marks: &[u64], words: usize) -> usize
+    requires within { words ≤ length marks.now }
+    requires fits { 64 * length marks.now < 18446744073709551616 }
+    ensures before { result ≤ 64 * words }
+    ensures clear { IsClear marks.now result (64 * words) }
+{
+    let mut left = words;
+    while left > 0 && marks[left - 1] == 0 {
+        left -= 1;
+    }
+    64 * left
+}
+
 /// The number of the rule's cell at the place, in a text whose last place is this one.
 #[inline(always)]
 fn cell_of(last: usize, rule: Rule, place: usize) -> usize
