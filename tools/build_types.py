@@ -20,7 +20,7 @@ from building.functions import functions_in, plain_functions
 from building.group import BUILT, FILES, TOP, file_of, paths
 from building.held import held_functions, plain_builds
 from description.uses import code_uses, ghost_uses, stated
-from written_places import ABOVE, in_logic, put
+from written_places import in_logic, put
 
 CRATE = "weedle_build_types"
 HEAD = "//! {}\n//!\n//! Written by tools/build_types.py.\n"
@@ -37,7 +37,7 @@ OUTER = {
     "weedle_build_base":
         "At Build BuildResult Last alternative choice five_fields four_fields sequence three_fields visit",
     "weedle_rules": "Ends Rule",
-    f"{ABOVE}::steps": "keep optional",
+    "super::super::steps": "keep optional",
     "super::plain_types": "plain_type",
     "crate::held": "Held",
 }

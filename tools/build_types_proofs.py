@@ -6,8 +6,7 @@ type. From this follow, in crates/weedle_build_types/proofs/types/+group, what f
 goals that no search finds: that each part is due where the ones before it were built, and that the whole was
 built.
 
-Where written files stand in folders of their own, it writes the proofs of the functions that put a variant
-behind the values of a list too, as `keep_union`: else these stand by hand.
+It writes too the proofs of the functions that put a variant behind the values of a list, as `keep_union`.
 
 Run it from the top of the repository.
 """
@@ -18,7 +17,7 @@ from description.imports import use, uses_of
 from description.names import snake
 from description.readings import Declared
 from description.webidl import BY_NAME
-from written_places import IS_APART, in_logic, place, put
+from written_places import in_logic, place, put
 
 TOP = Path(".")
 CRATE = "weedle_build_types"
@@ -298,7 +297,7 @@ def kept():
 
 
 def main():
-    for module, text in kept() if IS_APART else ():
+    for module, text in kept():
         put(TOP, f"{module.replace('.', '/')}/Answers.antt", text)
     about = "Each call builds from a later place, or from the same place by a rule of a smaller number."
     write("Invariants", about, invariants(), "Given")

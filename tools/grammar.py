@@ -27,7 +27,7 @@ from description.names import upper
 from description.webidl import (
     CAPITALIZED, KEYWORDS, NUMBER, RULES, SCANNED, SECTIONS, SYMBOLS, parts_of,
 )
-from written_places import TO_ABOVE, in_logic, put
+from written_places import in_logic, put
 
 TOP = Path(".")
 GRAMMAR, ENDS = "weedle_grammar", "weedle_rules"
@@ -342,7 +342,7 @@ def code_fill_place():
            "use crate::cell::Cell;", "use crate::reader::Reader;", ""]
     out += [f"mod {s.module};" for s in SECTIONS]
     out += ["", "/// Works out the cells of all rules at a place, where all behind it are known.",
-            "#[inline(always)]", f"{TO_ABOVE} fn fill_place<C: Cell>(reader: &mut Reader<'_, C>, place: usize)",
+            "#[inline(always)]", "pub(crate) fn fill_place<C: Cell>(reader: &mut Reader<'_, C>, place: usize)",
             "    requires within { place ≤ length reader.old.text }",
             "    requires next { IsFilled reader.old reader.old.text ((length reader.old.text - place) * rule_count) }",
             "    ensures { IsFilled reader.new reader.old.text ((length reader.old.text - place) * rule_count + rule_count) }",

@@ -6,7 +6,7 @@
 Five kinds of lines are added where they lack; nothing is removed, and `rt fmt` sorts them afterwards.
 
 - `mod written;` or its like in the module below which a script wrote a file;
-- where files stand in a folder `written`, as tools/written_places.py has it, `pub mod written` in Lib.antt;
+- `pub mod written` in Lib.antt, where specs or proofs stand in a folder `written`;
 - `pub use` of what they have, in a module by hand above them that gives some of it already;
 - in src/lib.rt of a crate that declares types: `mod` of each module that declares some, and `pub use`
   of those whose module isn't public;
@@ -15,8 +15,7 @@ Five kinds of lines are added where they lack; nothing is removed, and `rt fmt` 
 
 The module of a folder `written` is written here as a whole: written.rt or written.antt, which names the files.
 
-It prints the files that it changed. The status is 0, or 1 where such a folder has a file by hand, or where
-written files are to stand in such folders and tools/move_written.py hasn't moved them.
+It prints the files that it changed. The status is 0, or 1 where such a folder has a file by hand.
 """
 
 import re
@@ -29,7 +28,7 @@ from description.declarations import declared_in
 from description.readings import CRATES
 from write import writer_in
 from written.imports import imported
-from written_places import BY_HAND_APART, FOLDER, IS_APART
+from written_places import FOLDER
 
 TOP = Path(__file__).resolve().parent.parent
 # The crates that give types of others, each with those whose types it gives.
@@ -193,18 +192,8 @@ def nearest(given, path, known, home):
     return max(given, key=count)
 
 
-def unmoved(root):
-    """A module that is to be by hand and lacks: tools/write.py leaves it out while its head names a script."""
-    for path in sorted(BY_HAND_APART) if IS_APART else ():
-        if (root / path).parent.is_dir() and not (root / path).is_file():
-            return path
-    return None
-
-
 def run(root):
     """Adds the lines, and gives the files that it changed."""
-    if unmoved(root):
-        raise Unfit(f"{unmoved(root)} is to be by hand: run tools/move_written.py first")
     changed = []
 
     def put(rows):

@@ -5,8 +5,8 @@
 
 Run it at the top of the repository, then `rt fmt` in the crates that it names. For each of FILES it
 writes the spellings in specs/, that what a rule takes is so spelt in proofs/, and the functions that
-carry these laws in src/laws; and for each crate src/laws.rt. A struct is spelt as its fields, one
-after another, an enum as what its variant holds; fields and variants are those of the declarations.
+carry these laws in src/laws. A struct is spelt as its fields, one after another, an enum as what its
+variant holds; fields and variants are those of the declarations.
 Examples in the docs of the functions are those of the declarations.
 The types that hold one another are spelt in specs/RecursiveTypes.antt of weedle_spell_types, by hand:
 of these only the laws are written.
@@ -20,13 +20,13 @@ import sys
 from description.declarations import type_of
 from description.docs import with_example
 from description.imports import STATED, Names
-from description.layout import filled, use_line
+from description.layout import filled
 from description.names import snake
 from description.readings import CRATES
 from proofs.idl_parts import DECLARED, TOP
 from proofs.spelling_terms import WHOLE, Item, definition, proof
 from proofs.spelt import HELPERS, function, is_made, type_text
-from written_places import IS_APART, in_crate, in_logic, put
+from written_places import in_crate, in_logic, put
 
 HEAD = "Written by tools/spellings.py."
 COLUMNS = 110
@@ -39,8 +39,6 @@ STANDARD = {
     "Rattle.std.specs.Prelude": ["List", "Option", "codes"],
     f"Rattle.{LEAVES}.specs.Forms": ["◌then◌"],
 }
-LAWS = ("What a rule takes spells the value that it gives, and holds the texts of the value in their order."
-        " Each of these functions does nothing when it runs: its contract is the law of one type.")
 
 
 class File:
@@ -218,15 +216,6 @@ class Writer:
         put(TOP, f"{file.crate}/src/laws/{file.law_module}.rt",
             f"{head_of(said, '//! ')}\n{''.join(ghosts)}\n{functions}")
 
-    def module(self, crate):
-        """The module of a crate's laws: what is in its folder, by hand too."""
-        folder = TOP / "crates" / crate / "src/laws"
-        found = {path.stem: re.findall(r"^pub fn (\w+)", path.read_text(encoding="utf-8"), re.M)
-                 for path in sorted(folder.glob("*.rt"))}
-        mods = "".join(f"mod {name};\n" for name in found)
-        uses = "".join(f"pub {use_line(name, functions)}" for name, functions in found.items())
-        put(TOP, f"{crate}/src/laws.rt", f"{head_of(LAWS, '//! ')}\n{mods}\n{uses}")
-
 
 def unwritten(done):
     """The declared types that none of the files has; LEAF_CRATES are spelt in `weedle_spell`."""
@@ -241,8 +230,6 @@ def main():
         writer.file(file)
     if names := list(unwritten(writer.done)):
         sys.exit(f"no file of FILES has {', '.join(names)}")
-    for crate in () if IS_APART else (TYPES, IDL):
-        writer.module(crate)
     print(f"{len(FILES)} files of {TYPES} and {IDL}")
 
 

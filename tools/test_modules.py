@@ -141,14 +141,6 @@ class FoldersTest(MadeUp):
         modules.run(self.root)
         self.assertIn("pub use written::keys::{Key};\n", self.read("low/src/lib.rt"))
 
-    def test_files_that_are_to_move_are_to_move_first(self):
-        given = {"IS_APART": True, "BY_HAND_APART": {"crates/low/src/lib.rt"}}
-        with mock.patch.multiple(modules, **given):
-            modules.run(self.root)
-            (self.root / "crates/low/src/lib.rt").unlink()
-            with self.assertRaisesRegex(Unfit, "low/src/lib.rt is to be by hand: run tools/move_written.py"):
-                modules.run(self.root)
-
     def test_a_file_by_hand_in_a_folder_is_refused(self):
         self.write("low/proofs/written/key/Answers.antt", "-- By hand.\n")
         with self.assertRaisesRegex(Unfit, "low/proofs/written/key/Answers.antt names no script"):

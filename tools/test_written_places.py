@@ -7,32 +7,13 @@
 import tempfile
 import unittest
 from pathlib import Path
-from unittest import mock
 
-import written_places
 from written_places import apart, files_in, in_crate, in_logic, module_in, place, put
 
 TREES, TYPES = "weedle_members/specs/Trees.antt", "weedle_types/src/clones/types.rt"
 
 
-def with_files(is_apart):
-    return mock.patch.object(written_places, "IS_APART", is_apart)
-
-
-class Beside(unittest.TestCase):
-    def test_a_file_stands_beside_those_by_hand(self):
-        with with_files(False):
-            self.assertEqual([apart(TREES), apart(TYPES)], [TREES, TYPES])
-            self.assertEqual(in_logic("weedle_members.specs.Trees"), "Rattle.weedle_members.specs.Trees")
-            self.assertEqual(in_crate("weedle_types.proofs.TypeRules"), "crate::proofs::TypeRules")
-
-
-class Apart(unittest.TestCase):
-    def setUp(self):
-        patched = with_files(True)
-        patched.start()
-        self.addCleanup(patched.stop)
-
+class Places(unittest.TestCase):
     def test_a_file_stands_in_a_folder_of_its_own(self):
         self.assertEqual(place(TREES), Path("crates/weedle_members/specs/written/Trees.antt"))
         self.assertEqual(apart("low/src/grammar/keywords.rt"), "low/src/written/grammar/keywords.rt")
@@ -58,10 +39,10 @@ class Apart(unittest.TestCase):
 class Files(unittest.TestCase):
     def test_both_kinds_are_found(self):
         with tempfile.TemporaryDirectory() as root:
-            for name in ("specs/Trees.antt", "specs/written/Table.antt", "specs/written/Table/Types.antt"):
-                with with_files(False):
-                    put(root, f"low/{name}", "")
+            for name in ("Table.antt", "Table/Types.antt"):
+                put(root, f"low/specs/{name}", "")
             specs = Path(root) / "crates/low/specs"
+            (specs / "Trees.antt").write_text("")
             found = [".".join(module_in(specs, it)) for it in files_in(specs, ".antt")]
         self.assertEqual(found, ["Trees", "written.Table", "written.Table.Types"])
 

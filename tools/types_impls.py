@@ -10,8 +10,7 @@ them, it writes in crates/weedle_types/src:
 - try_clone.rt: `TryClone` for each type, by its function there;
 - parse.rt: `Parse` for each type that a function in src/reading reads, by that function.
 
-Where written files stand in folders of their own, it writes the invariants of the functions that clone
-too: else these stand by hand.
+In the crate's proofs/clones it writes the invariants of the functions that clone.
 
 A function that clones stands in the file that has the name of the file of the one that reads, and
 that of a list right behind the function that calls it. `rt fmt` lays the files out. The status is 0
@@ -28,7 +27,7 @@ from description.readings import Declared
 from description.uses import code_uses, ghost_uses, stated
 from proofs.clones import CLONES as PROOFS, invariant, invariants, is_list
 from written.imports import imported
-from written_places import IS_APART, in_logic, put
+from written_places import in_logic, put
 
 TOP = Path(__file__).resolve().parent.parent
 CRATE = "weedle_types"
@@ -364,7 +363,7 @@ def invariants_of_clones():
 
 
 def main():
-    for module, text in invariants_of_clones() if IS_APART else ():
+    for module, text in invariants_of_clones():
         put(TOP, f"{module.replace('.', '/')}/Invariants.antt", text)
     for file in FILES:
         put(TOP, f"{CRATE}/src/clones/{file}.rt", clones_text(file))

@@ -1,21 +1,25 @@
 """Where the files stand that scripts write, and the names by which other files know them.
 
-A script calls a file that it writes by the path, below crates/, that it would have beside files by hand, as
-weedle_members/specs/Trees.antt, and its module by that path, as weedle_members.specs.Trees. Where it stands,
-and what others bring in, say the functions here. Where IS_APART is set, it stands in a folder `written`: here
-as specs/written/Trees.antt, brought in as Rattle.weedle_members.specs.written.Trees. So its path says that it
-isn't by hand. The folder is one of FOLDERS that the path begins with, or else src, specs or proofs of the crate.
+A written file stands in a folder `written`, in which no file is by hand. A script calls it by its path below
+crates/ without this folder, as weedle_members/specs/Trees.antt, and its module as weedle_members.specs.Trees.
+`place` gives where it stands: crates/weedle_members/specs/written/Trees.antt. `in_logic` gives its name in the
+logic: Rattle.weedle_members.specs.written.Trees.
 
-A file written.rt says so by its own name. A module of Rust keeps the names by which others know it: the module
-by hand above it passes it on.
+The folder `written` stands in the first of these in which the file is:
+
+- the folder of the file itself, where its name begins as BELOW has it;
+- a folder of FOLDERS;
+- src, specs or proofs of the crate.
+
+Two kinds of written files stand in no such folder: one that is called written.rt, and the proofs of FIXED.
+
+A module of Rust keeps the names by which others know it: the module by hand above it passes it on.
 """
 
 from pathlib import Path
 
-# Whether the files stand in folders of their own. Where this is changed, tools/move_written.py moves them.
-IS_APART = True
 FOLDER = "written"
-# The folders further down that have a module by hand above them, in which others by hand may stand.
+# Folders further down. Each has a module by hand above it, and others by hand may stand in it.
 FOLDERS = """
     weedle_build_types/proofs/types
     weedle_build_types/src/types
@@ -31,32 +35,15 @@ FOLDERS = """
 """.split()
 # How the names of files begin that stand below the module whose types they are of, whatever it is.
 BELOW = "from_"
-# Proofs of which only their heads say that they are written: those of functions by hand, which stand where the
-# prover looks for them, and one that other crates name, since a crate doesn't hand on the folder `written` of its
-# proofs where its code has one too.
+# Proofs that stand without the folder: only their heads say that they are written. Those of functions by hand stand
+# where the prover looks for them. Takes stands so since other crates name it, and a crate doesn't hand on the folder
+# `written` of its proofs where its code has one too.
 FIXED = """
     weedle_grammar/proofs/Takes
     weedle_idl/proofs/definition
     weedle_interfaces/proofs/member
     weedle_types/proofs/reading
 """.split()
-# Modules that scripts write where files stand beside those by hand, and that are by hand where they are apart:
-# they name modules of both kinds. tools/modules.py keeps the names that they give.
-BY_HAND_APART = {
-    "crates/weedle_spell_idl/src/laws.rt",
-    "crates/weedle_spell_types/src/laws.rt",
-    "crates/weedle_term/src/lib.rt",
-}
-# Proofs of written functions, which scripts write only where files are apart.
-BY_HAND_BESIDE = {
-    "crates/weedle_build_types/proofs/types/unions/keep_single/Answers.antt",
-    "crates/weedle_build_types/proofs/types/unions/keep_union/Answers.antt",
-    "crates/weedle_types/proofs/clones/+clones/Invariants.antt",
-    "crates/weedle_types/proofs/clones/attributes/clone_identifiers/Invariants.antt",
-}
-# How a written file names the module by hand above it, and what that module alone is to see.
-ABOVE = "super::super" if IS_APART else "super"
-TO_ABOVE = "pub(crate)" if IS_APART else "pub(super)"
 
 
 def is_below(path, folders):
@@ -69,7 +56,7 @@ def is_fixed(path):
 
 
 def folder_above(path):
-    """The folder by hand of a written file's path."""
+    """The folder in which the folder `written` of a written file stands."""
     crate, part, *_ = path.split("/")
     if Path(path).name.startswith(BELOW):
         return str(Path(path).parent)
@@ -77,20 +64,20 @@ def folder_above(path):
 
 
 def apart(path):
-    """A path below crates/, with the folder of its own where a written file has one."""
-    if not IS_APART or is_fixed(path) or Path(path).stem == FOLDER:
+    """A file's path below crates/, with the folder `written` where the file stands in one."""
+    if is_fixed(path) or Path(path).stem == FOLDER:
         return path
     folder = folder_above(path)
     return f"{folder}/{FOLDER}/{path[len(folder) + 1:]}"
 
 
 def place(path):
-    """Where a written file stands, from the top of the repository on."""
+    """Where the file stands that scripts call by this path, from the top of the repository on."""
     return Path("crates") / apart(path)
 
 
 def put(root, path, text):
-    """Writes a file at its place."""
+    """Writes a file at its place in the repository with this top."""
     file = Path(root) / place(path)
     file.parent.mkdir(parents=True, exist_ok=True)
     file.write_text(text, encoding="utf-8")

@@ -11,7 +11,6 @@ from description.docs import about
 from description.names import snake, upper
 from description.readings import Declared
 from description.webidl import BY_NAME
-from written_places import IS_APART
 
 ENUM, MODEL = "NonAnyType", "FrozenArrayType"
 TYPES, SPELT = "weedle_types", "weedle_spell_types"
@@ -35,10 +34,6 @@ BLOCKS = {
     f"{SPELT}/proofs/VariantFacts.antt": [GIVEN],
     f"{SPELT}/proofs/VariantTreeFacts.antt": [GIVEN],
 }
-if not IS_APART:
-    BLOCKS[f"{TYPES}/proofs/clones/+clones/Invariants.antt"] = [
-        r"^abbrev pub decreases-generic_types::clone_NAME_type [^\n]*\n[^\n]*\n\n",
-    ]
 USE = re.compile(r"^(?:ghost )?use [^;{\n]*(?:\{[^}]*\})?;?\n", re.M)
 
 

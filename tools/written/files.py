@@ -10,7 +10,7 @@ from written.fields import methods
 from written.imports import ghost_lines, imported, paths_in, use_lines
 from written.parses import parses
 from written.stated import Stated
-from written_places import ABOVE, FOLDER
+from written_places import FOLDER
 
 OUT = FOLDER
 # What is written of a type, in this order.
@@ -71,7 +71,7 @@ def pieces_of(items, stated):
 
 def paths_for(name, items, stated):
     """The paths of what the pieces of some types of a module name, in the file of this name."""
-    own, above = f"crate::{items[0].module}", "super" if name == OUT else ABOVE
+    own, above = f"crate::{items[0].module}", "super" if name == OUT else "super::super"
     paths = {name: above if it == own else it for name, it in stated.paths().items()}
     for item in items:
         if item.former:
