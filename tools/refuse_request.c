@@ -1,8 +1,10 @@
 // Refuses a program its Nth request for memory, N being the environment's REFUSED_REQUEST: a library to be loaded before
-// the program's others (LD_PRELOAD). A request of a library, as of the C library itself, is none of the program's.
+// the program's others (LD_PRELOAD). A request of a library, as of the C library itself, is none of the program's. Nor is
+// one for no more than a block holds already, as where a list is cut to its length: the C library refuses none of these.
 #define _GNU_SOURCE
 #include <dlfcn.h>
 #include <link.h>
+#include <malloc.h>
 #include <stdatomic.h>
 #include <stdlib.h>
 
@@ -48,5 +50,7 @@ void *malloc(size_t size) {
 void *realloc(void *block, size_t size) {
     if (!real_realloc)
         real_realloc = dlsym(RTLD_NEXT, "realloc");
+    if (size <= malloc_usable_size(block))
+        return real_realloc(block, size);
     return is_refused(__builtin_return_address(0)) ? NULL : real_realloc(block, size);
 }
