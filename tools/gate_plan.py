@@ -1,7 +1,7 @@
 #!/usr/bin/env python3
 """Says how long a gate from nothing would take, and what a change would cost, from measured times.
 
-    python3 tools/gate_plan.py TIMES [--processors N].. [--show]
+    python3 tools/gate_plan.py TIMES [--processors N].. [--older] [--show]
     python3 tools/gate_plan.py TIMES --costs CRATE..
 
 TIMES is a file of JSON that tools/gate_times.py wrote. The layout of the crates is read from
@@ -14,6 +14,9 @@ proof gets the idle processors by the number of proofs and tests that are ready,
 tests of a crate that has none count as one. Times are those of one job; by two, three or four jobs a
 proof takes SPEED of them. It prints, for each N (4 and 2 where none is given), the minutes by the
 clock and of processor time; with --show when each task that takes a minute or more begins and ends.
+
+With --older the order is that of rattle-kit-13b: a crate's wrong bodies are one task, also where it
+has none, which is ready like any other; so where `weedle_types` begins it is never alone.
 
 With --costs it prints a row for each CRATE: how many crates stand above it, the minutes of processor
 time of all of these and its own, and those of the longest chain among them.
@@ -66,7 +69,7 @@ class Gate:
         """All that a crate takes."""
         return self.proof.get(name, 0) + self.tests.get(name, 0) + self.edits.get(name, (0, 0))[1]
 
-    def tasks(self):
+    def tasks(self, older=False):
         """The tasks by their keys, those of lower crates first."""
         found = {}
         for name in sorted(self.rows, key=lambda it: len(self.below(it))):
@@ -74,8 +77,15 @@ class Gate:
             has_tests = self.tests.get(name, 0) > 0
             found[name, "proof"] = Task(waits, lines, self.proof.get(name, 0))
             found[name, "tests"] = Task(waits, lines * has_tests, self.tests.get(name, 0))
-            found.update(self.wrong_bodies(name, waits, lines))
+            if older:
+                found[name, "wrong bodies"] = self.all_wrong_bodies(name, lines)
+            else:
+                found.update(self.wrong_bodies(name, waits, lines))
         return found
+
+    def all_wrong_bodies(self, name, lines):
+        count, whole = self.edits.get(name, (0, 0))
+        return Task([(name, "proof"), (name, "tests")], lines * bool(count), whole)
 
     def wrong_bodies(self, name, waits, lines):
         count, whole = self.edits.get(name, (0, 0))
@@ -112,7 +122,7 @@ def in_order(tasks):
 
 def jobs_of(key, at, ready, proofs, idle):
     """How many jobs a ready task gets."""
-    if key not in proofs and key[1] != "seed":
+    if key[1] == "wrong bodies" or key not in proofs and key[1] != "seed":
         return 1
     others = len(proofs) - proofs.index(key) if key in proofs else len(ready) - at
     return max(1, min(4, idle // others))
@@ -150,8 +160,8 @@ def costs(gate, names):
         yield f"| `{name}` | {len(above)} | {minutes(whole)} | {minutes(gate.longest_chain(name))} |"
 
 
-def plan(gate, processors, is_shown):
-    tasks = gate.tasks()
+def plan(gate, processors, is_shown, older=False):
+    tasks = gate.tasks(older)
     log = simulated(tasks, processors)
     end, work = max(it[1] for it in log.values()), sum(it.seconds for it in tasks.values())
     yield f"{processors} processors: {minutes(end)} minutes, {minutes(work)} of processor time"
@@ -167,6 +177,7 @@ def main():
     )
     parser.add_argument("times", type=Path)
     parser.add_argument("--processors", type=int, action="append")
+    parser.add_argument("--older", action="store_true")
     parser.add_argument("--show", action="store_true")
     parser.add_argument("--costs", nargs="+")
     said = parser.parse_args()
@@ -175,7 +186,7 @@ def main():
         print(*costs(gate, said.costs), sep="\n")
         return
     for processors in said.processors or (4, 2):
-        print(*plan(gate, processors, said.show), sep="\n")
+        print(*plan(gate, processors, said.show, said.older), sep="\n")
 
 
 if __name__ == "__main__":

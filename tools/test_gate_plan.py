@@ -45,6 +45,11 @@ class Planned(unittest.TestCase):
         self.assertEqual((begin, jobs), (60 / 1.8, 2))
         self.assertAlmostEqual(end - begin, 1800 / 1.8)
 
+    def test_by_the_older_order_what_is_empty_counts_too(self):
+        log = simulated(self.gate.tasks(older=True), 4)
+        self.assertEqual(log["wide", "proof"][2], 1)
+        self.assertEqual(log["low", "wrong bodies"][1] - log["low", "wrong bodies"][0], 100)
+
     def test_crates_side_by_side_get_one_job_each(self):
         log = simulated(self.gate.tasks(), 2)
         self.assertEqual([log[it, "proof"][2] for it in ("one", "other")], [1, 1])

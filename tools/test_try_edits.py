@@ -28,14 +28,9 @@ FILES = {
     "crates/other/out/kept": "made by rt\n",
     ".git/HEAD": "main\n",
 }
-SAID = """rt: low: begins with what a check kept in another
-rt: must-fail low/a.edit: refused, as it must be: src/lib.rt:1:1: error: `low-returns`: open
-rt: must-fail low/b.edit: NOT REFUSED: the crate is still proved with this edit
-rt: must-fail low/c.edit: BAD EDIT: it did not reach the prover; the first lines of what it said:
-error[E0425]: no such name
-rt: must-fail low/d.edit: refused, as it must be (only because a proof file names what is gone): x
-rt: must-fail low/e.edit: refused, as it must be (only by a limit of the prover, which gave none): x
-rt: must-fail low/f.edit: NOT TRIED: its check was killed
+REFUSED = """note: src/lib.rt:1:1: it is not proved that what the function ensures holds
+logic=not-proved functions=2
+rt: rt check --start low::less writes a function's proof files
 """
 
 
@@ -113,24 +108,36 @@ class Checks(TryEditsTest):
         self.assertEqual(self.run_main("--check", "no"), (2, ["try_edits: there is no crate no"]))
 
 
-class Said(unittest.TestCase):
-    def test_what_rt_says_of_each(self):
-        found = {name: str(it) for name, it in try_edits.outcomes_in(SAID).items()}
-        self.assertEqual(found.pop("low/c")[:20], "NOT TRIED: BAD EDIT:")
-        wanted = {
-            "low/a": "refused",
-            "low/b": "LET THROUGH",
-            "low/d": "refused (only by a name that is gone)",
-            "low/e": "refused (only by a limit of the prover)",
-            "low/f": "NOT TRIED: its check was killed",
-        }
-        self.assertEqual(found, wanted)
+class Outcomes(unittest.TestCase):
+    def outcome(self, status, said):
+        return str(try_edits.outcome_of(status, said))
+
+    def test_a_check_that_fails_refuses(self):
+        self.assertEqual(self.outcome(1, REFUSED), "refused")
+
+    def test_a_check_that_passes_lets_through(self):
+        self.assertEqual(self.outcome(0, "logic=proved functions=2\n"), "LET THROUGH")
+
+    def test_a_proof_that_only_misses_a_name(self):
+        said = "./proofs/Less.antt:7:1: error: `less` is not in scope\nlogic=not-proved\n"
+        self.assertEqual(self.outcome(1, said), "refused (only by a name that is gone)")
+        self.assertEqual(self.outcome(1, said + REFUSED), "refused")
+
+    def test_a_text_that_cannot_be_read(self):
+        said = "./specs/Rows.antt:1:1: error: `b` is not in scope\nlogic=not-proved\n"
+        self.assertIn("NOT TRIED: the prover can't read it: ./specs", self.outcome(1, said))
+
+    def test_a_body_that_does_not_compile(self):
+        said = "src/lib.rt:1:1: error[E0425]: no such name\n"
+        why = f"NOT TRIED: it didn't reach the prover: {said.strip()}"
+        self.assertEqual(self.outcome(1, said), why)
+        self.assertEqual(self.outcome(2, ""), "NOT TRIED: it didn't reach the prover: no word")
 
 
 class Tries(TryEditsTest):
     def setUp(self):
         super().setUp()
-        self.copies, self.words = [], {}
+        self.checks, self.files, self.answers = [], set(), {}
         patches = [
             mock.patch.object(try_edits, "run_rt", self.run_rt),
             mock.patch.object(try_edits.shutil, "which", lambda name: name),
@@ -139,28 +146,30 @@ class Tries(TryEditsTest):
             patch.start()
             self.addCleanup(patch.stop)
 
-    def run_rt(self, copy, crate):
-        """Says of each edit that it is refused, or what `words` has; keeps what the copy has."""
-        edits = sorted((copy / "crates" / crate / "must-fail").iterdir())
-        files = {it.relative_to(copy).as_posix() for it in copy.rglob("*") if it.is_file()}
-        self.copies.append((crate, [it.name for it in edits], files))
-        words = [self.words.get(it.stem, "refused, as it must be: x") for it in edits]
-        return "".join(f"rt: must-fail {crate}/{e.name}: {w}\n" for e, w in zip(edits, words))
+    def run_rt(self, crate):
+        """Proves a crate as it stands, and refuses every other, or says what `answers` has."""
+        text = (crate / "src/lib.rt").read_text()
+        self.checks.append((crate.name, text))
+        copy = crate.parent.parent
+        self.files |= {it.relative_to(copy).as_posix() for it in copy.rglob("*") if it.is_file()}
+        is_wrong = text != FILES[f"crates/{crate.name}/src/lib.rt"]
+        return self.answers.get(text, (1, REFUSED) if is_wrong else (0, ""))
 
-    def test_each_crate_is_tried_with_its_edits_by_hand_alone(self):
+    def test_each_crate_is_checked_as_it_stands_and_with_each_edit(self):
         status, said = self.run_main()
         self.assertEqual(status, 0)
         edits = ["low/at-most: refused", "low/turned: refused", "high/above: refused"]
         self.assertEqual(said, [*edits, "3 refused, 0 let through"])
-        tried = [("low", ["at-most.edit", "turned.edit"]), ("high", ["above.edit"])]
-        self.assertEqual([it[:2] for it in self.copies], tried)
+        low, high = FILES["crates/low/src/lib.rt"], FILES["crates/high/src/lib.rt"]
+        turned = [text.replace("<", "<=") for text in (low, high)]
+        tried = [("low", low), ("low", turned[0]), ("low", turned[0])]
+        self.assertEqual(self.checks, [*tried, ("high", high), ("high", turned[1])])
 
     def test_the_copy_has_what_was_kept_below_and_no_git(self):
         self.run_main("high")
-        files = self.copies[0][2]
-        self.assertIn("crates/low/out/kept", files)
-        self.assertNotIn("crates/other/out/kept", files)
-        self.assertNotIn(".git/HEAD", files)
+        self.assertIn("crates/low/out/kept", self.files)
+        self.assertNotIn("crates/other/out/kept", self.files)
+        self.assertNotIn(".git/HEAD", self.files)
 
     def test_the_repository_stays_as_it_is(self):
         self.run_main()
@@ -168,24 +177,26 @@ class Tries(TryEditsTest):
         self.assertEqual(kept, FILES.keys())
 
     def test_one_that_is_let_through(self):
-        self.words["turned"] = "NOT REFUSED: the crate is still proved with this edit"
+        self.add("file: src/lib.rt\nold: Some(x)\nnew: None\n", "turned")
+        self.answers["a < b\nNone\nSome(y)\n"] = 0, "logic=proved\n"
         said = ["low/at-most: refused", "low/turned: LET THROUGH", "1 refused, 1 let through"]
         self.assertEqual(self.run_main("low"), (1, said))
 
-    def test_one_that_does_not_apply_is_not_handed_to_rt(self):
+    def test_one_that_does_not_apply_is_not_checked(self):
         self.add("file: src/lib.rt\nold: c\nnew: d\n", "at-most")
         status, said = self.run_main("low")
         self.assertEqual(status, 1)
         self.assertEqual(said[0], "low/at-most: doesn't apply: src/lib.rt has 0 times: c")
         self.assertEqual(said[2], "1 refused, 0 let through, 1 not tried")
-        self.assertEqual(self.copies[0][1], ["turned.edit"])
+        self.assertEqual(len(self.checks), 2)
 
-    def test_one_of_which_rt_says_nothing(self):
-        with mock.patch.object(try_edits, "run_rt", lambda copy, crate: "rt: stopped\n"):
-            status, said = self.run_main("high")
+    def test_a_crate_that_is_not_proved_as_it_stands(self):
+        self.answers["a < b\n"] = 1, "no library\n"
+        status, said = self.run_main("high")
         self.assertEqual(status, 1)
-        self.assertIn("high/above: NOT TRIED: rt says nothing of it", said)
+        self.assertIn("high/above: NOT TRIED: the crate isn't proved as it stands", said)
         self.assertEqual(said[-1], "0 refused, 0 let through, 1 not tried")
+        self.assertEqual(len(self.checks), 1)
 
 
 if __name__ == "__main__":

@@ -3,16 +3,18 @@
 
     python3 tools/try_edits.py [--check] [CRATE..]
 
-They are the edits must-fail/by-hand/CRATE/*.edit, of all crates or of those that are named. An edit has
-a line `file: src/lib.rt`, and then pairs of lines `old: TEXT` and `new: TEXT`, each TEXT one line;
-further pairs apply to what the earlier ones made. A line that begins with `#` says something to the
-reader.
+They are the edits must-fail/by-hand/CRATE/*.edit, of all crates or of those that are named. An edit
+has a line `file: src/lib.rt`, and then pairs of lines `old: TEXT` and `new: TEXT`, each TEXT one
+line; further pairs apply to what the earlier ones made. A line that begins with `#` says something
+to the reader.
 
 First it looks whether each edit applies: whether each old text stands in its file exactly once.
 With --check that is all. Else it copies the repository to a temporary folder, without .git but
-with what `rt check` kept of these crates and those below them, puts the edits by hand in place of
-those that the gate tries, and runs `rt must-fail CRATE` there, one crate after another. Where the
-crates below one aren't proved yet, that proves them first: an hour and more over the types.
+with what `rt check` kept of these crates and those below them. There it checks each crate as it
+stands, and then once with each edit in turn, which proves again only what the edit touches: half a
+minute, or some minutes where it touches the types that hold one another. Over all definitions each
+check begins with minutes of sums over the crates below. What isn't proved yet is proved first: an
+hour and more over the types.
 
 It prints a line for each edit:
 
@@ -21,10 +23,9 @@ It prints a line for each edit:
     CRATE/NAME: doesn't apply       with the reason
     CRATE/NAME: NOT TRIED           with the reason
 
-Behind `refused` stands in brackets where that says little of a contract: where the prover came to a
-limit of its own, or where a proof only misses a name that the edit took away. The last line is
-`N refused, M let through`, and behind it how many weren't tried, where there are such; with --check
-it is `N apply, M don't`.
+Behind `refused` stands in brackets where that says little of a contract: where a proof only misses
+a name that the edit took away. The last line is `N refused, M let through`, and behind it how many
+weren't tried, where there are such; with --check it is `N apply, M don't`.
 
 The status is 0 where each edit was refused, or applies; 1 where one wasn't or doesn't; 2 where the
 arguments are wrong.
@@ -41,16 +42,22 @@ from pathlib import Path
 from crates import PARTS, Unfit, closure, read_lines
 
 TOP = Path(__file__).resolve().parent.parent
-GATE, BY_HAND = "must-fail", Path("must-fail", "by-hand")
+BY_HAND = Path("must-fail", "by-hand")
 REFUSED, LET_THROUGH, UNFIT, UNTRIED = "refused", "LET THROUGH", "doesn't apply", "NOT TRIED"
-# What rt says of an edit, and what stands for it here. The first that is found counts.
-WORDS = [
-    ("NOT REFUSED", LET_THROUGH, ""),
-    ("refused, as it must be (only by a limit", REFUSED, "only by a limit of the prover"),
-    ("refused, as it must be (only because a proof", REFUSED, "only by a name that is gone"),
-    ("refused, as it must be", REFUSED, ""),
-]
-SAID = re.compile(r"(?:rt: )?must-fail (?P<name>\w+/\S+)\.edit: (?P<words>.*)")
+# How the last line of a check begins that the prover refused.
+NOT_PROVED = "logic=not-proved"
+COMPLAINT = re.compile(r"(note: |(\./)?\S+:\d+:\d+: error)")
+# What is said where a text can't be read, so that no contract was tried.
+UNREAD = re.compile(
+    r"(\./)?(src|specs)/\S+:\d+:\d+: error: .*"
+    r"(is not in scope|has no field|is no name|operand is missing|expected the end|cannot continue)"
+)
+# What is said of a proof that names what an edit took away.
+NAME_GONE = re.compile(r"(\./)?proofs/.*(has no field|is not in scope|has no `|was not admitted)")
+
+
+class Misfit(Exception):
+    """Why an edit doesn't apply."""
 
 
 class Edit:
@@ -78,8 +85,8 @@ class Outcome:
         return f"{self.kind} ({self.why})" if self.kind == REFUSED else f"{self.kind}: {self.why}"
 
 
-def misfit_of(text, crate):
-    """Why an edit of this text doesn't apply to the crate in this folder, or nothing."""
+def edited(text, crate):
+    """The texts that an edit of this text makes of the files of the crate in this folder."""
     path, old, texts, before = None, None, {}, {}
     for row in text.splitlines():
         word, _, rest = row.partition(":")
@@ -87,20 +94,31 @@ def misfit_of(text, crate):
         if word == "file":
             path = rest.strip()
             if path.split("/")[0] not in PARTS or not (crate / path).is_file():
-                return f"there is no file {path}"
+                raise Misfit(f"there is no file {path}")
             if path not in texts:
                 before[path] = texts[path] = (crate / path).read_text(encoding="utf-8")
         elif word == "old":
             old = rest
         elif word == "new":
             if not path or not old:
-                return "a `new:` has no `file:` or no `old:` above it"
+                raise Misfit("a `new:` has no `file:` or no `old:` above it")
             if texts[path].count(old) != 1:
-                return f"{path} has {texts[path].count(old)} times: {old}"
+                raise Misfit(f"{path} has {texts[path].count(old)} times: {old}")
             texts[path], old = texts[path].replace(old, rest), None
         elif row.strip() and not row.startswith("#"):
-            return f"a line isn't read: {row}"
-    return "" if texts != before else "it changes nothing"
+            raise Misfit(f"a line isn't read: {row}")
+    if texts == before:
+        raise Misfit("it changes nothing")
+    return texts
+
+
+def misfit_of(text, crate):
+    """Why an edit of this text doesn't apply to the crate in this folder, or nothing."""
+    try:
+        edited(text, crate)
+    except Misfit as why:
+        return str(why)
+    return ""
 
 
 def find_edits(root, names):
@@ -125,41 +143,51 @@ def copy_repository(root, to, names):
     shutil.copytree(root, to, symlinks=True, ignore=left_out)
 
 
-def exchange(folder, edits):
-    """Puts these edits into a crate's must-fail/, in place of what stands there."""
-    shutil.rmtree(folder / GATE, ignore_errors=True)
-    (folder / GATE).mkdir()
-    for edit in edits:
-        shutil.copyfile(edit.file, folder / GATE / edit.file.name)
-
-
-def outcomes_in(said):
-    """What rt says of each edit that it names, by the edit's name."""
-    found = {}
-    for row in map(SAID.match, said.splitlines()):
-        if row:
-            fits = [Outcome(*known) for words, *known in WORDS if words in row["words"]]
-            why = row["words"].removeprefix(f"{UNTRIED}: ")
-            found[row["name"]] = fits[0] if fits else Outcome(UNTRIED, why)
-    return found
-
-
-def run_rt(copy, crate):
-    """What `rt must-fail` says of a crate in a copy of the repository."""
+def run_rt(crate):
+    """The status of `rt check` in the folder of a crate, and what it says."""
     how = {"stdin": subprocess.DEVNULL, "stdout": subprocess.PIPE, "stderr": subprocess.STDOUT}
-    ran = subprocess.run(["rt", "must-fail", crate], cwd=copy, text=True, errors="replace", **how)
-    return ran.stdout
+    ran = subprocess.run(["rt", "check"], cwd=crate, text=True, errors="replace", **how)
+    return ran.returncode, ran.stdout
+
+
+def outcome_of(status, said):
+    """What came of an edit, by the status of the check with it and what that said."""
+    rows = said.splitlines()
+    told = [row for row in rows if COMPLAINT.match(row)]
+    unread = [row for row in told if UNREAD.match(row)]
+    if status == 0:
+        return Outcome(LET_THROUGH)
+    if unread:
+        return Outcome(UNTRIED, f"the prover can't read it: {unread[0]}")
+    if not any(row.startswith(NOT_PROVED) for row in rows):
+        return Outcome(UNTRIED, f"it didn't reach the prover: {(told or rows or ['no word'])[0]}")
+    if told and all(map(NAME_GONE.match, told)):
+        return Outcome(REFUSED, "only by a name that is gone")
+    return Outcome(REFUSED)
+
+
+def try_one(crate, edit):
+    """What came of one edit in the folder of its crate, which is left as it was."""
+    texts = edited(edit.file.read_text(encoding="utf-8"), crate)
+    before = {path: (crate / path).read_text(encoding="utf-8") for path in texts}
+    try:
+        for path, text in texts.items():
+            (crate / path).write_text(text, encoding="utf-8")
+        return outcome_of(*run_rt(crate))
+    finally:
+        for path, text in before.items():
+            (crate / path).write_text(text, encoding="utf-8")
 
 
 def try_crate(copy, crate, edits):
-    """What came of each edit of one crate, by its name."""
-    exchange(copy / "crates" / crate, edits)
-    said = run_rt(copy, crate)
-    found = outcomes_in(said)
-    lacking = [edit.name for edit in edits if edit.name not in found]
-    if lacking:
+    """Each edit of one crate with what came of it."""
+    folder = copy / "crates" / crate
+    status, said = run_rt(folder)
+    if status:
         print(said, end="", file=sys.stderr)
-    return {**found, **{name: Outcome(UNTRIED, "rt says nothing of it") for name in lacking}}
+    for edit in edits:
+        unproved = Outcome(UNTRIED, "the crate isn't proved as it stands")
+        yield edit, unproved if status else try_one(folder, edit)
 
 
 def try_edits(root, edits):
@@ -182,9 +210,8 @@ def try_edits(root, edits):
             copy_repository(root, copy, crates)
         for crate in crates:
             own = [edit for edit in fit if edit.crate == crate]
-            outcomes = try_crate(copy, crate, own)
-            for edit in own:
-                tell(edit, outcomes[edit.name])
+            for edit, outcome in try_crate(copy, crate, own):
+                tell(edit, outcome)
     return counts
 
 
