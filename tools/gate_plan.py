@@ -1,7 +1,7 @@
 #!/usr/bin/env python3
 """Says how long a gate from nothing would take, and what a change would cost, from measured times.
 
-    python3 tools/gate_plan.py TIMES [--processors N].. [--older] [--show]
+    python3 tools/gate_plan.py TIMES [--processors N].. [--memory GB] [--older] [--show]
     python3 tools/gate_plan.py TIMES --costs CRATE..
 
 TIMES is a file of JSON that tools/gate_times.py wrote. The layout of the crates is read from
@@ -12,8 +12,10 @@ tests and for each wrong body; a proof is ready when those of the crates below a
 chain behind a task, in lines, goes first; wrong bodies are tried where nothing else is ready. A ready
 proof gets the idle processors by the number of proofs and tests that are ready, four at most, and the
 tests of a crate that has none count as one. Times are those of one job; by two, three or four jobs a
-proof takes SPEED of them. It prints, for each N (4 and 2 where none is given), the minutes by the
-clock and of processor time; with --show when each task that takes a minute or more begins and ends.
+proof takes SPEED of them. With --memory no task begins beside others for which less is left of so many
+GB than `rt ci` expects it to take, from its lines and those below it; it uses 85 hundredths of what is
+free when it begins. It prints, for each N (4 and 2 where none is given), the minutes by the clock and
+of processor time; with --show when each task that takes a minute or more begins and ends.
 
 With --older the order is that of rattle-kit-13b: a crate's wrong bodies are one task, also where it
 has none, which is ready like any other; so where `weedle_types` begins it is never alone.
@@ -24,6 +26,7 @@ time of all of these and its own, and those of the longest chain among them.
 
 import argparse
 import json
+import math
 import sys
 from pathlib import Path
 
@@ -35,14 +38,28 @@ SPEED = {1: 1.0, 2: 1.8, 3: 2.4, 4: 2.9}
 # Where a crate has several wrong bodies: what part of their time is the check that they begin
 # with, and what part the one at their end.
 FIRST, LAST = 0.35, 0.2
+# How many GB `rt ci` expects a check to take: of itself, with what the kit's libraries take, and for each
+# line of the crate's sources, of its definitions and proofs, and of the sources below it; and what part
+# of that each further job takes.
+OF_ITSELF, OF_A_SOURCE, OF_A_PROOF, OF_A_LINE_BELOW = 1.2, 1e-3, 2e-4, 8e-5
+MEMORY_OF_A_JOB = 0.6
 SHOWN = 60.0
 
 
 class Task:
-    """A part of the gate: what it waits for, how many lines it has, and its seconds by one job."""
+    """A part of the gate: what it waits for, how many lines it has, its seconds by one job, and its GB."""
 
-    def __init__(self, waits, lines, seconds, fills=False):
-        self.waits, self.lines, self.seconds, self.fills = waits, lines, seconds, fills
+    def __init__(self, waits, lines, seconds, needs, fills=False):
+        self.waits, self.lines, self.seconds = waits, lines, seconds
+        self.needs, self.fills = needs, fills
+
+
+class Run:
+    """A task that runs: when it ends, by how many jobs, and in how much memory."""
+
+    def __init__(self, task, now, jobs):
+        self.end, self.jobs = now + task.seconds / SPEED[jobs], jobs
+        self.needs = task.needs * (1 + MEMORY_OF_A_JOB * (jobs - 1))
 
 
 class Gate:
@@ -61,9 +78,14 @@ class Gate:
     def above(self, name):
         return [it for it in self.rows if it != name and name in closure(self.rows, [it])]
 
-    def lines(self, name):
-        files = files_of(self.root, name)
+    def lines(self, name, ending=".rt"):
+        files = [it for it in files_of(self.root, name) if it.endswith(ending)]
         return sum((self.root / it).read_bytes().count(b"\n") for it in files)
+
+    def needs(self, name):
+        """How many GB `rt ci` expects a check of the crate to take."""
+        own = OF_A_SOURCE * self.lines(name) + OF_A_PROOF * self.lines(name, ".antt")
+        return OF_ITSELF + own + OF_A_LINE_BELOW * sum(map(self.lines, self.below(name)))
 
     def seconds(self, name):
         """All that a crate takes."""
@@ -74,20 +96,20 @@ class Gate:
         found = {}
         for name in sorted(self.rows, key=lambda it: len(self.below(it))):
             waits, lines = [(it, "proof") for it in self.below(name)], self.lines(name)
-            has_tests = self.tests.get(name, 0) > 0
-            found[name, "proof"] = Task(waits, lines, self.proof.get(name, 0))
-            found[name, "tests"] = Task(waits, lines * has_tests, self.tests.get(name, 0))
+            proof, tests, needs = self.proof.get(name, 0), self.tests.get(name, 0), self.needs(name)
+            found[name, "proof"] = Task(waits, lines, proof, needs)
+            found[name, "tests"] = Task(waits, lines * (tests > 0), tests, needs)
             if older:
-                found[name, "wrong bodies"] = self.all_wrong_bodies(name, lines)
+                found[name, "wrong bodies"] = self.all_wrong_bodies(name, lines, needs)
             else:
-                found.update(self.wrong_bodies(name, waits, lines))
+                found.update(self.wrong_bodies(name, waits, lines, needs))
         return found
 
-    def all_wrong_bodies(self, name, lines):
+    def all_wrong_bodies(self, name, lines, needs):
         count, whole = self.edits.get(name, (0, 0))
-        return Task([(name, "proof"), (name, "tests")], lines * bool(count), whole)
+        return Task([(name, "proof"), (name, "tests")], lines * bool(count), whole, needs)
 
-    def wrong_bodies(self, name, waits, lines):
+    def wrong_bodies(self, name, waits, lines, needs):
         count, whole = self.edits.get(name, (0, 0))
         if not count:
             return {}
@@ -95,10 +117,10 @@ class Gate:
         last = LAST * whole if count > 1 else 0
         begun = [(name, "proof"), (name, "tests"), (name, "seed")]
         each = {
-            (name, "wrong body", at): Task(begun, lines, (whole - first - last) / count, True)
+            (name, "wrong body", at): Task(begun, lines, (whole - first - last) / count, needs, True)
             for at in range(count)
         }
-        seed, sound = Task(waits, 0, first, True), Task([*each], 0, last, True)
+        seed, sound = Task(waits, 0, first, needs, True), Task([*each], 0, last, needs, True)
         return {(name, "seed"): seed, **each, (name, "sound"): sound}
 
     def longest_chain(self, name):
@@ -120,30 +142,37 @@ def in_order(tasks):
     return sorted(tasks, key=lambda it: (tasks[it].fills, -behind[it]))
 
 
-def jobs_of(key, at, ready, proofs, idle):
-    """How many jobs a ready task gets."""
+def jobs_of(key, at, ready, proofs, idle, fitting):
+    """How many jobs a ready task gets, by the idle processors and by how many the memory fits."""
     if key[1] == "wrong bodies" or key not in proofs and key[1] != "seed":
         return 1
     others = len(proofs) - proofs.index(key) if key in proofs else len(ready) - at
-    return max(1, min(4, idle // others))
+    return max(1, min(4, idle // others, fitting))
 
 
-def simulated(tasks, processors):
+def begun(tasks, left, ended, running, now, processors, memory):
+    """The ready tasks that begin now, as they run."""
+    ready = [key for key in left if all(it in ended for it in tasks[key].waits)]
+    proofs, found = [key for key in ready if not tasks[key].fills], {}
+    for at, key in enumerate(ready):
+        beside, needs = [*running.values(), *found.values()], tasks[key].needs
+        idle, room = processors - sum(it.jobs for it in beside), memory - sum(it.needs for it in beside)
+        if idle > 0 and (not beside or needs <= room):
+            fitting = 1 + int(min(4, (room / needs - 1) / MEMORY_OF_A_JOB))
+            found[key] = Run(tasks[key], now, jobs_of(key, at, ready, proofs, idle, fitting))
+    return found
+
+
+def simulated(tasks, processors, memory=math.inf):
     """When each task begins and ends, in seconds, and by how many jobs."""
     left, running, log, now = in_order(tasks), {}, {}, 0.0
     while left or running:
         ended = {key for key in log if key not in running}
-        ready = [key for key in left if all(it in ended for it in tasks[key].waits)]
-        proofs = [key for key in ready if not tasks[key].fills]
-        for at, key in enumerate(ready):
-            idle = processors - sum(jobs for _, jobs in running.values())
-            if idle > 0:
-                left.remove(key)
-                jobs = jobs_of(key, at, ready, proofs, idle)
-                running[key] = now + tasks[key].seconds / SPEED[jobs], jobs
-                log[key] = now, *running[key]
-        now = min(end for end, _ in running.values())
-        running = {key: it for key, it in running.items() if it[0] > now}
+        new = begun(tasks, left, ended, running, now, processors, memory)
+        left, running = [key for key in left if key not in new], {**running, **new}
+        log.update({key: (now, it.end, it.jobs) for key, it in new.items()})
+        now = min(it.end for it in running.values())
+        running = {key: it for key, it in running.items() if it.end > now}
     return log
 
 
@@ -160,9 +189,9 @@ def costs(gate, names):
         yield f"| `{name}` | {len(above)} | {minutes(whole)} | {minutes(gate.longest_chain(name))} |"
 
 
-def plan(gate, processors, is_shown, older=False):
+def plan(gate, processors, is_shown, older=False, memory=math.inf):
     tasks = gate.tasks(older)
-    log = simulated(tasks, processors)
+    log = simulated(tasks, processors, memory)
     end, work = max(it[1] for it in log.values()), sum(it.seconds for it in tasks.values())
     yield f"{processors} processors: {minutes(end)} minutes, {minutes(work)} of processor time"
     for key, (begin, end, jobs) in log.items() if is_shown else ():
@@ -177,6 +206,7 @@ def main():
     )
     parser.add_argument("times", type=Path)
     parser.add_argument("--processors", type=int, action="append")
+    parser.add_argument("--memory", type=float, default=math.inf, metavar="GB")
     parser.add_argument("--older", action="store_true")
     parser.add_argument("--show", action="store_true")
     parser.add_argument("--costs", nargs="+")
@@ -186,7 +216,7 @@ def main():
         print(*costs(gate, said.costs), sep="\n")
         return
     for processors in said.processors or (4, 2):
-        print(*plan(gate, processors, said.show, said.older), sep="\n")
+        print(*plan(gate, processors, said.show, said.older, said.memory), sep="\n")
 
 
 if __name__ == "__main__":

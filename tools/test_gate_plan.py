@@ -56,6 +56,10 @@ class Planned(unittest.TestCase):
         self.assertEqual(log["one", "proof"][0], log["other", "proof"][0])
         self.assertEqual(log["top", "proof"][0], log["one", "proof"][1])
 
+    def test_a_proof_waits_for_memory_unless_it_is_alone(self):
+        log = simulated(self.gate.tasks(), 2, memory=1.0)
+        self.assertEqual(log["other", "proof"][0], log["one", "proof"][1])
+
     def test_a_plan_says_the_clock_and_the_work(self):
         said = [*plan(self.gate, 1, False)]
         whole = (60 + 1800 + 600 + 300 + 180 + 60 + 100) / 60

@@ -2,4 +2,3 @@
 
 mod definitions;
 mod passes;
-mod types;

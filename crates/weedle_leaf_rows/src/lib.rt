@@ -11,6 +11,8 @@ mod leaves;
 #[cfg(test)]
 mod places;
 #[cfg(test)]
+mod plain_types;
+#[cfg(test)]
 mod requests;
 #[cfg(test)]
 mod scanners;

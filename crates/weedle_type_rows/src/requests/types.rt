@@ -1,4 +1,4 @@
-//! Each request for memory refused in turn: types, attributes and arguments.
+//! Types, attributes and arguments, with each request for memory refused.
 
 use std::test::Fail;
 use weedle_modifier::{Inheritance, Special, StringifierOrInheritOrStatic, StringifierOrStatic};

@@ -1,0 +1,20 @@
+//! Tests of types, attributes, arguments and members: what is read, how values compare, and what is answered where
+//! memory is refused.
+#![tactic(auto)]
+
+#[cfg(test)]
+mod arguments;
+#[cfg(test)]
+mod attributes;
+#[cfg(test)]
+mod choices;
+#[cfg(test)]
+mod comparisons;
+#[cfg(test)]
+mod members;
+#[cfg(test)]
+mod recursive_types;
+#[cfg(test)]
+mod requests;
+#[cfg(test)]
+mod word_types;

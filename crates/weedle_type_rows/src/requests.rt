@@ -1,0 +1,4 @@
+//! Each request for memory refused in turn.
+
+mod members;
+mod types;
