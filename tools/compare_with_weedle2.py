@@ -46,7 +46,7 @@ LIST = TOP / "crates/weedle_list/out/weedle_list"
 WEEDLE2 = TOP / "compare/target/release/compare"
 SUFFIXES = (".webidl", ".idl", ".widl")
 TESTS = (
-    "weedle_testing weedle_rows weedle_definition_rows weedle_program_rows weedle_leaf_rows"
+    "weedle_testing weedle_rows weedle_definition_rows weedle_type_rows weedle_program_rows weedle_leaf_rows"
 )
 STRING = re.compile(r'"((?:[^"\\]|\\.)*)"', re.S)
 BETWEEN = "typedef any between_two_texts;"

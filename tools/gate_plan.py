@@ -12,7 +12,8 @@ tests and for each wrong body; a proof is ready when those of the crates below a
 chain behind a task, in lines, goes first; wrong bodies are tried where nothing else is ready. A ready
 proof gets the idle processors by the number of proofs and tests that are ready, four at most, and the
 tests of a crate that has none count as one. Times are those of one job; by two, three or four jobs a
-proof takes SPEED of them. With --memory no task begins beside others for which less is left of so many
+proof takes SPEED of them. Before and after a library's proof `rt` sums up what it is made from, once for
+each way down the lists, so a proof takes SECONDS_OF_A_WAY for each of them on top. With --memory no task begins beside others for which less is left of so many
 GB than `rt ci` expects it to take, from its lines and those below it; it uses 85 hundredths of what is
 free when it begins. It prints, for each N (4 and 2 where none is given), the minutes by the clock and
 of processor time; with --show when each task that takes a minute or more begins and ends.
@@ -38,6 +39,9 @@ SPEED = {1: 1.0, 2: 1.8, 3: 2.4, 4: 2.9}
 # Where a crate has several wrong bodies: what part of their time is the check that they begin
 # with, and what part the one at their end.
 FIRST, LAST = 0.35, 0.2
+# What it takes to sum up what a library is made from, once before and once after its proof, for each way
+# down the lists of crates.txt.
+SECONDS_OF_A_WAY = 2 * 0.0025
 # How many GB `rt ci` expects a check to take: of itself, with what the kit's libraries take, and for each
 # line of the crate's sources, of its definitions and proofs, and of the sources below it; and what part
 # of that each further job takes.
@@ -82,6 +86,16 @@ class Gate:
         files = [it for it in files_of(self.root, name) if it.endswith(ending)]
         return sum((self.root / it).read_bytes().count(b"\n") for it in files)
 
+    def ways(self, name, known):
+        """How many ways there are down the lists from a crate, its own of no step among them."""
+        if name not in known:
+            uses = [it for it in self.rows[name].uses if it in self.rows]
+            known[name] = 1 + sum(self.ways(it, known) for it in uses)
+        return known[name]
+
+    def is_library(self, name):
+        return (self.root / "crates" / name / "src/lib.rt").is_file()
+
     def needs(self, name):
         """How many GB `rt ci` expects a check of the crate to take."""
         own = OF_A_SOURCE * self.lines(name) + OF_A_PROOF * self.lines(name, ".antt")
@@ -93,10 +107,11 @@ class Gate:
 
     def tasks(self, older=False):
         """The tasks by their keys, those of lower crates first."""
-        found = {}
+        found, ways = {}, {}
         for name in sorted(self.rows, key=lambda it: len(self.below(it))):
             waits, lines = [(it, "proof") for it in self.below(name)], self.lines(name)
             proof, tests, needs = self.proof.get(name, 0), self.tests.get(name, 0), self.needs(name)
+            proof += SECONDS_OF_A_WAY * self.ways(name, ways) * self.is_library(name)
             found[name, "proof"] = Task(waits, lines, proof, needs)
             found[name, "tests"] = Task(waits, lines * (tests > 0), tests, needs)
             if older:

@@ -22,6 +22,7 @@ from pathlib import Path
 
 CRATES = (
     "weedle_leaf_rows",
+    "weedle_type_rows",
     "weedle_definition_rows",
     "weedle_rows",
     "weedle_program_rows",

@@ -8,7 +8,10 @@ import tempfile
 import unittest
 from pathlib import Path
 
+import gate_plan
 from gate_plan import Gate, costs, plan, simulated
+
+gate_plan.SECONDS_OF_A_WAY = 0
 
 LIST = """low:
 wide: low
@@ -59,6 +62,9 @@ class Planned(unittest.TestCase):
     def test_a_proof_waits_for_memory_unless_it_is_alone(self):
         log = simulated(self.gate.tasks(), 2, memory=1.0)
         self.assertEqual(log["other", "proof"][0], log["one", "proof"][1])
+
+    def test_each_way_down_from_a_crate_counts(self):
+        self.assertEqual([self.gate.ways(it, {}) for it in ("low", "one", "top")], [1, 4, 9])
 
     def test_a_plan_says_the_clock_and_the_work(self):
         said = [*plan(self.gate, 1, False)]
