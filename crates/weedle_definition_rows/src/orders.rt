@@ -38,9 +38,14 @@ fn all_rise<T: Ord>(rt: &impl Abort, values: &[T]) {
     }
 }
 
+/// The same of lists of definitions. It takes the prover a minute at each place where the type is named.
+fn definitions_rise(rt: &impl Abort, alloc: Global, texts: &[&str]) -> Result<(), Fail> {
+    rise::<Definitions<'_>>(rt, alloc, texts)
+}
+
 #[test]
 fn definitions_go_by_their_kinds(rt: HostRuntime) -> Result<(), Fail> {
-    rise::<Definitions<'_>>(
+    definitions_rise(
         &rt,
         rt.alloc(),
         &[
@@ -64,7 +69,7 @@ fn definitions_go_by_their_kinds(rt: HostRuntime) -> Result<(), Fail> {
 
 #[test]
 fn members_go_by_their_kinds(rt: HostRuntime) -> Result<(), Fail> {
-    rise::<Definitions<'_>>(
+    definitions_rise(
         &rt,
         rt.alloc(),
         &[
@@ -83,7 +88,7 @@ fn members_go_by_their_kinds(rt: HostRuntime) -> Result<(), Fail> {
 
 #[test]
 fn definitions_of_one_kind_go_by_their_parts(rt: HostRuntime) -> Result<(), Fail> {
-    rise::<Definitions<'_>>(
+    definitions_rise(
         &rt,
         rt.alloc(),
         &[

@@ -37,17 +37,26 @@ fn whole_of<T: Drop>(answer: IResult<&str, T>) -> Answer<'_, T> {
     }))
 }
 
+/// Asserts that a reader has answered as `parse` does.
+fn assert_as_parse<'a>(
+    rt: &impl Abort,
+    alloc: Global,
+    text: &'a str,
+    answer: Answer<'a, Definitions<'a>>,
+) {
+    assert_same::<Definitions<'_>>(rt, text, answer, parse(alloc, text));
+}
+
 /// Asserts that `parse_quick` answers as `parse` does.
 fn assert_quick(rt: &impl Abort, alloc: Global, text: &str) {
-    assert_same::<Definitions<'_>>(rt, text, parse_quick(alloc, text), parse(alloc, text));
+    assert_as_parse(rt, alloc, text, parse_quick(alloc, text));
 }
 
 /// Asserts that all readers answer as `parse` does.
 fn assert_all(rt: &impl Abort, alloc: Global, text: &str) {
     assert_quick(rt, alloc, text);
-    assert_same::<Definitions<'_>>(rt, text, parse_by_descent(alloc, text), parse(alloc, text));
-    let answer = whole_of(Definitions::parse(alloc, text));
-    assert_same::<Definitions<'_>>(rt, text, answer, parse(alloc, text));
+    assert_as_parse(rt, alloc, text, parse_by_descent(alloc, text));
+    assert_as_parse(rt, alloc, text, whole_of(Definitions::parse(alloc, text)));
 }
 
 #[test]

@@ -5,12 +5,12 @@
 
 mod written;
 
-use crate::definitions::titles;
+use crate::definitions::{is_read_as, titles};
 use std::alloc::Global;
 use std::process::Abort;
 use std::test::Fail;
 use weedle_front::{Definitions, parse_quick};
-use weedle_testing::{is_printed, reads_up_to, reads_whole};
+use weedle_testing::{is_printed, reads_up_to};
 use written::{
     attributes, callbacks_to_enums, definitions, interface_members, iterations, left, operations,
     other_members, parts_of_definitions, types,
@@ -38,7 +38,7 @@ fn assert_all_read(
         let Some((text, list, tree)) = parts_of(row, "\nlist: ", "\ntree: ") else {
             panic!(rt; "no row: {row:?}");
         };
-        reads_whole::<Definitions<'_>>(alloc, text, parse_quick(alloc, text), tree)?;
+        is_read_as(alloc, text, parse_quick(alloc, text), tree)?;
         assert!(rt; is_printed(&titles(alloc, text)?, list), "of {text:?}");
         read = read.wrapping_add(1);
     }

@@ -3,12 +3,13 @@
 //! What is read and what is left of them is what weedle2 reads and leaves.
 
 use super::outcomes::{NOTHING, Outcome, assert_bounds, counted_outcome, outcome_of, split};
+use crate::definitions::is_read_as;
 use std::alloc::Global;
 use std::process::Abort;
 use std::test::Fail;
-use weedle_front::{Definition, Definitions, parse, parse_counted};
+use weedle_front::{Definition, parse, parse_counted};
 use weedle_testing::examples::CUT;
-use weedle_testing::{nested_attributes, reads_whole, repeated};
+use weedle_testing::{nested_attributes, repeated};
 
 /// Asserts that this is the outcome of the text, by `parse` and by `parse_counted`, within the bounds.
 fn assert_outcome(rt: &impl Abort, alloc: Global, text: &str, expected: Outcome<'_>) {
@@ -98,7 +99,7 @@ fn characters_and_docstrings_are_kept(rt: HostRuntime) -> Result<(), Fail> {
     ];
     for (text, expected, value) in table {
         assert_outcome(&rt, alloc, text, expected);
-        reads_whole::<Definitions<'_>>(alloc, text, parse(alloc, text), value)?;
+        is_read_as(alloc, text, parse(alloc, text), value)?;
     }
     Ok(())
 }
