@@ -1,5 +1,5 @@
-//! Tests of definitions: how they are taken apart and how they compare; that both readers, and both widths of
-//! cells, give one list; and what is answered where memory is refused.
+//! Tests of definitions: how they are taken apart and how they compare, and their outlines; that both readers, and
+//! both widths of cells, give one list; and what is answered where memory is refused.
 #![tactic(auto)]
 
 #[cfg(test)]
@@ -7,6 +7,10 @@ mod apart;
 #[cfg(test)]
 mod orders;
 #[cfg(test)]
+mod outlines;
+#[cfg(test)]
 mod passes;
 #[cfg(test)]
 mod requests;
+#[cfg(test)]
+mod taking_apart;

@@ -1,5 +1,4 @@
-//! Tests of the programs, of the check of files, of outlines, of what errors and refusals say, and of the examples
-//! in README.md and docs/USING.md.
+//! Tests of the programs, of the check of files, of what errors and refusals say, and of the example in README.md.
 #![tactic(auto)]
 
 #[cfg(test)]
@@ -18,5 +17,3 @@ mod program;
 mod readme;
 #[cfg(test)]
 mod refusals;
-#[cfg(test)]
-mod taking_apart;

@@ -1,11 +1,9 @@
-//! Outlines, and what a run writes of them.
+//! What a run writes of outlines.
 
-use std::alloc::{AllocError, Global};
 use std::io;
 use std::io::{ErrorKind, Write};
-use std::process::Abort;
 use std::test::Fail;
-use weedle::{Definitions, Entry, Err, RunFault, Status, lend, outline, parse, run_outline};
+use weedle::{RunFault, Status, run_outline};
 use weedle_testing::{Wanted, failing_reader, short_reader, short_writer};
 
 /// A text, and what a run writes of it.
@@ -39,66 +37,6 @@ const REPORTS: [(&str, Status, &str); 7] = [
         "unread at byte 21\n",
     ),
 ];
-
-/// What an outline says of a definition: its kind, its name and its docstring.
-type Said = (&'static str, &'static str, Option<&'static str>);
-
-/// Whether the entries say this, in this order.
-fn are_said(entries: &[Entry<'_, '_>], said: &[Said]) -> bool {
-    entries.len() == said.len()
-        && entries.iter().zip(said).all(|(entry, said)| (entry.kind, entry.name, entry.docstring)
-            == *said)
-}
-
-/// Whether this is the outline of the list.
-fn is_outline(alloc: Global, list: &Definitions<'_>, said: &[Said]) -> Result<bool, AllocError> {
-    Ok(are_said(&outline(alloc, list)?, said))
-}
-
-/// The same of a list that it lends.
-fn is_outline_of(alloc: Global, list: Definitions<'_>, said: &[Said]) -> Result<bool, AllocError> {
-    lend(
-        (list, said),
-        move |(list, said): &(Definitions<'_>, &[Said])| is_outline(alloc, list, said),
-    )
-}
-
-/// Asserts that the outline of the text is this, or that memory is wanted.
-fn assert_outlined(rt: &impl Abort, alloc: Global, wanted: &mut Wanted, text: &str, said: &[Said]) {
-    match parse(alloc, text) {
-        Ok(list) => {
-            if let Some(is_said) = wanted.given(is_outline_of(alloc, list, said)) {
-                assert!(rt; is_said, "of {text:?}");
-            }
-        }
-        Err(Err::Failure(_)) => wanted.count(),
-        Err(Err::Error(_)) => assert!(rt; false, "{text:?} is left"),
-    }
-}
-
-#[test]
-fn outlines_are_made_or_want_memory(rt: HostRuntime) -> Result<(), Fail> {
-    let alloc = rt.alloc();
-    let mut wanted = Wanted::new();
-    for _ in 0..2 {
-        assert_outlined(
-            &rt,
-            alloc,
-            &mut wanted,
-            TEXT,
-            &[("interface", "A", Some("a\n b")), ("includes", "B", None)],
-        );
-        assert_outlined(
-            &rt,
-            alloc,
-            &mut wanted,
-            "///\nenum E {\"x\"};",
-            &[("enum", "E", Some(""))],
-        );
-    }
-    assert!(rt; wanted.tell(&rt, alloc));
-    Ok(())
-}
 
 /// Takes these bytes, each once, in their order, and fails at others. It takes no memory.
 #[derive(Drop)]

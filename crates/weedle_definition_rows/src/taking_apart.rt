@@ -2,9 +2,11 @@
 
 use std::alloc::{AllocError, Global};
 use std::test::Fail;
-use weedle::common::Braced;
-use weedle::interface::{InterfaceMember, InterfaceMembers};
-use weedle::{Definition, Definitions, name_of, parse_quick};
+use weedle_base::Parse;
+use weedle_idl::interface::{InterfaceMember, InterfaceMembers};
+use weedle_idl::{Definition, Definitions};
+use weedle_parts::common::Braced;
+use weedle_report::name_of;
 
 /// All members of the interface of this name and of its parts, in the order of the definitions.
 fn members_of<'a>(
@@ -39,7 +41,7 @@ fn members_of_all_parts_are_gathered(rt: HostRuntime) -> Result<(), Fail> {
     let text = "interface A { void f(); }; interface B { void g(); }; dictionary A {}; \
                 partial interface A { const long x = 5; attribute long y; };";
     let alloc = rt.alloc();
-    let definitions = parse_quick(alloc, text)?;
+    let (_, definitions) = Definitions::parse(alloc, text)?;
     let mut names = Vec::new(alloc);
     for member in members_of(alloc, definitions, "A")? {
         names.push(match &member {
