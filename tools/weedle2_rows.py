@@ -1,5 +1,5 @@
 #!/usr/bin/env python3
-"""Writes what weedle2 answers of the texts in weedle2_texts.py, for the tests of crates/weedle_rows.
+"""Writes what weedle2 answers of the texts in weedle2_texts.py, for the tests of crates/weedle_definition_rows.
 
     python3 tools/weedle2_rows.py [--weedle2 PATH]
 
@@ -116,7 +116,7 @@ def main(program):
     name, about, lines = LEFT
     files[name] = file_text(about, LEFT_DOC, ("text", "rest", "tree"), list(left_rows(program, lines)))
     for name, text in files.items():
-        put(TOP, f"weedle_rows/src/weedle2/{name}.rt", text)
+        put(TOP, f"weedle_definition_rows/src/weedle2/{name}.rt", text)
         print(f"{name}: {text.count(chr(10))} lines")
 
 

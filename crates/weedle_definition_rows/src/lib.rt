@@ -1,5 +1,6 @@
-//! Tests of definitions: how they are taken apart and how they compare, and their outlines; that both readers, and
-//! both widths of cells, give one list; and what is answered where memory is refused.
+//! Tests of definitions: what weedle2 reads of texts over all kinds; how definitions are taken apart and how they
+//! compare, and their outlines; that both readers, and both widths of cells, give one list; and what is answered where
+//! memory is refused.
 #![tactic(auto)]
 
 #[cfg(test)]
@@ -14,3 +15,5 @@ mod passes;
 mod requests;
 #[cfg(test)]
 mod taking_apart;
+#[cfg(test)]
+mod weedle2;

@@ -12,5 +12,3 @@ mod readers;
 mod real_text;
 #[cfg(test)]
 mod spelling;
-#[cfg(test)]
-mod weedle2;
