@@ -17,7 +17,8 @@ use Rattle.weedle_grammar.proofs.Exists.{advances}
 use Rattle.weedle_base.proofs.RuleFacts.{of_row}
 use Rattle.weedle_base.proofs.RunRules.{row_forth}
 use Rattle.weedle_base.proofs.Steps.{rest_add}
-use Rattle.weedle_base.proofs.LeafFacts.{reads_past, cut, found_byte}
+use Rattle.weedle_base.proofs.LeafFacts.{reads_past, cut}
+use Rattle.weedle_grammar.proofs.FirstPlace.{found_byte}
 use Rattle.weedle_base.proofs.FindFacts.{byte_lacks}
 use Rattle.weedle_base.proofs.SilentRules.{lost}
 use Rattle.weedle_base.proofs.TriviaFacts.{slice_front, given}

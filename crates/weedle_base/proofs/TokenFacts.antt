@@ -5,7 +5,8 @@ use Rattle.std.specs.Prelude.{◌≡◌, ℕ, List, [], ◌∷◌, ◌++◌, Boo
 use Rattle.std.specs.Str.{IsUtf8}
 use Rattle.std.specs.Str.Pattern.{LacksTextAt, FindsTextPrefix, StripsPrefix}
 use Rattle.weedle_base.proofs.FaultFacts.{fault_mismatch, fault_memory}
-use Rattle.weedle_base.proofs.LeafFacts.{begins_with, reads_bytes, cut}
+use Rattle.weedle_base.proofs.LeafFacts.{reads_bytes, cut}
+use Rattle.weedle_grammar.proofs.FirstPlace.{begins_with}
 use Rattle.weedle_base.proofs.PlaceFacts.{suffix_self}
 use Rattle.weedle_base.proofs.SilentRules.{along, last, lost, marked_seq}
 use Rattle.weedle_base.proofs.TriviaFacts.{given}

@@ -2,8 +2,9 @@
 
 ghost use Rattle.std.specs.Prelude.{◌≡◌, ℕ, ◌<◌, ◌↔◌, IfSome, IsSome};
 ghost use Rattle.weedle_grammar.specs.written.Bound.{rule_count};
+ghost use Rattle.weedle_grammar.specs.written.Names.{name_of};
 
-use crate::RULES;
+use crate::{RULES, grammar};
 use std::marker::Model;
 
 /// A rule of the grammar.
@@ -49,5 +50,13 @@ impl Rule {
         ensures { (result ≡ self) × (result < RULES) }
     {
         self.0
+    }
+
+    /// The rule's name, that of its constant in small letters: `interface_definition` of
+    /// `Rule::INTERFACE_DEFINITION`. A rule without a constant has a name too. It takes no memory.
+    pub fn name(self) -> &'static str
+        ensures { result.now ≡ name_of self }
+    {
+        grammar::name_of(self)
     }
 }

@@ -5,6 +5,7 @@
 //! Written by tools/grammar.py.
 
 ghost use Rattle.std.specs.Prelude.{◌≡◌};
+ghost use Rattle.weedle_grammar.specs.written.Names.{name_of as the_name_of};
 ghost use Rattle.weedle_grammar.specs.written.Table.{row_of as the_row_of};
 ghost use Rattle.weedle_grammar.specs.View.{row_view};
 
@@ -51,5 +52,35 @@ pub fn row_of(rule: Rule) -> Row
         other_members::row(number)
     } else {
         definitions::row(number)
+    }
+}
+
+/// What a rule is called. It takes no memory.
+pub(crate) fn name_of(rule: Rule) -> &'static str
+    ensures { result.now ≡ the_name_of rule }
+{
+    let number = rule.number();
+    if number < 15 {
+        trivia::name(number)
+    } else if number < 47 {
+        symbols::name(number)
+    } else if number < 140 {
+        keywords::name(number)
+    } else if number < 184 {
+        capitalized_keywords::name(number)
+    } else if number < 227 {
+        leaves::name(number)
+    } else if number < 235 {
+        literals::name(number)
+    } else if number < 256 {
+        simple_types::name(number)
+    } else if number < 317 {
+        types::name(number)
+    } else if number < 349 {
+        interface_members::name(number)
+    } else if number < 370 {
+        other_members::name(number)
+    } else {
+        definitions::name(number)
     }
 }

@@ -3,6 +3,7 @@
 //! Written by tools/grammar.py.
 
 ghost use Rattle.std.specs.Prelude.{◌≡◌, ◌<◌, ◌≤◌};
+ghost use Rattle.weedle_grammar.specs.written.Names.{name_of};
 ghost use Rattle.weedle_grammar.specs.written.Table.{row_of};
 ghost use Rattle.weedle_grammar.specs.View.{row_view};
 
@@ -208,5 +209,59 @@ pub(super) fn row(number: u16) -> Row
         ERROR => Row::Seq(parts_of(&[TRIVIA, BYTES_ERROR, NOT_NEXT_NAME, TRIVIA])),
         BYTES_NEG_INFINITY => Row::Bytes(b"-Infinity"),
         _ => Row::Seq(parts_of(&[TRIVIA, BYTES_NEG_INFINITY, NOT_NEXT_NAME, TRIVIA])),
+    }
+}
+
+/// The name of a rule from 140 to 183.
+pub(super) fn name(number: u16) -> &'static str
+    requires low { 140 ≤ number }
+    requires high { number < 184 }
+    ensures { result.now ≡ name_of number }
+{
+    match number {
+        BYTES_BYTE_STRING => "bytes_byte_string",
+        BYTE_STRING => "byte_string",
+        BYTES_DOM_STRING => "bytes_dom_string",
+        DOM_STRING => "dom_string",
+        BYTES_FROZEN_ARRAY => "bytes_frozen_array",
+        FROZEN_ARRAY => "frozen_array",
+        BYTES_INFINITY => "bytes_infinity",
+        INFINITY => "infinity",
+        BYTES_NAN => "bytes_nan",
+        NAN => "nan",
+        BYTES_USV_STRING => "bytes_usv_string",
+        USV_STRING => "usv_string",
+        BYTES_ARRAY_BUFFER => "bytes_array_buffer",
+        ARRAY_BUFFER => "array_buffer",
+        BYTES_DATA_VIEW => "bytes_data_view",
+        DATA_VIEW => "data_view",
+        BYTES_INT8_ARRAY => "bytes_int8_array",
+        INT8_ARRAY => "int8_array",
+        BYTES_INT16_ARRAY => "bytes_int16_array",
+        INT16_ARRAY => "int16_array",
+        BYTES_INT32_ARRAY => "bytes_int32_array",
+        INT32_ARRAY => "int32_array",
+        BYTES_UINT8_ARRAY => "bytes_uint8_array",
+        UINT8_ARRAY => "uint8_array",
+        BYTES_UINT16_ARRAY => "bytes_uint16_array",
+        UINT16_ARRAY => "uint16_array",
+        BYTES_UINT32_ARRAY => "bytes_uint32_array",
+        UINT32_ARRAY => "uint32_array",
+        BYTES_UINT8_CLAMPED_ARRAY => "bytes_uint8_clamped_array",
+        UINT8_CLAMPED_ARRAY => "uint8_clamped_array",
+        BYTES_FLOAT32_ARRAY => "bytes_float32_array",
+        FLOAT32_ARRAY => "float32_array",
+        BYTES_FLOAT64_ARRAY => "bytes_float64_array",
+        FLOAT64_ARRAY => "float64_array",
+        BYTES_ARRAY_BUFFER_VIEW => "bytes_array_buffer_view",
+        ARRAY_BUFFER_VIEW => "array_buffer_view",
+        BYTES_BUFFER_SOURCE => "bytes_buffer_source",
+        BUFFER_SOURCE => "buffer_source",
+        BYTES_PROMISE => "bytes_promise",
+        PROMISE => "promise",
+        BYTES_ERROR => "bytes_error",
+        ERROR => "error",
+        BYTES_NEG_INFINITY => "bytes_neg_infinity",
+        _ => "neg_infinity",
     }
 }

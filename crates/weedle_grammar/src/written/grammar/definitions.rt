@@ -3,6 +3,7 @@
 //! Written by tools/grammar.py.
 
 ghost use Rattle.std.specs.Prelude.{◌≡◌, ◌<◌, ◌≤◌};
+ghost use Rattle.weedle_grammar.specs.written.Names.{name_of};
 ghost use Rattle.weedle_grammar.specs.written.Table.{row_of};
 ghost use Rattle.weedle_grammar.specs.View.{row_view};
 
@@ -229,5 +230,31 @@ pub(super) fn row(number: u16) -> Row
             IMPLEMENTS_DEFINITION,
         ])),
         _ => Row::Many(Rule(DEFINITION)),
+    }
+}
+
+/// The name of a rule from 370 to 385.
+pub(super) fn name(number: u16) -> &'static str
+    requires low { 370 ≤ number }
+    requires high { number < 386 }
+    ensures { result.now ≡ name_of number }
+{
+    match number {
+        CALLBACK_DEFINITION => "callback_definition",
+        CALLBACK_INTERFACE_DEFINITION => "callback_interface_definition",
+        INTERFACE_DEFINITION => "interface_definition",
+        INTERFACE_MIXIN_DEFINITION => "interface_mixin_definition",
+        NAMESPACE_DEFINITION => "namespace_definition",
+        DICTIONARY_DEFINITION => "dictionary_definition",
+        PARTIAL_INTERFACE_DEFINITION => "partial_interface_definition",
+        PARTIAL_INTERFACE_MIXIN_DEFINITION => "partial_interface_mixin_definition",
+        PARTIAL_DICTIONARY_DEFINITION => "partial_dictionary_definition",
+        PARTIAL_NAMESPACE_DEFINITION => "partial_namespace_definition",
+        ENUM_DEFINITION => "enum_definition",
+        TYPEDEF_DEFINITION => "typedef_definition",
+        INCLUDES_STATEMENT_DEFINITION => "includes_statement_definition",
+        IMPLEMENTS_DEFINITION => "implements_definition",
+        DEFINITION => "definition",
+        _ => "definitions",
     }
 }

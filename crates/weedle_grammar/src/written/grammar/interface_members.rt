@@ -3,6 +3,7 @@
 //! Written by tools/grammar.py.
 
 ghost use Rattle.std.specs.Prelude.{◌≡◌, ◌<◌, ◌≤◌};
+ghost use Rattle.weedle_grammar.specs.written.Names.{name_of};
 ghost use Rattle.weedle_grammar.specs.written.Table.{row_of};
 ghost use Rattle.weedle_grammar.specs.View.{row_view};
 
@@ -256,5 +257,47 @@ pub(super) fn row(number: u16) -> Row
         ])),
         INTERFACE_MEMBERS => Row::Many(Rule(INTERFACE_MEMBER)),
         _ => Row::Seq(parts_of(&[OPEN_BRACE, INTERFACE_MEMBERS, CLOSE_BRACE])),
+    }
+}
+
+/// The name of a rule from 317 to 348.
+pub(super) fn name(number: u16) -> &'static str
+    requires low { 317 ≤ number }
+    requires high { number < 349 }
+    ensures { result.now ≡ name_of number }
+{
+    match number {
+        OPT_DOCSTRING => "opt_docstring",
+        OPT_IDENTIFIER => "opt_identifier",
+        OPT_READ_ONLY => "opt_read_only",
+        KEY_AND_VALUE_TYPES => "key_and_value_types",
+        GENERICS_ATTRIBUTED_TYPE => "generics_attributed_type",
+        GENERICS_KEY_AND_VALUE_TYPES => "generics_key_and_value_types",
+        INHERITANCE => "inheritance",
+        OPT_INHERITANCE => "opt_inheritance",
+        SPECIAL => "special",
+        OPT_SPECIAL => "opt_special",
+        STRINGIFIER_OR_INHERIT_OR_STATIC => "stringifier_or_inherit_or_static",
+        OPT_STRINGIFIER_OR_INHERIT_OR_STATIC => "opt_stringifier_or_inherit_or_static",
+        STRINGIFIER_OR_STATIC => "stringifier_or_static",
+        OPT_STRINGIFIER_OR_STATIC => "opt_stringifier_or_static",
+        CONST_MEMBER => "const_member",
+        ATTRIBUTE_INTERFACE_MEMBER => "attribute_interface_member",
+        CONSTRUCTOR_INTERFACE_MEMBER => "constructor_interface_member",
+        OPERATION_INTERFACE_MEMBER => "operation_interface_member",
+        SINGLE_TYPED_ITERABLE => "single_typed_iterable",
+        DOUBLE_TYPED_ITERABLE => "double_typed_iterable",
+        ITERABLE_INTERFACE_MEMBER => "iterable_interface_member",
+        ASYNC_ITERABLE => "async_iterable",
+        OPT_PARENTHESIZED_ARGUMENT_LIST => "opt_parenthesized_argument_list",
+        SINGLE_TYPED_ASYNC_ITERABLE => "single_typed_async_iterable",
+        DOUBLE_TYPED_ASYNC_ITERABLE => "double_typed_async_iterable",
+        ASYNC_ITERABLE_INTERFACE_MEMBER => "async_iterable_interface_member",
+        MAPLIKE_INTERFACE_MEMBER => "maplike_interface_member",
+        SETLIKE_INTERFACE_MEMBER => "setlike_interface_member",
+        STRINGIFIER_MEMBER => "stringifier_member",
+        INTERFACE_MEMBER => "interface_member",
+        INTERFACE_MEMBERS => "interface_members",
+        _ => "braced_interface_members",
     }
 }

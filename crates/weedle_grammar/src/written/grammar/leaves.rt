@@ -3,6 +3,7 @@
 //! Written by tools/grammar.py.
 
 ghost use Rattle.std.specs.Prelude.{◌≡◌, ◌<◌, ◌≤◌};
+ghost use Rattle.weedle_grammar.specs.written.Names.{name_of};
 ghost use Rattle.weedle_grammar.specs.written.Table.{row_of};
 ghost use Rattle.weedle_grammar.specs.View.{row_view};
 
@@ -226,5 +227,58 @@ pub(super) fn row(number: u16) -> Row
         DOC_LINE => Row::Seq(parts_of(&[RUN_BLANK, BYTES_THREE_SLASHES, PAST_LF])),
         MANY_DOC_LINE => Row::Many(Rule(DOC_LINE)),
         _ => Row::Seq(parts_of(&[DOC_LINE, MANY_DOC_LINE])),
+    }
+}
+
+/// The name of a rule from 184 to 226.
+pub(super) fn name(number: u16) -> &'static str
+    requires low { 184 ≤ number }
+    requires high { number < 227 }
+    ensures { result.now ≡ name_of number }
+{
+    match number {
+        BYTES_UNDERSCORE => "bytes_underscore",
+        OPT_BYTES_UNDERSCORE => "opt_bytes_underscore",
+        ONE_OF_LETTER => "one_of_letter",
+        RUN_NAME => "run_name",
+        IDENTIFIER_TEXT => "identifier_text",
+        IDENTIFIER => "identifier",
+        OPT_BYTES_MINUS => "opt_bytes_minus",
+        ONE_OF_ONE_TO_NINE => "one_of_one_to_nine",
+        RUN_DIGIT => "run_digit",
+        DEC_LIT_TEXT => "dec_lit_text",
+        DEC_LIT => "dec_lit",
+        BYTES_ZERO => "bytes_zero",
+        ONE_OF_X_LETTER => "one_of_x_letter",
+        ONE_OF_HEX => "one_of_hex",
+        RUN_HEX => "run_hex",
+        HEX_LIT_TEXT => "hex_lit_text",
+        HEX_LIT => "hex_lit",
+        RUN_OCTAL => "run_octal",
+        OCT_LIT_TEXT => "oct_lit_text",
+        OCT_LIT => "oct_lit",
+        ONE_OF_DIGIT => "one_of_digit",
+        DIGITS => "digits",
+        ONE_OF_E_LETTER => "one_of_e_letter",
+        ONE_OF_SIGN => "one_of_sign",
+        OPT_ONE_OF_SIGN => "opt_one_of_sign",
+        EXPONENT => "exponent",
+        POINT_AFTER_DIGITS => "point_after_digits",
+        POINT_BEFORE_DIGITS => "point_before_digits",
+        POINT => "point",
+        OPT_EXPONENT => "opt_exponent",
+        POINT_FORM => "point_form",
+        EXPONENT_FORM => "exponent_form",
+        FLOAT_FORM => "float_form",
+        FLOAT_VALUE_LIT_TEXT => "float_value_lit_text",
+        FLOAT_VALUE_LIT => "float_value_lit",
+        BYTES_QUOTE => "bytes_quote",
+        RUN_NOT_QUOTE => "run_not_quote",
+        STRING_LIT => "string_lit",
+        BYTES_THREE_SLASHES => "bytes_three_slashes",
+        PAST_LF => "past_lf",
+        DOC_LINE => "doc_line",
+        MANY_DOC_LINE => "many_doc_line",
+        _ => "docstring",
     }
 }

@@ -3,6 +3,7 @@
 //! Written by tools/grammar.py.
 
 ghost use Rattle.std.specs.Prelude.{◌≡◌, ◌<◌, ◌≤◌};
+ghost use Rattle.weedle_grammar.specs.written.Names.{name_of};
 ghost use Rattle.weedle_grammar.specs.written.Table.{row_of};
 ghost use Rattle.weedle_grammar.specs.View.{row_view};
 
@@ -72,5 +73,23 @@ pub(super) fn row(number: u16) -> Row
         ])),
         CONST_VALUE => Row::First(parts_of(&[BOOLEAN_LIT, FLOAT_LIT, INTEGER_LIT, NULL])),
         _ => Row::Seq(parts_of(&[ASSIGN, DEFAULT_VALUE])),
+    }
+}
+
+/// The name of a rule from 227 to 234.
+pub(super) fn name(number: u16) -> &'static str
+    requires low { 227 ≤ number }
+    requires high { number < 235 }
+    ensures { result.now ≡ name_of number }
+{
+    match number {
+        BOOLEAN_LIT => "boolean_lit",
+        INTEGER_LIT => "integer_lit",
+        FLOAT_LIT => "float_lit",
+        EMPTY_ARRAY_LIT => "empty_array_lit",
+        EMPTY_DICTIONARY_LIT => "empty_dictionary_lit",
+        DEFAULT_VALUE => "default_value",
+        CONST_VALUE => "const_value",
+        _ => "default",
     }
 }

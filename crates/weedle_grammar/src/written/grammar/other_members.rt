@@ -3,6 +3,7 @@
 //! Written by tools/grammar.py.
 
 ghost use Rattle.std.specs.Prelude.{◌≡◌, ◌<◌, ◌≤◌};
+ghost use Rattle.weedle_grammar.specs.written.Names.{name_of};
 ghost use Rattle.weedle_grammar.specs.written.Table.{row_of};
 ghost use Rattle.weedle_grammar.specs.View.{row_view};
 
@@ -171,5 +172,36 @@ pub(super) fn row(number: u16) -> Row
         OPT_COMMA => Row::Opt(Rule(COMMA)),
         ENUM_VALUE_LIST => Row::Seq(parts_of(&[LIST1_ENUM_VARIANT_COMMA, OPT_COMMA])),
         _ => Row::Seq(parts_of(&[OPEN_BRACE, ENUM_VALUE_LIST, CLOSE_BRACE])),
+    }
+}
+
+/// The name of a rule from 349 to 369.
+pub(super) fn name(number: u16) -> &'static str
+    requires low { 349 ≤ number }
+    requires high { number < 370 }
+    ensures { result.now ≡ name_of number }
+{
+    match number {
+        OPT_STRINGIFIER => "opt_stringifier",
+        OPERATION_MIXIN_MEMBER => "operation_mixin_member",
+        ATTRIBUTE_MIXIN_MEMBER => "attribute_mixin_member",
+        MIXIN_MEMBER => "mixin_member",
+        MIXIN_MEMBERS => "mixin_members",
+        BRACED_MIXIN_MEMBERS => "braced_mixin_members",
+        OPERATION_NAMESPACE_MEMBER => "operation_namespace_member",
+        ATTRIBUTE_NAMESPACE_MEMBER => "attribute_namespace_member",
+        NAMESPACE_MEMBER => "namespace_member",
+        NAMESPACE_MEMBERS => "namespace_members",
+        BRACED_NAMESPACE_MEMBERS => "braced_namespace_members",
+        OPT_REQUIRED => "opt_required",
+        DICTIONARY_MEMBER => "dictionary_member",
+        DICTIONARY_MEMBERS => "dictionary_members",
+        BRACED_DICTIONARY_MEMBERS => "braced_dictionary_members",
+        ENUM_VARIANT => "enum_variant",
+        TAIL_ENUM_VARIANT_COMMA => "tail_enum_variant_comma",
+        LIST1_ENUM_VARIANT_COMMA => "list1_enum_variant_comma",
+        OPT_COMMA => "opt_comma",
+        ENUM_VALUE_LIST => "enum_value_list",
+        _ => "braced_enum_value_list",
     }
 }

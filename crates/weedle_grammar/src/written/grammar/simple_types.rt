@@ -3,6 +3,7 @@
 //! Written by tools/grammar.py.
 
 ghost use Rattle.std.specs.Prelude.{◌≡◌, ◌<◌, ◌≤◌};
+ghost use Rattle.weedle_grammar.specs.written.Names.{name_of};
 ghost use Rattle.weedle_grammar.specs.written.Table.{row_of};
 ghost use Rattle.weedle_grammar.specs.View.{row_view};
 
@@ -113,5 +114,36 @@ pub(super) fn row(number: u16) -> Row
         TAIL_IDENTIFIER_COMMA => Row::Tail(Rule(IDENTIFIER), Rule(COMMA)),
         IDENTIFIER_LIST => Row::List(Rule(IDENTIFIER), Rule(TAIL_IDENTIFIER_COMMA)),
         _ => Row::Seq(parts_of(&[OPEN_PAREN, IDENTIFIER_LIST, CLOSE_PAREN])),
+    }
+}
+
+/// The name of a rule from 235 to 255.
+pub(super) fn name(number: u16) -> &'static str
+    requires low { 235 ≤ number }
+    requires high { number < 256 }
+    ensures { result.now ≡ name_of number }
+{
+    match number {
+        OPT_UNSIGNED => "opt_unsigned",
+        LONG_LONG => "long_long",
+        LONG_LONG_TYPE => "long_long_type",
+        LONG_TYPE => "long_type",
+        SHORT_TYPE => "short_type",
+        INTEGER_TYPE => "integer_type",
+        OPT_UNRESTRICTED => "opt_unrestricted",
+        FLOAT_TYPE => "float_type",
+        DOUBLE_TYPE => "double_type",
+        FLOATING_POINT_TYPE => "floating_point_type",
+        OPT_Q_MARK => "opt_q_mark",
+        MAY_BE_NULL_INTEGER_TYPE => "may_be_null_integer_type",
+        MAY_BE_NULL_FLOATING_POINT_TYPE => "may_be_null_floating_point_type",
+        MAY_BE_NULL_BOOLEAN => "may_be_null_boolean",
+        MAY_BE_NULL_BYTE => "may_be_null_byte",
+        MAY_BE_NULL_OCTET => "may_be_null_octet",
+        MAY_BE_NULL_IDENTIFIER => "may_be_null_identifier",
+        CONST_TYPE => "const_type",
+        TAIL_IDENTIFIER_COMMA => "tail_identifier_comma",
+        IDENTIFIER_LIST => "identifier_list",
+        _ => "parenthesized_identifier_list",
     }
 }

@@ -3,6 +3,7 @@
 //! Written by tools/grammar.py.
 
 ghost use Rattle.std.specs.Prelude.{◌≡◌, ◌<◌, ◌≤◌};
+ghost use Rattle.weedle_grammar.specs.written.Names.{name_of};
 ghost use Rattle.weedle_grammar.specs.written.Table.{row_of};
 ghost use Rattle.weedle_grammar.specs.View.{row_view};
 
@@ -153,5 +154,47 @@ pub(super) fn row(number: u16) -> Row
         GREATER_THAN => Row::Seq(parts_of(&[TRIVIA, BYTES_GREATER_THAN, TRIVIA])),
         BYTES_Q_MARK => Row::Bytes(b"?"),
         _ => Row::Seq(parts_of(&[TRIVIA, BYTES_Q_MARK, TRIVIA])),
+    }
+}
+
+/// The name of a rule from 15 to 46.
+pub(super) fn name(number: u16) -> &'static str
+    requires low { 15 ≤ number }
+    requires high { number < 47 }
+    ensures { result.now ≡ name_of number }
+{
+    match number {
+        BYTES_OPEN_PAREN => "bytes_open_paren",
+        OPEN_PAREN => "open_paren",
+        BYTES_CLOSE_PAREN => "bytes_close_paren",
+        CLOSE_PAREN => "close_paren",
+        BYTES_OPEN_BRACKET => "bytes_open_bracket",
+        OPEN_BRACKET => "open_bracket",
+        BYTES_CLOSE_BRACKET => "bytes_close_bracket",
+        CLOSE_BRACKET => "close_bracket",
+        BYTES_OPEN_BRACE => "bytes_open_brace",
+        OPEN_BRACE => "open_brace",
+        BYTES_CLOSE_BRACE => "bytes_close_brace",
+        CLOSE_BRACE => "close_brace",
+        BYTES_COMMA => "bytes_comma",
+        COMMA => "comma",
+        BYTES_MINUS => "bytes_minus",
+        MINUS => "minus",
+        BYTES_DOT => "bytes_dot",
+        DOT => "dot",
+        BYTES_ELLIPSIS => "bytes_ellipsis",
+        ELLIPSIS => "ellipsis",
+        BYTES_COLON => "bytes_colon",
+        COLON => "colon",
+        BYTES_SEMI_COLON => "bytes_semi_colon",
+        SEMI_COLON => "semi_colon",
+        BYTES_LESS_THAN => "bytes_less_than",
+        LESS_THAN => "less_than",
+        BYTES_ASSIGN => "bytes_assign",
+        ASSIGN => "assign",
+        BYTES_GREATER_THAN => "bytes_greater_than",
+        GREATER_THAN => "greater_than",
+        BYTES_Q_MARK => "bytes_q_mark",
+        _ => "q_mark",
     }
 }

@@ -3,6 +3,7 @@
 //! Written by tools/grammar.py.
 
 ghost use Rattle.std.specs.Prelude.{◌≡◌, ◌<◌, ◌≤◌};
+ghost use Rattle.weedle_grammar.specs.written.Names.{name_of};
 ghost use Rattle.weedle_grammar.specs.written.Table.{row_of};
 ghost use Rattle.weedle_grammar.specs.View.{row_view};
 
@@ -90,5 +91,29 @@ pub(super) fn row(number: u16) -> Row
         BLOCK_COMMENT => Row::Seq(parts_of(&[BYTES_SLASH_STAR, PAST_STAR_SLASH])),
         PIECE => Row::First(parts_of(&[LINE_COMMENT, BLANKS, BLOCK_COMMENT])),
         _ => Row::Many(Rule(PIECE)),
+    }
+}
+
+/// The name of a rule from 0 to 14.
+pub(super) fn name(number: u16) -> &'static str
+    requires { number < 15 }
+    ensures { result.now ≡ name_of number }
+{
+    match number {
+        BYTES_LF => "bytes_lf",
+        NOT_NEXT_ANY => "not_next_any",
+        LINE_END => "line_end",
+        BYTES_SLASH_SLASH => "bytes_slash_slash",
+        NOT_NEXT_SLASH => "not_next_slash",
+        RUN_NOT_LINE_FEED => "run_not_line_feed",
+        LINE_COMMENT => "line_comment",
+        ONE_OF_BLANK => "one_of_blank",
+        RUN_BLANK => "run_blank",
+        BLANKS => "blanks",
+        BYTES_SLASH_STAR => "bytes_slash_star",
+        PAST_STAR_SLASH => "past_star_slash",
+        BLOCK_COMMENT => "block_comment",
+        PIECE => "piece",
+        _ => "trivia",
     }
 }

@@ -3,6 +3,7 @@
 //! Written by tools/grammar.py.
 
 ghost use Rattle.std.specs.Prelude.{◌≡◌, ◌<◌, ◌≤◌};
+ghost use Rattle.weedle_grammar.specs.written.Names.{name_of};
 ghost use Rattle.weedle_grammar.specs.written.Table.{row_of};
 ghost use Rattle.weedle_grammar.specs.View.{row_view};
 
@@ -355,5 +356,76 @@ pub(super) fn row(number: u16) -> Row
             Rule(EXTENDED_ATTRIBUTE),
             Rule(TAIL_EXTENDED_ATTRIBUTE_COMMA),
         ),
+    }
+}
+
+/// The name of a rule from 256 to 316.
+pub(super) fn name(number: u16) -> &'static str
+    requires low { 256 ≤ number }
+    requires high { number < 317 }
+    ensures { result.now ≡ name_of number }
+{
+    match number {
+        GENERICS_TYPE => "generics_type",
+        SEQUENCE_TYPE => "sequence_type",
+        FROZEN_ARRAY_TYPE => "frozen_array_type",
+        GENERICS_RETURN_TYPE => "generics_return_type",
+        PROMISE_TYPE => "promise_type",
+        GENERICS_RECORD_TYPES => "generics_record_types",
+        RECORD_TYPE => "record_type",
+        UNION_TYPE => "union_type",
+        MAY_BE_NULL_UNION_TYPE => "may_be_null_union_type",
+        MAY_BE_NULL_BYTE_STRING => "may_be_null_byte_string",
+        MAY_BE_NULL_DOM_STRING => "may_be_null_dom_string",
+        MAY_BE_NULL_USV_STRING => "may_be_null_usv_string",
+        MAY_BE_NULL_SEQUENCE_TYPE => "may_be_null_sequence_type",
+        MAY_BE_NULL_OBJECT => "may_be_null_object",
+        MAY_BE_NULL_SYMBOL => "may_be_null_symbol",
+        MAY_BE_NULL_ERROR => "may_be_null_error",
+        MAY_BE_NULL_ARRAY_BUFFER => "may_be_null_array_buffer",
+        MAY_BE_NULL_DATA_VIEW => "may_be_null_data_view",
+        MAY_BE_NULL_INT8_ARRAY => "may_be_null_int8_array",
+        MAY_BE_NULL_INT16_ARRAY => "may_be_null_int16_array",
+        MAY_BE_NULL_INT32_ARRAY => "may_be_null_int32_array",
+        MAY_BE_NULL_UINT8_ARRAY => "may_be_null_uint8_array",
+        MAY_BE_NULL_UINT16_ARRAY => "may_be_null_uint16_array",
+        MAY_BE_NULL_UINT32_ARRAY => "may_be_null_uint32_array",
+        MAY_BE_NULL_UINT8_CLAMPED_ARRAY => "may_be_null_uint8_clamped_array",
+        MAY_BE_NULL_FLOAT32_ARRAY => "may_be_null_float32_array",
+        MAY_BE_NULL_FLOAT64_ARRAY => "may_be_null_float64_array",
+        MAY_BE_NULL_ARRAY_BUFFER_VIEW => "may_be_null_array_buffer_view",
+        MAY_BE_NULL_BUFFER_SOURCE => "may_be_null_buffer_source",
+        MAY_BE_NULL_FROZEN_ARRAY_TYPE => "may_be_null_frozen_array_type",
+        MAY_BE_NULL_RECORD_TYPE => "may_be_null_record_type",
+        NON_ANY_TYPE => "non_any_type",
+        RECORD_KEY_TYPE => "record_key_type",
+        RECORD_TYPES => "record_types",
+        SINGLE_TYPE => "single_type",
+        TYPE => "type",
+        RETURN_TYPE => "return_type",
+        EXTENDED_ATTRIBUTE_LIST => "extended_attribute_list",
+        OPT_EXTENDED_ATTRIBUTE_LIST => "opt_extended_attribute_list",
+        ATTRIBUTED_TYPE => "attributed_type",
+        ATTRIBUTED_NON_ANY_TYPE => "attributed_non_any_type",
+        UNION_MEMBER_TYPE => "union_member_type",
+        TAIL_UNION_MEMBER_TYPE_OR => "tail_union_member_type_or",
+        LIST_UNION_MEMBER_TYPE_OR => "list_union_member_type_or",
+        OPT_OPTIONAL => "opt_optional",
+        OPT_DEFAULT => "opt_default",
+        SINGLE_ARGUMENT => "single_argument",
+        VARIADIC_ARGUMENT => "variadic_argument",
+        ARGUMENT => "argument",
+        TAIL_ARGUMENT_COMMA => "tail_argument_comma",
+        ARGUMENT_LIST => "argument_list",
+        PARENTHESIZED_ARGUMENT_LIST => "parenthesized_argument_list",
+        EXTENDED_ATTRIBUTE_ARG_LIST => "extended_attribute_arg_list",
+        EXTENDED_ATTRIBUTE_NAMED_ARG_LIST => "extended_attribute_named_arg_list",
+        EXTENDED_ATTRIBUTE_IDENT_LIST => "extended_attribute_ident_list",
+        IDENTIFIER_OR_STRING => "identifier_or_string",
+        EXTENDED_ATTRIBUTE_IDENT => "extended_attribute_ident",
+        EXTENDED_ATTRIBUTE_NO_ARGS => "extended_attribute_no_args",
+        EXTENDED_ATTRIBUTE => "extended_attribute",
+        TAIL_EXTENDED_ATTRIBUTE_COMMA => "tail_extended_attribute_comma",
+        _ => "list_extended_attribute_comma",
     }
 }
