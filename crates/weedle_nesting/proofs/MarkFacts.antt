@@ -14,7 +14,7 @@ rest_suc b text None = refl
 rest_suc b text (Some end) = refl
 
 -- one byte less to look for it in
-past_more : (bytes : List ℕ) (b : ℕ) (text : List ℕ) → begins bytes (b ∷ text) ≡ false → past bytes (b ∷ text) ≡ past bytes text
+pub past_more : (bytes : List ℕ) (b : ℕ) (text : List ℕ) → begins bytes (b ∷ text) ≡ false → past bytes (b ∷ text) ≡ past bytes text
 past_more bytes b text e = rw e (rest_suc b text (take_past bytes text))
 
 -- two numbers are one, or neither test says so

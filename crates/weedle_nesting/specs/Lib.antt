@@ -1,3 +1,5 @@
+pub mod Aside
 pub mod Bare
 pub mod Marks
 pub mod Nesting
+pub mod Weights

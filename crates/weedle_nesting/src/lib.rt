@@ -13,5 +13,7 @@
 
 mod look;
 mod marks;
+mod weights;
 
-pub use look::{Depths, nesting, suits_descent};
+pub use look::{Depths, nesting};
+pub use weights::suits_descent;

@@ -42,30 +42,13 @@ pub fn nesting(raw: &str) -> Depths
     }
 }
 
-/// How often descent may look at a byte, on the average, where attributes nest.
-const MOST_LOOKS: u64 = 4;
-
-/// How many of `(` and `<` may be open at once where descent reads.
-const MOST_BRACKETS: usize = 1_000;
-
-/// Whether descent reads a text in little time and on little stack.
-///
-/// Descent reads what stands in an attribute's arguments up to three times. So it looks at a byte up to
-/// 3 to the power of the `[` that are open there. This says whether the sum of that over all bytes is
-/// at most 4 times one more than the bytes are, and at most 1,000 of `(` and `<` are open at once.
-pub fn suits_descent(raw: &str) -> bool {
-    let look = look_over(raw.as_bytes());
-    let bytes = raw.len() as u64;
-    look.work / MOST_LOOKS <= bytes && look.brackets.most <= MOST_BRACKETS
-}
-
 /// How many brackets of a kind are open.
 #[derive(Clone, Copy)]
-struct Level {
+pub(crate) struct Level {
     /// How many are open now.
-    depth: usize,
+    pub(crate) depth: usize,
     /// The most that were open at once so far.
-    most: usize,
+    pub(crate) most: usize,
 }
 
 /// What was seen so far.
@@ -75,10 +58,6 @@ struct Look {
     attributes: Level,
     /// `(` and `<`.
     brackets: Level,
-    /// 3 to the power of the `[` that are open.
-    weight: u64,
-    /// The sum of the weights at all bytes so far.
-    work: u64,
 }
 
 /// Looks once at each byte.
@@ -89,30 +68,16 @@ fn look_over(text: &[u8]) -> Look
     let mut look = Look {
         attributes: Level { depth: 0, most: 0 },
         brackets: Level { depth: 0, most: 0 },
-        weight: 1,
-        work: 0,
     };
     let mut rest = text;
     'marks: while let Some((mark, after)) = next_mark(rest) {
-        let behind = past_mark(mark, after);
-        look.weigh(rest.len() - behind.len());
         look.count(mark);
-        rest = behind;
+        rest = past_mark(mark, after);
     }
-    look.weigh(rest.len());
     look
 }
 
 impl Look {
-    /// Adds the weight of so many bytes.
-    fn weigh(&mut self, bytes: usize)
-        ensures attributes { self.new.attributes ≡ self.old.attributes }
-        ensures brackets { self.new.brackets ≡ self.old.brackets }
-    {
-        let weight = self.weight.saturating_mul(bytes as u64);
-        self.work = self.work.saturating_add(weight);
-    }
-
     /// Counts a bracket, and no other mark.
     fn count(&mut self, mark: u8)
         requires attributes { self.old.attributes.depth + 1 < 2 ^ 64 }
@@ -123,16 +88,8 @@ impl Look {
         ensures most_brackets { self.old.brackets.depth ≤ self.old.brackets.most → self.new.brackets.most ≡ max self.old.brackets.most self.new.brackets.depth }
     {
         match mark {
-            b'[' => {
-                self.attributes.enter();
-                self.weight = self.weight.saturating_mul(3);
-            }
-            b']' => {
-                if self.attributes.depth > 0 {
-                    self.weight /= 3;
-                }
-                self.attributes.leave();
-            }
+            b'[' => self.attributes.enter(),
+            b']' => self.attributes.leave(),
             b'(' | b'<' => self.brackets.enter(),
             b')' | b'>' => self.brackets.leave(),
             _ => {}
@@ -142,7 +99,7 @@ impl Look {
 
 impl Level {
     /// One more is open.
-    fn enter(&mut self)
+    pub(crate) fn enter(&mut self)
         requires { self.old.depth + 1 < 2 ^ 64 }
         ensures depth { self.new.depth ≡ self.old.depth + 1 }
         ensures most { self.new.most ≡ max self.old.most self.new.depth }
@@ -152,7 +109,7 @@ impl Level {
     }
 
     /// One is closed, where one is open.
-    fn leave(&mut self)
+    pub(crate) fn leave(&mut self)
         ensures depth { self.new.depth ≡ self.old.depth - 1 }
         ensures most { self.new.most ≡ self.old.most }
     {

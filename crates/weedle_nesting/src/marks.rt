@@ -1,7 +1,8 @@
 //! The marks of a text: brackets, and what begins a string or a comment.
 
-ghost use Rattle.std.specs.Prelude.{◌≡◌, ◌∷◌, ◌<◌, ◌≤◌, [], length, IfSome};
+ghost use Rattle.std.specs.Prelude.{◌≡◌, ℕ, ◌∷◌, ◌<◌, ◌≤◌, [], length, IfSome};
 ghost use Rattle.std.specs.Option.{option_map};
+ghost use Rattle.weedle_nesting.specs.Aside.{IsAside, IsBehind};
 ghost use Rattle.weedle_nesting.specs.Bare.{Slash, Words, bare_from, behind_words};
 ghost use Rattle.weedle_nesting.specs.Marks.{first_mark, is_mark, past};
 
@@ -34,6 +35,7 @@ pub(crate) fn next_mark(bytes: &[u8]) -> Option<(u8, &[u8])>
 /// the text.
 pub(crate) fn past_mark(mark: u8, after: &[u8]) -> &[u8]
     ensures bare { bare_from (behind_words mark) after.now ≡ bare_from Words result.now }
+    ensures weighs { (depth : ℕ) → IsBehind mark depth after.now result.now }
     ensures shorter { length result.now ≤ length after.now }
 {
     match mark {
@@ -46,6 +48,7 @@ pub(crate) fn past_mark(mark: u8, after: &[u8]) -> &[u8]
 /// What follows a comment, where these bytes stand behind its first slash, or else all of them.
 fn past_comment(bytes: &[u8]) -> &[u8]
     ensures bare { bare_from Slash bytes.now ≡ bare_from Words result.now }
+    ensures weighs { (depth : ℕ) → IsAside Slash depth bytes.now result.now }
     ensures shorter { length result.now ≤ length bytes.now }
 {
     match bytes.split_first() {

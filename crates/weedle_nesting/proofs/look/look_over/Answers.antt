@@ -8,8 +8,8 @@ pub marks-preserved : goal.marks-preserved
 marks-preserved c =
     let mark = c.in-Some.mark in
     let found = sym c.in-Some.ensures.first in
-    let behind = c.past_mark-behind.ensures in
-    let counted = rw (c.weigh.ensures.attributes, c.weigh.ensures.brackets) at c.count.ensures in (
+    let behind = c.past_mark-rest.ensures in
+    let counted = c.count.ensures in (
       seen_past opens_attributes closes_attributes attributes_of_brackets _ _ _ mark _ _ _ _
           c.marks.invariant.0 found c.in-Some.ensures.shorter behind.bare behind.shorter counted.attributes counted.most_attributes,
       seen_past opens_bracket closes_bracket brackets_of_brackets _ _ _ mark _ _ _ _
@@ -19,10 +19,8 @@ marks-preserved c =
 -- no mark is left
 pub returns-clause-attributes : goal.returns-clause-attributes
 returns-clause-attributes c =
-    rw c.weigh-2.ensures.attributes
-    (seen_end opens_attributes closes_attributes attributes_of_brackets _ _ _ _ c.marks.invariant.0 (sym c.in_default.ensures.first))
+    seen_end opens_attributes closes_attributes attributes_of_brackets _ _ _ _ c.marks.invariant.0 (sym c.in_default.ensures.first)
 
 pub returns-clause-brackets : goal.returns-clause-brackets
 returns-clause-brackets c =
-    rw c.weigh-2.ensures.brackets
-    (seen_end opens_bracket closes_bracket brackets_of_brackets _ _ _ _ c.marks.invariant.1 (sym c.in_default.ensures.first))
+    seen_end opens_bracket closes_bracket brackets_of_brackets _ _ _ _ c.marks.invariant.1 (sym c.in_default.ensures.first)

@@ -1,4 +1,4 @@
-use Rattle.weedle_base.proofs.LeafFacts.{found_past, nowhere_past}
+use Rattle.weedle_grammar.proofs.FirstPlace.{found_past, nowhere_past}
 use Rattle.weedle_nesting.proofs.MarkFacts.{slice_behind}
 use Rattle.weedle_nesting.proofs.marks.past_block.Goals as goal
 

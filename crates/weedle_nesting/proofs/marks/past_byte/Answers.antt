@@ -1,4 +1,4 @@
-use Rattle.weedle_base.proofs.LeafFacts.{found_byte, nowhere_byte}
+use Rattle.weedle_grammar.proofs.FirstPlace.{found_byte, nowhere_byte}
 use Rattle.weedle_nesting.proofs.MarkFacts.{slice_behind}
 use Rattle.weedle_nesting.proofs.marks.past_byte.Goals as goal
 

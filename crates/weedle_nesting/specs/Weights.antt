@@ -1,0 +1,26 @@
+-- How often recursive descent may look at the bytes of a text: what stands in the arguments of an extended attribute
+-- is read up to three times.
+use Rattle.std.specs.Prelude.{ℕ, ◌+◌, ◌*◌, ◌^◌, ◌<◌, ◌≤◌, List, [], ◌∷◌, length, ◌&&◌, if◌then◌else◌}
+use Rattle.weedle_nesting.specs.Bare.{Inside, Words, bare, behind, is_among_words}
+use Rattle.weedle_nesting.specs.Nesting.{attributes_behind, most_brackets}
+
+-- how many `[` are open behind a byte; one in a string or a comment opens and closes none
+abbrev pub open_after : Inside → Inside → ℕ → ℕ → ℕ
+open_after inside next depth b = if is_among_words inside && is_among_words next then attributes_behind depth b else depth
+
+-- the sum over all bytes of 3 to the power of the `[` that are open in front of each, where so many are open in front
+-- of the first, which stands in this
+abbrev pub weights_from : Inside → ℕ → List ℕ → ℕ
+weights_from inside depth [] = 0
+weights_from inside depth (b ∷ text) =
+    let next = behind inside b in
+    3 ^ depth + weights_from next (open_after inside next depth b) text
+
+-- the same of a whole text
+abbrev pub weights : List ℕ → ℕ
+weights text = weights_from Words 0 text
+
+-- descent takes less than four looks a byte on the average, of one byte more than there are, and at most 1,000 of `(`
+-- and `<` are open at once
+abbrev pub SuitsDescent : List ℕ → Type 0
+SuitsDescent text = (weights text < 4 * (length text + 1)) × (most_brackets (bare text) ≤ 1000)
