@@ -16,6 +16,6 @@ pub use long::{nested_attributes, nested_text, repeated};
 pub use printed::is_printed;
 pub use refused::{fails_at, is_failure, is_mismatch, refuses};
 pub use requests::{Wanted, reads_with_no_memory};
-pub use rows::{Unlike, reads, reads_copied, reads_copied_up_to, reads_up_to, reads_whole};
+pub use rows::{Unlike, reads, reads_copied, reads_copied_up_to, reads_up_to};
 pub use streams::{ShortReader, ShortWriter, failing_reader, short_reader, short_writer};
 pub use text::definitions;

@@ -3,7 +3,7 @@
 
 use std::alloc::{AllocError, Global};
 use std::fmt::Debug;
-use weedle_base::{Err, Error, Parse, TryClone};
+use weedle_base::{Parse, TryClone};
 
 /// Why a text isn't read as is expected: what a test says that fails.
 #[derive(Debug, Drop)]
@@ -77,20 +77,6 @@ pub fn reads_copied_up_to<'a, T: Parse<'a> + Copy + PartialEq + Debug>(
         copied::<T>(alloc, text, rest, value)?;
     }
     Ok(())
-}
-
-/// Whether a call that refuses a rest answered with this value. The text is read as it too.
-pub fn reads_whole<'a, T: Parse<'a> + TryClone + PartialEq + Debug>(
-    alloc: Global,
-    text: &'a str,
-    answer: Result<T, Err<Error<&'a str>>>,
-    value: &str,
-) -> Result<(), Unlike<'a>> {
-    match answer {
-        Ok(read) => same_value(alloc, text, &read, value)?,
-        Err(_) => return Err(Unlike::Refused(text)),
-    }
-    cloned::<T>(alloc, text, "", value)
 }
 
 // One row of a type whose values are cloned.

@@ -1,0 +1,584 @@
+use Rattle.std.proofs.Common.{arith, refl, sym, subst, ap, ◌∙◌, ◌≡◌, ◌+◌, ◌-◌, [], ◌∷◌, Some, take, set, get_or, append-nil, false}
+use Rattle.weedle_grammar.specs.written.Table.{webidl}
+use Rattle.weedle_grammar.specs.Trees.{Gives}
+use Rattle.weedle_grammar.specs.Meaning.{is_present, ReadsBy}
+use Rattle.weedle_grammar.proofs.Takes.{takes}
+use Rattle.weedle_grammar.proofs.Checked.{ranked}
+use Rattle.weedle_rules.proofs.ConditionEnds.{if_step, present, note_more, note_high, note_low, chosen_here, chosen_other}
+use Rattle.weedle_rules.proofs.FewReads.{if_switch}
+use Rattle.weedle_rules.proofs.RowEnds.{rule_ends, bytes_ends, one_ends, not_next_ends, run_ends, past_ends}
+use Rattle.weedle_grammar.specs.View.{numbers_of}
+use Rattle.weedle_rules.proofs.ListFrom.{next_part, no_part}
+use Rattle.weedle_syntax.specs.Laid.{node, LaysNode, LaysParts}
+use Rattle.weedle_syntax.proofs.DescentFacts.{has_now, added_length, node_laid, leaf_laid, reading_start, reading_step, reading_fails, reading_end, reading_laid, picking_start, picking_step, picked_end, picked_laid, none_picked}
+use Rattle.weedle_syntax.proofs.RepeatFacts.{opt_there, opt_none, opt_not_laid, opt_before, list_more, list_none, list_laid, list_not_laid, list_before, list_next, list1_more, list1_none, list1_laid, list1_before, list1_next, again_start, again_before, again_step, again_on, again_stuck, again_end, again_laid, behind_start, behind_before, behind_item, behind_step, behind_on, behind_stuck, behind_end, behind_laid, behind_back, back_laid}
+use Rattle.weedle_syntax.proofs.ConditionFacts.{testing_start, testing_fails, testing_step, testing_next, testing_length, absent_end, absent_laid, present_end, present_laid}
+use Rattle.weedle_syntax.proofs.descent.+descent.Goals as goal
+
+pub read_parts-loop-i-init : goal.read_parts-loop-i-init
+read_parts-loop-i-init t c =
+    reading_start c.args.text.now c.args.rule c.args.place c.args.depth (numbers_of c.args.parts)
+    c.args.nodes.now.items c.requires.row c.requires.within
+
+pub read_parts-returns-in-None-clause-end : goal.read_parts-returns-in-None-clause-end
+read_parts-returns-in-None-clause-end t c =
+    let g = rw (next_part (numbers_of c.args.parts) c.len-i-end.ensures c.loop-i-test.true c.rule.ensures.value) at
+    c.loop-i.invariant in
+    reading_fails c.args.text.now c.args.rule c.args.place c.args.depth (numbers_of c.args.parts)
+    c.args.nodes.now.items c.rule.result _ c.loop-i.at c.loop-i.nodes.items c.requires.row g
+    (has_now c.in-None.is c.in_ok-end.ensures.end)
+
+pub read_parts-loop-i-preserved : goal.read_parts-loop-i-preserved
+read_parts-loop-i-preserved t c =
+    let g = rw (next_part (numbers_of c.args.parts) c.len-i-end.ensures c.loop-i-test.true c.rule.ensures.value) at
+    c.loop-i.invariant in
+    reading_step c.args.text.now c.args.rule c.args.place c.args.depth (numbers_of c.args.parts)
+    c.args.nodes.now.items c.rule.result _ c.loop-i.at c.in-Some.end c.loop-i.nodes.items c.read.new.nodes.items g
+    (has_now c.in-Some.is c.in_ok-end.ensures.end)
+    (subst
+    (LaysNode c.args.text.now c.rule.result c.loop-i.at c.args.depth c.loop-i.nodes.items
+    c.read.new.nodes.items) c.in-Some.is c.in_ok-end.ensures.lays)
+
+pub read_parts-returns-clause-end : goal.read_parts-returns-clause-end
+read_parts-returns-clause-end t c =
+    let g = rw (no_part (numbers_of c.args.parts) c.len-i-end.ensures c.loop-i-test.false) at c.loop-i.invariant in
+    reading_end c.args.text.now c.args.rule c.args.place c.args.depth (numbers_of c.args.parts) c.args.nodes.now.items
+    c.loop-i.at c.loop-i.nodes.items c.requires.row g
+
+pub read_parts-returns-clause-lays : goal.read_parts-returns-clause-lays
+read_parts-returns-clause-lays t c =
+    let g = rw (no_part (numbers_of c.args.parts) c.len-i-end.ensures c.loop-i-test.false) at c.loop-i.invariant in
+    reading_laid c.args.text.now c.args.rule c.args.place c.args.depth (numbers_of c.args.parts)
+    c.args.nodes.now.items c.loop-i.at c.loop-i.nodes.items c.requires.row g
+
+pub read_choice-loop-i-init : goal.read_choice-loop-i-init
+read_choice-loop-i-init t c =
+    picking_start c.args.text.now c.args.rule c.args.place c.args.depth (numbers_of c.args.choices)
+    c.args.nodes.now.items c.requires.row
+
+pub read_choice-returns-in-Some-clause-end : goal.read_choice-returns-in-Some-clause-end
+read_choice-returns-in-Some-clause-end t c =
+    let g = rw (next_part (numbers_of c.args.choices) c.len-i-end.ensures c.loop-i-test.true c.rule.ensures.value) at
+    c.loop-i.invariant in
+    picked_end c.args.text.now c.args.rule c.args.place c.args.depth (numbers_of c.args.choices)
+    c.args.nodes.now.items c.rule.result c.in-Some.end _ c.loop-i.nodes.items c.requires.row g
+    (has_now c.in-Some.is c.in_ok-end.ensures.end)
+
+pub read_choice-returns-in-Some-clause-lays : goal.read_choice-returns-in-Some-clause-lays
+read_choice-returns-in-Some-clause-lays t c =
+    let g = rw (next_part (numbers_of c.args.choices) c.len-i-end.ensures c.loop-i-test.true c.rule.ensures.value) at
+    c.loop-i.invariant in
+    picked_laid c.args.text.now c.args.rule c.args.place c.args.depth (numbers_of c.args.choices)
+    c.args.nodes.now.items c.rule.result c.in-Some.end _ c.loop-i.nodes.items c.read.new.nodes.items
+    c.requires.row g (has_now c.in-Some.is c.in_ok-end.ensures.end)
+    (subst
+    (LaysNode c.args.text.now c.rule.result c.args.place c.args.depth c.loop-i.nodes.items
+    c.read.new.nodes.items) c.in-Some.is c.in_ok-end.ensures.lays)
+
+pub read_choice-loop-i-preserved : goal.read_choice-loop-i-preserved
+read_choice-loop-i-preserved t c =
+    let g = rw (next_part (numbers_of c.args.choices) c.len-i-end.ensures c.loop-i-test.true c.rule.ensures.value) at
+    c.loop-i.invariant in
+    picking_step c.args.text.now c.args.rule c.args.place c.args.depth (numbers_of c.args.choices)
+    c.args.nodes.now.items c.rule.result _ c.loop-i.nodes.items c.read.new.nodes.items g
+    (has_now c.in-None.is c.in_ok-end.ensures.end)
+    (subst
+    (LaysNode c.args.text.now c.rule.result c.args.place c.args.depth c.loop-i.nodes.items
+    c.read.new.nodes.items) c.in-None.is c.in_ok-end.ensures.lays)
+
+pub read_choice-returns-clause-end : goal.read_choice-returns-clause-end
+read_choice-returns-clause-end t c =
+    let g = rw (no_part (numbers_of c.args.choices) c.len-i-end.ensures c.loop-i-test.false) at c.loop-i.invariant in
+    none_picked c.args.text.now c.args.rule c.args.place c.args.depth (numbers_of c.args.choices)
+    c.args.nodes.now.items c.loop-i.nodes.items c.requires.row g
+
+pub read_optional-returns-in-Some-clause-end : goal.read_optional-returns-in-Some-clause-end
+read_optional-returns-in-Some-clause-end t c =
+    opt_there c.args.text.now c.args.rule c.args.place c.args.depth c.args.nodes.now.items c.args.item c.requires.row
+    c.in-Some.end (has_now c.in-Some.is c.in_ok-end.ensures.end)
+
+pub read_optional-returns-in-None-clause-end : goal.read_optional-returns-in-None-clause-end
+read_optional-returns-in-None-clause-end t c =
+    opt_none c.args.text.now c.args.rule c.args.place c.args.depth c.args.nodes.now.items c.args.item c.requires.row
+    (has_now c.in-None.is c.in_ok-end.ensures.end)
+
+pub read_optional-returns-in-None-clause-lays : goal.read_optional-returns-in-None-clause-lays
+read_optional-returns-in-None-clause-lays t c =
+    opt_not_laid c.args.text.now c.args.rule c.args.place c.args.depth c.args.nodes.now.items c.args.item
+    c.requires.row c.read.new.nodes.items (has_now c.in-None.is c.in_ok-end.ensures.end)
+    (subst
+    (LaysNode c.args.text.now c.args.item c.args.place c.args.depth c.args.nodes.now.items
+    c.read.new.nodes.items) c.in-None.is c.in_ok-end.ensures.lays)
+
+pub read_list-returns-in_ok-end-in-Some-clause-end : goal.read_list-returns-in_ok-end-in-Some-clause-end
+read_list-returns-in_ok-end-in-Some-clause-end t c =
+    list_more c.args.text.now c.args.rule c.args.place c.args.depth c.args.nodes.now.items c.args.item c.args.tail
+    c.requires.row c.in-Some.at _ (has_now c.in-Some.is c.in_ok-at.ensures.end) c.in_ok-end-in-Some.ensures.end
+
+pub read_list-returns-in_ok-end-in-Some-clause-lays : goal.read_list-returns-in_ok-end-in-Some-clause-lays
+read_list-returns-in_ok-end-in-Some-clause-lays t c =
+    list_laid c.args.text.now c.args.rule c.args.place c.args.depth c.args.nodes.now.items c.args.item c.args.tail
+    c.requires.row c.in-Some.at c.read.new.nodes.items c.read-in-Some.new.nodes.items _
+    (has_now c.in-Some.is c.in_ok-at.ensures.end) c.in_ok-end-in-Some.ensures.end
+    (subst
+    (LaysNode c.args.text.now c.args.item c.args.place c.args.depth c.args.nodes.now.items
+    c.read.new.nodes.items) c.in-Some.is c.in_ok-at.ensures.lays) c.in_ok-end-in-Some.ensures.lays
+
+pub read_list-returns-in-None-clause-end : goal.read_list-returns-in-None-clause-end
+read_list-returns-in-None-clause-end t c =
+    list_none c.args.text.now c.args.rule c.args.place c.args.depth c.args.nodes.now.items c.args.item c.args.tail
+    c.requires.row (has_now c.in-None.is c.in_ok-at.ensures.end)
+
+pub read_list1-returns-in_ok-end-in-Some-clause-end : goal.read_list1-returns-in_ok-end-in-Some-clause-end
+read_list1-returns-in_ok-end-in-Some-clause-end t c =
+    list1_more c.args.text.now c.args.rule c.args.place c.args.depth c.args.nodes.now.items c.args.item c.args.tail
+    c.requires.row c.in-Some.at _ (has_now c.in-Some.is c.in_ok-at.ensures.end) c.in_ok-end-in-Some.ensures.end
+
+pub read_list1-returns-in_ok-end-in-Some-clause-lays : goal.read_list1-returns-in_ok-end-in-Some-clause-lays
+read_list1-returns-in_ok-end-in-Some-clause-lays t c =
+    list1_laid c.args.text.now c.args.rule c.args.place c.args.depth c.args.nodes.now.items c.args.item c.args.tail
+    c.requires.row c.in-Some.at c.read.new.nodes.items c.read-in-Some.new.nodes.items _
+    (has_now c.in-Some.is c.in_ok-at.ensures.end) c.in_ok-end-in-Some.ensures.end
+    (subst
+    (LaysNode c.args.text.now c.args.item c.args.place c.args.depth c.args.nodes.now.items
+    c.read.new.nodes.items) c.in-Some.is c.in_ok-at.ensures.lays) c.in_ok-end-in-Some.ensures.lays
+
+pub read_list1-returns-in-None-clause-end : goal.read_list1-returns-in-None-clause-end
+read_list1-returns-in-None-clause-end t c =
+    list1_none c.args.text.now c.args.rule c.args.place c.args.depth c.args.nodes.now.items c.args.item c.args.tail
+    c.requires.row (has_now c.in-None.is c.in_ok-at.ensures.end)
+
+pub read_list-returns-in-None-clause-lays : goal.read_list-returns-in-None-clause-lays
+read_list-returns-in-None-clause-lays t c =
+    list_not_laid c.args.text.now c.args.rule c.args.place c.args.depth c.args.nodes.now.items c.args.item c.args.tail
+    c.requires.row c.read.new.nodes.items (has_now c.in-None.is c.in_ok-at.ensures.end)
+    (subst
+    (LaysNode c.args.text.now c.args.item c.args.place c.args.depth c.args.nodes.now.items
+    c.read.new.nodes.items) c.in-None.is c.in_ok-at.ensures.lays)
+
+pub read_list1-returns-in-None-clause-lays : goal.read_list1-returns-in-None-clause-lays
+read_list1-returns-in-None-clause-lays t c = (
+  [],
+  (subst
+      (LaysNode c.args.text.now c.args.item c.args.place c.args.depth c.args.nodes.now.items
+      c.read.new.nodes.items) c.in-None.is c.in_ok-at.ensures.lays) ∙ sym
+      (append-nil c.args.nodes.now.items),
+)
+
+pub read_items-loop-found-init : goal.read_items-loop-found-init
+read_items-loop-found-init t c =
+    again_start c.args.text.now c.args.rule c.args.item c.args.place c.args.depth c.args.nodes.now.items
+    c.requires.row c.requires.within
+
+pub read_items-returns-in_default-clause-end : goal.read_items-returns-in_default-clause-end
+read_items-returns-in_default-clause-end t c =
+    again_end c.args.text.now c.args.rule c.args.item c.args.place c.args.depth c.args.nodes.now.items c.requires.row
+    c.loop-found.at c.loop-found.nodes.items c.loop-found.invariant
+    (has_now c.in_default.is c.in_ok-found.ensures.end)
+
+pub read_items-returns-in_default-clause-lays : goal.read_items-returns-in_default-clause-lays
+read_items-returns-in_default-clause-lays t c =
+    again_laid c.args.text.now c.args.rule c.args.item c.args.place c.args.depth c.args.nodes.now.items c.requires.row
+    c.loop-found.at c.loop-found.nodes.items c.read.new.nodes.items c.loop-found.invariant
+    (has_now c.in_default.is c.in_ok-found.ensures.end)
+    (subst
+    (LaysNode c.args.text.now c.args.item c.loop-found.at c.args.depth c.loop-found.nodes.items
+    c.read.new.nodes.items) c.in_default.is c.in_ok-found.ensures.lays)
+
+pub read_items-returns-then-end-at-clause-end : goal.read_items-returns-then-end-at-clause-end
+read_items-returns-then-end-at-clause-end t c =
+    again_stuck c.args.text.now c.args.rule c.args.item c.args.place c.args.depth c.args.nodes.now.items
+    c.requires.row c.loop-found.at c.in-Some.end c.loop-found.nodes.items c.loop-found.invariant
+    (has_now c.in-Some.is c.in_ok-found.ensures.end) c.if-end-at.true
+
+pub read_items-loop-found-smaller : goal.read_items-loop-found-smaller
+read_items-loop-found-smaller t c =
+    let on = again_on c.args.text.now c.args.rule c.args.item c.args.place c.args.depth c.args.nodes.now.items
+    c.requires.row c.loop-found.at c.in-Some.end c.loop-found.nodes.items c.loop-found.invariant
+    (has_now c.in-Some.is c.in_ok-found.ensures.end) c.if-end-at.false in
+    omega (arith, on.0, on.1)
+
+pub read_items-loop-found-preserved : goal.read_items-loop-found-preserved
+read_items-loop-found-preserved t c =
+    again_step c.args.text.now c.args.rule c.args.item c.args.place c.args.depth c.args.nodes.now.items c.requires.row
+    c.loop-found.at c.in-Some.end c.loop-found.nodes.items c.read.new.nodes.items c.loop-found.invariant
+    (has_now c.in-Some.is c.in_ok-found.ensures.end) c.if-end-at.false
+    (subst
+    (LaysNode c.args.text.now c.args.item c.loop-found.at c.args.depth c.loop-found.nodes.items
+    c.read.new.nodes.items) c.in-Some.is c.in_ok-found.ensures.lays)
+
+pub read_tail-loop-found-init : goal.read_tail-loop-found-init
+read_tail-loop-found-init t c =
+    behind_start c.args.text.now c.args.rule c.args.item c.args.separator c.args.place c.args.depth
+    c.args.nodes.now.items c.requires.row c.requires.within
+
+pub read_tail-returns-in_default-clause-end : goal.read_tail-returns-in_default-clause-end
+read_tail-returns-in_default-clause-end t c =
+    behind_end c.args.text.now c.args.rule c.args.item c.args.separator c.args.place c.args.depth
+    c.args.nodes.now.items c.requires.row c.loop-found.at c.loop-found.nodes.items c.loop-found.invariant
+    (has_now c.in_default.is c.in_ok-found.ensures.end)
+
+pub read_tail-returns-in_default-clause-lays : goal.read_tail-returns-in_default-clause-lays
+read_tail-returns-in_default-clause-lays t c =
+    behind_laid c.args.text.now c.args.rule c.args.item c.args.separator c.args.place c.args.depth
+    c.args.nodes.now.items c.requires.row c.loop-found.at c.loop-found.nodes.items c.read.new.nodes.items
+    c.loop-found.invariant (has_now c.in_default.is c.in_ok-found.ensures.end)
+    (subst
+    (LaysNode c.args.text.now c.args.separator c.loop-found.at c.args.depth c.loop-found.nodes.items
+    c.read.new.nodes.items) c.in_default.is c.in_ok-found.ensures.lays)
+
+pub read_tail-returns-then-behind-at-clause-end : goal.read_tail-returns-then-behind-at-clause-end
+read_tail-returns-then-behind-at-clause-end t c =
+    behind_stuck c.args.text.now c.args.rule c.args.item c.args.separator c.args.place c.args.depth
+    c.args.nodes.now.items c.requires.row c.loop-found.at c.in-Some.behind c.loop-found.nodes.items
+    c.loop-found.invariant (has_now c.in-Some.is c.in_ok-found.ensures.end) c.if-behind-at.true
+
+pub read_tail-returns-in_default-next-clause-end : goal.read_tail-returns-in_default-next-clause-end
+read_tail-returns-in_default-next-clause-end t c =
+    behind_back c.args.text.now c.args.rule c.args.item c.args.separator c.args.place c.args.depth
+    c.args.nodes.now.items c.requires.row c.loop-found.at c.in-Some.behind c.loop-found.nodes.items
+    c.loop-found.invariant (has_now c.in-Some.is c.in_ok-found.ensures.end) c.if-behind-at.false
+    (has_now c.in_default-next.is c.in_ok-next.ensures.end)
+
+pub read_tail-returns-in_default-next-clause-lays : goal.read_tail-returns-in_default-next-clause-lays
+read_tail-returns-in_default-next-clause-lays t c =
+    back_laid c.args.text.now c.args.rule c.args.item c.args.separator c.args.place c.args.depth
+    c.args.nodes.now.items c.requires.row c.loop-found.at c.in-Some.behind c.loop-found.nodes.items
+    c.read.new.nodes.items c.read-in-loop-found.new.nodes.items c.truncate.new.self.items c.loop-found.invariant
+    (has_now c.in-Some.is c.in_ok-found.ensures.end)
+    (subst
+    (LaysNode c.args.text.now c.args.separator c.loop-found.at c.args.depth c.loop-found.nodes.items
+    c.read.new.nodes.items) c.in-Some.is c.in_ok-found.ensures.lays)
+    (has_now c.in_default-next.is c.in_ok-next.ensures.end)
+    (subst
+    (LaysNode c.args.text.now c.args.item c.in-Some.behind c.args.depth c.read.new.nodes.items
+    c.read-in-loop-found.new.nodes.items) c.in_default-next.is c.in_ok-next.ensures.lays)
+    (c.truncate.ensures.items ∙ ap (λ z. take z c.read-in-loop-found.new.nodes.items)
+    (c.len-kept.ensures ∙ c.loop-found.nodes.ok.0))
+
+pub read_tail-loop-found-smaller : goal.read_tail-loop-found-smaller
+read_tail-loop-found-smaller t c =
+    let on = behind_on c.args.text.now c.args.rule c.args.item c.args.separator c.args.place c.args.depth
+    c.args.nodes.now.items c.requires.row c.loop-found.at c.in-Some.behind c.in-Some-next.end
+    c.loop-found.nodes.items c.loop-found.invariant (has_now c.in-Some.is c.in_ok-found.ensures.end)
+    c.if-behind-at.false (has_now c.in-Some-next.is c.in_ok-next.ensures.end) in
+    omega (arith, on.0, on.1)
+
+pub read_tail-loop-found-preserved : goal.read_tail-loop-found-preserved
+read_tail-loop-found-preserved t c =
+    behind_step c.args.text.now c.args.rule c.args.item c.args.separator c.args.place c.args.depth
+    c.args.nodes.now.items c.requires.row c.loop-found.at c.in-Some.behind c.in-Some-next.end
+    c.loop-found.nodes.items c.read.new.nodes.items c.read-in-loop-found.new.nodes.items c.loop-found.invariant
+    (has_now c.in-Some.is c.in_ok-found.ensures.end) c.if-behind-at.false
+    (subst
+    (LaysNode c.args.text.now c.args.separator c.loop-found.at c.args.depth c.loop-found.nodes.items
+    c.read.new.nodes.items) c.in-Some.is c.in_ok-found.ensures.lays)
+    (has_now c.in-Some-next.is c.in_ok-next.ensures.end)
+    (subst
+    (LaysNode c.args.text.now c.args.item c.in-Some.behind c.args.depth c.read.new.nodes.items
+    c.read-in-loop-found.new.nodes.items) c.in-Some-next.is c.in_ok-next.ensures.lays)
+
+pub read_items-read-requires : goal.read_items-read-requires
+read_items-read-requires t c =
+    let b = again_before c.args.text.now c.args.rule c.args.item c.args.place c.args.depth c.args.nodes.now.items
+    c.requires.row c.loop-found.at c.loop-found.nodes.items c.requires.low c.loop-found.invariant in (
+      omega (arith, b.1, c.decreases),
+      (
+        c.loop-found.invariant.within,
+        (
+          omega (
+            arith,
+            c.requires.shallow,
+            added_length c.args.text.now c.loop-found.invariant.inner
+                c.args.nodes.now.items c.loop-found.nodes.items c.loop-found.invariant.adds,
+          ),
+          b.0,
+        ),
+      ),
+    )
+
+pub read_optional-read-requires : goal.read_optional-read-requires
+read_optional-read-requires t c =
+    let b = opt_before c.args.text.now c.args.rule c.args.place c.args.depth c.args.nodes.now.items c.args.item
+    c.requires.row in
+    (omega (arith, b, c.decreases), (c.requires.within, (c.requires.shallow, omega (arith, b, c.requires.low))))
+
+pub read_list-read-requires : goal.read_list-read-requires
+read_list-read-requires t c =
+    let b = list_before c.args.text.now c.args.rule c.args.place c.args.depth c.args.nodes.now.items c.args.item
+    c.args.tail c.requires.row in
+    (omega (arith, b, c.decreases), (c.requires.within, (c.requires.shallow, omega (arith, b, c.requires.low))))
+
+pub read_list-read-requires-in-Some : goal.read_list-read-requires-in-Some
+read_list-read-requires-in-Some t c =
+    let b = list_next c.args.text.now c.args.rule c.args.place c.args.depth c.args.nodes.now.items c.args.item
+    c.args.tail c.requires.row c.in-Some.at (has_now c.in-Some.is c.in_ok-at.ensures.end) c.requires.within in (
+      omega (arith, b.2, c.decreases),
+      (
+        b.0,
+        (
+          omega (
+            arith,
+            c.requires.shallow,
+            added_length c.args.text.now
+                (node c.args.item c.args.place c.in-Some.at c.args.depth ∷ []) c.args.nodes.now.items
+                c.read.new.nodes.items
+                (subst
+                (LaysNode c.args.text.now c.args.item c.args.place c.args.depth
+                c.args.nodes.now.items c.read.new.nodes.items) c.in-Some.is
+                c.in_ok-at.ensures.lays),
+          ),
+          b.1,
+        ),
+      ),
+    )
+
+pub read_list1-read-requires : goal.read_list1-read-requires
+read_list1-read-requires t c =
+    let b = list1_before c.args.text.now c.args.rule c.args.place c.args.depth c.args.nodes.now.items c.args.item
+    c.args.tail c.requires.row in
+    (omega (arith, b, c.decreases), (c.requires.within, (c.requires.shallow, omega (arith, b, c.requires.low))))
+
+pub read_list1-read-requires-in-Some : goal.read_list1-read-requires-in-Some
+read_list1-read-requires-in-Some t c =
+    let b = list1_next c.args.text.now c.args.rule c.args.place c.args.depth c.args.nodes.now.items c.args.item
+    c.args.tail c.requires.row c.in-Some.at (has_now c.in-Some.is c.in_ok-at.ensures.end) c.requires.within in (
+      omega (arith, b.2, c.decreases),
+      (
+        b.0,
+        (
+          omega (
+            arith,
+            c.requires.shallow,
+            added_length c.args.text.now
+                (node c.args.item c.args.place c.in-Some.at c.args.depth ∷ []) c.args.nodes.now.items
+                c.read.new.nodes.items
+                (subst
+                (LaysNode c.args.text.now c.args.item c.args.place c.args.depth
+                c.args.nodes.now.items c.read.new.nodes.items) c.in-Some.is
+                c.in_ok-at.ensures.lays),
+          ),
+          b.1,
+        ),
+      ),
+    )
+
+pub read_tail-read-requires : goal.read_tail-read-requires
+read_tail-read-requires t c =
+    let b = behind_before c.args.text.now c.args.rule c.args.item c.args.separator c.args.place c.args.depth
+    c.args.nodes.now.items c.requires.row c.loop-found.at c.loop-found.nodes.items c.requires.low
+    c.loop-found.invariant in (
+      omega (arith, b.1, c.decreases),
+      (
+        c.loop-found.invariant.within,
+        (
+          omega (
+            arith,
+            c.requires.shallow,
+            added_length c.args.text.now c.loop-found.invariant.inner
+                c.args.nodes.now.items c.loop-found.nodes.items c.loop-found.invariant.adds,
+          ),
+          b.0,
+        ),
+      ),
+    )
+
+pub read_tail-read-requires-in-loop-found : goal.read_tail-read-requires-in-loop-found
+read_tail-read-requires-in-loop-found t c =
+    let b = behind_item c.args.text.now c.args.rule c.args.item c.args.separator c.args.place c.args.depth
+    c.args.nodes.now.items c.requires.row c.loop-found.at c.in-Some.behind c.loop-found.nodes.items
+    c.loop-found.invariant (has_now c.in-Some.is c.in_ok-found.ensures.end) c.if-behind-at.false in (
+      omega (arith, b.2, c.decreases),
+      (
+        b.0,
+        (
+          omega (
+            arith,
+            c.requires.shallow,
+            added_length c.args.text.now c.loop-found.invariant.inner
+                c.args.nodes.now.items c.loop-found.nodes.items c.loop-found.invariant.adds,
+            added_length
+                c.args.text.now (node c.args.separator c.loop-found.at c.in-Some.behind c.args.depth ∷ [])
+                c.loop-found.nodes.items c.read.new.nodes.items
+                (subst
+                (LaysNode c.args.text.now c.args.separator c.loop-found.at c.args.depth
+                c.loop-found.nodes.items c.read.new.nodes.items) c.in-Some.is
+                c.in_ok-found.ensures.lays),
+          ),
+          b.1,
+        ),
+      ),
+    )
+
+pub read-returns-in-Some-clause-lays : goal.read-returns-in-Some-clause-lays
+read-returns-in-Some-clause-lays t c =
+    node_laid c.args.text.now c.args.rule c.args.place c.args.depth c.args.nodes.now.items c.push.new.self.items
+    c.read_row.new.nodes.items (node c.args.rule c.args.place c.args.place c.args.depth)
+    c.in_ok-push.ensures.items c.in-Some.end _
+    (subst
+    (LaysParts c.args.text.now c.args.rule c.args.place (c.args.depth + 1) c.push.new.self.items
+    c.read_row.new.nodes.items) c.in-Some.is c.in_ok-end.ensures.lays)
+    (ap (λ z. set c.read_row.new.nodes.items z (node c.args.rule c.args.place c.in-Some.end c.args.depth))
+    (c.len-at.ensures ∙ c.args.nodes.now.ok.0))
+
+pub read_row-returns-in-Bytes-clause-end : goal.read_row-returns-in-Bytes-clause-end
+read_row-returns-in-Bytes-clause-end t c =
+    rule_ends (sym c.in-Bytes.ensures) (bytes_ends webidl c.args.text.now _ c.args.place _ c.end_of_bytes.ensures)
+
+pub read_row-returns-in-OneOf-clause-end : goal.read_row-returns-in-OneOf-clause-end
+read_row-returns-in-OneOf-clause-end t c =
+    rule_ends (sym c.in-OneOf.ensures) (one_ends webidl c.args.text.now _ c.args.place _ c.end_of_one.ensures)
+
+pub read_row-returns-in-NotNext-clause-end : goal.read_row-returns-in-NotNext-clause-end
+read_row-returns-in-NotNext-clause-end t c =
+    rule_ends (sym c.in-NotNext.ensures)
+    (not_next_ends webidl c.args.text.now _ c.args.place _ c.end_of_not_next.ensures)
+
+pub read_row-returns-in-Past-clause-end : goal.read_row-returns-in-Past-clause-end
+read_row-returns-in-Past-clause-end t c =
+    rule_ends (sym c.in-Past.ensures) (past_ends webidl c.args.text.now _ c.args.place _ c.end_past.ensures)
+
+pub read_row-returns-in-Run-clause-end : goal.read_row-returns-in-Run-clause-end
+read_row-returns-in-Run-clause-end t c =
+    rule_ends (sym c.in-Run.ensures) (run_ends webidl c.args.text.now _ c.args.place _ (ap Some c.end_of_run.ensures))
+
+pub read_row-returns-in-Bytes-clause-lays : goal.read_row-returns-in-Bytes-clause-lays
+read_row-returns-in-Bytes-clause-lays t c =
+    leaf_laid c.args.text.now c.args.rule c.args.place c.args.depth c.args.nodes.now.items _ (sym c.in-Bytes.ensures)
+    (λ e. refl)
+
+pub read_row-returns-in-OneOf-clause-lays : goal.read_row-returns-in-OneOf-clause-lays
+read_row-returns-in-OneOf-clause-lays t c =
+    leaf_laid c.args.text.now c.args.rule c.args.place c.args.depth c.args.nodes.now.items _ (sym c.in-OneOf.ensures)
+    (λ e. refl)
+
+pub read_row-returns-in-NotNext-clause-lays : goal.read_row-returns-in-NotNext-clause-lays
+read_row-returns-in-NotNext-clause-lays t c =
+    leaf_laid c.args.text.now c.args.rule c.args.place c.args.depth c.args.nodes.now.items _
+    (sym c.in-NotNext.ensures) (λ e. refl)
+
+pub read_row-returns-in-Past-clause-lays : goal.read_row-returns-in-Past-clause-lays
+read_row-returns-in-Past-clause-lays t c =
+    leaf_laid c.args.text.now c.args.rule c.args.place c.args.depth c.args.nodes.now.items _ (sym c.in-Past.ensures)
+    (λ e. refl)
+
+pub read_row-returns-in-Run-clause-lays : goal.read_row-returns-in-Run-clause-lays
+read_row-returns-in-Run-clause-lays t c =
+    leaf_laid c.args.text.now c.args.rule c.args.place c.args.depth c.args.nodes.now.items (Some c.end_of_run.result)
+    (sym c.in-Run.ensures) (λ e. refl)
+
+pub read_conditional-loop-i-init : goal.read_conditional-loop-i-init
+read_conditional-loop-i-init t c =
+    let z : c.args.k - 0 ≡ c.args.k = omega arith in
+    rw (note_high c.args.k 0 false (omega arith), z)
+    (testing_start c.args.text.now c.args.rule c.args.k c.args.y c.args.place c.args.depth
+    (numbers_of c.args.parts) c.args.nodes.now.items c.requires.row c.requires.within)
+
+pub read_conditional-returns-in-None-clause-end : goal.read_conditional-returns-in-None-clause-end
+read_conditional-returns-in-None-clause-end t c =
+    let g = rw (next_part (numbers_of c.args.parts) c.len-i-end.ensures c.loop-i-test.true c.rule.ensures.value) at
+    c.loop-i.invariant in
+    testing_fails c.args.text.now c.args.rule c.args.k c.args.y c.args.place c.args.depth (numbers_of c.args.parts)
+    c.args.nodes.now.items c.requires.row c.rule.result _ _ c.loop-i.at c.loop-i.nodes.items g
+    (has_now c.in-None.is c.in_ok-end.ensures.end)
+
+pub read_conditional-loop-i-preserved : goal.read_conditional-loop-i-preserved
+read_conditional-loop-i-preserved t c =
+    let g = rw (next_part (numbers_of c.args.parts) c.len-i-end.ensures c.loop-i-test.true c.rule.ensures.value) at
+    c.loop-i.invariant in
+    let sw = (if_switch c.requires.low c.requires.row).2 in
+    testing_step c.args.text.now c.args.rule c.args.k c.args.y c.args.place c.args.depth (numbers_of c.args.parts)
+    c.args.nodes.now.items c.requires.row c.rule.result _ _ _ c.loop-i.at c.in-Some.end c.loop-i.nodes.items
+    c.read.new.nodes.items g
+    (if_step webidl c.args.text.now takes ranked _ _ _ _ _ _ _ _ _ _ g.along (has_now c.in-Some.is c.in_ok-end.ensures.end) (λ ts d. note_more webidl c.args.text.now c.args.k c.loop-i.i c.loop-i.present (is_present ts) c.choose-present.result
+    (λ e.
+    let at : c.rule.result ≡ get_or (numbers_of c.args.parts) c.args.k 0 = c.rule.ensures.value ∙ ap
+    (λ z. get_or (numbers_of c.args.parts) z 0) e in
+    chosen_here c.loop-i.i c.args.k c.in-Some.end c.loop-i.at c.loop-i.present c.choose-present.result (is_present ts)
+    e c.choose-present.ensures
+    (present webidl c.args.text.now takes ranked _ sw.x _ _ ts sw.row_is sw.shape_is sw.mark_is sw.takes_it
+    (subst (λ s. ReadsBy webidl c.args.text.now s c.loop-i.at (Gives ts c.in-Some.end)) at d)))
+    (λ n. chosen_other c.loop-i.i c.args.k _ c.loop-i.present c.choose-present.result n c.choose-present.ensures))) (has_now c.in-Some.is c.in_ok-end.ensures.end) (subst (LaysNode
+    c.args.text.now c.rule.result c.loop-i.at c.args.depth c.loop-i.nodes.items
+    c.read.new.nodes.items) c.in-Some.is c.in_ok-end.ensures.lays)
+
+pub read_conditional-read-requires-then-present : goal.read_conditional-read-requires-then-present
+read_conditional-read-requires-then-present t c =
+    let e = c.loop-i-test.false in
+    let q = (if_switch c.requires.low c.requires.row).1 in
+    let g = rw (
+      no_part (numbers_of c.args.parts) c.len-i-end.ensures c.loop-i-test.false,
+      note_low c.args.k c.loop-i.i
+          c.loop-i.present (omega (arith, c.len-i-end.ensures)),
+      c.if-present.true,
+    ) at c.loop-i.invariant in
+    let b = testing_next c.args.text.now c.args.rule c.args.k c.args.y c.args.place c.args.depth
+    (numbers_of c.args.parts) c.args.nodes.now.items c.requires.row c.loop-i.at c.loop-i.nodes.items g in (
+      omega (arith, b.2, c.decreases),
+      (
+        b.0,
+        (
+          omega (
+            arith,
+            c.requires.shallow,
+            testing_length c.args.text.now c.args.rule c.args.k c.args.y
+                c.args.place c.args.depth (numbers_of c.args.parts) c.args.nodes.now.items c.requires.row
+                c.loop-i.at c.loop-i.nodes.items _ g,
+          ),
+          b.1,
+        ),
+      ),
+    )
+
+pub read_conditional-returns-then-present-clause-end : goal.read_conditional-returns-then-present-clause-end
+read_conditional-returns-then-present-clause-end t c =
+    let e = c.loop-i-test.false in
+    let q = (if_switch c.requires.low c.requires.row).1 in
+    let g = rw (
+      no_part (numbers_of c.args.parts) c.len-i-end.ensures c.loop-i-test.false,
+      note_low c.args.k c.loop-i.i
+          c.loop-i.present (omega (arith, c.len-i-end.ensures)),
+      c.if-present.true,
+    ) at c.loop-i.invariant in
+    present_end c.args.text.now c.args.rule c.args.k c.args.y c.args.place c.args.depth (numbers_of c.args.parts)
+    c.args.nodes.now.items c.requires.row c.loop-i.at c.loop-i.nodes.items _ g c.in_ok-end-2.ensures.end
+
+pub read_conditional-returns-then-present-clause-lays : goal.read_conditional-returns-then-present-clause-lays
+read_conditional-returns-then-present-clause-lays t c =
+    let e = c.loop-i-test.false in
+    let q = (if_switch c.requires.low c.requires.row).1 in
+    let g = rw (
+      no_part (numbers_of c.args.parts) c.len-i-end.ensures c.loop-i-test.false,
+      note_low c.args.k c.loop-i.i
+          c.loop-i.present (omega (arith, c.len-i-end.ensures)),
+      c.if-present.true,
+    ) at c.loop-i.invariant in
+    present_laid c.args.text.now c.args.rule c.args.k c.args.y c.args.place c.args.depth (numbers_of c.args.parts)
+    c.args.nodes.now.items c.requires.row c.loop-i.at c.loop-i.nodes.items c.read-then-present.new.nodes.items _ g
+    c.in_ok-end-2.ensures.end c.in_ok-end-2.ensures.lays
+
+pub read_conditional-returns-clause-end : goal.read_conditional-returns-clause-end
+read_conditional-returns-clause-end t c =
+    let e = c.loop-i-test.false in
+    let q = (if_switch c.requires.low c.requires.row).1 in
+    let g = rw (
+      no_part (numbers_of c.args.parts) c.len-i-end.ensures c.loop-i-test.false,
+      note_low c.args.k c.loop-i.i
+          c.loop-i.present (omega (arith, c.len-i-end.ensures)),
+      c.if-present.false,
+    ) at c.loop-i.invariant in
+    absent_end c.args.text.now c.args.rule c.args.k c.args.y c.args.place c.args.depth (numbers_of c.args.parts)
+    c.args.nodes.now.items c.requires.row c.loop-i.at c.loop-i.nodes.items g
+
+pub read_conditional-returns-clause-lays : goal.read_conditional-returns-clause-lays
+read_conditional-returns-clause-lays t c =
+    let e = c.loop-i-test.false in
+    let q = (if_switch c.requires.low c.requires.row).1 in
+    let g = rw (
+      no_part (numbers_of c.args.parts) c.len-i-end.ensures c.loop-i-test.false,
+      note_low c.args.k c.loop-i.i
+          c.loop-i.present (omega (arith, c.len-i-end.ensures)),
+      c.if-present.false,
+    ) at c.loop-i.invariant in
+    absent_laid c.args.text.now c.args.rule c.args.k c.args.y c.args.place c.args.depth (numbers_of c.args.parts)
+    c.args.nodes.now.items c.requires.row c.loop-i.at c.loop-i.nodes.items g

@@ -1,0 +1,27 @@
+-- What the readers lay down while they read: the words of their private contracts.
+use Rattle.std.specs.Prelude.{◌≡◌, ℕ, List, [], ◌∷◌, ◌++◌, reverse, Option, MatchOption}
+use Rattle.weedle_grammar.specs.written.Table.{row_of}
+use Rattle.weedle_syntax.specs.declared.node.Node.{Node}
+use Rattle.weedle_syntax.specs.Parts.{AreParts, HasParts}
+use Rattle.weedle_syntax.specs.Syntax.{AreTrees}
+
+-- a node
+abbrev pub node : ℕ → ℕ → ℕ → ℕ → Node
+node r p e d = record { rule = r; start = p; end = e; depth = d }
+
+-- over the table: a pile, its top last, on which the nodes that a node reads directly were put, the first of them on top
+abbrev pub Piles : List ℕ → Node → List Node → List Node → Type 0
+Piles text n old new = (inner : List Node) × HasParts text n inner × (reverse new ≡ inner ++ reverse old)
+
+-- by descent: the trees of these nodes stand behind what was there
+abbrev pub Adds : List ℕ → List Node → List Node → List Node → Type 0
+Adds text inner old new = (more : List Node) × (new ≡ old ++ more) × AreTrees text inner more
+
+-- nothing is laid down where rule r fails at p, else its node, of depth d, with all below it
+abbrev pub LaysNode : List ℕ → ℕ → ℕ → ℕ → List Node → List Node → Option ℕ → Type 0
+LaysNode text r p d old new o = MatchOption o (new ≡ old) (λ e. Adds text (node r p e d ∷ []) old new)
+
+-- what the row of rule r reads at p is laid down with all below it; where it fails, something may be
+abbrev pub LaysParts : List ℕ → ℕ → ℕ → ℕ → List Node → List Node → Option ℕ → Type 0
+LaysParts text r p d old new o =
+    MatchOption o ((more : List Node) × (new ≡ old ++ more)) (λ e. (inner : List Node) × AreParts text (row_of r) d p e inner × Adds text inner old new)

@@ -1,0 +1,9 @@
+-- A `Syntax` as contracts see it.
+use Rattle.std.specs.Prelude.{ℕ, List}
+use Rattle.weedle_syntax.specs.declared.node.Node.{Node}
+
+pub record SyntaxView : Type 0 where
+  -- the bytes of the text
+  pub text : List ℕ
+  -- the nodes of the definitions at its front
+  pub nodes : List Node

@@ -1,0 +1,36 @@
+//! The concrete syntax tree of a text: every rule that was read, with its bytes.
+//!
+//! A [`Node`] says of a rule from which byte to which it was read. The nodes of a text stand in
+//! preorder, and no byte is lost: the leaves, one after another, are the text, with its blanks and
+//! comments. [`Syntax`] holds a text with its nodes, to go from node to node.
+//!
+//! ```rust
+//! use weedle_grammar::Rule;
+//! use weedle_syntax::Syntax;
+//!
+//! let text = "interface A { attribute long x; }; // end";
+//! if let Some(syntax) = Syntax::new(rt.alloc(), text)? {
+//!     if let Some(member) = syntax.find(Rule::ATTRIBUTE_INTERFACE_MEMBER, 0) {
+//!         assert_eq!(rt; syntax.text_of(member), "attribute long x; ");
+//!     }
+//! }
+//! ```
+#![tactic(auto)]
+
+mod below;
+mod descent;
+mod kinds;
+pub mod laws;
+mod leaves;
+mod node;
+mod quick;
+mod readers;
+mod source;
+mod starts;
+mod tree;
+mod walk;
+
+pub use node::Node;
+pub use quick::{syntax_of_front, syntax_quick};
+pub use readers::{front_of, syntax, syntax_by_descent, syntax_of};
+pub use tree::Syntax;

@@ -1,0 +1,95 @@
+//! The calls that lay down the nodes of a text, over a table and by descent.
+
+ghost use Rattle.std.specs.Prelude.{◌≡◌, ◌↔◌, All, IsSome, IfOk, IfSome};
+ghost use Rattle.weedle_syntax.specs.Syntax.{IsWhole, IsSyntax, IsFront, IsRead, leaves_of};
+
+use crate::descent::front_by_descent;
+use crate::node::Node;
+use crate::walk::nodes_to;
+use std::alloc::{AllocError, Global};
+use weedle_grammar::Rule;
+use weedle_rules::Ends;
+
+/// Every rule that was read where the text is read whole, in preorder; None where it isn't.
+///
+/// The first node is that of the whole text. Behind a node stand those that it reads directly, each
+/// before its own: so what is below a node are the nodes behind it as long as they are deeper. Of
+/// `interface A {` the answer is None.
+///
+/// It asks for memory for a table of ends, as `Ends::new` says, and for the nodes: about one for each
+/// byte of a text. Where that is refused, the answer is an error. There is no recursion, however deep
+/// the text nests, and the time follows from the length of the text alone.
+pub fn syntax(alloc: Global, raw: &str) -> Result<Option<Vec<Node>>, AllocError>
+    ensures whole { IfOk result (λ found. IsSome found ↔ IsWhole raw.now) }
+    ensures are { IfOk result (λ found. IfSome found (λ nodes. IsSyntax raw.now nodes.items)) }
+
+    // The bytes of the leaves, one after another, are the text.
+    ensures lossless { IfOk result
+        (λ found. IfSome found (λ nodes. leaves_of raw.now nodes.items ≡ raw.now)) }
+
+    // Each node was read from its start to its end, and characters begin there.
+    ensures read { IfOk result
+        (λ found. IfSome found (λ nodes. All (IsRead raw.now) nodes.items)) }
+{
+    let ends = Ends::new(alloc, raw)?;
+    syntax_of(alloc, &ends)
+}
+
+/// The same as [`syntax`], over the table of ends of the whole text.
+///
+/// It asks for memory for the nodes alone.
+pub fn syntax_of(alloc: Global, ends: &Ends<'_>) -> Result<Option<Vec<Node>>, AllocError>
+    ensures whole { IfOk result (λ found. IsSome found ↔ IsWhole ends.now.text) }
+    ensures are { IfOk result
+        (λ found. IfSome found (λ nodes. IsSyntax ends.now.text nodes.items)) }
+    ensures lossless { IfOk result
+        (λ found. IfSome found (λ nodes. leaves_of ends.now.text nodes.items ≡ ends.now.text)) }
+    ensures read { IfOk result
+        (λ found. IfSome found (λ nodes. All (IsRead ends.now.text) nodes.items)) }
+{
+    match ends.end(Rule::DEFINITIONS, 0) {
+        Some(end) => {
+            if end == ends.text().len() {
+                let nodes = nodes_to(alloc, ends, end)?;
+                return Ok(Some(nodes));
+            }
+            Ok(None)
+        }
+        None => Ok(None),
+    }
+}
+
+/// The same as [`syntax`], by descent from the front of the text, without a table.
+///
+/// It asks for memory for the nodes alone. Where an attempt fails, its nodes are taken back, and what
+/// is tried again is read again: so a text that nests attributes may take a time that grows
+/// exponentially, and one that nests deeply ends the stack. [`syntax_quick`](crate::syntax_quick)
+/// takes it where neither can be.
+pub fn syntax_by_descent(alloc: Global, raw: &str) -> Result<Option<Vec<Node>>, AllocError>
+    ensures whole { IfOk result (λ found. IsSome found ↔ IsWhole raw.now) }
+    ensures are { IfOk result (λ found. IfSome found (λ nodes. IsSyntax raw.now nodes.items)) }
+    ensures lossless { IfOk result
+        (λ found. IfSome found (λ nodes. leaves_of raw.now nodes.items ≡ raw.now)) }
+    ensures read { IfOk result
+        (λ found. IfSome found (λ nodes. All (IsRead raw.now) nodes.items)) }
+{
+    let mut nodes = Vec::new(alloc);
+    let end = front_by_descent(&mut nodes, raw)?;
+    if end == raw.len() {
+        Ok(Some(nodes))
+    } else {
+        Ok(None)
+    }
+}
+
+/// The same as [`syntax_of_front`](crate::syntax_of_front), over the table of ends of the whole text.
+///
+/// It asks for memory for the nodes alone.
+pub fn front_of(alloc: Global, ends: &Ends<'_>) -> Result<Vec<Node>, AllocError>
+    ensures { IfOk result (λ nodes. IsFront ends.now.text nodes.items) }
+{
+    match ends.end(Rule::DEFINITIONS, 0) {
+        Some(end) => nodes_to(alloc, ends, end),
+        None => unreachable!(),
+    }
+}

@@ -1,0 +1,254 @@
+//! A text with its nodes, to go from node to node.
+
+ghost use Rattle.std.specs.Prelude.{
+  ◌≡◌,
+  ◌≤◌,
+  ◌<◌,
+  ◌+◌,
+  ◌↔◌,
+  ℕ,
+  length,
+  IsTrue,
+  IsSome,
+  IfOk,
+  IfSome,
+  IfNone,
+  MatchOption,
+};
+ghost use Rattle.weedle_grammar.specs.Meaning.{between};
+ghost use Rattle.weedle_syntax.specs.Syntax.{RestBegins, IsWhole, IsSyntax, IsFront, rest_of, root_to};
+ghost use Rattle.weedle_syntax.specs.Tree.{
+  node_at,
+  below_of,
+  IsChild,
+  IsLeaf,
+  HasRule,
+  FindsNext,
+  IsLeafAt,
+};
+
+use crate::below::count_below;
+use crate::node::Node;
+use crate::quick::syntax_of_front;
+use std::alloc::{AllocError, Global};
+use std::marker::Model;
+use weedle_grammar::Rule;
+
+/// A text with its nodes, to go from node to node.
+///
+/// A node is named by its number in preorder, from 0 on. So a node's number is greater than those of
+/// the nodes that it stands in, and what is below a node has the numbers behind its own.
+///
+/// In `enum E { "a" };` node 0 is the root, of the rule `DEFINITIONS`, and node 1 its child, of the rule
+/// `DEFINITION`.
+#[derive(Drop)]
+pub struct Syntax<'a> {
+    text: &'a str,
+    nodes: Vec<Node>,
+    // how many nodes stand below each
+    below: Vec<usize>,
+}
+
+impl<'a> Model for Syntax<'a> {
+    ghost use Rattle.weedle_syntax.specs.SyntaxView.{SyntaxView};
+
+    ghost Value = { SyntaxView };
+
+    ghost view = { λ s. record { text = s.text.now; nodes = s.nodes.items } };
+
+    ghost use Rattle.weedle_syntax.specs.Tree.{IsTree};
+
+    ghost invariant = { λ s. IsTree s.text.now s.nodes.items s.below.items };
+}
+
+impl<'a> Syntax<'a> {
+    /// The nodes of a text that is read whole; None of one that isn't, as `interface A {`.
+    ///
+    /// It reads as [`syntax_quick`](crate::syntax_quick) does, and costs the same; beside that it asks
+    /// for memory once, 8 bytes for each node.
+    pub fn new(alloc: Global, text: &'a str) -> Result<Option<Syntax<'a>>, AllocError>
+        ensures whole { IfOk result (λ found. IsSome found ↔ IsWhole text.entry.now) }
+        ensures text { IfOk result (λ found. IfSome found (λ s. s.text ≡ text.entry.now)) }
+        ensures are { IfOk result (λ found. IfSome found (λ s. IsSyntax s.text s.nodes)) }
+    {
+        let syntax = Syntax::of_front(alloc, text)?;
+        if syntax.rest() == text.len() {
+            return Ok(Some(syntax));
+        }
+        Ok(None)
+    }
+
+    /// The nodes of the definitions at the front of a text, whatever stands behind them.
+    ///
+    /// [`rest`](Syntax::rest) says where the rest begins, which no definition reads: so a tool has a
+    /// tree while a text is written. It costs what [`new`](Syntax::new) costs.
+    pub fn of_front(alloc: Global, text: &'a str) -> Result<Syntax<'a>, AllocError>
+        ensures text { IfOk result (λ s. s.text ≡ text.entry.now) }
+        ensures are { IfOk result (λ s. IsFront s.text s.nodes) }
+    {
+        let nodes = syntax_of_front(alloc, text)?;
+        let below = count_below(alloc, &nodes)?;
+        Ok(Syntax { text, nodes, below })
+    }
+
+    /// The text. It takes no memory, as none of the following but those that return a `Vec`.
+    pub fn text(&self) -> &'a str
+        ensures { result.now ≡ self.now.text }
+    {
+        self.text
+    }
+
+    /// The nodes, in preorder.
+    pub fn nodes(&self) -> &[Node]
+        ensures are { result.now ≡ self.now.nodes }
+        ensures front { IsFront self.now.text result.now }
+    {
+        &self.nodes
+    }
+
+    /// Where the rest begins, in bytes: the end of the text, where it is read whole.
+    pub fn rest(&self) -> usize
+        ensures value { result ≡ rest_of self.now.nodes }
+        ensures begins { RestBegins self.now.text result }
+    {
+        self.nodes[0].end
+    }
+
+    /// The root: the node of all definitions. It has number 0.
+    pub fn root(&self) -> usize
+        ensures within { result < length self.now.nodes }
+        ensures first { result ≡ 0 }
+        ensures root { node_at self.now.nodes result ≡ root_to (rest_of self.now.nodes) }
+    {
+        let _ = &self.nodes;
+        0
+    }
+
+    /// How many nodes stand below a node: they have the numbers behind its own. One step.
+    pub fn below(&self, node: usize) -> usize
+        requires { node < length self.now.nodes }
+        ensures value { result ≡ below_of self.now.nodes node }
+        ensures within { node + result < length self.now.nodes }
+    {
+        self.below[node]
+    }
+
+    /// The bytes of a node. One step.
+    ///
+    /// Most rules take the blanks and comments behind them, so in `interface A {};` the text of the
+    /// keyword's node is `interface ` with the blank.
+    pub fn text_of(&self, node: usize) -> &'a str
+        requires { node < length self.now.nodes }
+        ensures { result.now
+            ≡ between self.now.text (node_at self.now.nodes node).start (node_at self.now.nodes node).end }
+    {
+        let node = self.nodes[node];
+        &self.text[node.start..node.end]
+    }
+
+    /// The first of the nodes that a node reads directly, if there is one. One step.
+    pub fn first_child(&self, node: usize) -> Option<usize>
+        requires { node < length self.now.nodes }
+        ensures { MatchOption result (IsLeaf self.now.nodes node)
+            (λ child. (child ≡ node + 1) × IsChild self.now.nodes node child) }
+    {
+        if self.below[node] == 0 {
+            None
+        } else {
+            Some(node + 1)
+        }
+    }
+
+    /// The next node that is read directly by the same node, if there is one. One step.
+    pub fn next_sibling(&self, node: usize) -> Option<usize>
+        requires { node < length self.now.nodes }
+
+        // The sibling is the node behind all that is below, and has the same parent.
+        ensures some { IfSome result
+            (λ next. (next ≡ node + below_of self.now.nodes node + 1)
+            × (next < length self.now.nodes)
+            × ((p : ℕ) → IsChild self.now.nodes p node → IsChild self.now.nodes p next)) }
+
+        // Without one, the parent ends with the node.
+        ensures none { IfNone result
+            ((p : ℕ) → IsChild self.now.nodes p node
+            → p + below_of self.now.nodes p ≡ node + below_of self.now.nodes node) }
+    {
+        let many = self.nodes.len();
+        let next = node + self.below[node] + 1;
+        if next < many {
+            if self.nodes[next].depth == self.nodes[node].depth {
+                return Some(next);
+            }
+        }
+        None
+    }
+
+    /// The node that reads a node directly; None of the root.
+    ///
+    /// It looks back from the node: a step for each node between the two.
+    pub fn parent(&self, node: usize) -> Option<usize>
+        requires { node < length self.now.nodes }
+        ensures { MatchOption result (node ≡ 0) (λ parent. IsChild self.now.nodes parent node) }
+    {
+        let depth = self.nodes[node].depth;
+        let mut at = node;
+        while at > 0 {
+            at -= 1;
+            if self.nodes[at].depth < depth {
+                return Some(at);
+            }
+        }
+        None
+    }
+
+    /// The leaf that holds a byte: the deepest node there. None from where the rest begins on.
+    ///
+    /// It halves the nodes: of a million it looks at 20.
+    pub fn at(&self, byte: usize) -> Option<usize>
+        ensures { MatchOption result (rest_of self.now.nodes ≤ byte)
+            (λ leaf. IsLeafAt self.now.nodes byte leaf) }
+    {
+        if byte >= self.rest() {
+            return None;
+        }
+        let mut low = 0;
+        let mut high = self.nodes.len();
+        while low + 1 < high {
+            let middle = low + (high - low) / 2;
+            if self.nodes[middle].start <= byte {
+                low = middle;
+            } else {
+                high = middle;
+            }
+        }
+        Some(low)
+    }
+
+    /// The first node of a rule from a number on. A step for each node that it passes.
+    pub fn find(&self, rule: Rule, from: usize) -> Option<usize>
+        ensures { FindsNext (HasRule self.now.nodes rule) from (length self.now.nodes) result }
+    {
+        for node in from..self.nodes.len() {
+            if self.nodes[node].rule == rule {
+                return Some(node);
+            }
+        }
+        None
+    }
+
+    /// The first leaf from a number on: a node that reads no other. A step for each node that it
+    /// passes.
+    ///
+    /// The leaves, one after another, are the text up to where the rest begins. Some take no byte.
+    pub fn next_leaf(&self, from: usize) -> Option<usize>
+        ensures { FindsNext (IsLeaf self.now.nodes) from (length self.now.nodes) result }
+    {
+        for node in from..self.nodes.len() {
+            if self.below[node] == 0 {
+                return Some(node);
+            }
+        }
+        None
+    }
+}
