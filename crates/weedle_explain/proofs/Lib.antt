@@ -1,3 +1,1 @@
-pub mod TableFacts
-pub mod WordFacts
 pub mod RefusalFacts

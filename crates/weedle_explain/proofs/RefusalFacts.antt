@@ -1,19 +1,12 @@
 -- What is said of the rest is said of the text.
 use Rattle.std.proofs.Common.{◌≡◌, ◌≤◌, ◌+◌, ◌-◌, ◌∙◌, ℕ, List, length, drop, ap, refl, subst, arith}
 use Rattle.std.proofs.lemmas.List.{length-drop}
-use Rattle.std.proofs.lemmas.Str.{IsCharBoundary-from_rest, IsCharBoundary-start}
+use Rattle.std.proofs.lemmas.Str.{IsCharBoundary-from_rest}
 use Rattle.std.specs.Global.{Vec}
-use Rattle.std.specs.Prelude.{IsUtf8}
-use Rattle.weedle_diagnose.specs.Diagnosis.{IsDiagnosis}
-use Rattle.weedle_explain.specs.Refusal.{IsFurthest, IsRefusal, IsRest}
-use Rattle.weedle_explain.specs.Words.{AreWords}
-use Rattle.weedle_explain.specs.declared.expected.Expected.{Expected}
+use Rattle.weedle_explain.specs.Refusal.{IsRefusal, IsRest}
 use Rattle.weedle_front.specs.Whole.{IsLeft}
-
--- what a diagnosis from the front of a text says, in words
-pub furthest_is : {text rules : List ℕ} {place : ℕ} {words : List Expected} → IsUtf8 text → IsDiagnosis text 0 place rules → AreWords rules words → IsFurthest text place words
-furthest_is {text} {rules} utf8 diagnosed words =
-    record { rules = rules; diagnosed = diagnosed; said = words; boundary = diagnosed.boundary utf8 (IsCharBoundary-start text utf8) }
+use Rattle.weedle_refusal.specs.Furthest.{IsFurthest}
+use Rattle.weedle_refusal.specs.declared.expected.Expected.{Expected}
 
 module _ {raw rest : List ℕ} (h : IsRest raw rest) where
   -- the rest stands behind what is read

@@ -1,19 +1,10 @@
 -- What is said of a text: nothing, where the grammar reads it whole, and else where and why it is refused.
 use Rattle.std.specs.Borrow.{Bor}
 use Rattle.std.specs.Prelude.{◌≡◌, ◌+◌, ◌<◌, ◌≤◌, ℕ, List, length, drop, Option, Some, None, IsCharBoundary}
-use Rattle.weedle_diagnose.specs.Diagnosis.{IsDiagnosis}
-use Rattle.weedle_explain.specs.Words.{AreWords}
-use Rattle.weedle_explain.specs.declared.expected.Expected.{Expected}
-use Rattle.weedle_explain.specs.declared.refusal.Refusal.{Refusal}
 use Rattle.weedle_front.specs.Whole.{IsWhole, IsLeft}
 use Rattle.weedle_idl.specs.declared.definition.Definition.{Definition}
-
--- of a text that is read from its front on: the furthest place at which something is unmet, where a character begins or the text ends, and the words for what is unmet there
-pub record IsFurthest (text : List ℕ) (place : ℕ) (words : List Expected) : Type 0 where
-  pub rules : List ℕ
-  pub diagnosed : IsDiagnosis text 0 place rules
-  pub said : AreWords rules words
-  pub boundary : IsCharBoundary text place
+use Rattle.weedle_refusal.specs.Furthest.{IsFurthest}
+use Rattle.weedle_refusal.specs.declared.refusal.Refusal.{Refusal}
 
 -- the text is refused: the grammar leaves what stands from `start` on, and of that the place and the words tell
 pub record IsRefusal (raw : List ℕ) (refusal : Refusal) : Type 0 where

@@ -13,13 +13,7 @@
 //! It prints ``a.webidl:3:1: expected `;` ``.
 #![tactic(auto)]
 
-mod expected;
-mod position;
 mod refusal;
-mod starts;
-mod words;
 
-pub use expected::Expected;
-pub use position::{Position, position_of};
-pub use refusal::{Refusal, explain};
-pub use weedle_grammar::Class;
+pub use refusal::explain;
+pub use weedle_refusal::{Class, Expected, Position, Refusal, position_of};

@@ -1,0 +1,62 @@
+#!/bin/sh
+# Tests the C library that c/build.sh built, and runs the examples in C, C++ and Rust.
+#
+#     c/run_tests.sh
+#
+# The header is compiled by each standard; the tests run as they are, with sanitizers, and under valgrind. A compiler
+# that is missing is an error, said in a line. CC, CXX, CARGO and VALGRIND may name other commands. The large texts of
+# the tests take 2 GB of memory and some seconds.
+set -eu
+
+top=$(cd "$(dirname "$0")/.." && pwd)
+out=$top/c/out
+library=$out/libweedle.a
+sample=$top/examples/pages.webidl
+warnings="-Wall -Wextra -Wpedantic -Werror"
+# The tests refuse requests for memory, so they stand before the C library's own.
+wrapped="-pthread -Wl,--wrap=malloc,--wrap=realloc"
+
+failed() {
+    echo "run_tests.sh: $1" >&2
+    exit 1
+}
+
+[ -f "$library" ] || failed "there is no $library; c/build.sh builds it"
+command -v "${CC:=cc}" >/dev/null || failed "there is no C compiler $CC"
+command -v "${CXX:=c++}" >/dev/null || failed "there is no C++ compiler $CXX"
+command -v "${CARGO:=cargo}" >/dev/null || failed "there is no $CARGO, which builds the example in Rust"
+command -v "${VALGRIND:=valgrind}" >/dev/null || failed "there is no $VALGRIND"
+
+echo "the header, by each standard"
+for standard in c99 c11 c17; do
+    "$CC" -std=$standard $warnings -x c -fsyntax-only "$top/include/weedle.h"
+done
+for standard in c++98 c++11 c++17; do
+    "$CXX" -std=$standard $warnings -x c++ -fsyntax-only "$top/include/weedle.h"
+done
+
+echo "the tests"
+"$CC" -std=c11 -O2 $warnings -I"$top/include" -o "$out/tests" "$top/c/tests/test_weedle.c" "$library" $wrapped
+"$out/tests"
+
+echo "the tests, with sanitizers"
+"$CC" -std=c11 -g -O1 -fsanitize=address,undefined -fno-sanitize-recover=all $warnings -I"$top/include" \
+    -o "$out/sanitized" "$top/c/tests/test_weedle.c" "$library" $wrapped
+WEEDLE_SMALL=1 ASAN_OPTIONS=allocator_may_return_null=1 "$out/sanitized"
+
+echo "the tests, under valgrind"
+WEEDLE_SMALL=1 "$VALGRIND" -q --error-exitcode=1 --leak-check=full "$out/tests"
+
+echo "the examples"
+"$CC" -std=c99 -O2 $warnings -I"$top/include" -o "$out/count_c" "$top/examples/c/count_interfaces.c" "$library"
+"$CXX" -std=c++11 -O2 $warnings -I"$top/include" -o "$out/count_cpp" \
+    "$top/examples/cpp/count_interfaces.cpp" "$library"
+[ "$("$out/count_c" "$sample")" = "$(printf 'Window\nStorage\n2 interfaces')" ] || failed "the example in C"
+[ "$("$out/count_cpp" <"$sample")" = "2 interfaces" ] || failed "the example in C++"
+refusal=$("$out/count_c" "$top/crates/weedle_check/data/slip.webidl" 2>&1) && failed "the example in C reads a slip"
+case $refusal in
+*"slip.webidl:2:37: expected "*) ;;
+*) failed "the example in C says otherwise: $refusal" ;;
+esac
+(cd "$top/examples/rust" && WEEDLE_LIBRARY="$out" "$CARGO" test --offline --quiet)
+echo "all passed"

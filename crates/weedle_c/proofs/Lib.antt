@@ -1,0 +1,2 @@
+pub mod FillFacts
+pub mod TreeFacts

@@ -1,0 +1,9 @@
+use Rattle.std.proofs.Common.{◌≤◌, ◌<◌, length}
+use Rattle.weedle_c.proofs.message.write_cut.Given as goal
+
+-- the end lies in the message, and there is room for the zero behind it
+abbrev pub invariant-loop-end : goal.invariant-loop-end
+invariant-loop-end l = (l.end ≤ length l.said) × (l.end < length l.room)
+
+abbrev pub decreases-loop-end : goal.decreases-loop-end
+decreases-loop-end l = l.end

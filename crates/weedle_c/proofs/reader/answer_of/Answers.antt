@@ -1,0 +1,33 @@
+use Rattle.std.proofs.Common.{◌<◌, ◌≤◌, length, refl, arith}
+use Rattle.weedle_c.proofs.TreeFacts.{unread, has_tree}
+use Rattle.weedle_syntax.specs.Syntax.{rest_of}
+use Rattle.weedle_c.proofs.reader.answer_of.Goals as goal
+
+pub returns-then-rest-raw-clause-refused : goal.returns-then-rest-raw-clause-refused
+returns-then-rest-raw-clause-refused c =
+    let rest = c.rest_of-rest.ensures in
+    let before = c.if-rest-raw.true in
+    let inside : rest_of c.args.found.now < length c.args.raw.now = omega arith in
+    λ _. unread c.requires rest inside
+
+pub returns-then-found-nodes-clause-no_room : goal.returns-then-found-nodes-clause-no_room
+returns-then-found-nodes-clause-no_room c =
+    let rest = c.rest_of-rest.ensures in
+    let behind = c.if-rest-raw.false in
+    let done : length c.args.raw.now ≤ rest_of c.args.found.now = omega arith in
+    λ _. record {
+      tree = c.args.found.now;
+      has = has_tree c.requires done rest refl;
+      more = c.if-found-nodes.true;
+    }
+
+pub returns-clause-read : goal.returns-clause-read
+returns-clause-read c =
+    let rest = c.rest_of-rest.ensures in
+    let behind = c.if-rest-raw.false in
+    let done : length c.args.raw.now ≤ rest_of c.args.found.now = omega arith in
+    λ _. record {
+      tree = c.args.found.now;
+      has = has_tree c.requires done rest refl;
+      written = c.fill.ensures;
+    }

@@ -1,0 +1,84 @@
+//! The proved reader as a C library. `include/weedle.h` declares what it exports, and says what a caller has to keep.
+//!
+//! ```c
+//! struct weedle_answer answer;
+//! unsigned status = weedle_syntax(text, length, nodes, room, &answer);
+//! ```
+//!
+//! Each function calls one that does what it says, and states its clauses again. A C compiler sees a slice as a pointer
+//! and a length, and no `alloc`.
+#![tactic(auto)]
+
+mod message;
+mod node;
+mod reader;
+mod status;
+
+ghost use Rattle.std.specs.Prelude.{◌≡◌, ◌≢◌, ◌≤◌, ◌↔◌, IsUtf8, length};
+ghost use Rattle.std.specs.Str.{IsValidUpTo};
+ghost use Rattle.weedle_c.specs.Answers.{IsCounted, IsExplained, IsTree, IsUnread};
+ghost use Rattle.weedle_syntax.specs.Syntax.{IsWhole};
+
+use crate::message::{WeedleRefusal, explain};
+use crate::node::WeedleNode;
+use crate::reader::{WeedleAnswer, read};
+use crate::status::{NO_MEMORY, NO_ROOM, NOT_UTF8, READ, REFUSED, TOO_LONG};
+use std::alloc::Global;
+use weedle_grammar::RULES;
+
+/// The version: a byte each for the three numbers of 0.4.0.
+const VERSION: u32 = 0x000400;
+
+/// Reads a text, and writes the nodes of its syntax tree where there is room for all. The answer is the status.
+#[unsafe(no_mangle)]
+pub extern "C" fn weedle_syntax(
+    alloc: Global,
+    text: &[u8],
+    nodes: &mut [WeedleNode],
+    answer: &mut WeedleAnswer,
+) -> u32
+    ensures known { result ≤ TOO_LONG }
+    ensures read { result ≡ READ → IsTree text.now nodes.old nodes.new answer.new }
+    ensures refused { result ≡ REFUSED → IsUnread text.now answer.new }
+    ensures not_utf8 { (result ≡ NOT_UTF8) ↔ ¬ IsUtf8 text.now }
+    ensures byte { result ≡ NOT_UTF8 → IsValidUpTo text.now answer.new.rest }
+    ensures no_room { result ≡ NO_ROOM → IsCounted text.now (length nodes.old) answer.new }
+    ensures unwritten { result ≢ READ → nodes.new ≡ nodes.old }
+{
+    read(alloc, text, nodes, answer)
+}
+
+/// Says where and why a text is refused, and writes as much of the message as there is room for. The answer is the
+/// status.
+#[unsafe(no_mangle)]
+pub extern "C" fn weedle_explain(
+    alloc: Global,
+    text: &[u8],
+    message: &mut [u8],
+    answer: &mut WeedleRefusal,
+) -> u32
+    ensures known { result ≤ NO_MEMORY }
+    ensures read { result ≡ READ → IsWhole text.now }
+    ensures refused { result ≡ REFUSED → IsExplained text.now answer.new }
+    ensures not_utf8 { (result ≡ NOT_UTF8) ↔ ¬ IsUtf8 text.now }
+    ensures byte { result ≡ NOT_UTF8 → IsValidUpTo text.now answer.new.place }
+    ensures unwritten { result ≢ REFUSED → message.new ≡ message.old }
+{
+    explain(alloc, text, message, answer)
+}
+
+/// The version of the library.
+#[unsafe(no_mangle)]
+pub extern "C" fn weedle_version() -> u32
+    ensures { result ≡ VERSION }
+{
+    VERSION
+}
+
+/// How many rules the grammar has.
+#[unsafe(no_mangle)]
+pub extern "C" fn weedle_rules() -> u32
+    ensures { result ≡ RULES }
+{
+    RULES as u32
+}

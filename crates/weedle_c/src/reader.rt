@@ -1,0 +1,124 @@
+//! The reading of a text, for its nodes.
+
+ghost use Rattle.std.specs.Prelude.{◌≡◌, ◌≢◌, ◌≤◌, ◌<◌, ◌↔◌, IfOk, IsUtf8, length};
+ghost use Rattle.std.specs.Str.{IsValidUpTo};
+ghost use Rattle.weedle_c.specs.Answers.{IsCounted, IsTree, IsUnread};
+ghost use Rattle.weedle_syntax.specs.Syntax.{IsFront};
+
+use crate::node::{MOST, WeedleNode, all_fit, fill};
+use crate::status::{NO_MEMORY, NO_ROOM, NOT_UTF8, READ, REFUSED, TOO_LONG};
+use std::alloc::{AllocError, Global};
+use weedle_nesting::nesting;
+use weedle_refusal::rest_of;
+use weedle_rules::Ends;
+use weedle_syntax::{Node, front_of, syntax_of_front};
+
+/// What is said of a reading beside its status.
+#[repr(C)]
+#[derive(Clone, Copy)]
+pub struct WeedleAnswer {
+    /// How many nodes the tree has, of a text that is read whole.
+    pub count: usize,
+    /// Where the unread rest begins, in bytes from the front of the text: at its end where it is read whole. Of what
+    /// isn't UTF-8 it is the first byte that isn't part of a character.
+    pub rest: usize,
+}
+
+/// What is said where nothing is known.
+const NOTHING: WeedleAnswer = WeedleAnswer { count: 0, rest: 0 };
+
+/// How many levels a text may nest that descent reads: some 1.6 kB of stack for each, and so 100 kB at most.
+const MOST_LEVELS: usize = 64;
+
+/// Reads a text, and writes its nodes where there is room for all. The answer is the status.
+pub(crate) fn read(
+    alloc: Global,
+    text: &[u8],
+    nodes: &mut [WeedleNode],
+    answer: &mut WeedleAnswer,
+) -> u32
+    ensures known { result ≤ TOO_LONG }
+    ensures read { result ≡ READ → IsTree text.now nodes.old nodes.new answer.new }
+    ensures refused { result ≡ REFUSED → IsUnread text.now answer.new }
+    ensures not_utf8 { (result ≡ NOT_UTF8) ↔ ¬ IsUtf8 text.now }
+    ensures byte { result ≡ NOT_UTF8 → IsValidUpTo text.now answer.new.rest }
+    ensures no_room { result ≡ NO_ROOM → IsCounted text.now (length nodes.old) answer.new }
+    ensures unwritten { result ≢ READ → nodes.new ≡ nodes.old }
+{
+    *answer = NOTHING;
+    match str::from_utf8(text) {
+        Ok(raw) => read_text(alloc, raw, nodes, answer),
+        Err(error) => {
+            answer.rest = error.valid_up_to();
+            NOT_UTF8
+        }
+    }
+}
+
+/// Reads what is UTF-8.
+fn read_text(alloc: Global, raw: &str, nodes: &mut [WeedleNode], answer: &mut WeedleAnswer) -> u32
+    ensures known { (result ≤ TOO_LONG) × (result ≢ NOT_UTF8) }
+    ensures read { result ≡ READ → IsTree raw.now nodes.old nodes.new answer.new }
+    ensures refused { result ≡ REFUSED → IsUnread raw.now answer.new }
+    ensures no_room { result ≡ NO_ROOM → IsCounted raw.now (length nodes.old) answer.new }
+    ensures unwritten { result ≢ READ → nodes.new ≡ nodes.old }
+{
+    if raw.len() > MOST {
+        return TOO_LONG;
+    }
+    match front(alloc, raw) {
+        Ok(found) => answer_of(raw, &found, nodes, answer),
+        Err(_) => NO_MEMORY,
+    }
+}
+
+/// What is answered where these nodes were read.
+fn answer_of(raw: &str, found: &[Node], nodes: &mut [WeedleNode], answer: &mut WeedleAnswer) -> u32
+    requires { IsFront raw.now found.now }
+    ensures known { (result ≤ TOO_LONG) × (result ≢ NOT_UTF8) }
+    ensures read { result ≡ READ → IsTree raw.now nodes.old nodes.new answer.new }
+    ensures refused { result ≡ REFUSED → IsUnread raw.now answer.new }
+    ensures no_room { result ≡ NO_ROOM → IsCounted raw.now (length nodes.old) answer.new }
+    ensures unwritten { result ≢ READ → nodes.new ≡ nodes.old }
+{
+    let rest = rest_of(found);
+    if rest < raw.len() {
+        *answer = WeedleAnswer { count: 0, rest };
+        return REFUSED;
+    }
+    if !all_fit(found) {
+        return TOO_LONG;
+    }
+    *answer = WeedleAnswer {
+        count: found.len(),
+        rest,
+    };
+    if found.len() > nodes.len() {
+        return NO_ROOM;
+    }
+    fill(found, nodes);
+    READ
+}
+
+/// The nodes of the definitions at the front of a text.
+///
+/// Descent reads what nests little, and else a table of ends does: so a little stack is enough for any text.
+pub(crate) fn front(alloc: Global, raw: &str) -> Result<Vec<Node>, AllocError>
+    ensures { IfOk result (λ nodes. IsFront raw.now nodes.items) }
+{
+    if nests_little(raw) {
+        return syntax_of_front(alloc, raw);
+    }
+    let ends = Ends::new(alloc, raw)?;
+    front_of(alloc, &ends)
+}
+
+/// Whether descent needs little stack for a text. A `[` counts as two levels, since its arguments take more stack.
+fn nests_little(raw: &str) -> bool {
+    let depths = nesting(raw);
+    depths
+        .attributes
+        .saturating_mul(2)
+        .saturating_add(depths.brackets)
+        <= MOST_LEVELS
+}

@@ -1,0 +1,5 @@
+pub mod TableFacts
+pub mod WordFacts
+pub mod FurthestFacts
+pub mod RefusalFacts
+pub mod FrontFacts

@@ -1,0 +1,4 @@
+pub mod Position
+pub mod Words
+pub mod Furthest
+pub mod Refusal

@@ -1,0 +1,21 @@
+-- What is said of a text: nothing, where the grammar reads it whole, and else where and why it is refused.
+use Rattle.std.specs.Prelude.{◌≡◌, ◌+◌, ◌<◌, ℕ, List, length, drop, Option, Some, None, IsCharBoundary}
+use Rattle.weedle_refusal.specs.Furthest.{IsFurthest}
+use Rattle.weedle_refusal.specs.declared.refusal.Refusal.{Refusal}
+use Rattle.weedle_syntax.specs.Syntax.{IsWhole, RestBegins}
+
+-- the text is refused: the grammar leaves what stands from `start` on, and of that the place and the words tell
+pub record IsRefusal (raw : List ℕ) (refusal : Refusal) : Type 0 where
+  pub refused : ¬ IsWhole raw
+  pub left : RestBegins raw refusal.start
+  pub nonempty : refusal.start < length raw
+  pub furthest : ℕ
+  pub found : IsFurthest (drop refusal.start raw) furthest refusal.expected.items
+  pub place : refusal.place ≡ refusal.start + furthest
+  -- a character of the whole text begins at the place, or the text ends there
+  pub boundary : IsCharBoundary raw refusal.place
+
+-- None where the grammar reads the whole text, and else a refusal
+abbrev pub Explains : List ℕ → Option Refusal → Type 0
+Explains raw None = IsWhole raw
+Explains raw (Some refusal) = IsRefusal raw refusal

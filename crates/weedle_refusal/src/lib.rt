@@ -1,0 +1,32 @@
+//! What is said of a text that is refused: where, at which line and column, and in words what would have been read
+//! there. It stands on the grammar and the table of ends, and on no type of the tree.
+//!
+//! ```rust
+//! use weedle_refusal::{position_of, refusal_of};
+//!
+//! let text = "interface A {\n  readonly attribute long x\n};";
+//! if let Some(refusal) = refusal_of(rt.alloc(), text)? {
+//!     let position = position_of(text, refusal.place);
+//!     println!(rt; "a.webidl:{position}: {refusal}")?;
+//! }
+//! ```
+//!
+//! It prints ``a.webidl:3:1: expected `;` ``.
+#![tactic(auto)]
+
+mod excerpt;
+mod expected;
+mod furthest;
+mod message;
+mod position;
+mod refusal;
+mod starts;
+mod words;
+
+pub use excerpt::write_excerpt;
+pub use expected::Expected;
+pub use furthest::furthest_in;
+pub use message::write_message;
+pub use position::{Position, position_of};
+pub use refusal::{Refusal, refusal_from, refusal_of, rest_of};
+pub use weedle_grammar::Class;

@@ -1,0 +1,105 @@
+//! Why a text is refused.
+
+ghost use Rattle.std.specs.Prelude.{◌≡◌, ◌≤◌, ◌<◌, IfOk, IfSome, length};
+ghost use Rattle.weedle_refusal.specs.Refusal.{Explains, IsRefusal};
+ghost use Rattle.weedle_syntax.specs.Syntax.{RestBegins, rest_of as the_rest_of};
+
+use crate::expected::Expected;
+use crate::furthest::furthest_in;
+use std::alloc::{AllocError, Global};
+use std::error;
+use std::fmt::{self, Display, Formatter, Write};
+use weedle_syntax::{Node, syntax_of_front};
+
+/// How many words are shown at most.
+const SHOWN: usize = 6;
+
+/// Where and why a text is refused. Places are in bytes from the front of the text.
+///
+/// Of `interface A {}; enum E { "a" "b" };` it says that the second definition, from 16 on, isn't read: the
+/// reading comes to 29, where a `,` or a `}` would go on.
+#[derive(Debug, Drop)]
+pub struct Refusal {
+    /// Where the unread rest begins: behind the last definition that can be read, and the blanks and
+    /// comments behind it.
+    pub start: usize,
+    /// The furthest place to which the reading of the rest comes. A character begins there, or the text
+    /// ends.
+    pub place: usize,
+    /// What would have been read at that place, each word once. Blanks and comments, which may stand
+    /// nearly everywhere, aren't among it.
+    pub expected: Vec<Expected>,
+}
+
+/// Says what was expected, as ``expected `}` or `,` ``: six words at most, and then how many more there are.
+impl Display for Refusal {
+    fn fmt<W: Write>(&self, f: &mut Formatter<W>) -> fmt::Result {
+        let more = self.expected.len().saturating_sub(SHOWN);
+        f.write_str("expected ")?;
+        for (at, word) in self.expected.iter().take(SHOWN).enumerate() {
+            f.write_str(if at == 0 {
+                ""
+            } else if more == 0 && at + 1 == self.expected.len() {
+                " or "
+            } else {
+                ", "
+            })?;
+            write!(f, "{word}")?;
+        }
+        if more > 0 {
+            write!(f, " or {more} more")?;
+        }
+        Ok(())
+    }
+}
+
+impl error::Error for Refusal {}
+
+/// Why a text is refused, or None where it is read whole.
+///
+/// `interface A {}; enum E { "a" "b" };` is refused from 16 on, and at 29 a `,` or a `}` is expected. Where
+/// a text has several slips, it is the first definition that isn't read that is explained.
+///
+/// It reads the text by [`syntax_of_front`], and costs what that costs. Where that leaves a rest, it goes on as
+/// [`refusal_from`] does.
+pub fn refusal_of(alloc: Global, raw: &str) -> Result<Option<Refusal>, AllocError>
+    ensures explains { IfOk result (Explains raw.now) }
+
+    // A refusal's place is one of the text.
+    ensures within { IfOk result (λ answer. IfSome answer (λ refusal. refusal.place ≤ length raw.now)) }
+{
+    let nodes = syntax_of_front(alloc, raw)?;
+    let start = rest_of(&nodes);
+    drop(nodes);
+    if start == raw.len() {
+        return Ok(None);
+    }
+    let refusal = refusal_from(alloc, raw, start)?;
+    Ok(Some(refusal))
+}
+
+/// Why a text is refused whose unread rest begins at this place, as `syntax_of_front` has it.
+///
+/// It fills a table of ends of the rest alone, and marks what is tried: together some 1,600 bytes of memory for each
+/// byte of the rest. Where memory is refused, the answer is an error.
+pub fn refusal_from(alloc: Global, raw: &str, start: usize) -> Result<Refusal, AllocError>
+    requires rest { RestBegins raw.now start }
+    requires unread { start < length raw.now }
+    ensures is { IfOk result (IsRefusal raw.now) }
+    ensures within { IfOk result (λ refusal. refusal.place ≤ length raw.now) }
+{
+    let (furthest, expected) = furthest_in(alloc, &raw[start..])?;
+    Ok(Refusal {
+        start,
+        place: start + furthest,
+        expected,
+    })
+}
+
+/// Where the unread rest begins behind the nodes of what stands at the front of a text: there the first of them ends.
+pub fn rest_of(nodes: &[Node]) -> usize
+    requires { 0 < length nodes.now }
+    ensures { result ≡ the_rest_of nodes.now }
+{
+    nodes[0].end
+}

@@ -1,0 +1,163 @@
+//! The words for the rules that are unmet at a place.
+
+ghost use Rattle.std.specs.Prelude.{◌≡◌, ◌↔◌, ℕ, true, false, IsTrue, OnOk, IfOk, IfSome, IfNone};
+ghost use Rattle.std.specs.List.{Contains, list_all};
+ghost use Rattle.weedle_refusal.specs.Words.{
+  AreSound,
+  AreWords,
+  IsSaid,
+  Says,
+  has as among,
+  has_word,
+  is_left_out as left_out,
+  is_named,
+  is_start as starts_with,
+};
+
+use crate::expected::Expected;
+use crate::starts::{CONST_TYPES, CONST_VALUES, DEFAULT_VALUES, NAMES, TYPES, TYPES_BUT_ANY};
+use std::alloc::{AllocError, Global};
+use std::str;
+use weedle_grammar::grammar::keywords::NOT_NEXT_NAME;
+use weedle_grammar::grammar::leaves::PAST_LF;
+use weedle_grammar::grammar::trivia::{
+    BYTES_LF, BYTES_SLASH_SLASH, BYTES_SLASH_STAR, NOT_NEXT_ANY, NOT_NEXT_SLASH, ONE_OF_BLANK,
+    PAST_STAR_SLASH,
+};
+use weedle_grammar::{Row, Rule, row_of};
+
+/// The words for these rules, each once.
+pub(crate) fn words_of(alloc: Global, rules: &[Rule]) -> Result<Vec<Expected>, AllocError>
+    ensures { IfOk result (λ words. AreWords rules.now words.items) }
+{
+    let mut words = Vec::new(alloc);
+    for rule in rules {
+        add_word(&mut words, rules, *rule)?;
+    }
+    Ok(words)
+}
+
+/// Adds the word for one of the rules, if it has one that isn't there yet.
+fn add_word(words: &mut Vec<Expected>, rules: &[Rule], rule: Rule) -> Result<(), AllocError>
+    requires among { Contains rules.now rule }
+    requires sound { AreSound rules.now words.old.items }
+    ensures sound { AreSound rules.now words.new.items }
+    ensures said { OnOk result (has_word rule ≡ true → IsSaid rules.now words.new.items rule) }
+    ensures kept { (r : ℕ) → IsSaid rules.now words.old.items r → IsSaid rules.now words.new.items r }
+{
+    let Some(word) = word_among(rules, rule) else {
+        return Ok(());
+    };
+    if !words.contains(&word) {
+        words.push(word)?;
+    }
+    Ok(())
+}
+
+/// The word for a rule among these: that of its kind where all starts of the kind are there, and else its
+/// own.
+fn word_among(rules: &[Rule], rule: Rule) -> Option<Expected>
+    ensures some { IfSome result (λ word. Says rules.now word rule) }
+    ensures none { IfNone result (has_word rule ≡ false) }
+{
+    if is_type(rules, rule) {
+        Some(Expected::Type)
+    } else if is_value(rules, rule) {
+        Some(Expected::Value)
+    } else if is_start(rules, NAMES, rule) {
+        Some(Expected::Name)
+    } else {
+        word_of(rules, rule)
+    }
+}
+
+/// Whether the rule is a start of a type, and all of those are there.
+fn is_type(rules: &[Rule], rule: Rule) -> bool
+    ensures { IsTrue result → Says rules.now Expected.Type rule }
+{
+    is_start(rules, TYPES, rule)
+        || is_start(rules, TYPES_BUT_ANY, rule)
+        || is_start(rules, CONST_TYPES, rule)
+}
+
+/// Whether the rule is a start of a value, and all of those are there.
+fn is_value(rules: &[Rule], rule: Rule) -> bool
+    ensures { IsTrue result → Says rules.now Expected.Value rule }
+{
+    is_start(rules, DEFAULT_VALUES, rule) || is_start(rules, CONST_VALUES, rule)
+}
+
+/// Whether the rule is one of these starts, and all of them are among the rules.
+fn is_start(rules: &[Rule], starts: &[u16], rule: Rule) -> bool
+    ensures { result ≡ starts_with rules.now starts.now rule }
+{
+    is_one_of(starts, rule.number()) && are_among(starts, rules)
+}
+
+/// Whether the number is one of these.
+fn is_one_of(numbers: &[u16], number: u16) -> bool
+    ensures { result ≡ among numbers.now number }
+{
+    numbers.iter().any(|other| *other == number)
+}
+
+/// Whether all rules of these numbers are among the rules.
+fn are_among(numbers: &[u16], rules: &[Rule]) -> bool
+    ensures { result ≡ list_all (among rules.now) numbers.now }
+{
+    numbers.iter().all(|number| has(rules, *number))
+}
+
+/// Whether the rule of this number is among the rules.
+fn has(rules: &[Rule], number: u16) -> bool
+    ensures { result ≡ among rules.now number }
+{
+    rules.iter().any(|rule| rule.number() == number)
+}
+
+/// The word for a rule by itself.
+fn word_of(rules: &[Rule], rule: Rule) -> Option<Expected>
+    ensures some { IfSome result (λ word. Says rules.now word rule) }
+    ensures none { IfNone result (has_word rule ≡ false) }
+{
+    let number = rule.number();
+    if is_left_out(number) {
+        return None;
+    }
+    if let Some(word) = named(rules, number) {
+        return Some(word);
+    }
+    match row_of(rule) {
+        Row::Bytes(bytes) => match str::from_utf8(bytes) {
+            Ok(text) => Some(Expected::Text(text)),
+            Err(_) => None,
+        },
+        Row::OneOf(class) => Some(Expected::OneOf(class)),
+        _ => None,
+    }
+}
+
+/// Whether the rule begins a blank or a comment, or is the LF of a line comment.
+fn is_left_out(number: u16) -> bool
+    ensures { result ≡ left_out number }
+{
+    matches!(
+        number,
+        BYTES_LF | BYTES_SLASH_SLASH | ONE_OF_BLANK | BYTES_SLASH_STAR
+    )
+}
+
+/// The word for what must not follow and for what ends, or None where the rule is none of those.
+fn named(rules: &[Rule], number: u16) -> Option<Expected>
+    ensures some { IfSome result (λ word. Says rules.now word number) }
+    ensures none { IfNone result (is_named number ≡ false) }
+{
+    match number {
+        NOT_NEXT_NAME => Some(Expected::EndOfWord),
+        NOT_NEXT_SLASH => Some(Expected::NoDocstring),
+        NOT_NEXT_ANY => Some(Expected::EndOfText),
+        PAST_STAR_SLASH => Some(Expected::EndOfComment),
+        PAST_LF => Some(Expected::EndOfLine),
+        _ => None,
+    }
+}
