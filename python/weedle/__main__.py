@@ -1,0 +1,147 @@
+"""Reads files of WebIDL, and writes what stands in them.
+
+    python3 -m weedle [--json | --syntax] [FILE..]
+
+Without a file it reads standard input. With `--json` it writes each definition as JSON on a line,
+with `--syntax` each node on a line, indented by its depth, and else where a file is refused, and
+why. The status is 0 where all is read, 1 where something is refused, 2 where a file can't be read
+or isn't UTF-8, 3 where memory ran out, 4 where the output can't be written, and 5 where the
+arguments are others; of several the greatest.
+"""
+
+from __future__ import annotations
+
+import argparse
+import sys
+from enum import IntEnum
+from typing import BinaryIO, Callable, NoReturn, Optional, Sequence
+
+from weedle import Refused, parse, syntax
+
+STANDARD_INPUT = "<stdin>"
+
+
+class Status(IntEnum):
+    """What a run comes to."""
+
+    READ = 0
+    REFUSED = 1
+    UNREADABLE = 2
+    NO_MEMORY = 3
+    UNWRITTEN = 4
+    MISUSED = 5
+
+
+class Parser(argparse.ArgumentParser):
+    """A parser whose status for other arguments is the programs' own."""
+
+    def error(self, message: str) -> NoReturn:
+        self.print_usage(sys.stderr)
+        self.exit(Status.MISUSED, f"{self.prog}: {message}\n")
+
+
+def write_json(data: bytes, out: BinaryIO) -> None:
+    """Writes each definition on a line. One that is written is let go of."""
+    definitions = parse(data)
+    definitions.reverse()
+    while definitions:
+        out.write(definitions.pop().to_json().encode() + b"\n")
+
+
+def write_syntax(data: bytes, out: BinaryIO) -> None:
+    """Writes each node on a line: its name, and from which byte up to which it goes."""
+    for node in syntax(data).walk():
+        start, end = node.span
+        out.write(f"{'  ' * node.depth}{node.name} {start}..{end}\n".encode())
+
+
+def write_nothing(data: bytes, out: BinaryIO) -> None:
+    """Only reads the text."""
+    parse(data)
+
+
+def bytes_of(name: str) -> bytes:
+    """What stands in a file, or comes from standard input."""
+    if name == STANDARD_INPUT:
+        return sys.stdin.buffer.read()
+    with open(name, "rb") as file:
+        return file.read()
+
+
+class Run:
+    """A run of the program over some files, each written by the same function."""
+
+    def __init__(self, write: Callable[[bytes, BinaryIO], None], out: BinaryIO) -> None:
+        self.write, self.out = write, out
+        self.files = self.refused = 0
+
+    def read(self, name: str) -> Status:
+        """Reads a file and writes what stands in it."""
+        self.files += 1
+        try:
+            data = bytes_of(name)
+        except OSError as fault:
+            return complain(name, f"cannot read input: {fault.strerror}", Status.UNREADABLE)
+        try:
+            self.write(data, self.out)
+        except Refused as refused:
+            self.refused += 1
+            self.tell(f"{name}:{refused}")
+            return Status.REFUSED
+        except UnicodeDecodeError:
+            return complain(name, "input is not UTF-8", Status.UNREADABLE)
+        except MemoryError:
+            return complain(name, "out of memory", Status.NO_MEMORY)
+        return Status.READ
+
+    def tell(self, line: str) -> None:
+        """Says why a file is refused: where nothing else is written, there."""
+        if self.write is write_nothing:
+            self.out.write(line.encode() + b"\n")
+        else:
+            self.out.flush()
+            print(line, file=sys.stderr)
+
+    def read_all(self, names: Sequence[str]) -> Status:
+        """Reads all files, and says how many there were where nothing else is written."""
+        status = max(self.read(name) for name in names)
+        if self.write is write_nothing:
+            self.out.write(f"{self.files} files, {self.refused} refused\n".encode())
+        self.out.flush()
+        return status
+
+
+def complain(name: str, why: Optional[str], status: Status) -> Status:
+    """Says on standard error why a file isn't read."""
+    print(f"{name}: {why}", file=sys.stderr)
+    return status
+
+
+def arguments(words: Optional[Sequence[str]]) -> argparse.Namespace:
+    """The arguments of a run."""
+    parser = Parser(prog="weedle", description="Reads files of WebIDL.")
+    ways = parser.add_mutually_exclusive_group()
+    for option, write, words_ in (
+        ("--json", write_json, "write each definition as JSON"),
+        ("--syntax", write_syntax, "write each node, indented by its depth"),
+    ):
+        ways.add_argument(
+            option, dest="write", action="store_const", const=write, default=write_nothing,
+            help=words_,
+        )
+    parser.add_argument("files", metavar="FILE", nargs="*", help="else standard input is read")
+    return parser.parse_args(words)
+
+
+def main(words: Optional[Sequence[str]] = None) -> int:
+    """Does what the arguments ask for."""
+    wanted = arguments(words)
+    try:
+        return Run(wanted.write, sys.stdout.buffer).read_all(wanted.files or [STANDARD_INPUT])
+    except OSError as fault:
+        sys.stdout = None
+        return complain("weedle", f"cannot write output: {fault.strerror}", Status.UNWRITTEN)
+
+
+if __name__ == "__main__":
+    sys.exit(main())

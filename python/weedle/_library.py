@@ -1,0 +1,154 @@
+"""The shared object: where it is found, and its calls."""
+
+from __future__ import annotations
+
+import ctypes
+import mmap
+import os
+from ctypes import POINTER, Structure, byref, c_char_p, c_size_t, c_uint32
+from pathlib import Path
+from typing import NamedTuple, Union
+
+from weedle.grammar import RULES, VERSION
+
+# The variable that names another shared object, and where the own one stands.
+VARIABLE = "WEEDLE_SO"
+OWN = Path(__file__).resolve().parent / "libweedle.so"
+
+# The type of a node's numbers, FORMAT as a memoryview names it, and their order.
+NUMBER, FORMAT = c_uint32, "I"
+FIELDS = ("rule", "depth", "start", "end")
+NODE_SIZE = len(FIELDS) * ctypes.sizeof(NUMBER)
+# What `weedle_syntax` answers.
+READ, REFUSED, NOT_UTF8, NO_MEMORY, NO_ROOM, TOO_LONG = range(6)
+# How many nodes there is room for at first: most texts have fewer than five for four bytes.
+LEAST_NODES = 64
+# Room of more bytes is taken page by page as it is written to.
+LARGE = 1 << 24
+
+Buffer = Union[bytearray, mmap.mmap]
+
+
+class SyntaxAnswer(Structure):
+    """How many nodes there are, and where the unread rest begins."""
+
+    _fields_ = [("count", c_size_t), ("rest", c_size_t)]
+
+
+class ExplainAnswer(Structure):
+    """Where a text is refused, and how long the message is."""
+
+    _fields_ = [
+        ("start", c_size_t),
+        ("place", c_size_t),
+        ("line", c_size_t),
+        ("column", c_size_t),
+        ("length", c_size_t),
+    ]
+
+
+class Explanation(NamedTuple):
+    """Why a text is refused: the place in bytes, its line and column, and the message."""
+
+    place: int
+    line: int
+    column: int
+    message: str
+
+
+class Unread(Exception):
+    """The status of a text that gives no nodes, and the byte that the library says of it."""
+
+    def __init__(self, status: int, rest: int) -> None:
+        super().__init__(status, rest)
+        self.status, self.rest = status, rest
+
+
+def _loaded() -> ctypes.CDLL:
+    """The shared object, which has to be of this package's version."""
+    named = os.environ.get(VARIABLE)
+    path = Path(named) if named else OWN
+    try:
+        library = ctypes.CDLL(str(path))
+    except OSError as fault:
+        where = f"the file that {VARIABLE} names" if named else f"{OWN} ({VARIABLE} isn't set)"
+        raise ImportError(
+            f"weedle finds no shared object: it looked for {where}. "
+            f"python/build.sh of the repository makes it. ({fault})"
+        ) from None
+    _declare(library)
+    _check(library, path)
+    return library
+
+
+def _declare(library: ctypes.CDLL) -> None:
+    library.weedle_syntax.argtypes = [
+        c_char_p, c_size_t, ctypes.c_void_p, c_size_t, POINTER(SyntaxAnswer),
+    ]
+    library.weedle_syntax.restype = c_uint32
+    library.weedle_explain.argtypes = [
+        c_char_p, c_size_t, ctypes.c_void_p, c_size_t, POINTER(ExplainAnswer),
+    ]
+    library.weedle_explain.restype = c_uint32
+    library.weedle_version.restype = library.weedle_rules.restype = c_uint32
+
+
+def _check(library: ctypes.CDLL, path: Path) -> None:
+    """Refuses a shared object that was built for another version of the package."""
+    found = library.weedle_version(), library.weedle_rules()
+    if found != (VERSION, len(RULES)):
+        raise ImportError(
+            f"{path} has version {found[0]:#08x} and {found[1]} rules, and this package "
+            f"{VERSION:#08x} and {len(RULES)}: build it anew by python/build.sh"
+        )
+
+
+LIBRARY = _loaded()
+
+
+def _room(size: int) -> Buffer:
+    """So many bytes. A large room takes memory only where it is written to."""
+    if size < LARGE:
+        return bytearray(size)
+    try:
+        return mmap.mmap(-1, size, flags=mmap.MAP_PRIVATE | mmap.MAP_ANONYMOUS)
+    except (OSError, OverflowError):
+        raise MemoryError(f"no memory for {size} bytes of nodes") from None
+
+
+def _call(data: bytes, nodes: int) -> tuple[int, Buffer, SyntaxAnswer]:
+    """The status with room for so many nodes, the room, and the answer."""
+    room = _room(nodes * NODE_SIZE)
+    answer = SyntaxAnswer()
+    # A view has to go before the room can shrink.
+    address = ctypes.addressof(ctypes.c_char.from_buffer(room))
+    status = LIBRARY.weedle_syntax(data, len(data), address, nodes, byref(answer))
+    return status, room, answer
+
+
+def read_nodes(data: bytes) -> memoryview:
+    """The numbers of all nodes, four a node, or Unread."""
+    status, room, answer = _call(data, len(data) + len(data) // 4 + LEAST_NODES)
+    if status == NO_ROOM:
+        status, room, answer = _call(data, answer.count)
+    if status != READ:
+        raise Unread(status, answer.rest)
+    size = answer.count * NODE_SIZE
+    if isinstance(room, bytearray):
+        del room[size:]
+    return memoryview(room).cast("B")[:size].cast(FORMAT)
+
+
+def explain(data: bytes) -> Explanation:
+    """Why a text is refused, by a table of its unread rest; MemoryError where that has no room."""
+    room, answer = bytearray(4096), ExplainAnswer()
+    while True:
+        address = ctypes.addressof(ctypes.c_char.from_buffer(room))
+        status = LIBRARY.weedle_explain(data, len(data), address, len(room), byref(answer))
+        if status == NO_MEMORY:
+            raise MemoryError("no memory to explain why the text is refused")
+        if answer.length < len(room):
+            message = room[:answer.length].decode()
+            return Explanation(answer.place, answer.line, answer.column, message)
+        # A zero stands behind the message.
+        room = bytearray(answer.length + 1)
