@@ -1,8 +1,7 @@
-//! Tests of the programs, of the check of files, of what errors and refusals say, and of the example in README.md.
+//! Tests of runs of the program, of what errors and refusals say, and of the example in README.md: of
+//! what can't be seen from outside the built programs.
 #![tactic(auto)]
 
-#[cfg(test)]
-mod checks;
 #[cfg(test)]
 mod faults;
 #[cfg(test)]

@@ -1,5 +1,4 @@
-//! The arguments, statuses and lines of the program that lists definitions. They are those that USING.md
-//! promises.
+//! The arguments and statuses of the program that lists definitions. They are those that USING.md promises.
 
 use std::alloc::{AllocError, Global};
 use std::env::Args;
@@ -52,19 +51,4 @@ fn gives_each_outcome_its_status(rt: HostRuntime) {
     for (outcome, status) in table {
         assert_eq!(rt; status_of(&outcome), status, "of {outcome:?}");
     }
-}
-
-#[test]
-fn gives_each_fault_its_line(rt: HostRuntime) -> Result<(), Fail> {
-    let table = [
-        (RunFault::NotUtf8, "input is not UTF-8"),
-        (RunFault::Memory, "out of memory"),
-        (RunFault::Input, "cannot read input"),
-        (RunFault::Output, "cannot write output"),
-    ];
-    for (fault, line) in table {
-        let said = format!(in rt.alloc(); "{fault}")?;
-        assert_eq!(rt; said.as_str(), line, "of {fault:?}");
-    }
-    Ok(())
 }

@@ -12,30 +12,14 @@ const TEXT: &str = "///a\n/// b\ninterface A {};\nB includes C;";
 const REPORT: &str = "interface A\n  a\n   b\nincludes B\ndefinitions 2\n";
 
 /// Texts, how a run ends with each, and what it writes.
-const REPORTS: [(&str, Status, &str); 7] = [
+const REPORTS: [(&str, Status, &str); 3] = [
     (TEXT, Status::Read, REPORT),
     (
         "///\nenum E {\"x\"};",
         Status::Read,
         "enum E\n  \ndefinitions 1\n",
     ),
-    (
-        "/// A page,\n/// shown.\ninterface Window {};\nWindow includes Timers;\n",
-        Status::Read,
-        "interface Window\n   A page,\n   shown.\nincludes Window\ndefinitions 2\n",
-    ),
-    ("", Status::Read, "definitions 0\n"),
     ("  ", Status::Unread, "unread at byte 0\n"),
-    (
-        "///a\r\ndictionary D { ///d\n long x; };",
-        Status::Read,
-        "dictionary D\n  a\r\ndefinitions 1\n",
-    ),
-    (
-        "///a\ninterface A {}; ///d",
-        Status::Unread,
-        "unread at byte 21\n",
-    ),
 ];
 
 /// Takes these bytes, each once, in their order, and fails at others. It takes no memory.

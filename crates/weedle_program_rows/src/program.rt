@@ -3,63 +3,16 @@
 use std::io::ErrorKind;
 use std::test::Fail;
 use weedle::{RunFault, Status, run};
-use weedle_testing::examples::{KINDS, WINDOW};
+use weedle_testing::examples::WINDOW;
 use weedle_testing::{failing_reader, short_reader, short_writer};
 
 const REPORT_OF_WINDOW: &str = "interface Window\ndefinitions 1\n";
 
-const REPORT_OF_KINDS: &str = "\
-callback C
-callback interface D
-interface E
-interface mixin F
-namespace G
-dictionary H
-partial interface I
-partial interface mixin J
-partial dictionary K
-partial namespace L
-enum M
-typedef N
-includes O
-implements Q
-definitions 14
-";
-
 #[test]
 fn reports_what_is_read_and_what_is_left(rt: HostRuntime) -> Result<(), Fail> {
     let table = [
-        ("", Status::Read, "definitions 0\n"),
         (WINDOW, Status::Read, REPORT_OF_WINDOW),
-        (
-            "interface A {};\ninterface _B {};",
-            Status::Read,
-            "interface A\ninterface B\ndefinitions 2\n",
-        ),
-        (
-            "interface A {};\nenum E {\"a\"};",
-            Status::Read,
-            "interface A\nenum E\ndefinitions 2\n",
-        ),
-        ("A includes B;", Status::Read, "includes A\ndefinitions 1\n"),
-        (
-            "interface mixin Body { Promise<any> json(); }; Request includes Body;\n",
-            Status::Read,
-            "interface mixin Body\nincludes Request\ndefinitions 2\n",
-        ),
-        (KINDS, Status::Read, REPORT_OF_KINDS),
-        ("  ", Status::Unread, "unread at byte 0\n"),
         ("interface A {};}", Status::Unread, "unread at byte 15\n"),
-        (
-            "interface A {}; // end",
-            Status::Read,
-            "interface A\ndefinitions 1\n",
-        ),
-        (
-            "interface A {}; ///d",
-            Status::Unread,
-            "unread at byte 16\n",
-        ),
     ];
     for (text, status, report) in table {
         for most in [1, 100] {

@@ -1,14 +1,22 @@
-//! Tests of whole texts: what they are read as, worked examples whose answers come from outside, and what that
-//! costs at most.
+//! Tests of whole texts and of definitions, of what can't be seen from outside the programs: what a text costs at most,
+//! hostile ones too; that all readers, and both widths of cells, give one list; how definitions compare and are taken
+//! apart, and their outlines; and what is answered where memory is refused. What whole texts are read as is tested over
+//! the built programs.
 #![tactic(auto)]
 
 #[cfg(test)]
+mod apart;
+#[cfg(test)]
 mod bounds;
 #[cfg(test)]
-mod definitions;
+mod orders;
+#[cfg(test)]
+mod outlines;
+#[cfg(test)]
+mod passes;
 #[cfg(test)]
 mod readers;
 #[cfg(test)]
-mod real_text;
+mod requests;
 #[cfg(test)]
-mod spelling;
+mod taking_apart;

@@ -31,6 +31,6 @@ pub fn too_many_levels(task: Task, text: &str) -> Option<usize> {
 fn most_levels(task: Task) -> usize {
     match task {
         Task::Tree => MOST_PRINTED,
-        Task::Check | Task::Time | Task::Made { .. } => MOST_READ,
+        Task::Check | Task::Syntax | Task::Time => MOST_READ,
     }
 }

@@ -23,7 +23,7 @@ enum Reader {
     OverTable,
 }
 
-/// Times a text that is read whole, and writes the times, of five each the one in the middle.
+/// Times a text that is read whole, and writes the times, of five each the median.
 ///
 /// Descent is left out for a text that nests so that it takes it long. The table takes 1,544 bytes for each byte
 /// of the text: where that isn't to be had, the times of the other readers stand all the same.
@@ -37,12 +37,12 @@ pub fn write_times<C: Clock + AllocGlobal, W: Write>(
     writeln!(out, "{name}: {bytes} bytes, in nanoseconds:")?;
     if suits_descent(text) {
         let time = time_reader(rt, Reader::ByDescent, text)?;
-        writeln!(out, "parse_by_descent {} a byte", Share(time, bytes))?;
+        writeln!(out, "parse_by_descent {} a byte", Ratio(time, bytes))?;
     }
     let time = time_reader(rt, Reader::Quick, text)?;
-    writeln!(out, "parse_quick {} a byte", Share(time, bytes))?;
+    writeln!(out, "parse_quick {} a byte", Ratio(time, bytes))?;
     let time = time_reader(rt, Reader::OverTable, text)?;
-    writeln!(out, "parse {} a byte", Share(time, bytes))?;
+    writeln!(out, "parse {} a byte", Ratio(time, bytes))?;
     write_table(rt, text, out)
 }
 
@@ -62,11 +62,11 @@ fn write_table<C: Clock + AllocGlobal, W: Write>(
     writeln!(
         out,
         "filling {} a byte, {} a cell; laying the same cells down {} a cell",
-        Share(filling, bytes),
-        Share(filling, cells),
-        Share(laying, cells)
+        Ratio(filling, bytes),
+        Ratio(filling, cells),
+        Ratio(laying, cells)
     )?;
-    writeln!(out, "second pass {} a byte", Share(second, bytes))?;
+    writeln!(out, "second pass {} a byte", Ratio(second, bytes))?;
     let width = std::mem::size_of::<Narrow>();
     writeln!(out, "table of {cells} cells of {width} bytes")?;
     Ok(())
@@ -80,7 +80,7 @@ fn time_reader<C: Clock + AllocGlobal>(rt: &C, reader: Reader, text: &str) -> Re
         read(rt.alloc(), reader, text)?;
         *time = since(rt, start)?;
     }
-    Ok(middle(times))
+    Ok(median(times))
 }
 
 /// How many nanoseconds each part of a reading over the table takes.
@@ -95,9 +95,9 @@ fn time_parts<C: Clock + AllocGlobal>(rt: &C, text: &str) -> Result<TableTimes, 
         cells = times.cells;
     }
     Ok(TableTimes {
-        filling: middle(filling),
-        laying: middle(laying),
-        second: middle(second),
+        filling: median(filling),
+        laying: median(laying),
+        second: median(second),
         cells,
     })
 }
@@ -127,17 +127,17 @@ pub fn since<C: Clock>(rt: &C, start: Instant) -> Result<u128, Fault> {
     }
 }
 
-/// The middle one of the times.
-fn middle(mut times: [u128; ROUNDS]) -> u128 {
+/// The median of the times.
+fn median(mut times: [u128; ROUNDS]) -> u128 {
     times.sort_unstable();
     times[ROUNDS / 2]
 }
 
 /// How often the second goes into the first. It is printed with two digits behind the point.
 #[derive(Clone, Copy)]
-struct Share(u128, u128);
+struct Ratio(u128, u128);
 
-impl Display for Share {
+impl Display for Ratio {
     fn fmt<W: fmt::Write>(&self, f: &mut Formatter<W>) -> fmt::Result {
         let hundredths = self.0.saturating_mul(100) / self.1.max(1);
         write!(f, "{}.{:02}", hundredths / 100, hundredths % 100)

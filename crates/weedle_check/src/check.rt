@@ -5,12 +5,13 @@ use crate::depth::too_many_levels;
 use crate::fault::Fault;
 use crate::outcome::Outcome;
 use crate::slip::{slip_in, write_slip};
+use crate::syntax::write_syntax;
 use crate::timing::write_times;
-use crate::tree::write_tree;
+use crate::tree::{write_tree, write_tree_over_table};
 use std::alloc::Global;
 use std::io::{self, Read, Write};
 use std::rt::Clock;
-use weedle_testing::definitions;
+use weedle_nesting::suits_descent;
 
 /// What a text is read from.
 #[derive(Drop)]
@@ -36,17 +37,6 @@ pub fn check_source<C: Clock + AllocGlobal, R: Read + Drop, W: Write>(
     check_text(rt, task, name, text, out)
 }
 
-/// The same of a text that is made of a seed, with about so many bytes: how long it takes to read.
-pub fn check_made<C: Clock + AllocGlobal, W: Write>(
-    rt: &C,
-    seed: u64,
-    size: usize,
-    out: &mut W,
-) -> Result<Outcome, Fault> {
-    let text = definitions(rt.alloc(), seed, size)?;
-    check_text(rt, Task::Time, "made", &text, out)
-}
-
 /// What a reader gives up to its end.
 fn bytes_of<R: Read + Drop>(alloc: Global, opened: io::Result<R>) -> Result<Vec<u8>, Fault> {
     let mut bytes = Vec::new(alloc);
@@ -59,28 +49,9 @@ fn bytes_of<R: Read + Drop>(alloc: Global, opened: io::Result<R>) -> Result<Vec<
     }
 }
 
-/// Checks a text, and prints what is asked for.
+/// Checks a text, and prints what is asked for. Of a text that isn't read whole it writes where and why.
 fn check_text<C: Clock + AllocGlobal, W: Write>(
     rt: &C,
-    task: Task,
-    name: &str,
-    text: &str,
-    out: &mut W,
-) -> Result<Outcome, Fault> {
-    let outcome = judge(rt.alloc(), task, name, text, out)?;
-    if outcome == Outcome::Read {
-        match task {
-            Task::Check => {}
-            Task::Tree => write_tree(rt.alloc(), text, out)?,
-            Task::Time | Task::Made { .. } => write_times(rt, name, text, out)?,
-        }
-    }
-    Ok(outcome)
-}
-
-/// Whether a text is read whole. Where it isn't, it writes where and why.
-fn judge<W: Write>(
-    alloc: Global,
     task: Task,
     name: &str,
     text: &str,
@@ -93,6 +64,36 @@ fn judge<W: Write>(
         )?;
         return Ok(Outcome::Refused);
     }
+    if is_written_at_once(rt.alloc(), task, text, out)? {
+        return Ok(Outcome::Read);
+    }
+    let outcome = judge(rt.alloc(), name, text, out)?;
+    if outcome == Outcome::Read {
+        match task {
+            Task::Tree => write_tree(rt.alloc(), text, out)?,
+            Task::Time => write_times(rt, name, text, out)?,
+            Task::Check | Task::Syntax => {}
+        }
+    }
+    Ok(outcome)
+}
+
+/// Writes what is asked for of a text that is read whole, where it takes no check before, and says whether it did.
+fn is_written_at_once<W: Write>(
+    alloc: Global,
+    task: Task,
+    text: &str,
+    out: &mut W,
+) -> Result<bool, Fault> {
+    match task {
+        Task::Syntax => write_syntax(alloc, text, out),
+        Task::Tree if !suits_descent(text) => write_tree_over_table(alloc, text, out),
+        _ => Ok(false),
+    }
+}
+
+/// Whether a text is read whole. Where it isn't, it writes where and why.
+fn judge<W: Write>(alloc: Global, name: &str, text: &str, out: &mut W) -> Result<Outcome, Fault> {
     match slip_in(alloc, text)? {
         None => Ok(Outcome::Read),
         Some(slip) => {

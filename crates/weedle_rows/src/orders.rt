@@ -1,5 +1,5 @@
 //! Definitions are compared by their kinds, in the order in which the grammar has them, and members
-//! of interfaces by theirs; those of one kind by their parts. A copy equals its original.
+//! of interfaces by theirs. A copy equals its original.
 
 use std::alloc::Global;
 use std::process::Abort;
@@ -82,20 +82,6 @@ fn members_go_by_their_kinds(rt: HostRuntime) -> Result<(), Fail> {
             "interface I { maplike<long, long>; };",
             "interface I { setlike<long>; };",
             "interface I { stringifier; };",
-        ],
-    )
-}
-
-#[test]
-fn definitions_of_one_kind_go_by_their_parts(rt: HostRuntime) -> Result<(), Fail> {
-    definitions_rise(
-        &rt,
-        rt.alloc(),
-        &[
-            "interface A {};",
-            "interface A : B {};",
-            "interface B {};",
-            "[X] interface A {};",
         ],
     )
 }

@@ -1,33 +1,54 @@
 //! The definitions of a text, as they are printed by `Debug`.
 
+ghost use Rattle.std.specs.Prelude.{◌≡◌};
+
 use crate::fault::Fault;
 use std::alloc::Global;
 use std::fmt::Debug;
 use std::io::{self, Write};
-use weedle_base::{Err, Parse, sp};
+use weedle_base::{Parse, sp};
+use weedle_build::{Built, build_definitions};
 use weedle_explain::{Position, position_of};
-use weedle_front::parse;
 use weedle_idl::Definition;
-use weedle_nesting::suits_descent;
-use weedle_places::{Place, places};
+use weedle_places::{Place, places_of};
+use weedle_rules::Ends;
 
-/// Writes each definition of a text that is read whole on a line, behind the line and the column at which it
-/// begins: `3:1 Interface(InterfaceDefinition { .. })`.
+/// Writes each definition of a text on a line, behind the line and the column at which it begins:
+/// `3:1 Interface(InterfaceDefinition { .. })`. The text is read whole, and suits descent.
 ///
-/// Where descent reads the text, each definition is read, written and let go of by itself, and no memory is taken
-/// but what it holds. Else all are read over a table of ends, and so are their places.
+/// Each definition is read, written and let go of by itself, and no memory is taken but what it holds.
 pub fn write_tree<W: Write>(alloc: Global, text: &str, out: &mut W) -> Result<(), Fault> {
-    if suits_descent(text) {
-        return write_by_descent::<Definition<'_>, W>(alloc, text, out);
-    }
-    let Some(places) = places(alloc, text)? else {
-        return Ok(());
+    write_by_descent::<Definition<'_>, W>(alloc, text, out)
+}
+
+/// The same of any text, where it is read whole: says whether it is.
+///
+/// It fills one table of ends, 1,544 bytes for each byte of the text.
+pub fn write_tree_over_table<W: Write>(
+    alloc: Global,
+    text: &str,
+    out: &mut W,
+) -> Result<bool, Fault> {
+    let ends = Ends::new(alloc, text)?;
+    let Some(places) = places_of(alloc, &ends)? else {
+        return Ok(false);
     };
-    match parse(alloc, text) {
-        Ok(definitions) => Ok(write_each(definitions, &places, text, out)?),
-        Err(Err::Error(_)) => Ok(()),
-        Err(Err::Failure(_)) => Err(Fault::Memory),
-    }
+    write_built(alloc, &ends, &places, text, out)?;
+    Ok(true)
+}
+
+/// Builds the definitions along the table, and writes them.
+fn write_built<'a, W: Write>(
+    alloc: Global,
+    ends: &Ends<'a>,
+    places: &[Place],
+    text: &'a str,
+    out: &mut W,
+) -> Result<(), Fault>
+    requires table { ends.now.text ≡ text.now }
+{
+    let Built { list, .. } = build_definitions(alloc, ends, text)?;
+    Ok(write_each(list, places, text, out)?)
 }
 
 /// Writes each item of a text that has nothing else, as it is read.

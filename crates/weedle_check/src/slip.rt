@@ -1,14 +1,11 @@
 //! Where a text is refused, and what is said of it.
 
-use crate::excerpt::write_excerpt;
 use std::alloc::{AllocError, Global};
 use std::io::{self, Write};
 use weedle_base::Err;
-use weedle_explain::{Refusal, explain, position_of};
+use weedle_explain::{Refusal, explain};
 use weedle_front::parse_quick;
-
-/// What is printed for a mark that some editors put in front of a text.
-const BYTE_ORDER_MARK: char = '\u{feff}';
+use weedle_refusal::write_message;
 
 /// Where a text is refused.
 #[derive(Debug, Drop)]
@@ -57,28 +54,10 @@ fn unexplained(alloc: Global, text: &str) -> Result<Option<Slip>, AllocError> {
 
 /// Writes where the text of this name is refused and why, and below it the line of the text with a mark.
 pub fn write_slip<W: Write>(name: &str, text: &str, slip: &Slip, out: &mut W) -> io::Result<()> {
-    let place = slip.place.min(text.len());
-    let position = position_of(text, place);
-    write!(out, "{name}:{position}: ")?;
-    match &slip.words {
-        Some(words) => write!(out, "{words}")?,
-        None => write!(out, "unread from here on; memory ran out for more")?,
-    }
-    if is_mark(text, place) {
-        write!(out, ", not a byte order mark")?;
-    }
-    writeln!(out)?;
-    let line = text
-        .lines()
-        .nth(position.line.saturating_sub(1))
-        .unwrap_or("");
-    write_excerpt(line, position.column.saturating_sub(1), out)
-}
-
-/// Whether a byte order mark stands at the place.
-fn is_mark(text: &str, place: usize) -> bool {
-    match text.get(place..) {
-        Some(rest) => rest.starts_with(BYTE_ORDER_MARK),
-        None => false,
-    }
+    let said = match &slip.words {
+        Some(words) => words.as_str(),
+        None => "unread from here on; memory ran out for more",
+    };
+    write!(out, "{name}:")?;
+    write_message(text, slip.place, said, out)
 }

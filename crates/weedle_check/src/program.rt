@@ -1,7 +1,7 @@
 //! A run of the program.
 
-use crate::arguments::{Request, Task, USAGE, request_of};
-use crate::check::{Source, check_made, check_source};
+use crate::arguments::{HELP, Request, Task, USAGE, request_of};
+use crate::check::{Source, check_source};
 use crate::fault::Fault;
 use crate::outcome::Outcome;
 use crate::tally::Tally;
@@ -38,39 +38,56 @@ pub fn run<R: Runtime + AllocGlobal>(rt: &R) -> Outcome {
 fn carry_out<R: Runtime + AllocGlobal>(rt: &R, request: &Request) -> Result<Outcome, Fault> {
     let mut out = BufWriter::new(rt.alloc(), io::writer(rt))?;
     let mut tally = Tally::new();
-    check_all(rt, request, &mut tally, &mut out)?;
-    writeln!(out, "{tally}")?;
+    match request {
+        Request::Help => writeln!(out, "{HELP}")?,
+        Request::Files(task, files) => {
+            check_all(rt, *task, files, &mut tally, &mut out)?;
+            writeln!(out, "{tally}")?;
+        }
+    }
     out.flush()?;
     Ok(tally.outcome())
 }
 
-/// Checks all that is asked for.
+/// Checks these files, or the standard input where there are none.
 fn check_all<R: Runtime + AllocGlobal, W: Write>(
     rt: &R,
-    request: &Request,
+    task: Task,
+    files: &[String],
     tally: &mut Tally,
     out: &mut W,
 ) -> Result<(), Fault> {
-    if let Task::Made { seed, size } = request.task {
-        return settle(rt, "made", check_made(rt, seed, size, out), tally);
+    if files.is_empty() {
+        return check_input(rt, task, tally, out);
     }
-    if request.files.is_empty() {
-        let source = Source {
-            name: STANDARD_INPUT,
-            opened: Ok(rt.reader()),
-        };
-        let checked = check_source(rt, request.task, source, out);
-        return settle(rt, STANDARD_INPUT, checked, tally);
-    }
-    for file in &request.files {
+    for file in files {
         let name = file.as_str();
-        let source = Source {
-            name,
-            opened: fs::open(rt, name),
-        };
-        settle(rt, name, check_source(rt, request.task, source, out), tally)?;
+        if name == "-" {
+            check_input(rt, task, tally, out)?;
+        } else {
+            let source = Source {
+                name,
+                opened: fs::open(rt, name),
+            };
+            settle(rt, name, check_source(rt, task, source, out), tally)?;
+        }
     }
     Ok(())
+}
+
+/// Checks the standard input.
+fn check_input<R: Runtime + AllocGlobal, W: Write>(
+    rt: &R,
+    task: Task,
+    tally: &mut Tally,
+    out: &mut W,
+) -> Result<(), Fault> {
+    let source = Source {
+        name: STANDARD_INPUT,
+        opened: Ok(rt.reader()),
+    };
+    let checked = check_source(rt, task, source, out);
+    settle(rt, STANDARD_INPUT, checked, tally)
 }
 
 /// Counts what a check came to, and says on standard error why there was none. Where the output can't be

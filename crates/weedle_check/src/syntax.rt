@@ -1,0 +1,44 @@
+//! The syntax tree of a text, as it is printed.
+
+use crate::fault::Fault;
+use std::alloc::Global;
+use std::io::{self, Write};
+use weedle_syntax::{Node, syntax_quick};
+
+/// What stands in front of a node for each node that it stands in.
+const INDENT: &str = "  ";
+
+/// Writes the nodes of a text that is read whole, one on a line: the name of its rule and its bytes, and of a leaf its
+/// text in quotes. A node stands two blanks behind the one that it stands in. It says whether the text is read whole.
+///
+/// ```text
+/// definitions 0..21
+///   definition 0..21
+///     includes_statement_definition 0..21
+/// ```
+pub fn write_syntax<W: Write>(alloc: Global, text: &str, out: &mut W) -> Result<bool, Fault> {
+    let Some(nodes) = syntax_quick(alloc, text)? else {
+        return Ok(false);
+    };
+    for (i, node) in nodes.iter().enumerate() {
+        let is_leaf = match nodes.get(i + 1) {
+            Some(next) => next.depth <= node.depth,
+            None => true,
+        };
+        write_node(node, is_leaf, text, out)?;
+    }
+    Ok(true)
+}
+
+/// Writes the line of a node.
+fn write_node<W: Write>(node: &Node, is_leaf: bool, text: &str, out: &mut W) -> io::Result<()> {
+    for _ in 0..node.depth {
+        write!(out, "{INDENT}")?;
+    }
+    write!(out, "{} {}..{}", node.rule.name(), node.start, node.end)?;
+    if is_leaf {
+        let leaf = text.get(node.start..node.end).unwrap_or("");
+        write!(out, " {leaf:?}")?;
+    }
+    writeln!(out)
+}
