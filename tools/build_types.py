@@ -1,7 +1,7 @@
 #!/usr/bin/env python3
 """Writes how the types that hold one another are built from the ends of the first pass.
 
-    python3 tools/build_types.py
+tools/write.py runs it.
 
 From the declarations of the types of crates/weedle_types, the rows of their rules, and the functions
 in its src/reading, it writes in crates/weedle_build_types/src:
@@ -13,12 +13,15 @@ in its src/reading, it writes in crates/weedle_build_types/src:
 - held.rt: `Build` for each that types of other crates have as a part.
 
 `rt fmt` lays the files out afterwards; contracts are indented at once, as tools/build_types_proofs.py
-looks for them. The status is 0 where the files are written.
+looks for them.
 """
+
+import sys
 
 from building.functions import functions_in, plain_functions
 from building.group import BUILT, FILES, TOP, file_of, paths
 from building.held import held_functions, plain_builds
+from command_line import refuse_writer
 from description.uses import code_uses, ghost_uses, stated
 from written_places import in_logic, put
 
@@ -80,4 +83,4 @@ def main():
 
 
 if __name__ == "__main__":
-    main()
+    sys.exit(refuse_writer(__doc__))

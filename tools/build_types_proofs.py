@@ -8,10 +8,12 @@ built.
 
 It writes too the proofs of the functions that put a variant behind the values of a list, as `keep_union`.
 
-Run it from the top of the repository.
+tools/write.py runs it.
 """
+import sys
 from pathlib import Path
 
+from command_line import refuse_writer
 from description.functions import NUMBERED, TREE_LAWS, Function, functions_of
 from description.imports import use, uses_of
 from description.names import snake
@@ -19,7 +21,7 @@ from description.readings import Declared
 from description.webidl import BY_NAME
 from written_places import in_logic, place, put
 
-TOP = Path(".")
+TOP = Path(__file__).resolve().parent.parent
 CRATE = "weedle_build_types"
 GROUP = f"{CRATE}.proofs.types.+group"
 HEAD = "-- Written by tools/build_types_proofs.py."
@@ -307,4 +309,4 @@ def main():
 
 
 if __name__ == "__main__":
-    main()
+    sys.exit(refuse_writer(__doc__))

@@ -1,9 +1,7 @@
 #!/usr/bin/env python3
 """Writes how members, definitions and what they hold are built in the second pass, from their declarations.
 
-Run it at the top of the repository, then `rt fmt` in each crate that it names:
-
-    python3 tools/builds.py
+tools/write.py runs it.
 
 FILES says which files it writes, each with the crates or modules whose types are built there. Of
 each of those types it writes the `impl Build`, in the order of the grammar's rules: a struct is
@@ -11,20 +9,21 @@ built by one call of `two_fields` or its like over its fields, an enum by `choic
 `alternative` among its variants. How a field is built follows from the crate that names its type:
 see `Parts`. A type whose rule keeps the text that it reads has its `impl` by hand.
 
-It prints the crates that it wrote in. The status is 0, or 1 where a crate or a module declares no
-such type, where a type has no tree, or where something that a file names is brought in by nothing.
+It refuses, and says why, where a crate or a module declares no such type, where a type has no tree or
+more fields than one call builds, or where something that a file names is brought in by nothing.
 """
 
 import re
 import sys
 from pathlib import Path
 
+from command_line import refuse_writer
 from crates import Unfit, read_lines
 from declared import public_part
 from description.declarations import declared_by, declared_in, split, type_of
 from description.layout import use_line
 from description.names import upper
-from description.readings import CRATES
+from description.readings import CRATES, lacking
 from description.uses import ghost_line
 from description.webidl import BY_NAME, KEYWORDS, NUMBER, SECTIONS
 from written.imports import imported
@@ -61,7 +60,11 @@ FILES = {
 BASE = "weedle_build_base"
 # The types that lead back to themselves, and the crate that builds them.
 TYPES, TYPES_BUILT = "weedle_types", "weedle_build_types"
-COUNTS = "no one two three four five six seven eight".split()
+# The types of these are built by what terminals.py and build_types.py write.
+BY_OTHERS = ("weedle_term", TYPES)
+# How many fields one call builds, by the word in the name of its function in STRUCTS.
+COUNTS = dict(enumerate("two three four five six seven eight".split(), start=2))
+STRUCTS = f"crates/{BASE}/src/structs.rt"
 STEPS = "proofs::Finding::own_steps"
 TABLE = in_logic("weedle_grammar.specs.Table")
 HEAD = """//! {about}
@@ -74,6 +77,17 @@ HEAD = """//! {about}
 TREE = re.compile(r"^abbrev pub (\w+) : (\w+) → Tree$", re.M)
 TYPE_NAME = re.compile(r"\b[A-Z]\w*")
 PRELUDE = {"Box", "Option", "Vec"}
+
+
+def fields_function(name, count):
+    """The function of weedle_build_base that builds the fields of a struct, as many as it has."""
+    if count not in COUNTS:
+        raise Unfit(
+            f"{name} has {count} fields, and {STRUCTS} builds {min(COUNTS)} to {max(COUNTS)} by one call: "
+            f"add a function for {count} there, behind `{COUNTS[max(COUNTS)]}_fields`, give it in lib.rt, "
+            "and put its word into COUNTS of tools/builds.py"
+        )
+    return f"{COUNTS[count]}_fields"
 
 
 def source_of(root, crate):
@@ -183,7 +197,7 @@ class Built:
         """The functions of weedle_build_base by which it is built."""
         if self.item.is_enum or self.is_flag:
             return {"alternative", "choice"}
-        return {f"{COUNTS[len(self.fields)]}_fields"}
+        return {fields_function(self.name, len(self.fields))}
 
     def names(self):
         """The types that its `impl` names."""
@@ -325,6 +339,8 @@ def unbuilt(files):
 
 def run(root):
     """Writes the files, and gives the crates that have them."""
+    if said := lacking(CRATES, [*BY_OTHERS, *(it for _, *sources in FILES.values() for it in sources)]):
+        raise Unfit(f"{said}: FILES says where it is built")
     parts = Parts(root)
     files = [File(root, parts, place, *more) for place, more in FILES.items()]
     if names := unbuilt(files):
@@ -342,4 +358,4 @@ def main():
 
 
 if __name__ == "__main__":
-    main()
+    sys.exit(refuse_writer(__doc__))

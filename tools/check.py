@@ -9,12 +9,17 @@ Beside that it is looked whether each public field and each variant has a doc li
 (tools/undocumented.py), whether the types are declared as the grammar has them
 (tools/unmatched.py), whether each conversion of a member does no more than to put it into its
 variant (tools/conversions.py), whether the `Drop` behind each declaration is what follows from it
-(tools/drops.py --check), and whether each wrong body that is tried by hand still applies
-(tools/try_edits.py --check).
+(tools/drops.py --check), whether docs/CALLING.md is as the crates are (tools/calling.py --check),
+whether the numbers in pages that follow from the grammar still do (tools/grammar_numbers.py),
+whether each wrong body that is tried by hand still applies (tools/try_edits.py --check), whether
+each link of the pages leads somewhere (tools/links.py), whether what they name of the repository is
+there (tools/pages.py), and whether the cases of tests/ are those that are listed, of the texts that
+are made now (tools/make_cases.py --check), and whether the tables of docs/GATE.md are those of the
+times that were measured last (tools/gate_page.py --check).
 
 It prints a line for each file that is stale, for each that no script writes though it says so, and
 for whatever else was found. It changes nothing. It needs the toolchain's command `rt` on PATH, and
-five seconds of processor time: about two by the clock where four processors are idle.
+nine seconds of processor time: about four by the clock where four processors are idle.
 
 The status is 0 where nothing was found, 1 where something was, 2 where it could not be looked at.
 """
@@ -23,6 +28,7 @@ import subprocess
 import sys
 from concurrent.futures import ThreadPoolExecutor
 
+from command_line import take_none
 from crates import Unfit
 from write import TOP, sources, write_anew, writer_in, writers
 
@@ -32,7 +38,13 @@ LOOKS = (
     ["unmatched.py"],
     ["conversions.py"],
     ["drops.py", "--check"],
+    ["calling.py", "--check"],
+    ["grammar_numbers.py"],
     ["try_edits.py", "--check"],
+    ["links.py"],
+    ["pages.py"],
+    ["make_cases.py", "--check"],
+    ["gate_page.py", "--check"],
 )
 
 
@@ -84,4 +96,5 @@ def main():
 
 
 if __name__ == "__main__":
+    take_none(__doc__)
     sys.exit(main())

@@ -26,7 +26,6 @@ others are stopped. The status is 0, 1 where answers differ that these rules don
 a program isn't there or doesn't do.
 """
 
-import argparse
 import itertools
 import re
 import subprocess
@@ -35,6 +34,8 @@ import tempfile
 from collections import Counter
 from pathlib import Path
 
+from command_line import parser_of
+from crates import read_lines
 from random_texts import Maker
 from table_reader import CHANGED, Table
 from tree_json import Held, Struct, definition_of, read
@@ -45,9 +46,6 @@ PORT = TOP / "crates/weedle_check/out/weedle_check"
 LIST = TOP / "crates/weedle_list/out/weedle_list"
 WEEDLE2 = TOP / "compare/target/release/compare"
 SUFFIXES = (".webidl", ".idl", ".widl")
-TESTS = (
-    "weedle_testing weedle_rows weedle_definition_rows weedle_type_rows weedle_program_rows weedle_leaf_rows"
-)
 STRING = re.compile(r'"((?:[^"\\]|\\.)*)"', re.S)
 BETWEEN = "typedef any between_two_texts;"
 # How many texts a process is given.
@@ -189,10 +187,10 @@ def explanation(text, port, weedle2):
 # The texts.
 def worked_texts():
     """Each string of the tests, and each text of weedle2_texts.py."""
-    for crate in TESTS.split():
+    tests = [name for name in read_lines(TOP) if name.endswith("_rows") or name == "weedle_testing"]
+    for crate in tests:
         for file in sorted((TOP / "crates" / crate / "src").rglob("*.rt")):
-            if file.parent.name != "weedle2":
-                yield from map(unescaped, STRING.findall(file.read_text(encoding="utf-8")))
+            yield from map(unescaped, STRING.findall(file.read_text(encoding="utf-8")))
     for lines in [*(lines for _, lines in WHOLE.values()), LEFT[2]]:
         yield from map(unescaped, lines.strip().split("\n"))
 
@@ -295,7 +293,7 @@ def tell_of_files(folder, files, port):
 
 
 def arguments():
-    words = argparse.ArgumentParser(description=__doc__.splitlines()[0])
+    words = parser_of(__doc__)
     words.add_argument("--seed", type=int, default=7)
     for name, count in (("random", 2_000), ("near", 2_000), ("prefixes", 400), ("changed", 3)):
         words.add_argument(f"--{name}", type=int, default=count)

@@ -12,6 +12,7 @@ import re
 import sys
 from pathlib import Path
 
+from command_line import take_none
 from crates import closure, read_lines
 
 TOP = Path(__file__).resolve().parent.parent
@@ -50,4 +51,5 @@ def main():
 
 
 if __name__ == "__main__":
+    take_none(__doc__)
     sys.exit(main())

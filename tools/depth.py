@@ -1,7 +1,7 @@
 #!/usr/bin/env python3
 """Says how deep a program reads definitions that hold one another.
 
-    python3 tools/depth.py PROGRAM [ARGUMENT..]
+    python3 tools/depth.py [--direct] PROGRAM [ARGUMENT..]
 
 The program reads standard input to its end and ends with status 0 where it has read it, as
 crates/weedle_list/out/weedle_list does, once `rt run` has built it. That reads by `parse_quick`, which takes
@@ -17,10 +17,13 @@ says what became of the latter: the program died for want of stack, of which it 
 KB), or it refused it.
 """
 
+import argparse
 import os
 import resource
 import subprocess
 import sys
+
+from command_line import parser_of, runnable
 
 STACK = int(os.environ.get("STACK", "8192")) * 1024
 MOST = 1 << 20
@@ -77,16 +80,17 @@ def deepest(program, text_of):
     return f"{read}, a deeper one {end}" if end == "dies" else f"{read}, a deeper one is {end}"
 
 
-def main(arguments):
-    is_direct = arguments[:1] == ["--direct"]
-    program = arguments[1:] if is_direct else arguments
-    if not program:
-        sys.exit(__doc__)
+def main():
+    parser = parser_of(__doc__)
+    parser.add_argument("--direct", action="store_true", help="the program reads by descent")
+    parser.add_argument("program", type=runnable)
+    parser.add_argument("arguments", nargs=argparse.REMAINDER, help="what the program is given")
+    said = parser.parse_args()
     for name, text_of in FAMILIES.items():
-        if is_direct and text_of is attributes:
+        if said.direct and text_of is attributes:
             continue
-        print(f"{name}: {deepest(program, text_of)}", flush=True)
+        print(f"{name}: {deepest([said.program, *said.arguments], text_of)}", flush=True)
 
 
 if __name__ == "__main__":
-    main(sys.argv[1:])
+    sys.exit(main())

@@ -1,7 +1,7 @@
 #!/usr/bin/env python3
 """Writes the `Drop` of the types that hold one another, of members and of definitions.
 
-    python3 tools/drops.py [--check]
+    python3 tools/drops.py --check
 
 The compiler wants an `impl Drop` in the module that declares its type. So it is put right behind the
 declaration, in the files of CRATES, for each public struct and enum that derives neither Drop nor
@@ -9,27 +9,23 @@ Copy. A struct is taken apart by a pattern that names all fields, an enum by a m
 variants. Where a type has a `Drop` that differs in more than layout, it is written anew where it
 stands. A type that is made over others, as `Part<T>`, gets none.
 
-What is written has the layout of `rt fmt`. The script prints what it writes. With --check it prints
-what is lacking or stale, and writes nothing.
-
-The status is 0 where all stands as it should, also where something was written; 1 where a crate
-isn't there or, with --check, a `Drop` is lacking or stale.
+What is written has the layout of `rt fmt`. tools/write.py runs the script. With --check it prints what
+is lacking or stale, and writes nothing: the status is 0 where all stands as it should, 1 where a crate
+isn't there or a `Drop` is lacking or stale.
 """
 
-import argparse
 import re
 import sys
 from pathlib import Path
 
+from command_line import parser_of, refused
 from crates import Unfit
 from description.declarations import BEGIN, declared_in, end_of, split
 from description.layout import COLUMNS, tall
+from description.readings import IDL, TYPES
 
 TOP = Path(__file__).resolve().parent.parent
-CRATES = (
-    "weedle_types weedle_modifier weedle_members weedle_iterables weedle_async_iterables "
-    "weedle_namespaces weedle_mixins weedle_interfaces weedle_statements weedle_idl"
-).split()
+CRATES = [TYPES, *IDL]
 # An `impl Drop`, up to the brace that closes it: on its line, or at the front of a later one.
 IMPL = r"^impl(?:<[^>]*>)? Drop for {}\b[^{{]*\{{(?:[^\n]*\}}|.*?^\}})$"
 # What a layout may add: space, and a comma before what closes.
@@ -128,16 +124,21 @@ def run(root, is_check=False):
     return said, not (said and is_check)
 
 
-def main():
-    parser = argparse.ArgumentParser(description=__doc__.splitlines()[0])
-    parser.add_argument("--check", action="store_true", help="say what is lacking or stale")
+def main(is_check=False):
+    """Writes, or says what is stale. The status."""
     try:
-        said, is_well = run(TOP, parser.parse_args().check)
+        said, is_well = run(TOP, is_check)
     except Unfit as why:
         said, is_well = [str(why)], False
     print("\n".join(said), end="\n" * bool(said))
     return 0 if is_well else 1
 
 
+def by_hand():
+    parser = parser_of(__doc__)
+    parser.add_argument("--check", action="store_true", help="say what is lacking or stale")
+    return main(is_check=True) if parser.parse_args().check else refused(parser)
+
+
 if __name__ == "__main__":
-    sys.exit(main())
+    sys.exit(by_hand())

@@ -1,7 +1,7 @@
 #!/usr/bin/env python3
 """Says what the gate's time goes into, crate by crate.
 
-    python3 tools/gate_times.py [--json FILE] [--log FILE] [COMMAND..]
+    python3 tools/gate_times.py [--json FILE] [--log FILE] [--calibrate] [COMMAND..]
     python3 tools/gate_times.py --read FILE [--json FILE]
 
 It runs the command, or `rt ci` where none is given, and looks twice a second at the processes below
@@ -11,8 +11,14 @@ proof, and the building of their program), of its wrong bodies and of its progra
 began and how long that took by the clock; then the sums. What the command itself takes, and what
 no crate is named for, stands in the row `the rest`.
 
---json writes the times in seconds in the form that a simulation takes: `proof`, `tests` and
-`programs` by crate, `edits` as how many there are and what they take in all. --log keeps what was
+With --calibrate it runs `rt selftest` before and after, which proves and builds one small crate of the
+toolchain, always the same, and says what that took. So the times of two machines can be compared:
+divide each table by its calibration.
+
+--json writes the times in seconds in the form that tools/gate_plan.py and tools/gate_page.py take:
+`proof`, `tests` and `programs` by crate, `edits` as how many there are and what they take in all,
+`clock`, what each proof took by the clock; the date, the machine, and `calibration`, the seconds
+before and after, or nothing. --log keeps what was
 seen of each process, a line of JSON each, and --read makes the table of such files again, of
 several runs too: their times are added.
 
@@ -25,6 +31,7 @@ import datetime
 import json
 import os
 import re
+import resource
 import subprocess
 import sys
 import time
@@ -110,6 +117,20 @@ def run(command):
     return process.returncode, log
 
 
+def seconds_of_children():
+    used = resource.getrusage(resource.RUSAGE_CHILDREN)
+    return used.ru_utime + used.ru_stime
+
+
+def calibrate(command=("rt", "selftest")):
+    """The processor time of the crate that is always the same, or a line on why there is none."""
+    before = seconds_of_children()
+    done = subprocess.run(command, stdout=subprocess.DEVNULL, stderr=subprocess.DEVNULL, check=False)
+    if done.returncode:
+        sys.exit(f"gate_times: `{' '.join(command)}` ended with status {done.returncode}")
+    return seconds_of_children() - before
+
+
 def taken_by(entry):
     """The processor time of an entry; older files have user and system time apart."""
     return sum(entry["cpu"][:2]) if isinstance(entry["cpu"], list) else entry["cpu"]
@@ -142,9 +163,10 @@ def wrong_bodies(crate):
 class Times:
     """Seconds of processor time by kind and crate, and when each proof began and ended."""
 
-    def __init__(self, log):
+    def __init__(self, log, calibration=()):
         self.by = {kind: {} for kind in KINDS}
         self.spans, self.rest = {}, 0.0
+        self.calibration = [*calibration]
         for entry in log:
             self.add(entry)
 
@@ -171,7 +193,16 @@ class Times:
     def as_json(self):
         said = {kind: {k: round(v, 1) for k, v in self.by[kind].items()} for kind in KINDS}
         edits = {k: [wrong_bodies(k), v] for k, v in said["edits"].items()}
-        return {**said, "edits": edits, "rest": round(self.rest, 1)}
+        clock = {name: round(last - first, 1) for name, (first, last) in self.spans.items()}
+        return {
+            "date": str(datetime.date.today()),
+            "machine": machine(),
+            "calibration": [round(it, 1) for it in self.calibration],
+            **said,
+            "edits": edits,
+            "clock": clock,
+            "rest": round(self.rest, 1),
+        }
 
 
 def minutes(seconds):
@@ -199,6 +230,9 @@ def table(times):
     rows += [f"| all of these | {' | '.join(sums)} | | |", f"| the rest | {minutes(times.rest)} | | | | | |"]
     whole = times.rest + sum(times.sum_of(kind) for kind in KINDS)
     rows += ["", f"In all {whole / 60:.0f} minutes of processor time, on {machine()}, {datetime.date.today()}."]
+    if times.calibration:
+        before, after = times.calibration
+        rows.append(f"Calibration: {before:.0f} seconds of processor time before, {after:.0f} after.")
     return "\n".join(rows)
 
 
@@ -209,16 +243,19 @@ def main():
     parser.add_argument("--json", type=Path)
     parser.add_argument("--log", type=Path)
     parser.add_argument("--read", type=Path, action="append")
+    parser.add_argument("--calibrate", action="store_true")
     parser.add_argument("command", nargs=argparse.REMAINDER)
     said = parser.parse_args()
-    status, log = 0, []
+    status, log, calibration = 0, [], []
     for file in said.read or ():
         log += map(json.loads, file.read_text().splitlines())
     if not said.read:
+        before = calibrate() if said.calibrate else None
         status, log = run(said.command or ["rt", "ci"])
+        calibration = [before, calibrate()] if said.calibrate else []
     if said.log:
         said.log.write_text("".join(json.dumps(it) + "\n" for it in log))
-    times = Times(log)
+    times = Times(log, calibration)
     if said.json:
         said.json.write_text(json.dumps(times.as_json(), indent=1) + "\n")
     print(table(times))

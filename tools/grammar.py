@@ -1,37 +1,38 @@
 #!/usr/bin/env python3
 """Writes the tables of `weedle_grammar`, and the filling of those of `weedle_rules`, from the grammar.
 
-Run it at the top of the repository, then `rt fmt` in crates/weedle_grammar and crates/weedle_rules:
-
-    python3 tools/grammar.py
+tools/write.py runs it.
 
 The grammar stands in tools/description/webidl.py. The script writes, for each section S of it,
 in crates/weedle_grammar
     specs/Table/S.antt      the numbers of its rules, and their rows and shapes
-    src/grammar/s.rt        the same for the program: numbers, constants of `Rule`, rows
+    src/grammar/s.rt        the same for the program: numbers, constants of `Rule`, rows, names
     proofs/Takes/S.antt     which of its rules always take a byte
 in crates/weedle_rules
     src/fill/place/s.rt     the filling of the cells of its rules at a place
-and over all sections, in the first specs/Table.antt, specs/Bound.antt, src/grammar.rt,
-proofs/Takes.antt and the number RULES in src/lib.rt, in the second specs/Bound.antt,
+and over all sections, in the first specs/Table.antt, specs/Names.antt, specs/Bound.antt,
+src/grammar.rt, proofs/Takes.antt and the number RULES in src/lib.rt, in the second specs/Bound.antt,
 src/fill/place.rt and the number READS in src/lib.rt.
 
-A rule has a constant of `Rule` where it has a doc line, or where a scanner names it.
+A rule has a constant of `Rule` where it has a doc line, or where a scanner names it. Its name in a
+syntax tree is that of its constant in small letters.
 """
 
 import re
 import sys
 from pathlib import Path
 
+from command_line import refuse_writer
 from description.names import upper
 from description.webidl import (
     CAPITALIZED, KEYWORDS, NUMBER, RULES, SCANNED, SECTIONS, SYMBOLS, parts_of,
 )
 from written_places import in_logic, put
 
-TOP = Path(".")
+TOP = Path(__file__).resolve().parent.parent
 GRAMMAR, ENDS = "weedle_grammar", "weedle_rules"
 TABLE, BOUND = in_logic(f"{GRAMMAR}.specs.Table"), in_logic(f"{GRAMMAR}.specs.Bound")
+NAMES = in_logic(f"{GRAMMAR}.specs.Names")
 FLAGS = in_logic(f"{GRAMMAR}.proofs.Takes")
 HEAD = "written by tools/grammar.py"
 
@@ -173,6 +174,14 @@ def spec_section(s):
     put(TOP, f"{GRAMMAR}/specs/Table/{s.name}.antt", "\n".join(out) + "\n")
 
 
+def joined_sections():
+    """The lists of all sections, one behind the other."""
+    joined = SECTIONS[-1].module
+    for s in reversed(SECTIONS[:-1]):
+        joined = f"{s.module} ++ {joined}" if s is SECTIONS[-2] else f"{s.module} ++ ({joined})"
+    return joined
+
+
 def spec_table():
     out = ["-- The grammar: the rows and shapes of all rules, section by section. " + HEAD[0].upper() + HEAD[1:] + "."]
     out += ["use Rattle.std.specs.Prelude.{ℕ, zero, suc, List, [], ◌∷◌, ◌++◌}",
@@ -184,16 +193,28 @@ def spec_table():
     out.append("")
     out += [f"pub mod {s.name}" for s in SECTIONS]
     out.append("")
-    joined = SECTIONS[-1].module
-    for s in reversed(SECTIONS[:-1]):
-        joined = f"{s.module} ++ {joined}" if s is SECTIONS[-2] else f"{s.module} ++ ({joined})"
-    out += ["-- all rules, in the order of their numbers", "abbrev pub table : List Entry", f"table = {joined}", "",
+    out += ["-- all rules, in the order of their numbers", "abbrev pub table : List Entry", f"table = {joined_sections()}", "",
             "-- the row of a rule", "abbrev pub row_of : ℕ → Row", "row_of r = (entry_at table r).row", "",
             "-- its shape", "abbrev pub shape_of : ℕ → Shape", "shape_of r = (entry_at table r).shape", "",
             "-- the grammar", "abbrev pub webidl : Grammar", "webidl = record { row = row_of; shape = shape_of }", "",
             "-- rule r at place p of the text has the outcome o",
             "abbrev pub Reads : List ℕ → ℕ → ℕ → Outcome → Type 0", "Reads text r p o = ReadsBy webidl text r p o"]
     put(TOP, f"{GRAMMAR}/specs/Table.antt", "\n".join(out) + "\n")
+
+
+def spec_names():
+    """The names of all rules, section by section."""
+    out = ["-- The names of the rules, as a syntax tree has them. " + HEAD[0].upper() + HEAD[1:] + ".",
+           "use Rattle.std.specs.Prelude.{ℕ, zero, suc, List, [], ◌∷◌, ◌++◌, codes}", ""]
+    for s in SECTIONS:
+        out += [f"-- {s.about}", f"abbrev pub {s.module} : List (List ℕ)", f"{s.module} ="]
+        out += [f'    codes "{r.name.lower()}" ∷' for r in s.rules] + ["    []", ""]
+    out += ["-- all names, in the order of the rules' numbers", "abbrev pub names : List (List ℕ)",
+            f"names = {joined_sections()}", "",
+            "-- the name at a place of a list; past its end an empty one", "abbrev pub name_at : List (List ℕ) → ℕ → List ℕ",
+            "name_at [] r = []", "name_at (n ∷ ns) zero = n", "name_at (n ∷ ns) (suc r) = name_at ns r", "",
+            "-- the name of a rule", "abbrev pub name_of : ℕ → List ℕ", "name_of r = name_at names r"]
+    put(TOP, f"{GRAMMAR}/specs/Names.antt", "\n".join(out) + "\n")
 
 
 def plain_text(row):
@@ -232,11 +253,18 @@ def doc_of(r):
     return r.doc or (f"A part: {plain_text(r.row)}." if r.name in SCANNED else None)
 
 
+def patterns(s):
+    """What stands for each rule of a section in a match over their numbers."""
+    for r in s.rules:
+        yield (r.name if r is not s.rules[-1] else "_"), r
+
+
 def code_section(s):
     low, high = NUMBER[s.rules[0].name], NUMBER[s.rules[-1].name] + 1
     text = "".join(code_row(r.row) for r in s.rules)
     out = [f"//! {s.about}", "//!", f"//! {HEAD[0].upper() + HEAD[1:]}.", "",
            "ghost use Rattle.std.specs.Prelude.{◌≡◌, ◌<◌, ◌≤◌};",
+           f"ghost use {NAMES}.{{name_of}};",
            f"ghost use {TABLE}.{{row_of}};",
            "ghost use Rattle.weedle_grammar.specs.View.{row_view};", ""]
     if "Class::" in text:
@@ -253,14 +281,25 @@ def code_section(s):
     constants = [(r.name, doc_of(r)) for r in s.rules if doc_of(r)]
     out += ["", "impl Rule {"] + [line for name, doc in constants for line in (f"    /// {doc}", f"    pub const {name}: Rule = Rule({name});")] + ["}"]
     requires = [f"    requires low {{ {low} ≤ number }}", f"    requires high {{ number < {high} }}"]
+    within = requires if low else [requires[1].replace("requires high", "requires")]
     out += ["", f"/// The row of a rule from {low} to {high - 1}.", "#[inline(always)]", "pub(super) fn row(number: u16) -> Row"]
-    out += requires if low else [requires[1].replace("requires high", "requires")]
-    out += ["    ensures { row_view result ≡ row_of number }", "{", "    match number {"]
-    for i, r in enumerate(s.rules):
-        pattern = r.name if i + 1 < len(s.rules) else "_"
-        out.append(f"        {pattern} => {code_row(r.row)},")
-    out += ["    }", "}"]
+    out += within + ["    ensures { row_view result ≡ row_of number }", "{", "    match number {"]
+    out += [f"        {pattern} => {code_row(r.row)}," for pattern, r in patterns(s)] + ["    }", "}"]
+    out += ["", f"/// The name of a rule from {low} to {high - 1}.", "pub(super) fn name(number: u16) -> &'static str"]
+    out += within + ["    ensures { result.now ≡ name_of number }", "{", "    match number {"]
+    out += [f'        {pattern} => "{r.name.lower()}",' for pattern, r in patterns(s)] + ["    }", "}"]
     put(TOP, f"{GRAMMAR}/src/grammar/{s.module}.rt", "\n".join(out) + "\n")
+
+
+def by_section(call):
+    """Calls the function of this name of the section in which a rule's number lies."""
+    yield "    let number = rule.number();"
+    for i, s in enumerate(SECTIONS):
+        high = NUMBER[s.rules[-1].name] + 1
+        lead = "    if" if i == 0 else "    } else if"
+        yield f"{lead} number < {high} {{" if i + 1 < len(SECTIONS) else "    } else {"
+        yield f"        {s.module}::{call}(number)"
+    yield "    }"
 
 
 def code_grammar():
@@ -268,18 +307,15 @@ def code_grammar():
            "//! A constant is a rule's number. The rows of a section stand beside its constants.", "//!",
            f"//! {HEAD[0].upper() + HEAD[1:]}.", "",
            "ghost use Rattle.std.specs.Prelude.{◌≡◌};",
+           f"ghost use {NAMES}.{{name_of as the_name_of}};",
            f"ghost use {TABLE}.{{row_of as the_row_of}};",
            "ghost use Rattle.weedle_grammar.specs.View.{row_view};", "",
            "use crate::row::Row;", "use crate::rule::Rule;", ""]
     out += [f"pub mod {s.module};" for s in SECTIONS]
     out += ["", "/// What a rule reads. It takes no memory.", "#[inline(always)]", "pub fn row_of(rule: Rule) -> Row",
-            "    ensures { row_view result ≡ the_row_of rule }", "{", "    let number = rule.number();"]
-    for i, s in enumerate(SECTIONS):
-        high = NUMBER[s.rules[-1].name] + 1
-        lead = "    if" if i == 0 else "    } else if"
-        out.append(f"{lead} number < {high} {{" if i + 1 < len(SECTIONS) else "    } else {")
-        out.append(f"        {s.module}::row(number)")
-    out += ["    }", "}"]
+            "    ensures { row_view result ≡ the_row_of rule }", "{", *by_section("row"), "}"]
+    out += ["", "/// What a rule is called. It takes no memory.", "pub(crate) fn name_of(rule: Rule) -> &'static str",
+            "    ensures { result.now ≡ the_name_of rule }", "{", *by_section("name"), "}"]
     put(TOP, f"{GRAMMAR}/src/grammar.rt", "\n".join(out) + "\n")
 
 
@@ -362,15 +398,12 @@ def proof_takes():
             out.append("    " + " ∷ ".join(flags[i:i + 12]) + " ∷")
         out.append("    []")
         put(TOP, f"{GRAMMAR}/proofs/Takes/{s.name}.antt", "\n".join(out) + "\n")
-    joined = SECTIONS[-1].module
-    for s in reversed(SECTIONS[:-1]):
-        joined = f"{s.module} ++ {joined}" if s is SECTIONS[-2] else f"{s.module} ++ ({joined})"
     out = [f"-- Which rules always take a byte. {HEAD[0].upper() + HEAD[1:]}.",
            "use Rattle.std.proofs.Common.{ℕ, zero, suc, List, [], ◌∷◌, ◌++◌, Bool, false}"]
     out += [f"use {FLAGS}.{s.name}.{{{s.module}}}" for s in SECTIONS]
     out.append("")
     out += [f"pub mod {s.name}" for s in SECTIONS]
-    out += ["", "-- whether each rule does, in the order of their numbers", "abbrev pub flags : List Bool", f"flags = {joined}", "",
+    out += ["", "-- whether each rule does, in the order of their numbers", "abbrev pub flags : List Bool", f"flags = {joined_sections()}", "",
             "-- the flag at a place; past the end none is set",
             "abbrev pub flag_at : List Bool → ℕ → Bool", "flag_at [] r = false", "flag_at (b ∷ bs) zero = b",
             "flag_at (b ∷ bs) (suc r) = flag_at bs r", "", "-- the rule takes a byte wherever it doesn't fail",
@@ -384,6 +417,7 @@ def main():
         code_section(s)
         code_fill_section(s)
     spec_table()
+    spec_names()
     spec_bound()
     spec_reads()
     code_grammar()
@@ -393,4 +427,4 @@ def main():
 
 
 if __name__ == "__main__":
-    main()
+    sys.exit(refuse_writer(__doc__))

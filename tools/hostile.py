@@ -14,6 +14,8 @@ import subprocess
 import sys
 import time
 
+from command_line import parser_of, runnable
+
 MOST_SECONDS = 1.0
 STACK = 8 * 1024 * 1024
 UNREAD = "unread at byte 0\n"
@@ -54,17 +56,18 @@ def run(program, text):
     return ended.stdout.decode(), time.monotonic() - began
 
 
-def main(arguments):
-    if len(arguments) != 1:
-        sys.exit(__doc__)
+def main():
+    parser = parser_of(__doc__)
+    parser.add_argument("program", type=runnable)
+    path = parser.parse_args().program
     failed = False
     for name, (text, expected) in TEXTS.items():
-        written, seconds = run(arguments[0], text)
+        written, seconds = run(path, text)
         is_right = written == expected and seconds < MOST_SECONDS
         failed = failed or not is_right
         print(f"{name}: {len(text):,} bytes, {seconds:.3f} s{'' if is_right else ', which is wrong'}", flush=True)
-    sys.exit(1 if failed else 0)
+    return 1 if failed else 0
 
 
 if __name__ == "__main__":
-    main(sys.argv[1:])
+    sys.exit(main())

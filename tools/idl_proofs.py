@@ -1,9 +1,7 @@
 #!/usr/bin/env python3
 """Writes the proofs that members and definitions read what their rules read.
 
-Run it at the top of the repository, then `rt fmt` in each crate that it names:
-
-    python3 tools/idl_proofs.py
+tools/write.py runs it.
 
 The fields of a struct and the variants of an enum are those of its declaration, in their order. The
 types of a module have their proofs in a file of its name; tools/proofs/idl_parts.py says what it says
@@ -12,7 +10,9 @@ parts give and refuse as what the rule does, and the lemmas that the search for 
 """
 
 import re
+import sys
 
+from command_line import refuse_writer
 from description.imports import Names, use
 from description.names import snake, upper
 from description.readings import CRATES
@@ -264,4 +264,4 @@ def main():
 
 
 if __name__ == "__main__":
-    main()
+    sys.exit(refuse_writer(__doc__))

@@ -1,7 +1,7 @@
 #!/usr/bin/env python3
 """Writes the code that follows from the declarations of types, members and definitions.
 
-    python3 tools/impls.py
+tools/write.py runs it.
 
 Who declares a struct or an enum writes it once, with docs and derives. Below each module MODULE.rt of
 CRATES that declares some, this writes MODULE/written.rt, with
@@ -16,22 +16,19 @@ CRATES that declares some, this writes MODULE/written.rt, with
 `Drop` stands in MODULE.rt, where tools/drops.py puts it: the language wants it in the module that declares
 the type. The conversions of an enum with many variants stand in a file of their own. tools/modules.py adds
 the lines `mod` for the files, and `rt fmt` lays them out, as tools/write.py has it do.
-
-The status is 0 where it wrote all, else 1, and it prints why.
 """
 
 import sys
 from pathlib import Path
 
+from command_line import refuse_writer
 from crates import Unfit
+from description.readings import IDL, TYPES
 from written.files import files_of
 from written_places import put
 
 TOP = Path(__file__).resolve().parent.parent
-CRATES = (
-    "weedle_types weedle_modifier weedle_members weedle_iterables weedle_async_iterables "
-    "weedle_interfaces weedle_mixins weedle_namespaces weedle_statements weedle_idl"
-).split()
+CRATES = [TYPES, *IDL]
 
 
 def run(root):
@@ -49,4 +46,4 @@ def main():
 
 
 if __name__ == "__main__":
-    main()
+    sys.exit(refuse_writer(__doc__))

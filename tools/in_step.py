@@ -1,7 +1,7 @@
 #!/usr/bin/env python3
 """Keeps lines that stand in files by hand in step with the declarations and the grammar.
 
-    python3 tools/in_step.py
+tools/write.py runs it.
 
 Some files that are written by hand have a line or a few for each variant of an enum, or for each word
 by which a type begins. Where such lines follow from the declarations this writes them, in their
@@ -13,13 +13,13 @@ places; the rest of the file stays as it is. A module of tools/kept does so for 
 - formers.py: what reads and spells a new type over a type in angle brackets, as that of `FrozenArray`;
 - variants.py: trees and spellings of variants, with their numbers.
 
-It prints the files that it changed. The status is 0, or 1 where lines have to be written by hand, and
-then it says which.
+It refuses where lines have to be written by hand, and says which.
 """
 
 import sys
 from pathlib import Path
 
+from command_line import refuse_writer
 from crates import Unfit
 from kept import formers, pieces, starts, titles, variants
 
@@ -48,4 +48,4 @@ def main():
 
 
 if __name__ == "__main__":
-    main()
+    sys.exit(refuse_writer(__doc__))

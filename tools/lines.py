@@ -11,11 +11,11 @@ lines the scripts of tools have, which are by hand as well.
 The status is 0, or 2 where the folder holds no such repository.
 """
 
-import argparse
 import sys
 from collections import Counter
 from pathlib import Path
 
+from command_line import parser_of
 from crates import PARTS, Unfit, files_of, read_lines
 from write import writer_in
 
@@ -73,7 +73,7 @@ def report(root):
 
 
 def main():
-    parser = argparse.ArgumentParser(description=__doc__.splitlines()[0])
+    parser = parser_of(__doc__)
     parser.add_argument("folder", nargs="?", default=TOP, help="a checkout; without it this one")
     try:
         print(*report(parser.parse_args().folder), sep="\n")

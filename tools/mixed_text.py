@@ -8,9 +8,9 @@ crates/weedle_testing/src/text.rt: of seed 7 and size 1000000 one of 1,000,072 b
 """
 
 import re
-import sys
 from pathlib import Path
 
+from command_line import parser_of
 from compare_with_weedle2 import STRING, TOP, unescaped
 
 SOURCE = TOP / "crates/weedle_testing/src/text.rt"
@@ -95,6 +95,8 @@ class Mixed:
 
 
 if __name__ == "__main__":
-    if len(sys.argv) != 3 or not all(word.isdigit() for word in sys.argv[1:]):
-        sys.exit("usage: mixed_text.py SEED SIZE")
-    print(Mixed(int(sys.argv[1])).text(int(sys.argv[2])), end="")
+    WORDS = parser_of(__doc__)
+    WORDS.add_argument("seed", type=int)
+    WORDS.add_argument("size", type=int)
+    SAID = WORDS.parse_args()
+    print(Mixed(SAID.seed).text(SAID.size), end="")

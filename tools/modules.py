@@ -1,7 +1,7 @@
 #!/usr/bin/env python3
 """Adds the lines `mod` and `pub use` that new modules and types want, to files that are written by hand.
 
-    python3 tools/modules.py
+tools/write.py runs it.
 
 Five kinds of lines are added where they lack; nothing is removed, and `rt fmt` sorts them afterwards.
 
@@ -15,24 +15,25 @@ Five kinds of lines are added where they lack; nothing is removed, and `rt fmt` 
 
 The module of a folder `written` is written here as a whole: written.rt or written.antt, which names the files.
 
-It prints the files that it changed. The status is 0, or 1 where such a folder has a file by hand.
+It refuses where such a folder has a file by hand.
 """
 
 import re
 import sys
 from pathlib import Path
 
+from command_line import refuse_writer
 from crates import PARTS, Unfit, read_lines
 from declared import PRIVATE
 from description.declarations import declared_in
-from description.readings import CRATES
+from description.readings import CRATES, IDL
 from write import writer_in
 from written.imports import imported
 from written_places import FOLDER
 
 TOP = Path(__file__).resolve().parent.parent
 # The crates that give types of others, each with those whose types it gives.
-GIVING = {"weedle_idl": CRATES[CRATES.index("weedle_modifier"):-1], "weedle": [*CRATES[1:], "weedle_idl"]}
+GIVING = {IDL[-1]: IDL[:-1], "weedle": [*CRATES[1:], IDL[-1]]}
 MOD = re.compile(r"^(?:pub(?:\(crate\))? )?mod (\w+);", re.M)
 PUBLIC = re.compile(r"^pub mod (\w+);", re.M)
 PUB_USE = re.compile(r"^pub use [^;]+::[^;]+;\n", re.M)
@@ -223,4 +224,4 @@ def main():
 
 
 if __name__ == "__main__":
-    sys.exit(main())
+    sys.exit(refuse_writer(__doc__))

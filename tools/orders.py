@@ -1,7 +1,7 @@
 #!/usr/bin/env python3
 """Writes the laws of orders, from the declarations of the types whose `Ord` is derived.
 
-    python3 tools/orders.py [--check]
+    python3 tools/orders.py --check
 
 A type's law is a function that does nothing when it runs. Its contract says of two values of the type
 that `cmp` of a struct is the comparison of its fields in order, the first that differs deciding;
@@ -12,22 +12,21 @@ CRATES says which crate has the laws of which types: in src/orders, with the pla
 specs/Places.antt and, of the types that hold one another, proofs in proofs/orders. The files have the
 layout of `rt fmt`. The line `mod` of a module is written by hand.
 
-The script prints the files that it writes. With --check it prints the files that are stale, and
-writes none. The status is 0 where all stands as it should, also where files were written, and 1
-where, with --check, a file is stale.
+tools/write.py runs the script. With --check it prints the files that are stale, and writes none: the
+status is 0 where all stands as it should, and 1 where a file is stale.
 """
 
-import argparse
 import re
 import sys
 from pathlib import Path
 
+from command_line import parser_of, refused
 from crates import Unfit
 from declared import FORMED, modules_of, quoted
 from description.flat import flat_variants
 from description.layout import COLUMNS, use_line
 from description.names import snake
-from description.readings import Declared
+from description.readings import IDL, LEAVES, TYPES, Declared, lacking
 from terminals import label
 from written_places import in_logic, place, put
 
@@ -322,16 +321,25 @@ def run(root, is_check=False):
     return said, not (is_check and said)
 
 
-def main():
-    parser = argparse.ArgumentParser(description=__doc__.splitlines()[0])
-    parser.add_argument("--check", action="store_true", help="say which files are stale")
+def main(is_check=False):
+    """Writes, or says what is stale. The status."""
+    named = [it for modules in CRATES.values() for _, crates in modules.values() for it in crates]
+    # The terminals have their laws by terminals.py.
+    if why := lacking([*LEAVES[1:], TYPES, *IDL], named):
+        sys.exit(f"orders: {why}: CRATES says which modules have the laws")
     try:
-        said, is_well = run(TOP, parser.parse_args().check)
+        said, is_well = run(TOP, is_check)
     except Unfit as why:
         said, is_well = [str(why)], False
     print("\n".join(said), end="\n" * bool(said))
-    sys.exit(0 if is_well else 1)
+    return 0 if is_well else 1
+
+
+def by_hand():
+    parser = parser_of(__doc__)
+    parser.add_argument("--check", action="store_true", help="say which files are stale")
+    return main(is_check=True) if parser.parse_args().check else refused(parser)
 
 
 if __name__ == "__main__":
-    main()
+    sys.exit(by_hand())

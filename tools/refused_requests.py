@@ -6,11 +6,10 @@ of its calls has one left. In each run before that the test has to pass and to s
 call that goes on behind a refusal would say nothing. The calls of tests that are named `no_..`, of any module,
 make no request at all.
 
-Run `rt test` in the folders of the crates first, which builds their tests. Then, at the top of the repository:
+    python3 tools/refused_requests.py [CRATE..]
 
-    python3 tools/refused_requests.py
-
-It takes names of crates too. A C compiler has to be there, as `cc`, for tools/refuse_request.c. For one N,
+Run `rt test` in the folders of the crates first, which builds their tests. Without names it takes all crates with
+such tests. A C compiler has to be there, as `cc`, for tools/refuse_request.c. For one N,
 `rt try --test --fail-alloc N` in a crate's folder does the same without it, and needs no proof.
 """
 
@@ -20,13 +19,13 @@ import sys
 import tempfile
 from pathlib import Path
 
-CRATES = (
-    "weedle_leaf_rows",
-    "weedle_type_rows",
-    "weedle_definition_rows",
-    "weedle_rows",
-    "weedle_program_rows",
-)
+from command_line import parser_of
+from crates import read_lines
+
+TOP = Path(__file__).resolve().parent.parent
+
+# The crates of tests.
+CRATES = [name for name in read_lines(TOP) if name.endswith("_rows")]
 WANTED = "a call wanted memory"
 BEHIND = "a request behind the calls was refused"
 MOST = 10_000
@@ -56,13 +55,16 @@ def sweep(program, test, library):
     sys.exit(f"{test}: no end after {MOST} requests")
 
 
-def main(crates):
+def main():
+    parser = parser_of(__doc__)
+    parser.add_argument("crate", nargs="*", default=CRATES)
+    crates = parser.parse_args().crate
     with tempfile.TemporaryDirectory() as folder:
         library = f"{folder}/refuse_request.so"
-        build = ["cc", "-O2", "-shared", "-fPIC", "-o", library, "tools/refuse_request.c", "-ldl"]
+        build = ["cc", "-O2", "-shared", "-fPIC", "-o", library, f"{TOP}/tools/refuse_request.c", "-ldl"]
         subprocess.run(build, check=True)
         for crate in crates:
-            program = Path(f"crates/{crate}/out/{crate}_tests").resolve()
+            program = TOP / "crates" / crate / "out" / f"{crate}_tests"
             if not program.is_file():
                 sys.exit(f"{program} isn't built: run rt test in crates/{crate}")
             for test in tests_of(program):
@@ -73,4 +75,4 @@ def main(crates):
 
 
 if __name__ == "__main__":
-    main(sys.argv[1:] or CRATES)
+    main()

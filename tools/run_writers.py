@@ -1,15 +1,15 @@
 #!/usr/bin/env python3
-"""Runs all scripts that write below crates/, one after another, in one process.
+"""Runs all scripts that write files of crates, of C and of Python, one after another, in one process.
 
-    python3 tools/run_writers.py
+    python3 tools/run_writers.py --here
 
-tools/write.py and tools/check.py do so in a copy of the repository. Each script of WRITERS runs as
-if it was run alone: what it brings in from tools/ is loaded anew, since some of it reads the crates
+tools/write.py and tools/check.py do so in a copy of the repository; without --here nothing is written.
+Each script of WRITERS runs its `main` as if it was run alone: what it brings in from tools/ is loaded anew, since some of it reads the crates
 when it is loaded. Only the modules of KEPT are loaded once. They read nothing then, and what they
 found in a text they look up by that text; so the declarations that many scripts want are read once.
 All scripts together take a third of the time that they take in a process each.
 
-It prints what a script said that failed, and ends there. The status is 1 then, and else 0.
+It prints what a script said that failed, and ends there. The status is 1 then, and else 0; without --here it is 2.
 """
 
 import runpy
@@ -19,12 +19,15 @@ from contextlib import redirect_stdout
 from io import StringIO
 from pathlib import Path
 
+from command_line import parser_of, refused
+
 TOOLS = Path(__file__).resolve().parent
 # Each stands behind those whose files it reads. The lines of modules.py come twice: of types before
 # others name them, and of written files when they are there.
 WRITERS = (
     "grammar terminals drops in_step modules trees types_impls types_proofs build_types "
-    "build_types_proofs idl_proofs builds spellings impls orders modules"
+    "build_types_proofs idl_proofs builds spellings impls orders modules c_header "
+    "python_types"
 ).split()
 KEPT = ("crates", "description")
 
@@ -40,15 +43,14 @@ def forget(folder):
 def is_well(path):
     """Runs a script. Whether it ended well; else it has printed why."""
     try:
-        runpy.run_path(str(path), run_name="__main__")
+        status = runpy.run_path(str(path), run_name=path.stem)["main"]()
     except SystemExit as end:
-        if isinstance(end.code, str):
-            print(end.code)
-        return not end.code
+        status = end.code
     except Exception:
-        print(traceback.format_exc())
-        return False
-    return True
+        status = traceback.format_exc()
+    if isinstance(status, str):
+        print(status)
+    return not status
 
 
 def run(folder, scripts):
@@ -62,6 +64,10 @@ def run(folder, scripts):
 
 
 def main():
+    parser = parser_of(__doc__)
+    parser.add_argument("--here", action="store_true", help="write in the folder it stands in")
+    if not parser.parse_args().here:
+        return refused(parser)
     failure = run(TOOLS, WRITERS)
     if failure:
         print(failure)

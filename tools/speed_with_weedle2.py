@@ -22,7 +22,6 @@ whole, joined to one. Of each text it prints
 Other work on the machine makes times longer, and leaves instructions and memory as they are.
 """
 
-import argparse
 import re
 import shutil
 import subprocess
@@ -31,6 +30,7 @@ import tempfile
 from pathlib import Path
 
 import callgrind
+from command_line import parser_of
 from compare_with_weedle2 import LIST, PORT, WEEDLE2, NoUse, files_of, output_of
 from mixed_text import Mixed
 
@@ -39,7 +39,7 @@ MORE = 10
 PART = 10
 # What the function of weedle_check that times a reader calls: its readers, of which `parse_quick` stands in
 # place as a look at the nesting and `parse_by_descent`, and what lets go of a list.
-TIMED = "weedle_checker::timing::time_reader"
+TIMED = "weedle_check::timing::time_reader"
 DESCENT = "weedle_front::descent::parse_by_descent"
 LOOK = "weedle_nesting::look::look_over"
 TABLE = "weedle_front::reader::parse"
@@ -127,7 +127,7 @@ def measure(name, text, short, wanted):
 
 
 def arguments():
-    words = argparse.ArgumentParser(description=__doc__.splitlines()[0])
+    words = parser_of(__doc__)
     for name, number in (("seed", 7), ("size", 1_000_000), ("rounds", 15)):
         words.add_argument(f"--{name}", type=int, default=number)
     words.add_argument("--folder", action="append", default=[])

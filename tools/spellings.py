@@ -1,9 +1,9 @@
 #!/usr/bin/env python3
 """Writes how values of types, members and definitions are spelt, the proofs of it, and the laws.
 
-    python3 tools/spellings.py
+tools/write.py runs it.
 
-Run it at the top of the repository, then `rt fmt` in the crates that it names. For each of FILES it
+For each of FILES it
 writes the spellings in specs/, that what a rule takes is so spelt in proofs/, and the functions that
 carry these laws in src/laws. A struct is spelt as its fields, one after another, an enum as what its
 variant holds; fields and variants are those of the declarations.
@@ -11,18 +11,19 @@ Examples in the docs of the functions are those of the declarations.
 The types that hold one another are spelt in specs/RecursiveTypes.antt of weedle_spell_types, by hand:
 of these only the laws are written.
 
-The status is 0, or 1 where none of FILES has a type that is declared.
+It refuses where none of FILES has a type that is declared.
 """
 
 import re
 import sys
 
+from command_line import refuse_writer
 from description.declarations import type_of
 from description.docs import with_example
 from description.imports import STATED, Names
 from description.layout import filled
 from description.names import snake
-from description.readings import CRATES
+from description.readings import CRATES, LEAVES as LEAF_CRATES
 from proofs.idl_parts import DECLARED, TOP
 from proofs.spelling_terms import WHOLE, Item, definition, proof
 from proofs.spelt import HELPERS, function, is_made, type_text
@@ -33,7 +34,6 @@ COLUMNS = 110
 LEAVES, TYPES, IDL = "weedle_spell", "weedle_spell_types", "weedle_spell_idl"
 # The module of the types that are made over one, each under the name of a `type`.
 FORMERS = "formers"
-LEAF_CRATES = ("weedle_term", "weedle_parts", "weedle_literal")
 STANDARD = {
     "Rattle.std.specs.Global": ["Box", "Vec"],
     "Rattle.std.specs.Prelude": ["List", "Option", "codes"],
@@ -234,4 +234,4 @@ def main():
 
 
 if __name__ == "__main__":
-    main()
+    sys.exit(refuse_writer(__doc__))

@@ -11,13 +11,12 @@ import re
 from pathlib import Path
 
 import grammar
+from description.readings import IDL, LEAVES, TYPES
 from tree_json import Held, Struct, Unit
 
 TOP = Path(__file__).resolve().parent.parent
-CRATES = (
-    "weedle_literal weedle_parts weedle_types weedle_modifier weedle_members weedle_iterables weedle_async_iterables "
-    "weedle_namespaces weedle_statements weedle_interfaces weedle_mixins weedle_idl"
-).split()
+# All but the terminals: these have nothing in them.
+CRATES = [*LEAVES[1:], TYPES, *IDL]
 ITEM = re.compile(r"^pub (struct|enum) (\w+)(?:<[^{(;]*>)?(?: (\{)\n(.*?)^\}|(\().*?\)(?:\s+where[^;]*)?;)", re.M | re.S)
 FIELD = re.compile(r"^    pub (\w+):", re.M)
 VARIANT = re.compile(r"^    (\w+)(?:\(|,)", re.M)

@@ -268,7 +268,7 @@ class BuildsTest(unittest.TestCase):
 
     def test_a_type_of_the_base_is_its_own_value(self):
         files, all_built = {"weedle_build_base/own": ("Own.", "low::default")}, lambda files: []
-        with mock.patch.multiple(builds, FILES=files, unbuilt=all_built):
+        with mock.patch.multiple(builds, FILES=files, unbuilt=all_built, lacking=lambda *_: None):
             text = self.written("weedle_build_base/src/own.rt")
         self.assertIn("using(crate::proofs::", text)
         self.assertIn("use crate::structs::two_fields;", text)
@@ -278,6 +278,11 @@ class BuildsTest(unittest.TestCase):
     def test_a_module_without_types_is_refused(self):
         with mock.patch.dict(builds.FILES, {"build_low/low": ("What is low.", "low::none")}):
             with self.assertRaisesRegex(Unfit, "build_low/low is to build what low::none declares"):
+                builds.run(self.root)
+
+    def test_a_crate_that_no_file_names_is_refused(self):
+        with mock.patch.object(builds, "CRATES", ["weedle_term", "low", "high", "new"]):
+            with self.assertRaisesRegex(Unfit, "no place is said for what is of new: FILES says"):
                 builds.run(self.root)
 
     def test_a_type_that_no_file_builds_is_refused(self):
@@ -290,6 +295,18 @@ class BuildsTest(unittest.TestCase):
         self.put("crates/high/specs/Trees.antt", "")
         with self.assertRaisesRegex(Unfit, "crates/high/specs states the tree of Definition"):
             builds.run(self.root)
+
+    def test_more_fields_than_one_call_builds_are_refused(self):
+        fields = "".join(f"    pub f{k}: Assign,\n" for k in range(9))
+        self.put("crates/low/src/default.rt", "pub struct Default {\n" + fields + "}\n")
+        said = "Default has 9 fields, and crates/weedle_build_base/src/structs.rt builds 2 to 8 by one call"
+        with self.assertRaisesRegex(Unfit, said):
+            builds.run(self.root)
+
+    def test_each_function_for_fields_is_there(self):
+        text = (builds.TOP / builds.STRUCTS).read_text(encoding="utf-8")
+        for word in builds.COUNTS.values():
+            self.assertIn(f"pub fn {word}_fields<", text)
 
     def test_a_name_that_nothing_brings_in_is_refused(self):
         self.put("crates/high/src/lib.rt", "//! High.\n")

@@ -1,5 +1,5 @@
 #!/usr/bin/env python3
-"""Tests compare_with_weedle2.py and what it uses, and weedle2_rows.py, with no program, in some seconds.
+"""Tests compare_with_weedle2.py and what it uses, with no program, in some seconds.
 
     python3 tools/test_compare_with_weedle2.py
 
@@ -16,7 +16,6 @@ from compare_with_weedle2 import Answer, Comparison, answer_by_rows, explanation
 from random_texts import Maker
 from table_reader import CHANGED, Table
 from tree_json import Held, debug, read
-from weedle2_rows import quoted
 
 INCLUDES = (
     'IncludesStatement(IncludesStatementDefinition { attributes: None, lhs_identifier: Identifier("A"), '
@@ -101,8 +100,6 @@ class Names(unittest.TestCase):
 
     def test_strings_of_rust(self):
         self.assertEqual(unescaped(r'a\n\"\\\u{feff}' + "\\\n    b"), 'a\n"\\\ufeffb')
-        for text in ('a "b"\n\\', "word " * 50, "a  b   " * 30, "x" * 200):
-            self.assertEqual(unescaped(quoted(text)), text)
 
 
 class Texts(unittest.TestCase):

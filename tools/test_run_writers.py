@@ -15,8 +15,8 @@ import run_writers
 # A module that reads a file when it is loaded, as some of tools/ do.
 READING = "from pathlib import Path\nTEXT = Path(__file__).with_name('there').read_text()\n"
 # A script that writes this file, and one that says what the module read.
-WRITING = "from pathlib import Path\nPath(__file__).with_name('there').write_text({!r})\n"
-SAYING = "import reading_it\nprint(reading_it.TEXT)\nraise SystemExit('as was wanted')\n"
+WRITING = "__import__('pathlib').Path(__file__).with_name('there').write_text({!r})"
+SAYING = "print(__import__('reading_it').TEXT); raise SystemExit('as was wanted')"
 
 
 class Runs(unittest.TestCase):
@@ -30,9 +30,9 @@ class Runs(unittest.TestCase):
         self.addCleanup(run_writers.forget, self.folder)
 
     def run_scripts(self, **texts):
-        """Runs scripts of these texts, in their order."""
+        """Runs scripts whose `main` has these texts, in their order."""
         for name, text in texts.items():
-            (self.folder / f"{name}.py").write_text(text)
+            (self.folder / f"{name}.py").write_text(f"def main():\n    {text}\n")
         return run_writers.run(self.folder, list(texts))
 
     def test_nothing_is_said_where_all_end_well(self):
@@ -40,17 +40,17 @@ class Runs(unittest.TestCase):
         self.assertIsNone(self.run_scripts(**ends))
 
     def test_the_words_of_the_script_that_failed(self):
-        said = self.run_scripts(a="print('much')", b="print('more')\nraise SystemExit('why')")
+        said = self.run_scripts(a="print('much')", b="print('more'); raise SystemExit('why')")
         self.assertEqual(said, "tools/b.py failed:\nmore\nwhy")
 
     def test_a_status_that_says_nothing(self):
-        said = self.run_scripts(a="print('the why')\nraise SystemExit(1)")
+        said = self.run_scripts(a="print('the why'); return 1")
         self.assertEqual(said, "tools/a.py failed:\nthe why")
 
     def test_an_exception_is_shown(self):
         said = self.run_scripts(a="1 / 0")
         self.assertTrue(said.startswith("tools/a.py failed:\nTraceback "), said)
-        self.assertIn("a.py\", line 1", said)
+        self.assertIn("a.py\", line 2", said)
         self.assertTrue(said.endswith("ZeroDivisionError: division by zero"), said)
 
     def test_none_runs_behind_one_that_failed(self):

@@ -4,12 +4,8 @@
     python3 tools/test_tree_json.py
 """
 
-import io
-import json
 import unittest
-from unittest import mock
 
-import tree_json
 from tree_json import NoTree, debug, definition_of, plain, read
 
 INCLUDES = (
@@ -78,19 +74,6 @@ class Lines(unittest.TestCase):
         for line in ("", "== a.webidl", "includes A", "definitions 1", "unread at byte 3", INCLUDES,
                      "a.webidl:1:4: expected `;`", "1 files, 0 refused"):
             self.assertIsNone(definition_of(line), line)
-
-    def test_a_line_for_each_definition(self):
-        lines, out = [f"  {INCLUDES}\n", "definitions 2\n", f"12:3 {INCLUDES}\n"], io.StringIO()
-        self.assertTrue(tree_json.convert(lines, "it", out))
-        written = [json.loads(line) for line in out.getvalue().splitlines()]
-        self.assertEqual(written, [plain(read(INCLUDES))] * 2)
-
-    def test_a_line_that_holds_none_is_told(self):
-        out, err = io.StringIO(), io.StringIO()
-        with mock.patch("sys.stderr", err):
-            self.assertFalse(tree_json.convert(["x\n", "  A(B\n", f"  {INCLUDES}\n"], "it", out))
-        self.assertEqual(err.getvalue(), "it:2: no `,` at character 3\n")
-        self.assertEqual(len(out.getvalue().splitlines()), 1)
 
 
 if __name__ == "__main__":

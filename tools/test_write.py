@@ -7,10 +7,13 @@
 import os
 import tempfile
 import unittest
+from contextlib import redirect_stderr, redirect_stdout
+from io import StringIO
 from pathlib import Path
 from unittest import mock
 
 import write
+from crates import Unfit
 
 HEAD = b"//! Terminals.\n//!\n//! Written by tools/terminals.py.\n"
 
@@ -23,6 +26,15 @@ class Heads(unittest.TestCase):
     def test_a_head_may_be_long(self):
         text = "//! Rules.\n//!\n//! More of them.\n//!\n//! Written by tools/x.py.\n\nuse crate::y;\n"
         self.assertEqual(write.writer_in(text), "tools/x.py")
+
+    def test_a_head_of_c(self):
+        text = "/*\n * A header.\n *\n * Written by tools/x.py.\n */\nint f(void);\n"
+        self.assertEqual(write.writer_in(text), "tools/x.py")
+        self.assertIsNone(write.writer_in("/* By hand. */\n/* Written by tools/x.py. */\n"))
+
+    def test_a_head_of_python(self):
+        self.assertEqual(write.writer_in('"""Types. Written by tools/x.py."""\n\nA = 1\n'), "tools/x.py")
+        self.assertIsNone(write.writer_in('"""By hand."""\n"""Written by tools/x.py."""\n'))
 
     def test_only_a_head_counts(self):
         self.assertIsNone(write.writer_in("//! By hand.\n\n\n// as written by tools/x.py\n"))
@@ -56,9 +68,17 @@ class Copies(unittest.TestCase):
         self.assertIn("crates/a/proofs/D.antt", data)
         self.assertIn("crates/a/src/b", folders)
 
-    def test_what_comes_from_outside_is_copied(self):
-        rows = b"//! Rows. Written by tools/weedle2_rows.py.\n"
-        self.assertEqual(self.copied({"crates/a/src/r.rt": rows})[0]["crates/a/src/r.rt"], rows)
+    def test_a_header_is_a_source_too(self):
+        data, _ = self.copied({"include/a.h": b"by hand", "include/b.h": b"/* Written by tools/x.py. */"})
+        self.assertIn("include/a.h", data)
+        self.assertNotIn("include/b.h", data)
+
+    def test_modules_of_python_are_sources_and_nothing_beside_them(self):
+        written = b'"""A. Written by tools/x.py."""'
+        data, _ = self.copied({
+            "python/weedle/a.py": written, "python/weedle/b.py": b"b", "python/weedle/__pycache__/b.pyc": b"c",
+        })
+        self.assertEqual([it for it in data if it.startswith("python")], ["python/weedle/b.py"])
 
 
 # What stands for `rt fmt`: it says where it runs, and adds a line to each file below src.
@@ -106,10 +126,33 @@ class Layouts(unittest.TestCase):
         anew = {**files, "crates/a/specs/B.antt": b"456"}
         self.assertEqual(write.sizes_of(files, anew), {"a": 2})
 
+    def test_what_is_no_crates_has_no_size(self):
+        self.assertEqual(write.sizes_of({}, {"include/a.h": b"x"}), {})
+
     def test_shares_are_of_about_the_same_size(self):
         found = write.shares({"a": 1, "b": 5, "c": 3, "d": 2}, 2)
         self.assertEqual(found, [["b", "a"], ["c", "d"]])
         self.assertEqual(write.shares({"a": 0}, 4), [["a"]])
+
+
+class Whole(unittest.TestCase):
+    def run_main(self, anew, call):
+        """The status and what is printed, where this is written anew and the pages are written by `call`."""
+        given = {
+            "sources": lambda top: {}, "write_anew": mock.Mock(side_effect=[anew]), "call": call,
+            "bring": lambda top, files, anew: ["new a"],
+        }
+        with mock.patch.multiple(write, **given):
+            with redirect_stdout(StringIO()) as out, redirect_stderr(StringIO()) as err:
+                return write.main(), out.getvalue(), err.getvalue()
+
+    def test_the_pages_follow_what_is_brought(self):
+        found = self.run_main({}, lambda words, folder: f"changed {words[1]}\n")
+        self.assertEqual(found, (0, "new a\nchanged tools/calling.py\n", ""))
+
+    def test_a_page_that_fails(self):
+        found = self.run_main({}, mock.Mock(side_effect=Unfit("why")))
+        self.assertEqual(found, (2, "new a\n", "write: why\n"))
 
 
 class Brought(unittest.TestCase):

@@ -1,13 +1,8 @@
-#!/usr/bin/env python3
-"""Turns the `Debug` texts of definitions into JSON, one definition a line.
+"""Reads the `Debug` texts of definitions, and turns their values into what JSON has.
 
-    weedle_check --tree FILE.. | python3 tools/tree_json.py
-    compare/target/release/compare FILE.. | python3 tools/tree_json.py
-    python3 tools/tree_json.py FILE..
-
-It takes the lines that hold a definition: behind its place, as `3:1 Interface(..)`, or behind two
-blanks, as `  Interface(..)`. All other lines are left out. A struct becomes an object by its fields,
-`None` null, what stands in `Some` itself, a variant that holds a value an object of one entry, and a
+It takes the lines of `weedle_check --tree` and of the program of compare/ that hold a definition: behind its
+place, as `3:1 Interface(..)`, or behind two blanks, as `  Interface(..)`. A struct becomes an object by its
+fields, `None` null, what stands in `Some` itself, a variant that holds a value an object of one entry, and a
 name alone a string:
 
     1:1 IncludesStatement(IncludesStatementDefinition { attributes: None, lhs_identifier: Identifier("A"),
@@ -18,15 +13,14 @@ name alone a string:
     {"IncludesStatement": {"attributes": null, "lhs_identifier": {"Identifier": "A"},
         "includes": "Includes", "rhs_identifier": {"Identifier": "B"}, "semi_colon": "SemiColon"}}
 
-A struct's name isn't in the JSON, as in what serde writes: the variant that holds it says it.
+A struct's name isn't in the JSON, as in what serde writes: the variant that holds it says it. `python3 -m weedle
+--json` writes the same of a text itself.
 
-The status is 0, or 1 where such a line holds no `Debug` text: a line on standard error says where.
 Deep nesting ends it, as it ends the readers: a text of some thousand types in one another.
 """
 
 import json
 import re
-import sys
 
 LINE = re.compile(r"(?:\d+:\d+ |  )(?=[A-Z]\w*\()")
 WORD = re.compile(r"[A-Za-z_]\w*")
@@ -35,8 +29,6 @@ STRING = re.compile(r'"(?:[^"\\]|\\.)*"')
 ESCAPE = re.compile(r"\\(u\{[0-9a-fA-F]+\}|x[0-9a-fA-F]{2}|.)", re.S)
 ESCAPES = {"n": "\n", "r": "\r", "t": "\t", "0": "\0"}
 BLANKS = re.compile(r"\s*")
-# How deep a value may nest, in Python's frames.
-DEPTH = 20_000
 
 
 class NoTree(Exception):
@@ -196,33 +188,3 @@ def definition_of(line):
     """The `Debug` text in a line, or None where the line holds no definition."""
     found = LINE.match(line)
     return line[found.end():] if found else None
-
-
-def convert(lines, name, out):
-    """Writes the JSON of each definition. Whether all could be read."""
-    good = True
-    for number, line in enumerate(lines, 1):
-        text = definition_of(line.rstrip("\n"))
-        if text is None:
-            continue
-        try:
-            print(json.dumps(plain(read(text)), ensure_ascii=False), file=out)
-        except NoTree as fault:
-            print(f"{name}:{number}: {fault}", file=sys.stderr)
-            good = False
-    return good
-
-
-def main(names):
-    sys.setrecursionlimit(DEPTH)
-    if not names:
-        return 0 if convert(sys.stdin, "standard input", sys.stdout) else 1
-    good = True
-    for name in names:
-        with open(name, encoding="utf-8") as lines:
-            good &= convert(lines, name, sys.stdout)
-    return 0 if good else 1
-
-
-if __name__ == "__main__":
-    sys.exit(main(sys.argv[1:]))

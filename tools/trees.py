@@ -1,24 +1,24 @@
 #!/usr/bin/env python3
 """Writes what the tree of a value of members and definitions is.
 
-    python3 tools/trees.py
+tools/write.py runs it.
 
-Run it at the top of the repository. It writes the files of FILES: for each struct and enum of those
+It writes the files of FILES: for each struct and enum of those
 crates the tree of a value, each behind what it is made of. A struct has a node over the trees of its
 fields, an enum the tree of what its variant holds, with the variant's number. Fields and variants are
 those of the declarations, in their order; what a comment says of them is the front of their docs.
 The types that hold one another have their trees in specs/Trees.antt of weedle_types, by hand.
-
-The status is 0.
 """
 
 import re
+import sys
 
+from command_line import refuse_writer
 from description.docs import about, small
 from description.imports import STATED, Names, home_of, use
 from description.layout import filled
 from description.names import logic
-from description.readings import CRATES
+from description.readings import CRATES, IDL, lacking
 from proofs.idl_parts import DECLARED, SHARED, TOP, part_of, tree_name
 from written_places import in_logic, put
 
@@ -197,6 +197,8 @@ def file_text(names, crate, said, definitions):
 
 
 def main():
+    if said := lacking(IDL, FILES):
+        sys.exit(f"trees: {said}: FILES says which files have the trees")
     names = Names(TOP, ["weedle_grammar", "weedle_base", *CRATES], STANDARD, bound=[WHOLE.lower()])
     for crate, files in FILES.items():
         texts = Order(crate).texts
@@ -208,4 +210,4 @@ def main():
 
 
 if __name__ == "__main__":
-    main()
+    sys.exit(refuse_writer(__doc__))

@@ -4,11 +4,14 @@
 #     tools/try_tests.sh [-j N] [CRATE..]
 #
 # A crate has tests where a file below its src/ has `#[test]`; names of crates limit the run to
-# these. Each is run by `rt try --test` in its folder. N crates run at once, or as many as the
-# variable TRY_JOBS says; else one for every two processors, which `rt try` keeps busy, and for
-# every 3,000 MB of free memory. Runs side by side share nothing but the sources.
+# these. Each is run by `rt try --test` in its folder. Beside them 50 kB of the texts in tests/ are
+# run through weedle_check, in one process, by tools/run_cases.py: that is called `cases`, and may
+# be named as a crate is. N crates run at once, or as many as the variable TRY_JOBS says; else one
+# for every two processors, which `rt try` keeps busy, and for every 3,000 MB of free memory. Runs
+# side by side share nothing but the sources.
 #
-# It needs bash 5.1, the toolchain's command `rt` on PATH, and 3,000 MB. It leaves nothing behind.
+# It needs bash 5.1, Python 3.11, the toolchain's command `rt` on PATH, and 3,000 MB. It leaves
+# nothing behind.
 #
 # When a crate is done it prints a line, as `weedle_rows: 31 passed, 0 failed, 92 s`, and where not
 # all is well, all that the crate's run wrote. A crate that gives no count, as one that doesn't
@@ -21,6 +24,9 @@ set -u
 MEGABYTES_EACH=3000
 # For all tests of a crate. A test of 10,000 values takes minutes on a machine that is at work.
 SECONDS_EACH=1800
+# Of the cases. A text that is refused takes 5 ms a byte where a program is only tried.
+CASES=cases
+CASE_BYTES=50000
 
 stop() {
     echo "try_tests: $1" >&2
@@ -40,9 +46,16 @@ jobs_that_fit() {
     echo $((free / MEGABYTES_EACH < jobs ? free / MEGABYTES_EACH : jobs))
 }
 
+# In the place of the shell, so that it can be ended.
+try_crate() {
+    if [ "$1" = "$CASES" ]; then
+        exec python3 tools/run_cases.py --try crates/weedle_check --most "$CASE_BYTES"
+    fi
+    cd "crates/$1" && exec rt try --test --seconds "$SECONDS_EACH"
+}
+
 start() {
-    (cd "crates/$1" && exec rt try --test --seconds "$SECONDS_EACH") \
-        >"$logs/$1" 2>&1 </dev/null &
+    try_crate "$1" >"$logs/$1" 2>&1 </dev/null &
     crate_of[$!]=$1
     began_at[$!]=$SECONDS
 }
@@ -55,8 +68,8 @@ collect() {
     crate=${crate_of[$process]}
     seconds=$((SECONDS - began_at[$process]))
     unset "crate_of[$process]"
-    result=$(grep -E '^test result: ' "$logs/$crate" | tail -n 1)
-    if [[ $result =~ \ ([0-9]+)\ passed\;\ ([0-9]+)\ failed\; ]]; then
+    result=$(grep -E '^test result: |^[0-9]+ passed, ' "$logs/$crate" | tail -n 1)
+    if [[ $result =~ ([0-9]+)\ passed[\;,]\ ([0-9]+)\ failed ]]; then
         passed=${BASH_REMATCH[1]} failed=${BASH_REMATCH[2]}
     fi
     if [ "$failed" -eq 0 ] && { [ "$status" -ne 0 ] || [ "$passed" -eq 0 ]; }; then
@@ -84,10 +97,10 @@ read_arguments() {
     shift $((OPTIND - 1))
     command -v rt >/dev/null || stop "the toolchain's command rt isn't on PATH"
     [ -f crates.txt ] && [ -d crates ] || stop "$PWD has no crates.txt and crates/"
-    crates=${*:-$(crates_with_tests)}
-    [ -n "$crates" ] || stop "no crate has a test"
+    crates=${*:-$CASES $(crates_with_tests)}
+    [ "$crates" != "$CASES " ] || stop "no crate has a test"
     for crate in $crates; do
-        [ -d "crates/$crate/src" ] || stop "there is no crate $crate"
+        [ "$crate" = "$CASES" ] || [ -d "crates/$crate/src" ] || stop "there is no crate $crate"
     done
     [ -n "$jobs" ] || jobs=$(jobs_that_fit) || exit 2
     [[ $jobs =~ ^[1-9][0-9]*$ ]] || stop "$jobs is no number of crates to run at once"
@@ -113,5 +126,9 @@ main() {
     exit
 }
 
+if [ "${1:-}" = --help ]; then
+    sed -n '2,${/^#/!q;s/^# \{0,1\}//p}' "$0"
+    exit
+fi
 cd "$(dirname "$0")/.." || exit 2
 main "$@"

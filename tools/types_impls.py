@@ -1,7 +1,7 @@
 #!/usr/bin/env python3
 """Writes how the types of crates/weedle_types are cloned, and their `TryClone` and `Parse`.
 
-    python3 tools/types_impls.py
+tools/write.py runs it.
 
 From the declarations of the types, and from the contracts of the functions in src/reading that read
 them, it writes in crates/weedle_types/src:
@@ -13,17 +13,18 @@ them, it writes in crates/weedle_types/src:
 In the crate's proofs/clones it writes the invariants of the functions that clone.
 
 A function that clones stands in the file that has the name of the file of the one that reads, and
-that of a list right behind the function that calls it. `rt fmt` lays the files out. The status is 0
-where they are written.
+that of a list right behind the function that calls it. `rt fmt` lays the files out.
 """
 
 import re
+import sys
 from pathlib import Path
 
+from command_line import refuse_writer
 from description.declarations import Type, declared_by
 from description.functions import NUMBERED, functions_of
 from description.names import snake
-from description.readings import Declared
+from description.readings import LEAVES, Declared
 from description.uses import code_uses, ghost_uses, stated
 from proofs.clones import CLONES as PROOFS, invariant, invariants, is_list
 from written.imports import imported
@@ -102,7 +103,7 @@ PARSE = """impl<'a> Parse<'a> for {type}<'a> {{
 }}
 """
 
-DECLARED = Declared.of(TOP, ["weedle_term", "weedle_parts", "weedle_literal", CRATE])
+DECLARED = Declared.of(TOP, [*LEAVES, CRATE])
 
 
 class Clone:
@@ -372,4 +373,4 @@ def main():
 
 
 if __name__ == "__main__":
-    main()
+    sys.exit(refuse_writer(__doc__))

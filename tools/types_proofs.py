@@ -10,17 +10,20 @@ declaration of its type. From this follow, in crates/weedle_types/proofs:
 - reading/+group/Answers.antt and reading/plain_types/*/Answers.antt: the goals that no search finds, most of
   them that a mismatch of the alternatives before was a mismatch.
 
-Run it from the top of the repository.
+tools/write.py runs it.
 """
 import re
+import sys
 
+from command_line import refuse_writer
 from description.imports import Names, home_of, use
+from description.readings import LEAVES, TYPES
 from proofs.types_answers import choice_answers, group_answers, measures
 from proofs.types_parts import FAMILIES, JOINED, PIECES, TABLE, TOP
 from proofs.types_rules import enum_rules, if_rules, joined_rules, list_rules, option_rules, piece_rules, struct_rules
 from written_places import in_logic, put
 
-CRATES = ["weedle_grammar", "weedle_base", "weedle_term", "weedle_parts", "weedle_literal", "weedle_types"]
+CRATES = ["weedle_grammar", "weedle_base", *LEAVES, TYPES]
 STANDARD = {
     "Rattle.std.proofs.Common": "Global Vec ap arith inl inr refl rules sym ◌∙◌".split(),
     "Rattle.std.specs.Borrow": ["Bor"],
@@ -88,4 +91,4 @@ def main():
 
 
 if __name__ == "__main__":
-    main()
+    sys.exit(refuse_writer(__doc__))

@@ -15,6 +15,8 @@ import re
 import sys
 from pathlib import Path
 
+from command_line import take_none
+
 TOP = Path(__file__).resolve().parent.parent
 # What isn't code, though signs of code may stand in it: comments, strings and characters.
 NO_CODE = re.compile(
@@ -88,4 +90,5 @@ def main():
 
 
 if __name__ == "__main__":
+    take_none(__doc__)
     sys.exit(main())

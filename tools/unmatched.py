@@ -24,6 +24,7 @@ import sys
 from itertools import zip_longest
 from pathlib import Path
 
+from command_line import take_none
 from description.names import upper
 from description.productions import said_of_all, unlike
 from description.readings import Declared, Unread
@@ -168,4 +169,5 @@ def main():
 
 
 if __name__ == "__main__":
+    take_none(__doc__)
     sys.exit(main())

@@ -1,4 +1,4 @@
-"""The texts of which tools/weedle2_rows.py asks weedle2, each on a line, as a string of Rust says it."""
+"""Texts over all kinds of definitions of which weedle2 is asked, each on a line, as a string of Rust says it."""
 
 # What is read whole: the file, what stands in it, and the texts.
 WHOLE = {

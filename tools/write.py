@@ -3,11 +3,10 @@
 
     python3 tools/write.py
 
-Files below crates/ that a script writes name it at their heads, as `Written by tools/grammar.py`.
+Files of crates, of C and of Python that a script writes name it at their heads, as `Written by tools/grammar.py`.
 In a copy of the repository without them tools/run_writers.py runs the scripts, and each crate in
 which something differs is laid out by `rt fmt`. What differs then is brought back: so where a
-script fails, nothing is changed. What is written from another program's answers, FROM_OUTSIDE, is
-left as it is.
+script fails, nothing is changed. Behind that it writes the pages of docs/ that follow from the crates.
 
 It prints a line for each file that it changed, removed or wrote for the first time. It needs the
 toolchain's command `rt` on PATH, and about two seconds where four processors are idle.
@@ -25,14 +24,17 @@ import tempfile
 from concurrent.futures import ThreadPoolExecutor
 from pathlib import Path
 
+from command_line import take_none
 from crates import LIST, Unfit, files_of, read_lines
 
 TOP = Path(__file__).resolve().parent.parent
-# What these write comes from programs that the gate hasn't, as weedle2's answers: it is left as it is.
-FROM_OUTSIDE = ("tools/weedle2_rows.py",)
 WRITTEN = re.compile(r"[Ww]ritten by (tools/\w+\.py)")
 # A head is the comment that a file begins with; further down a file may speak of scripts.
-HEAD = re.compile(r"(?:(?://!|--).*\n)*")
+HEAD = re.compile(r'/\*(?:.|\n)*?\*/|"""(?:.|\n)*?"""|(?:(?://!|--).*\n)*')
+# The files beside those of crates that scripts write, or may write.
+BESIDE = ("include/*.h", "python/weedle/*.py")
+# The scripts that write pages of docs/ from the crates, and print what they changed.
+PAGES = ("calling.py",)
 # Where files are made in memory, on systems that have it: a disk takes long to make a thousand.
 MEMORY = "/dev/shm"
 
@@ -43,16 +45,22 @@ def writer_in(text):
     return found and found[1]
 
 
+def files_beside(root):
+    """The files of BESIDE, as paths from the root on."""
+    found = (it for pattern in BESIDE for it in Path(root).glob(pattern))
+    return [it.relative_to(root).as_posix() for it in found]
+
+
 def sources(root):
-    """The files of all crates that a check reads, by their paths, with their bytes."""
-    names = read_lines(root)
-    return {it: (Path(root) / it).read_bytes() for name in names for it in files_of(root, name)}
+    """The files of all crates that a check reads, and those beside them, by their paths, with their bytes."""
+    paths = [*(it for name in read_lines(root) for it in files_of(root, name)), *files_beside(root)]
+    return {it: (Path(root) / it).read_bytes() for it in paths}
 
 
 def writers(files):
-    """The script that each file names at its head, by the path, where the gate can run that script."""
+    """The script that each file names at its head, by the path, where it names one."""
     found = {path: writer_in(data.decode(errors="replace")) for path, data in files.items()}
-    return {it: script for it, script in found.items() if script and script not in FROM_OUTSIDE}
+    return {it: script for it, script in found.items() if script}
 
 
 def copy(root, files, into):
@@ -66,19 +74,23 @@ def copy(root, files, into):
 
 
 def call(words, folder):
-    """Runs a command; what it says is shown where it fails."""
+    """Runs a command, and gives what it says; that is shown where it fails."""
     ran = subprocess.run(words, cwd=folder, stdout=subprocess.PIPE, stderr=subprocess.STDOUT, text=True)
     if ran.returncode:
         raise Unfit(f"{' '.join(words)} failed:\n{ran.stdout.strip()}")
+    return ran.stdout
 
 
 def crate_of(path):
-    return path.split("/")[1]
+    """The crate of a file, or None where the file is no crate's."""
+    top, name, *_ = path.split("/")
+    return name if top == "crates" else None
 
 
 def sizes_of(files, anew):
     """The crates with a file that isn't among these, each with the size of its code."""
-    sizes = {crate_of(path): 0 for path, data in anew.items() if files.get(path) != data}
+    changed = {crate_of(path) for path, data in anew.items() if files.get(path) != data}
+    sizes = dict.fromkeys(changed - {None}, 0)
     for path, data in anew.items():
         if crate_of(path) in sizes and path.endswith(".rt"):
             sizes[crate_of(path)] += len(data)
@@ -124,7 +136,7 @@ def write_anew(root, files):
         raise Unfit("the toolchain's command rt isn't on PATH")
     with new_room() as room:
         copy(root, files, room)
-        call([sys.executable, "tools/run_writers.py"], room)
+        call([sys.executable, "tools/run_writers.py", "--here"], room)
         lay_out(room, files)
         return sources(room)
 
@@ -147,6 +159,8 @@ def main():
         files = sources(TOP)
         for row in bring(TOP, files, write_anew(TOP, files)):
             print(row)
+        for page in PAGES:
+            print(call([sys.executable, f"tools/{page}"], TOP), end="")
     except (Unfit, OSError) as why:
         print(f"write: {why}", file=sys.stderr)
         return 2
@@ -154,4 +168,5 @@ def main():
 
 
 if __name__ == "__main__":
+    take_none(__doc__)
     sys.exit(main())

@@ -9,11 +9,10 @@ from pathlib import Path
 
 from description.declarations import declared_by
 from description.functions import functions_of
-from description.readings import CRATES, Declared
+from description.readings import IDL, TYPES, Declared
 from description.webidl import BY_NAME
 
 TOP = Path(__file__).resolve().parent.parent.parent
-TYPES = "weedle_types"
 READING = TOP / "crates" / TYPES / "src/reading"
 # The files that are written, by the names of those that read, and what each begins with.
 FILES = {
@@ -109,8 +108,7 @@ def named_in(type_):
 
 def held_elsewhere():
     """The functions for the types that types of other crates have as parts."""
-    above = CRATES[CRATES.index(TYPES) + 1:]
-    declared = (it for crate in above for it in declared_by(TOP, crate))
+    declared = (it for crate in IDL for it in declared_by(TOP, crate))
     parts = [part.type for it in declared for part in it.parts if part.text]
     found = {DECLARED.whole(own) for part in parts for own in named_in(part)}
     return [it for it in BUILT if DECLARED.whole(it.type) in found]

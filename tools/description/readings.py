@@ -9,14 +9,35 @@ from description.declarations import Type, declared_by
 from description.names import logic, upper
 from description.webidl import BY_CONTENT, BY_NAME
 
-# The crates whose types are read, lowest first.
-CRATES = [
-    f"weedle_{name}"
-    for name in (
-        "term parts literal types modifier members iterables async_iterables interfaces mixins "
-        "namespaces statements idl"
-    ).split()
-]
+# The crates whose types are read, lowest first. All scripts have them from here, so a new one has its
+# line here and in crates.txt. Scripts that say where they write what is of a crate, as FILES of
+# builds.py and trees.py and CRATES of orders.py, name a crate that they lack.
+CRATES = """
+    weedle_term
+    weedle_parts
+    weedle_literal
+    weedle_types
+    weedle_modifier
+    weedle_members
+    weedle_iterables
+    weedle_async_iterables
+    weedle_interfaces
+    weedle_mixins
+    weedle_namespaces
+    weedle_statements
+    weedle_idl
+""".split()
+# The one with the types that hold one another; those below it, and those of members and definitions.
+TYPES = "weedle_types"
+LEAVES = CRATES[: CRATES.index(TYPES)]
+IDL = CRATES[CRATES.index(TYPES) + 1:]
+
+
+def lacking(crates, named):
+    """What a script says of the crates for which it has no place, by the names that it has, or None."""
+    known = {it.split("::")[0] for it in named}
+    found = [crate for crate in crates if crate not in known]
+    return f"no place is said for what is of {', '.join(found)}" if found else None
 
 
 class Unread(Exception):

@@ -1,4 +1,4 @@
-"""The rules without parts by which names, types and values begin, in src/starts.rt of weedle_explain."""
+"""The rules without parts by which names, types and values begin, in src/starts.rt of weedle_refusal."""
 
 import re
 
@@ -6,7 +6,7 @@ from description.layout import use_line
 from description.webidl import BY_NAME, NUMBER, SECTIONS
 from grammar import read_first
 
-FILE = "weedle_explain/src/starts.rt"
+FILE = "weedle_refusal/src/starts.rt"
 # The lists, each with the rule whose starts it has.
 LISTS = {
     "NAMES": "IDENTIFIER",

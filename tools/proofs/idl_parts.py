@@ -11,10 +11,10 @@ from pathlib import Path
 from description.docs import about
 from description.imports import home_of
 from description.names import snake, upper
-from description.readings import CRATES as CRATES_READ, Declared
+from description.readings import IDL as CRATES, Declared
 from description.webidl import NUMBER
 
-TOP = Path(".")
+TOP = Path(__file__).resolve().parent.parent.parent
 GROWS = "(Unit {0})"
 TREE_NAMES = {"StringLit": "string_tree", "ParenthesizedArgumentList": "arguments_tree"}
 # The rules whose readings, facts and trees are written by hand, with their names and types.
@@ -36,8 +36,6 @@ PIECE = re.compile(
     r"^fn (\w+)<'a>\(alloc: Global, input: &'a str\) -> IResult<&'a str, (\w+)<'a>>\n"
     r"    ensures \{ Answers \(members \1_rules (\d+) ", re.M,
 )
-# The crates of members and definitions.
-CRATES = CRATES_READ[CRATES_READ.index("weedle_modifier"):]
 # Types that have a file of their own, with what its head says.
 APART = {
     "EnumVariant": ("EnumVariantRules", "The values of enums."),

@@ -7,7 +7,7 @@ from description.names import snake, upper
 from description.readings import Declared
 from description.webidl import BY_NAME
 
-TOP = Path(".")
+TOP = Path(__file__).resolve().parent.parent.parent
 CRATE = TOP / "crates" / "weedle_types"
 GROWS = "(Unit {0})"
 

@@ -1,0 +1,226 @@
+#!/usr/bin/env python3
+"""Writes include/weedle.h, which declares to C and C++ what `weedle_c` exports, with the grammar's rules.
+
+tools/write.py runs it.
+
+The rules' numbers and names come from tools/description, the version from crates/weedle_c/src/lib.rt, and the
+statuses from crates/weedle_c/src/status.rt, each with its doc line. All else of the header stands in HEADER here.
+"""
+
+import re
+import sys
+from pathlib import Path
+
+from command_line import refuse_writer
+from crates import Unfit
+from description.webidl import NUMBER, SECTIONS
+
+TOP = Path(__file__).resolve().parent.parent
+PLACE = "include/weedle.h"
+VERSION = re.compile(r"const VERSION: u32 = (0x[0-9a-f]{6});")
+STATUS = re.compile(r"((?:/// .*\n)+)pub const (\w+): u32 = (\d+);")
+
+HEADER = """\
+/*
+ * WebIDL, read into its syntax tree. Written by tools/c_header.py.
+ *
+ *     struct weedle_answer answer;
+ *     uint32_t status = weedle_syntax(text, length, nodes, room, &answer);
+ *
+ * What is said here of the answers is proved of the library, against the grammar, for callers that keep this:
+ *
+ * - A pointer and the length or room behind it belong together: so many bytes, or so many nodes, can be
+ *   read there, or written. No length and no room is more than PTRDIFF_MAX bytes.
+ * - No pointer is null, also where its length or room is 0. Any other serves then, as "".
+ * - Nobody writes to the text while a call runs. Nobody else reads or writes what the call writes to, and none
+ *   of it overlaps with the text or with each other.
+ * - No call is made from a signal handler, nor from the forked child of a process with threads.
+ *
+ * Nothing is kept between calls, and calls in several threads don't touch each other. Memory is asked for by
+ * malloc and realloc, and given back before a call returns. A thread with 256 kB of stack is enough for any text.
+ *
+ * Link it with c/out/libweedle.a, which c/build.sh builds.
+ */
+#ifndef WEEDLE_H
+#define WEEDLE_H
+
+#include <stddef.h>
+#include <stdint.h>
+
+#ifdef __cplusplus
+extern "C" {{
+#endif
+
+/* The version that this header belongs to: a byte each for its three numbers. weedle_version() has the library's. */
+#define WEEDLE_VERSION {version}
+
+/* How many rules the grammar of this header has. weedle_rules() says it of the library. */
+#define WEEDLE_RULE_COUNT {count}
+
+/* What a call comes to. */
+enum weedle_status {{
+{statuses}
+}};
+
+/* A rule that was read, and the bytes that it took. */
+struct weedle_node {{
+    uint32_t rule;  /* an enum weedle_rule */
+    uint32_t depth; /* how many nodes it stands in */
+    uint32_t start; /* where it begins, in bytes from the front of the text */
+    uint32_t end;   /* where it ends: the place behind its last byte */
+}};
+
+/* What weedle_syntax says beside its status. */
+struct weedle_answer {{
+    size_t count; /* WEEDLE_STATUS_READ, WEEDLE_STATUS_NO_ROOM: how many nodes there are; else 0 */
+    size_t rest;  /* WEEDLE_STATUS_REFUSED: where the unread rest begins, in bytes from the front of the text;
+                     WEEDLE_STATUS_NOT_UTF8: the byte up to which the text is UTF-8;
+                     WEEDLE_STATUS_READ, WEEDLE_STATUS_NO_ROOM: the length of the text; else 0 */
+}};
+
+/* What weedle_explain says beside its status. */
+struct weedle_refusal {{
+    size_t start;  /* where the unread rest begins, in bytes from the front of the text */
+    size_t place;  /* the furthest place to which the reading comes;
+                      WEEDLE_STATUS_NOT_UTF8: the byte up to which the text is UTF-8 */
+    size_t line;   /* the line of that place, from 1 on */
+    size_t column; /* its column, in characters, from 1 on */
+    size_t length; /* how many bytes the whole message has, without the zero behind it */
+}};
+
+/*
+ * Reads a text as WebIDL definitions, and writes the nodes of its syntax tree.
+ *
+ * WEEDLE_STATUS_READ: the grammar reads the whole text, and the first `count` of `nodes` are its tree, in preorder:
+ *     behind a node stand those that it reads directly, each before its own. So what is below a node are the nodes
+ *     behind it as long as they are deeper. The bytes of the nodes that have none below them, one after another, are
+ *     the text. What stands behind them in `nodes` stays as it was.
+ * WEEDLE_STATUS_REFUSED: it doesn't, and leaves what stands from `rest` on.
+ * WEEDLE_STATUS_NOT_UTF8: exactly where the bytes aren't UTF-8.
+ * WEEDLE_STATUS_NO_MEMORY: memory was refused.
+ * WEEDLE_STATUS_NO_ROOM: the grammar reads the whole text, and there are `count` nodes, more than `room`. So with a
+ *     room of 0 it counts them.
+ * WEEDLE_STATUS_TOO_LONG: 32 bits don't hold a place or a depth of the tree, as of a text of more than 4 GB.
+ * Only with WEEDLE_STATUS_READ is anything written to `nodes`.
+ *
+ * A text has about as many nodes as bytes. While it is read each takes 32 bytes of memory, and up to 64 where the
+ * list grows. Where brackets nest deeper than 64 levels, or attributes so that descent would read again and again,
+ * it takes a table of 1,544 bytes for each byte of the text beside that, and the time for it.
+ */
+uint32_t weedle_syntax(
+    const char *text, size_t length,
+    struct weedle_node *nodes, size_t room,
+    struct weedle_answer *answer);
+
+/*
+ * Says of a text that is refused where and why, and writes a message.
+ *
+ * WEEDLE_STATUS_READ: the grammar reads the whole text; there is nothing to say.
+ * WEEDLE_STATUS_REFUSED: it doesn't, and `refusal` says where. The message is written to `message`, as
+ *     `weedle_check` prints it behind the name of a file: line, column and what would have been read there, the line
+ *     of the text, and a mark below the place. It is cut behind the last character that there is room for, and ended
+ *     by a zero; so it needs a room of `length` + 1. 1,024 bytes hold any. With a room of 0 nothing is written.
+ * WEEDLE_STATUS_NOT_UTF8: exactly where the bytes aren't UTF-8.
+ * WEEDLE_STATUS_NO_MEMORY: memory was refused.
+ * Only with WEEDLE_STATUS_REFUSED is anything written to `message`.
+ *
+ * It reads the text as weedle_syntax does, and then takes a table of the unread rest: some 1,600 bytes for each byte.
+ */
+uint32_t weedle_explain(
+    const char *text, size_t length,
+    char *message, size_t room,
+    struct weedle_refusal *refusal);
+
+/* The version of the library, as WEEDLE_VERSION has that of the header. */
+uint32_t weedle_version(void);
+
+/* How many rules the library's grammar has. Their numbers belong to a version: compare both before they are used. */
+uint32_t weedle_rules(void);
+
+/* The rules of the grammar. */
+enum weedle_rule {{
+{rules}
+}};
+
+/* Their names, by number. */
+static const char *const weedle_rule_names[WEEDLE_RULE_COUNT] = {{
+{names}
+}};
+
+/* The name of a rule, or null of a number that no rule has. */
+static inline const char *weedle_rule_name(uint32_t rule) {{
+    return rule < WEEDLE_RULE_COUNT ? weedle_rule_names[rule] : NULL;
+}}
+
+#ifdef __cplusplus
+}}
+#endif
+
+#endif
+"""
+
+
+def constant(rule):
+    """The constant of a rule: WEEDLE_ENUM_DEFINITION."""
+    return f"WEEDLE_{rule.name}"
+
+
+def last_without_comma(rows):
+    """Rows of an enum: C++ before 2011 has no comma behind the last."""
+    return "\n".join([*rows[:-1], rows[-1].replace(",", "", 1)])
+
+
+def status_rows(text):
+    """The rows of the statuses, with their doc lines."""
+    for docs, name, number in STATUS.findall(text):
+        said = " ".join(docs.replace("///", "").split())
+        yield f"    WEEDLE_STATUS_{name} = {number}, /* {said} */"
+
+
+def rule_rows():
+    """The rows of the rules, section by section."""
+    for section in SECTIONS:
+        yield f"    /* {section.about} */"
+        for rule in section.rules:
+            yield f"    {constant(rule)} = {NUMBER[rule.name]},"
+
+
+def name_rows():
+    for section in SECTIONS:
+        for rule in section.rules:
+            yield f'    "{rule.name.lower()}",'
+
+
+def found_in(pattern, text, path):
+    found = pattern.search(text)
+    if not found:
+        raise Unfit(f"{path} has no {pattern.pattern}")
+    return found[1]
+
+
+def header_of(root):
+    """The text of the header."""
+    source = root / "crates/weedle_c/src"
+    code = (source / "lib.rt").read_text(encoding="utf-8")
+    statuses = (source / "status.rt").read_text(encoding="utf-8")
+    return HEADER.format(
+        version=found_in(VERSION, code, source / "lib.rt"),
+        count=len(NUMBER),
+        statuses=last_without_comma(list(status_rows(statuses))),
+        rules=last_without_comma(list(rule_rows())),
+        names=last_without_comma(list(name_rows())),
+    )
+
+
+def main():
+    try:
+        text = header_of(TOP)
+    except (Unfit, OSError) as why:
+        sys.exit(f"c_header: {why}")
+    place = TOP / PLACE
+    place.parent.mkdir(exist_ok=True)
+    place.write_text(text, encoding="utf-8")
+
+
+if __name__ == "__main__":
+    sys.exit(refuse_writer(__doc__))

@@ -1,0 +1,111 @@
+"""Runs of the programs that are written by hand, in tests/runs.toml: arguments, files, and what is to come of them.
+
+A run has the keys
+    what        what it shows
+    program     weedle_check or weedle_list
+    arguments   the arguments; none where it is left out
+    files       the texts of files, by their names
+    bytes       the bytes of files in hexadecimal, by their names
+    folders     names of folders that lie beside the files
+    input       the text on standard input; or input_bytes, in hexadecimal; or input_folder = true: a folder
+    output      "full": a device that takes no byte
+    memory      how many bytes of address space the program has
+    built       true: a build with checks takes too long for it
+    status, stdout, stderr    what is to come; stdout and stderr are nothing where they are left out
+    stdout_like, stderr_like  the same as a regular expression, for what differs from run to run
+A text may be a table of front, piece, times and back: the piece so many times, between the two others.
+"""
+
+import re
+import resource
+import subprocess
+import tempfile
+import tomllib
+from pathlib import Path
+
+from case_files import TESTS
+
+RUNS = "runs"
+SECONDS = 120
+KEYS = set(
+    "what program arguments files bytes folders input input_bytes input_folder output memory built status stdout stderr "
+    "stdout_like stderr_like".split()
+)
+
+
+def text_of(value):
+    """A text, or what a table makes one of."""
+    if isinstance(value, str):
+        return value
+    return value.get("front", "") + value["piece"] * value["times"] + value.get("back", "")
+
+
+class Run:
+    def __init__(self, keys):
+        if not KEYS.issuperset(keys):
+            raise ValueError(f"a run has the keys {sorted(set(keys) - KEYS)}")
+        self.keys = keys
+        self.what, self.program, self.memory = keys["what"], keys["program"], keys.get("memory")
+        # Whether it isn't for a build with checks.
+        self.is_for_built = "memory" in keys or keys.get("built", False)
+
+    def wanted(self):
+        """What is to come, in one text."""
+        out, err = (self.keys.get(f"{name}_like", self.keys.get(name, "")) for name in ("stdout", "stderr"))
+        return shown(self.keys["status"], out, err)
+
+    def came(self, program):
+        """What came, in one text; where it is like what is wanted, as that has it."""
+        with tempfile.TemporaryDirectory() as room:
+            self.lay(Path(room))
+            status, out, err = self.ended(program, room)
+        return shown(status, self.as_wanted("stdout", out), self.as_wanted("stderr", err))
+
+    def as_wanted(self, name, text):
+        pattern = self.keys.get(f"{name}_like")
+        return pattern if pattern and re.fullmatch(pattern, text) else text
+
+    def lay(self, room):
+        """Lays the files and the folders."""
+        for name in self.keys.get("folders", ()):
+            (room / name).mkdir()
+        for name, text in self.keys.get("files", {}).items():
+            (room / name).write_bytes(text_of(text).encode())
+        for name, digits in self.keys.get("bytes", {}).items():
+            (room / name).write_bytes(bytes.fromhex(digits))
+
+    def given(self):
+        """The bytes on standard input."""
+        if "input_bytes" in self.keys:
+            return bytes.fromhex(self.keys["input_bytes"])
+        return text_of(self.keys.get("input", "")).encode()
+
+    def ended(self, program, room):
+        words = [program, *self.keys.get("arguments", ())]
+        with open("/dev/full" if self.keys.get("output") == "full" else f"{room}/.output", "w+b") as out, \
+                tempfile.TemporaryFile() as given:
+            given.write(self.given())
+            given.seek(0)
+            how = {"cwd": room, "stdin": given, "stdout": out, "stderr": subprocess.PIPE, "timeout": SECONDS}
+            if self.keys.get("input_folder"):
+                how["stdin"] = subprocess.DEVNULL
+                words = ["sh", "-c", 'exec "$@" < .', "sh", *words]
+            try:
+                done = subprocess.run(words, preexec_fn=self.limit if self.memory else None, check=False, **how)
+            except subprocess.TimeoutExpired:
+                return -1, "", f"it hadn't ended after {SECONDS} s\n"
+            written = b"" if self.keys.get("output") == "full" else Path(f"{room}/.output").read_bytes()
+        return done.returncode, written.decode(errors="replace"), done.stderr.decode(errors="replace")
+
+    def limit(self):
+        resource.setrlimit(resource.RLIMIT_AS, (self.memory, self.memory))
+
+
+def shown(status, out, err):
+    return f"status {status}\nstandard output:\n{out}standard error:\n{err}"
+
+
+def runs(file=TESTS / f"{RUNS}.toml"):
+    """All runs, in their order."""
+    with open(file, "rb") as it:
+        return [Run(keys) for keys in tomllib.load(it)["run"]]

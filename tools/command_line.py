@@ -1,0 +1,47 @@
+"""The command lines of the scripts of tools/: `--help` prints what a script says of itself, and does nothing else.
+
+A script that writes below crates/ is run by tools/write.py, in a copy of the repository. Run by hand it
+says so, with status 2: else what it writes would stand there without the work of the scripts behind it,
+and not laid out.
+"""
+
+import argparse
+import shutil
+import sys
+
+
+def parser_of(doc):
+    """A parser of arguments whose `--help` prints the whole of a script's docstring."""
+    return argparse.ArgumentParser(
+        description=doc, formatter_class=argparse.RawDescriptionHelpFormatter
+    )
+
+
+def take_none(doc):
+    """Takes the arguments of a script that has none: ends it at `--help`, and at any other."""
+    parser_of(doc).parse_args()
+
+
+def refused(parser):
+    """Says how a script that writes is run. The status."""
+    print(
+        f"{parser.prog}: nothing is written. `python3 tools/write.py` runs this script and all "
+        "others that write, and lays out what they wrote; --help says what it writes.",
+        file=sys.stderr,
+    )
+    return 2
+
+
+def refuse_writer(doc):
+    """What a script that writes, and takes no arguments, does when it is run by hand. The status."""
+    parser = parser_of(doc)
+    parser.parse_args()
+    return refused(parser)
+
+
+def runnable(path):
+    """The type of an argument that names a program: one that can't be run is refused."""
+    found = shutil.which(path)
+    if not found:
+        raise argparse.ArgumentTypeError(f"{path} is no program that can be run")
+    return found

@@ -1,0 +1,78 @@
+#!/usr/bin/env python3
+"""Writes the tables of docs/GATE.md from the times that were measured last.
+
+    python3 tools/gate_page.py [--check]
+
+The times stand in docs/gate_times.json, as `tools/gate_times.py --json` writes them. There are two
+tables, each between a line `<!-- NAME: written by tools/gate_page.py -->` and the next `<!-- end -->`:
+`times`, what each crate takes, and `costs`, what a change of a crate costs by the lists of crates.txt.
+
+With --check nothing is written: a line says which table is stale, and the status is 1.
+"""
+
+import argparse
+import json
+import re
+import sys
+from pathlib import Path
+
+from gate_plan import Gate, costs
+
+TOP = Path(__file__).resolve().parent.parent
+TABLE = re.compile(r"(<!-- (\w+): written by tools/gate_page\.py -->\n).*?(?=<!-- end -->)", re.DOTALL)
+
+
+def minutes(seconds):
+    return f"{seconds / 60:.1f}" if seconds else ""
+
+
+def wrong_bodies(edits):
+    count, seconds = edits or (0, 0)
+    return f"{minutes(seconds)} ({count})" if count else ""
+
+
+def times_table(gate, times):
+    """A row for each crate, in the order of crates.txt."""
+    yield "| Crate | Proof | By the clock | Tests | Wrong bodies | Program |"
+    yield "|---|---|---|---|---|---|"
+    parts = ("proof", "clock", "tests", "edits", "programs")
+    for name in gate.rows:
+        proof, clock, tests, edits, program = (times.get(it, {}).get(name) for it in parts)
+        cells = [minutes(proof), minutes(clock), minutes(tests), wrong_bodies(edits), minutes(program)]
+        yield f"| `{name}` | {' | '.join(cells)} |"
+    sums = [sum(times[it].values()) for it in ("proof", "tests", "programs")]
+    edits = sum(it[1] for it in times["edits"].values())
+    cells = [minutes(sums[0]), "", minutes(sums[1]), minutes(edits), minutes(sums[2])]
+    yield f"| all of these | {' | '.join(cells)} |"
+
+
+def tables(root, times):
+    gate = Gate(root, times)
+    order = sorted(gate.rows, key=lambda name: -len(gate.above(name)))
+    return {"times": times_table(gate, times), "costs": costs(gate, order)}
+
+
+def written(page, made):
+    """The page with each table as it is made."""
+    return TABLE.sub(lambda found: found[1] + "\n".join(made[found[2]]) + "\n", page)
+
+
+def main():
+    parser = argparse.ArgumentParser(
+        description=__doc__, formatter_class=argparse.RawDescriptionHelpFormatter
+    )
+    parser.add_argument("--check", action="store_true")
+    said = parser.parse_args()
+    page, times = TOP / "docs/GATE.md", json.loads((TOP / "docs/gate_times.json").read_text())
+    text = page.read_text(encoding="utf-8")
+    new = written(text, {name: [*rows] for name, rows in tables(TOP, times).items()})
+    if said.check:
+        if new != text:
+            print("docs/GATE.md: stale, tools/gate_page.py writes its tables otherwise")
+        return int(new != text)
+    page.write_text(new, encoding="utf-8")
+    return 0
+
+
+if __name__ == "__main__":
+    sys.exit(main())

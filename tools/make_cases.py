@@ -1,0 +1,341 @@
+#!/usr/bin/env python3
+"""Writes tests/: texts, and what is wanted of each, from weedle2 and the rows of the grammar.
+
+    python3 tools/make_cases.py [--weedle2 PATH] [--real FOLDER]
+    python3 tools/make_cases.py --check
+
+Build the program of compare/ first (its README.md says how); --weedle2 says where it stands, where it isn't
+there. FOLDER has the files of Debian's librust-web-sys-dev; without it tests/real.tar.xz stays as it is.
+
+What is wanted of a text is weedle2's answer, but where one of the three rules that were changed on purpose
+was tried and read otherwise: then a reader of the grammar's rows gives the answer (table_reader.py), and must
+give weedle2's with those rules as they were. Where a text is refused, the furthest place and the words are
+by the rows alone (row_words.py). Nothing is taken from the port. tests/README.md says what stands in which file.
+
+With --check nothing is written: it prints a line for each archive that isn't the one that tests/INDEX lists,
+and for each whose texts are others than those that are made now. It needs neither weedle2 nor FOLDER.
+
+The status is 0, 1 where answers disagree or --check finds something, and 2 where a program isn't there or
+doesn't do. Nothing is written then.
+"""
+
+import argparse
+import hashlib
+import sys
+import tempfile
+import unicodedata
+from pathlib import Path
+
+import case_texts
+import weedle2_texts
+import worked_rows
+from case_files import INDEX, TESTS, Case, archive_of, cases_of, compact, line_of, numbered, packed, wrong_sums
+from compare_with_weedle2 import (
+    DEPTH, TOGETHER, WEEDLE2, NoUse, Weedle2, answer_by_rows, explanation, files_of, unescaped,
+)
+from hostile import attributes
+from random_texts import TOKEN, Maker
+from row_ends import NOW, reads_otherwise
+from row_words import position, refusal
+from tree_json import plain
+
+SEED = 7
+RANDOM, PREFIXES, CHANGED, NEAR = 2_000, 5_000, 2_000, 1_000
+# Who says it.
+BY_WEEDLE2, BY_ROWS = "weedle2", "the grammar's rows"
+# How many characters of a line are shown.
+WIDTH = 100
+BYTE_ORDER_MARK = "\ufeff"
+
+
+class Disagree(Exception):
+    """Of which text the answers disagree."""
+
+
+# The texts.
+def lines_in(text):
+    return [unescaped(line) for line in text.strip("\n").split("\n")]
+
+
+def texts_of_tests():
+    """The texts of the tests of crates."""
+    tables = [lines for _, lines in weedle2_texts.WHOLE.values()] + [weedle2_texts.LEFT[2]]
+    texts = [text for lines in tables for text in lines_in(lines)]
+    return list(dict.fromkeys([*texts, *said(), *lines_in(case_texts.OTHERS)]))
+
+
+def said():
+    """What is said by hand of texts, by the texts."""
+    lines = case_texts.SAID.strip("\n").split("\n")
+    return {unescaped(text): words.strip() for text, words in zip(lines[::2], lines[1::2])}
+
+
+def worked_texts():
+    rows = [*worked_rows.READ, *worked_rows.LEFT]
+    return list(dict.fromkeys(row[0] for row in rows))
+
+
+def deep_texts():
+    """Texts that weedle2 takes too long for."""
+    return [row[0] for row in [*worked_rows.DEEP_READ, *worked_rows.DEEP_LEFT]]
+
+
+def prefixes(texts):
+    """Each text cut at the end of each of its words, but for the whole of it."""
+    for text in texts:
+        for found in TOKEN.finditer(text):
+            if not found[0].isspace() and found.end() < len(text):
+                yield text[:found.end()]
+
+
+def first_of(texts, count):
+    """So many of the texts, each once."""
+    chosen = {}
+    for text in texts:
+        if len(chosen) == count:
+            break
+        chosen[text] = None
+    return list(chosen)
+
+
+def hostile_texts():
+    """The families of hostile.py, small: each opens what isn't closed, or nests."""
+    fronts = ("[A(", '[A(optional long a = "]", ', "[A(/*]*/", '[A(/*"*/optional long a = "/*]//", /*//"]*/')
+    for count in range(1, 5):
+        yield from (front * count for front in fronts)
+        yield attributes(count)
+        yield "[A(" * count + "(a or b)... c, " * 20
+    for count in (1, 2, 3, 10, 100):
+        for piece in ("(", "sequence<", "record<DOMString, ", "Promise<"):
+            yield "typedef " + piece * count
+        yield "typedef " + "sequence<" * count + "any" + ">" * count + " A;"
+        yield "typedef " + "sequence<" * count + "any" + ">" * (count - 1) + " A;"
+        yield "/* " * count
+        yield "/* */" * count
+        yield "// c\n" * count
+        yield "///d\n" * count
+        yield attributes(2) + "interface A {};\n" * count
+        yield "interface A {};\n" * count + "interface B {"
+        yield "\n" * count + "interface A {" + " " * count + "long };"
+        yield "\u65e5" * count + '"' + "\t" * count
+        yield "interface A {" + "\t\x01\x7f\x85" * count + "?"
+        yield "enum E {" + '"a",' * count + "};"
+        yield "enum E {" + '"a",' * count
+
+
+def made_texts():
+    """The folders that need nothing from outside, with their texts."""
+    maker = Maker(SEED)
+    texts = [maker.text() for _ in range(RANDOM)]
+    return {
+        "tests": texts_of_tests(),
+        "worked": worked_texts(),
+        "deep": deep_texts(),
+        "hostile": list(dict.fromkeys(hostile_texts())),
+        "random": texts,
+        "near": [maker.near(texts[number]) for number in range(NEAR)],
+        "prefixes": first_of(prefixes(texts), PREFIXES),
+        "changed": [maker.with_a_byte_changed(texts[number % RANDOM]) for number in range(CHANGED)],
+    }
+
+
+# What is wanted.
+def excerpt(text, place):
+    """What weedle_check shows of a place: at most 100 characters of its line, and a mark below it."""
+    line, column = position(text, place)
+    shown = text.split("\n")[line - 1]
+    if line <= text.count("\n"):
+        shown = shown.removesuffix("\r")
+    first = min(max(column - 1 - WIDTH // 2, 0), max(len(shown) - WIDTH, 0))
+    mark = "".join("\t" if it == "\t" else " " for it in shown[first:column - 1])
+    return "".join(map(visible, shown[first:first + WIDTH])) + f"\n{mark}^\n"
+
+
+def visible(character):
+    """A character as it is shown: what has no form of its own is a replacement character."""
+    is_hidden = unicodedata.category(character) == "Cc" and character != "\t" or character == BYTE_ORDER_MARK
+    return "\ufffd" if is_hidden else character
+
+
+def places(text):
+    """The line and the column at which each definition of a text begins that is read whole."""
+    NOW.take(text.encode())
+    found, place = [], 0
+    while place < len(NOW.text):
+        found.append("{}:{}".format(*position(text, NOW.at["TRIVIA"](place))))
+        place = NOW.at["DEFINITION"](place)
+    return found
+
+
+def settled(text, answer, is_otherwise):
+    """What the port is to answer of a text, and who says it; of a text that weedle2 isn't asked of, answer is None."""
+    if answer is None:
+        return answer_by_rows(text, ()), BY_ROWS
+    if is_otherwise:
+        by_rows = answer_by_rows(text, ())
+        if by_rows != answer:
+            older = explanation(text, by_rows, answer)
+            if older is None:
+                raise Disagree(f"weedle2 and the rows don't agree on {text!r}: {answer}, {by_rows}")
+            return by_rows, f"{BY_ROWS}, which have otherwise than weedle2: {' and '.join(older)}"
+    return answer, BY_WEEDLE2
+
+
+def wanted_of(text, answer):
+    """What is wanted of a text, of which weedle2 gives this answer."""
+    NOW.take(text.encode())
+    end = NOW.ends_at()
+    answer, by = settled(text, answer, reads_otherwise(NOW))
+    if answer.values is not None:
+        wanted = {"by": by, "list": answer.lines[:-1], "at": places(text), "value": [plain(it) for it in answer.values]}
+        is_alike = end == len(text.encode()) and len(wanted["at"]) == len(wanted["value"])
+    else:
+        rest = int(answer.lines[-1].rpartition(" ")[2])
+        place, sentence = refusal(text, rest)
+        mark = ", not a byte order mark" if text.encode()[place:].decode().startswith(BYTE_ORDER_MARK) else ""
+        at = "{}:{}".format(*position(text, place))
+        wanted = {"by": by, "rest": rest, "place": place, "at": at, "says": sentence + mark, "shows": excerpt(text, place)}
+        is_alike = end == rest
+    if not is_alike:
+        raise Disagree(f"the rows end {text!r} at {end}, and not where {by} does")
+    return wanted
+
+
+def in_files(texts, room):
+    files = [f"{room}/{number}" for number in range(len(texts))]
+    for file, text in zip(files, texts):
+        Path(file).write_bytes(text.encode())
+    return files
+
+
+def answers_of(weedle2, texts):
+    """What weedle2 answers of texts, in their order."""
+    for start in range(0, len(texts), TOGETHER):
+        with tempfile.TemporaryDirectory() as room:
+            yield from weedle2.answers(in_files(texts[start:start + TOGETHER], room))
+
+
+def cases_of_texts(weedle2, folder, texts):
+    """The cases of a folder's texts."""
+    answers = [None] * len(texts) if folder == "deep" else answers_of(weedle2, texts)
+    return numbered((text, wanted_of(text, answer)) for text, answer in zip(texts, answers, strict=True))
+
+
+# What is known by hand is held against it.
+def hold_to_rows(cases):
+    """Raises where a worked row says otherwise."""
+    by_text = {case.text: case.wanted for case in cases}
+    for text, lines, pieces in [*worked_rows.READ, *worked_rows.DEEP_READ]:
+        if text in by_text:
+            value = compact(by_text[text].get("value"))
+            if by_text[text].get("list") != lines or not all(piece in value for piece in pieces):
+                raise Disagree(f"a worked row says otherwise of {text!r}")
+    for text, rest in [*worked_rows.LEFT, *worked_rows.DEEP_LEFT]:
+        if text in by_text and by_text[text].get("rest") != rest:
+            raise Disagree(f"a worked row says otherwise of {text!r}")
+
+
+def hold_to_words(cases):
+    """Raises where the words by hand are others."""
+    by_text = {case.text: case.wanted for case in cases}
+    for text, words in said().items():
+        wanted = by_text.get(text)
+        if wanted and f"{wanted.get('rest')} {wanted.get('place')} {wanted['at']}: {wanted.get('says')}" != words:
+            raise Disagree(f"by hand it is said of {text!r}: {words}")
+
+
+# Real files, of which only sums are kept.
+def sum_of(text):
+    return hashlib.sha256(text.encode()).hexdigest()
+
+
+def without_text(text, wanted):
+    """What is kept of a file that isn't the repository's: no piece of its text."""
+    kept = {"by": wanted["by"], "bytes": len(text.encode()), "sum": sum_of(text)}
+    for name in ("rest", "place", "says"):
+        if name in wanted:
+            kept[name] = wanted[name]
+    for name in ("list", "at", "value", "shows"):
+        if name in wanted:
+            kept[f"sum of {name}"] = sum_of(compact(wanted[name]))
+    return kept
+
+
+def real_cases(weedle2, folder):
+    """The cases of the files of a folder, by their names in it."""
+    files = files_of(folder)
+    texts = [file.read_bytes().decode() for file in files]
+    answers = list(answers_of(weedle2, texts))
+    return [
+        Case(str(file.relative_to(folder).with_suffix("")).replace("/", "."), None, without_text(text, wanted_of(text, answer)))
+        for file, text, answer in zip(files, texts, answers)
+    ]
+
+
+# The writing.
+def write(tests, made):
+    """Writes archives by their folders' names, and the list of all."""
+    tests = Path(tests)
+    index = {}
+    for path in tests.glob("*.tar.xz"):
+        folder = path.name.removesuffix(".tar.xz")
+        if folder not in made and folder != "real":
+            path.unlink()
+        elif folder not in made:
+            index[folder] = line_of(folder, path.read_bytes(), cases_of(folder, tests))
+    for folder, cases in made.items():
+        content = packed(cases)
+        (tests / archive_of(folder)).write_bytes(content)
+        index[folder] = line_of(folder, content, cases)
+        print(index[folder].split("  ", 1)[1], end="")
+    (tests / INDEX).write_text("".join(index[folder] for folder in sorted(index)), encoding="utf-8")
+
+
+def stale(tests=TESTS):
+    """A line for each archive that isn't what is listed, or whose texts are made otherwise now."""
+    yield from wrong_sums(tests)
+    for folder, texts in made_texts().items():
+        if (Path(tests) / archive_of(folder)).is_file() and [case.text for case in cases_of(folder, tests)] != texts:
+            yield f"tests/{archive_of(folder)}: stale, tools/make_cases.py makes other texts"
+
+
+def make(weedle2, real):
+    made = {}
+    for folder, texts in made_texts().items():
+        made[folder] = cases_of_texts(weedle2, folder, texts)
+        hold_to_rows(made[folder])
+        hold_to_words(made[folder])
+        print(f"{folder}: {len(texts)} texts", file=sys.stderr)
+    if real:
+        made["real"] = real_cases(weedle2, real)
+    return made
+
+
+def arguments():
+    words = argparse.ArgumentParser(description=__doc__.splitlines()[0])
+    words.add_argument("--weedle2", default=str(WEEDLE2), metavar="PATH", help="the program of compare/")
+    words.add_argument("--real", metavar="FOLDER", help="where the real files are")
+    words.add_argument("--check", action="store_true", help="say what is stale, and write nothing")
+    return words.parse_args()
+
+
+def main(wanted):
+    sys.setrecursionlimit(DEPTH)
+    if wanted.check:
+        lines = list(stale())
+        print(*lines, sep="\n", end="\n" if lines else "")
+        return 1 if lines else 0
+    try:
+        write(TESTS, make(Weedle2(wanted.weedle2), wanted.real))
+    except Disagree as fault:
+        print(fault, file=sys.stderr)
+        return 1
+    return 0
+
+
+if __name__ == "__main__":
+    try:
+        sys.exit(main(arguments()))
+    except NoUse as fault:
+        print(fault, file=sys.stderr)
+        sys.exit(2)

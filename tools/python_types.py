@@ -1,0 +1,334 @@
+#!/usr/bin/env python3
+"""Writes the modules of the Python package that hold the grammar's rules and its values' classes.
+
+tools/write.py runs it. It writes below python/weedle
+    grammar.py      the names of the rules, by their numbers, and the version of the library
+    term.py         a class for each terminal
+    common.py ..    the other types that the crates declare, module by module as weedle2 has them
+    _readers.py     which class each rule makes
+
+Types, fields and variants have weedle2's names, as tools/compare_with_weedle2.py has them, and
+the docs of the crates. What a rule reads is taken from the declarations by description.readings.
+"""
+
+import re
+import sys
+from keyword import iskeyword
+from pathlib import Path
+from textwrap import wrap
+
+from c_header import VERSION, found_in
+from command_line import refuse_writer
+from description.declarations import Type
+from description.names import upper
+from description.readings import Declared
+from description.webidl import BY_NAME, RULES
+from python_text import annotation_of, comment, docstring, module_text
+
+TOP = Path(__file__).resolve().parent.parent
+PACKAGE = TOP / "python/weedle"
+# Where the version of the library stands.
+LIBRARY = "crates/weedle_c/src/lib.rt"
+# The module of weedle2 for the types of a crate, or of a module of it.
+MODULES = {
+    "weedle_term": "term", "weedle_parts.common": "common", "weedle_parts.types": "types",
+    "weedle_literal.default": "common", "weedle_literal": "literal",
+    "weedle_types.argument": "argument", "weedle_types.attribute": "attribute",
+    "weedle_types": "types", "weedle_modifier": "interface", "weedle_members": "interface",
+    "weedle_iterables": "interface", "weedle_async_iterables": "interface",
+    "weedle_interfaces.member": "interface", "weedle_interfaces.members": "interface",
+    "weedle_mixins.mixin": "mixin", "weedle_namespaces.namespace": "namespace",
+    "weedle_namespaces.dictionary": "dictionary",
+}
+ABOUT = {
+    "term": "Terminals: the words and signs of the grammar.",
+    "common": "Parts that stand anywhere in the grammar: brackets, lists, names and docstrings.",
+    "literal": "Literals.",
+    "types": "Types.",
+    "argument": "Arguments.",
+    "attribute": "Extended attributes.",
+    "interface": "Members of interfaces.",
+    "mixin": "Members of mixins.",
+    "namespace": "Members of namespaces.",
+    "dictionary": "Members of dictionaries.",
+    "definitions": "Definitions.",
+}
+# What weedle2 has otherwise: a part of parentheses, and a tuple.
+PARENTHESIZED, TUPLE = "ParenthesizedArgumentList", "RecordTypes"
+VARIANTS, FIELDS = {"Type_": "Type"}, {"record_": "record"}
+# What stands behind the only field of a tuple struct, by the class that makes it.
+LEAVES = {"Identifier": "Name", "Docstring": "Lines", "BooleanLit": "Truth"}
+LISTS = ("Punctuated", "PunctuatedNonEmpty")
+
+
+def module_of(declaration):
+    """The module of a declaration in Python."""
+    names = [declaration.crate, *declaration.module.split(".")]
+    while names and ".".join(names) not in MODULES:
+        names.pop()
+    return MODULES[".".join(names)] if names else "definitions"
+
+
+class Package:
+    """The types that are written, with the module of each."""
+
+    def __init__(self, declared):
+        self.declared = declared
+        self.modules = {name: [] for name in ABOUT}
+        for it in [*declared.types.values(), *declared.aliases.values()]:
+            if it.name not in (PARENTHESIZED, TUPLE) and it.module != "formers":
+                self.modules[module_of(it)].append(it)
+        self.module = {it.name: name for name, all_ in self.modules.items() for it in all_}
+
+    def is_terminal(self, type_):
+        """Whether values of a type are all spelled the same."""
+        if type_.name in ("()", "Box"):
+            return all(map(self.is_terminal, type_.arguments))
+        return self.module.get(type_.name) == "term"
+
+    def annotation(self, type_):
+        return annotation_of(self.declared, self.module, type_)
+
+    def parts(self, declaration):
+        """The parts of a declaration, or of the one that it is an alias of."""
+        former = self.former(declaration)
+        docs = [it.doc for it in (former or declaration).parts]
+        pairs = self.declared.parts_of(Type(declaration.name))
+        return [(name, type_, doc) for (name, type_), doc in zip(pairs, docs)]
+
+    def former(self, declaration):
+        """What an alias stands for, where that is a type of one use."""
+        if declaration.kind != "type":
+            return None
+        found = self.declared.types.get(declaration.parts[0].type.name)
+        return found if found and found.module == "formers" else None
+
+
+# The classes.
+def class_text(package, declaration):
+    """The class of a declaration, with those of its variants."""
+    former = package.former(declaration)
+    if package.module[declaration.name] == "term":
+        name = python_name(declaration.name)
+        return class_head(name, "Terminal", declaration.doc, is_dataclass=False)
+    if declaration.kind == "type" and not former:
+        return alias_text(package, declaration)
+    if (former or declaration).is_enum:
+        return enum_text(package, declaration)
+    if declaration.name in LISTS:
+        return list_text(declaration)
+    if [it.name for it in (former or declaration).parts] == ["0"]:
+        return leaf_text(package, declaration)
+    return struct_text(package, declaration)
+
+
+def python_name(name):
+    """The name of a class; one that Python has a word for is followed by `_`."""
+    return f"{name}_" if iskeyword(name) else name
+
+
+def class_head(name, base, doc, is_dataclass=True):
+    decorator = "@value_class\n" if is_dataclass else ""
+    return f"{decorator}class {name}({base}):\n{docstring(doc, '    ')}"
+
+
+def alias_text(package, declaration):
+    text = package.annotation(declaration.parts[0].type)
+    quoted = re.sub(r"^(\w+)\[(.*)\]$", lambda it: f'{it[1]}[{quoted_items(it[2])}]', text)
+    return f"{comment(declaration.doc, '')}{declaration.name} = {quoted}\n"
+
+
+def quoted_items(text):
+    """What stands between brackets, each item as a string."""
+    items, depth, item = [], 0, ""
+    for sign in text + ",":
+        depth += (sign == "[") - (sign == "]")
+        if sign == "," and not depth:
+            items.append(f'"{item.strip()}"')
+            item = ""
+        else:
+            item += sign
+    return ", ".join(items)
+
+
+def struct_text(package, declaration):
+    base = "Value, Generic[T]" if declaration.parameters else "Value"
+    rows, renamed = [], {}
+    for number, (name, type_, doc) in enumerate(package.parts(declaration)):
+        shown = FIELDS.get(name, name)
+        if shown != name:
+            renamed[shown] = name
+        maker = "word" if package.is_terminal(type_) else "part"
+        field = f"    {shown}: {package.annotation(type_)} = {maker}({number})\n"
+        rows.append(comment(doc, "    ") + field)
+    if renamed:
+        rows.append(f"    _renamed: ClassVar[Dict[str, str]] = {renamed!r}\n".replace("'", '"'))
+    return class_head(declaration.name, base, declaration.doc) + "\n" + "".join(rows)
+
+
+def list_text(declaration):
+    """The class of a list with separators, whose items are found by the base."""
+    head = class_head(declaration.name, "Listed[T, S]", declaration.doc, is_dataclass=False)
+    if declaration.name == "PunctuatedNonEmpty":
+        head += '\n    _fronts = ("",)\n'
+        head += "\n    def _listing(self) -> int:\n        return self._parts()[0]\n"
+    return head
+
+
+def leaf_text(package, declaration):
+    """The class of what has one part without a name."""
+    ((_, type_, _),) = package.parts(declaration)
+    if type_.name in package.module:
+        head = class_head(declaration.name, "Wrapped", declaration.doc)
+        return f"{head}\n    value: {package.annotation(type_)} = part(0)\n"
+    base = LEAVES.get(declaration.name, "Leaf")
+    head = class_head(declaration.name, base, declaration.doc, is_dataclass=False)
+    shape = BY_NAME[upper(declaration.name)].shape
+    kept = re.fullmatch(r"Kept (\d)", shape)
+    return f"{head}\n    _kept = {kept[1]}\n" if kept else head
+
+
+def enum_text(package, declaration):
+    """The class of an enum, and one for each of its variants."""
+    parts = package.parts(declaration)
+    names = [VARIANTS.get(name, name) for name, _, _ in parts]
+    rows = [f"    {it}: ClassVar[type[{declaration.name}_{it}]]\n" for it in names]
+    head = class_head(declaration.name, "Choice", declaration.doc, is_dataclass=False)
+    classes = [head + "\n" + "".join(rows)]
+    for shown, (name, type_, doc) in zip(names, parts):
+        words = f'{declaration.name}, variant="{shown}"'
+        words += f', in_json="{name}"' if shown != name else ""
+        text = class_head(f"{declaration.name}_{shown}", words, doc, is_dataclass=False)
+        classes.append(f"{text}\n    value: {package.annotation(type_)}\n")
+    return "\n\n".join(classes)
+
+
+# Which class a rule makes.
+class Makers:
+    """What each rule makes, found from the type of all definitions on."""
+
+    def __init__(self, package):
+        self.package, self.declared = package, package.declared
+        self.makers, self.separators = {}, {}
+        waiting = [Type("Definitions")]
+        while waiting:
+            type_ = self.declared.whole(waiting.pop())
+            rule = self.declared.rule_of(type_).lower()
+            if type_.name == "Box":
+                waiting += type_.arguments
+            elif rule not in self.makers:
+                self.makers[rule] = self.maker(type_, rule)
+                waiting += self.below(type_)
+
+    def below(self, type_):
+        """The types of the parts of a type, as far as rules read them."""
+        if type_.name in ("Option", "Vec", "()", *LISTS):
+            return type_.arguments
+        parts = [part for _, part in self.declared.parts_of(type_)]
+        return [it for it in parts if it.name not in ("&", "String", "bool")]
+
+    def name(self, type_):
+        """The class of a type."""
+        name = "Parenthesized" if type_.name == PARENTHESIZED else type_.name
+        module = self.package.module[name]
+        return f"{module}.{name}"
+
+    def maker(self, type_, rule):
+        if type_.name in ("Option", "Vec", "()", TUPLE):
+            names = {"Option": "Maybe()", "Vec": "Many()", "()": "Together()"}
+            return names.get(type_.name, f'Together("{TUPLE}")')
+        if type_.name in LISTS:
+            self.separators[rule] = self.name(type_.arguments[1])
+            self.add_parts(BY_NAME[rule.upper()].row)
+            return self.name(type_)
+        declaration = self.declared.types[type_.name]
+        return self.chosen(type_) if declaration.is_enum else self.name(type_)
+
+    def add_parts(self, row):
+        """Adds the rules of which a list with separators is made."""
+        if row[0] == "Seq":
+            self.makers[row[1][0].lower()] = "Between(ITEMS)"
+            row = BY_NAME[row[1][0]].row
+        self.makers[row[2].lower()] = "Between(FOLLOWING)"
+
+    def chosen(self, type_):
+        rows = []
+        for name, part in self.declared.parts_of(type_):
+            rule = self.declared.rule_of(part).lower()
+            rows.append(f'        "{rule}": {self.name(type_)}.{VARIANTS.get(name, name)},\n')
+        return "Variants({\n" + "".join(rows) + "    })"
+
+    def text(self):
+        lines, pairs = (
+            [f'    "{rule}": {it},\n' for rule, it in sorted(all_.items())]
+            for all_ in (self.makers, self.separators)
+        )
+        used = re.findall(r"[ (](\w+)\.", "".join([*lines, *pairs]))
+        return READERS.format(
+            modules=",\n    ".join(wrap(", ".join(sorted(set(used))), 80)).replace(",,", ","),
+            makers="".join(lines), separators="".join(pairs),
+        )
+
+
+READERS = '''\
+"""Which class each rule makes.
+
+Written by tools/python_types.py.
+"""
+
+from weedle import (
+    _values, {modules},
+)
+from weedle._values import Between, Many, Maybe, Together, Variants
+from weedle._writing import FOLLOWING, ITEMS
+from weedle.grammar import NUMBERS, RULES
+
+MAKERS = {{
+{makers}}}
+
+SEPARATORS = {{
+{separators}}}
+
+_values.MAKERS[:] = [MAKERS.get(name) for name in RULES]
+_values.SEPARATORS.update((NUMBERS[name], it) for name, it in SEPARATORS.items())
+'''
+
+GRAMMAR = '''\
+"""The rules of the grammar. What each reads stands in docs/GRAMMAR.md.
+
+Written by tools/python_types.py.
+"""
+
+#: The version of the library that has these rules: a byte each for its three numbers.
+VERSION = {version}
+
+#: The names of the rules, by their numbers.
+RULES = (
+{names})
+
+#: The numbers of the rules, by their names.
+NUMBERS = {{name: number for number, name in enumerate(RULES)}}
+'''
+
+
+def texts():
+    """The modules, by their names."""
+    package = Package(Declared.of(TOP))
+    for name, declarations in package.modules.items():
+        classes = [class_text(package, it) for it in declarations]
+        yield name, module_text(ABOUT[name], classes, package.module)
+    yield "_readers", Makers(package).text()
+    names = "".join(f'    "{it.name.lower()}",\n' for it in RULES)
+    version = found_in(VERSION, (TOP / LIBRARY).read_text(encoding="utf-8"), LIBRARY)
+    yield "grammar", GRAMMAR.format(version=version, names=names)
+
+
+def main():
+    PACKAGE.mkdir(parents=True, exist_ok=True)
+    for name, text in texts():
+        (PACKAGE / f"{name}.py").write_text(text, encoding="utf-8")
+    return 0
+
+
+if __name__ == "__main__":
+    sys.exit(refuse_writer(__doc__))

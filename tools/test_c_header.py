@@ -1,0 +1,65 @@
+#!/usr/bin/env python3
+"""Tests c_header.py over made-up sources, in a second. The repository's own header is only read by a compiler's tests.
+
+    python3 tools/test_c_header.py
+"""
+
+import re
+import tempfile
+import unittest
+from pathlib import Path
+
+import c_header
+from crates import Unfit
+from description.webidl import RULES
+
+CODE = "/// The version.\nconst VERSION: u32 = 0x010203;\n"
+STATUSES = """//! Statuses.
+
+/// It is read.
+pub const READ: u32 = 0;
+
+/// It isn't,
+/// not whole.
+pub const REFUSED: u32 = 1;
+"""
+
+
+class Header(unittest.TestCase):
+    def header(self, code=CODE, statuses=STATUSES):
+        with tempfile.TemporaryDirectory() as folder:
+            source = Path(folder, "crates/weedle_c/src")
+            source.mkdir(parents=True)
+            (source / "lib.rt").write_text(code)
+            (source / "status.rt").write_text(statuses)
+            return c_header.header_of(Path(folder))
+
+    def test_the_version_is_the_crates(self):
+        self.assertIn("#define WEEDLE_VERSION 0x010203\n", self.header())
+
+    def test_a_source_without_a_version_is_unfit(self):
+        with self.assertRaises(Unfit):
+            self.header(code="")
+
+    def test_each_status_has_its_doc_and_the_last_no_comma(self):
+        text = self.header()
+        self.assertIn("    WEEDLE_STATUS_READ = 0, /* It is read. */\n", text)
+        self.assertIn("    WEEDLE_STATUS_REFUSED = 1 /* It isn't, not whole. */\n};", text)
+
+    def test_each_rule_has_a_constant_and_a_name_at_its_number(self):
+        text = self.header()
+        constants = re.findall(r"^    (WEEDLE_\w+) = (\d+),?$", text, re.M)
+        names = re.findall(r'^    "(\w+)",?$', text, re.M)
+        self.assertEqual(constants, [(f"WEEDLE_{it.name}", str(at)) for at, it in enumerate(RULES)])
+        self.assertEqual(names, [it.name.lower() for it in RULES])
+
+    def test_no_constant_is_named_as_another(self):
+        names = re.findall(r"^(?:#define |    )(WEEDLE_\w+)\b", self.header(), re.M)
+        self.assertEqual(len(names), len(set(names)))
+
+    def test_it_names_its_writer(self):
+        self.assertIn("Written by tools/c_header.py.", self.header().partition("*/")[0])
+
+
+if __name__ == "__main__":
+    unittest.main()

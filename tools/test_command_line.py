@@ -1,0 +1,86 @@
+#!/usr/bin/env python3
+"""Tests the command lines of all scripts of tools/: `--help`, and writers that are run by hand.
+
+    python3 tools/test_command_line.py
+
+Each script is run in an empty folder, which takes two seconds of processor time.
+"""
+
+import ast
+import runpy
+import subprocess
+import sys
+import tempfile
+import unittest
+from contextlib import chdir, redirect_stderr, redirect_stdout
+from io import StringIO
+from pathlib import Path
+from unittest import mock
+
+from command_line import runnable
+from run_writers import WRITERS
+from write import TOP, sources
+
+TOOLS = Path(__file__).resolve().parent
+SCRIPTS = sorted(
+    path.stem
+    for path in TOOLS.glob("*.py")
+    if '__name__ == "__main__"' in path.read_text(encoding="utf-8") and not path.stem.startswith("test_")
+)
+
+
+def run_script(name, *words):
+    """Runs a script as by hand: its status, and what it printed and said of faults."""
+    line = [f"{name}.py", *words]
+    with redirect_stdout(StringIO()) as out, redirect_stderr(StringIO()) as err:
+        with mock.patch.object(sys, "argv", line):
+            try:
+                runpy.run_path(str(TOOLS / f"{name}.py"), run_name="__main__")
+                status = 0
+            except SystemExit as end:
+                status = end.code
+    return status, out.getvalue(), err.getvalue()
+
+
+class Scripts(unittest.TestCase):
+    def setUp(self):
+        """Each runs in an empty folder, and leaves that and the crates as they are."""
+        room = self.enterContext(tempfile.TemporaryDirectory())
+        self.enterContext(chdir(room))
+        before = sources(TOP)
+        self.addCleanup(lambda: self.assertEqual(before, sources(TOP)))
+        self.addCleanup(lambda: self.assertEqual(list(Path(room).iterdir()), []))
+
+    def test_help_says_what_it_does(self):
+        for name in SCRIPTS:
+            about = ast.get_docstring(ast.parse((TOOLS / f"{name}.py").read_text(encoding="utf-8"))).splitlines()[0]
+            status, out, err = run_script(name, "--help")
+            self.assertEqual((status, err), (0, ""), name)
+            self.assertIn(about, " ".join(out.split()), name)
+
+    def test_help_of_the_script_of_the_shell(self):
+        ran = subprocess.run([TOOLS / "try_tests.sh", "--help"], capture_output=True, text=True)
+        self.assertEqual((ran.returncode, ran.stderr), (0, ""))
+        self.assertTrue(ran.stdout.startswith("Runs the tests of every crate that has some"), ran.stdout)
+        self.assertTrue(ran.stdout.endswith("could not be run.\n"), ran.stdout)
+
+    def test_a_writer_by_hand_says_how_it_is_run(self):
+        for name in sorted({*WRITERS, "run_writers"}):
+            status, out, err = run_script(name)
+            self.assertEqual((status, out), (2, ""), name)
+            self.assertTrue(err.startswith(f"{name}.py: nothing is written. `python3 tools/write.py` runs "), err)
+
+    def test_a_program_that_is_not_there(self):
+        for name in ("depth", "hostile"):
+            status, out, err = run_script(name, "./no-such-program")
+            self.assertEqual((status, out), (2, ""), name)
+            self.assertIn("./no-such-program is no program that can be run", err)
+
+
+class Programs(unittest.TestCase):
+    def test_one_that_is_there(self):
+        self.assertEqual(runnable(sys.executable), sys.executable)
+
+
+if __name__ == "__main__":
+    unittest.main()

@@ -1,0 +1,38 @@
+"""Tests of tools/gate_page.py."""
+
+import tempfile
+import unittest
+
+import gate_page
+from test_gate_plan import TIMES, gate_of
+
+PAGE = """# A page
+
+<!-- times: written by tools/gate_page.py -->
+old
+<!-- end -->
+
+Behind.
+"""
+
+
+class TestTables(unittest.TestCase):
+    def setUp(self):
+        room = tempfile.TemporaryDirectory()
+        self.addCleanup(room.cleanup)
+        self.gate = gate_of(room.name)
+
+    def test_a_crate_has_a_row_with_its_minutes(self):
+        rows = [*gate_page.times_table(self.gate, {**TIMES, "clock": {"low": 90}})]
+        self.assertIn("| `low` | 1.0 | 1.5 |  | 1.7 (2) |  |", rows)
+        self.assertIn("| `top` | 2.0 |  | 1.0 |  | 1.0 |", rows)
+        self.assertEqual(rows[-1], "| all of these | 48.0 |  | 1.0 | 1.7 | 1.0 |")
+
+    def test_only_what_stands_between_the_marks_is_written(self):
+        new = gate_page.written(PAGE, {"times": ["| a |", "| b |"]})
+        self.assertEqual(new, PAGE.replace("old\n", "| a |\n| b |\n"))
+        self.assertEqual(gate_page.written(new, {"times": ["| a |", "| b |"]}), new)
+
+
+if __name__ == "__main__":
+    unittest.main()

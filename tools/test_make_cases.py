@@ -1,0 +1,199 @@
+#!/usr/bin/env python3
+"""Tests make_cases.py and what it uses, with no program, in some seconds.
+
+    python3 tools/test_make_cases.py
+
+In the place of weedle2 stand the rows of the grammar, as weedle2 has them.
+"""
+
+import tempfile
+import unittest
+from pathlib import Path
+from unittest import mock
+
+import make_cases
+from case_files import INDEX, Case, archive_of, cases_of, compact, folders, numbered, packed, unpacked, wrong_sums
+from compare_with_weedle2 import answer_by_rows
+from make_cases import BY_WEEDLE2, Disagree, cases_of_texts, excerpt, hold_to_rows, hold_to_words, prefixes, without_text
+from random_texts import Maker
+from row_ends import NOW, PLAIN, reads_otherwise
+from row_words import position, refusal, sentence
+from table_reader import CHANGED, Reading, Table
+
+
+class ByRows:
+    """weedle2, as the rows have it, or with an answer that is wrong."""
+
+    def __init__(self, wrong=None):
+        self.wrong = wrong
+
+    def answers(self, files):
+        texts = [Path(file).read_bytes().decode() for file in files]
+        return [self.wrong or answer_by_rows(text, tuple(CHANGED)) for text in texts]
+
+
+def wanted(text):
+    return cases_of_texts(ByRows(), "tests", [text])[0].wanted
+
+
+class Rows(unittest.TestCase):
+    """row_ends.py reads as table_reader.py does."""
+
+    def test_ends_and_what_fails(self):
+        maker = Maker(3)
+        for text in [maker.near(maker.text()[:80]) for _ in range(8)] + ["", " ", "[A(", "interface A {}; // c"]:
+            reading, table = Reading(Table(), text.encode()), Table()
+            end, _ = reading.at("DEFINITIONS", 0)
+            NOW.take(text.encode())
+            self.assertEqual(NOW.ends_at(), end, text)
+            failed = [(place, rule) for (rule, place), got in reading.known.items() if got is None and table.rows[rule][0] in PLAIN]
+            place, rules = NOW.unmet()
+            furthest = max(it for it, _ in failed)
+            self.assertEqual((place, set(rules)), (furthest, {rule for it, rule in failed if it == furthest}), text)
+
+    def test_which_texts_were_read_otherwise(self):
+        table = [
+            ("interface A {};", False), ("interface 9 {};", True), ("interface A {}; // c", True), ("// c\ninterface A {};", False),
+            ("interface A { const long x = 0x; };", True), ("interface A { const long x = 0x1; };", False),
+        ]
+        for text, is_otherwise in table:
+            NOW.take(text.encode())
+            NOW.ends_at()
+            self.assertEqual(reads_otherwise(NOW), is_otherwise, text)
+
+
+class Words(unittest.TestCase):
+    def test_sentences(self):
+        self.assertEqual(sentence(["a"]), "expected a")
+        self.assertEqual(sentence(["a", "b"]), "expected a or b")
+        self.assertEqual(sentence(list("abcdef")), "expected a, b, c, d, e or f")
+        self.assertEqual(sentence(list("abcdefgh")), "expected a, b, c, d, e, f or 2 more")
+
+    def test_what_is_said_by_hand(self):
+        self.assertEqual(len(make_cases.said()), 36)
+        for text, words in make_cases.said().items():
+            NOW.take(text.encode())
+            rest = NOW.ends_at()
+            place, said = refusal(text, rest)
+            line, column = position(text, place)
+            self.assertEqual(f"{rest} {place} {line}:{column}: {said}", words, text)
+
+    def test_positions(self):
+        self.assertEqual([position(text, place) for text, place in [("", 0), ("\n", 1), ("a\né b", 5)]], [(1, 1), (2, 1), (2, 3)])
+
+    def test_excerpts(self):
+        digits = "0123456789" * 30
+        table = [
+            ("a\tb\x01\ufeff?", 7, "a\tb\ufffd\ufffd?\n \t   ^\n"), ("a\r\nb\r\n", 4, "b\n ^\n"), ("a\n", 2, "\n^\n"),
+            (digits, 49, digits[:100] + "\n" + " " * 49 + "^\n"), (digits, 250, digits[:100] + "\n" + " " * 50 + "^\n"),
+            (digits, 260, digits[:100] + "\n" + " " * 60 + "^\n"), (digits, 300, digits[:100] + "\n" + " " * 100 + "^\n"),
+        ]
+        for text, place, shown in table:
+            self.assertEqual(excerpt(text, place), shown, (text, place))
+
+
+class Wanted(unittest.TestCase):
+    def test_a_text_that_is_read(self):
+        self.assertEqual(wanted("\n A includes B;"), {
+            "by": "weedle2", "list": ["includes A"], "at": ["2:2"],
+            "value": [{"IncludesStatement": {
+                "attributes": None, "lhs_identifier": {"Identifier": "A"}, "includes": "Includes",
+                "rhs_identifier": {"Identifier": "B"}, "semi_colon": "SemiColon"}}],
+        })
+
+    def test_a_text_that_is_refused(self):
+        self.assertEqual(wanted("A includes B; foo"), {
+            "by": "weedle2", "rest": 14, "place": 17, "at": "1:18", "says": "expected `includes` or `implements`",
+            "shows": "A includes B; foo\n                 ^\n",
+        })
+
+    def test_a_byte_order_mark_is_named(self):
+        self.assertTrue(wanted("\ufeffA includes B;")["says"].endswith(" or 4 more, not a byte order mark"))
+
+    def test_the_rules_that_were_changed(self):
+        self.assertEqual(wanted("A includes B; // c")["by"],
+                         "the grammar's rows, which have otherwise than weedle2: a line comment with no LF")
+        self.assertEqual(wanted("interface 9 {};")["rest"], 0)
+        self.assertEqual(wanted("interface A { const long x = 0x; };")["says"], "expected a hex digit")
+        self.assertEqual(wanted("// c\nA includes B;")["by"], BY_WEEDLE2)
+
+    def test_answers_that_nothing_explains(self):
+        with self.assertRaises(Disagree):
+            cases_of_texts(ByRows(answer_by_rows("", ())), "tests", ["A includes B;"])
+        with self.assertRaises(Disagree):
+            cases_of_texts(ByRows(answer_by_rows("", ())), "tests", ["interface 9 {};"])
+
+    def test_texts_that_weedle2_is_not_asked_of(self):
+        case, = cases_of_texts(None, "deep", ["A includes B;"])
+        self.assertEqual((case.wanted["by"], case.wanted["at"]), ("the grammar's rows", ["1:1"]))
+
+    def test_worked_rows_are_held_to(self):
+        cases = cases_of_texts(ByRows(), "worked", ["interface A {};interface B {}", "A includes B;"])
+        hold_to_rows(cases)
+        cases[0].wanted["rest"] = 14
+        self.assertRaises(Disagree, hold_to_rows, cases)
+        cases = cases_of_texts(ByRows(), "tests", ["foo"])
+        hold_to_words(cases)
+        cases[0].wanted["says"] = "expected foo"
+        self.assertRaises(Disagree, hold_to_words, cases)
+
+    def test_of_a_real_file_no_text_is_kept(self):
+        text = "interface Zebra {};"
+        kept = compact(without_text(text, wanted(text)))
+        self.assertNotIn("Zebra", kept)
+        self.assertIn('"bytes":19', kept)
+
+
+class Texts(unittest.TestCase):
+    def test_prefixes_end_with_a_word(self):
+        self.assertEqual(list(prefixes(['enum E { "a b" };'])), ["enum", "enum E", "enum E {", 'enum E { "a b"', 'enum E { "a b" }'])
+
+    def test_how_many_there_are(self):
+        with mock.patch.multiple(make_cases, RANDOM=20, NEAR=5, PREFIXES=30, CHANGED=20):
+            counts = {folder: len(texts) for folder, texts in make_cases.made_texts().items()}
+        self.assertEqual([counts[it] for it in ("random", "near", "prefixes", "changed")], [20, 5, 30, 20])
+        self.assertGreater(counts["tests"], 300)
+
+
+class Archives(unittest.TestCase):
+    CASES = numbered([("é\n", {"by": "weedle2", "rest": 0}), ("", {"by": "weedle2", "value": []})])
+
+    def test_what_is_packed_is_unpacked(self):
+        content = packed(self.CASES)
+        self.assertEqual(packed(self.CASES), content)
+        found = [(case.name, case.text, case.wanted) for case in unpacked(content)]
+        self.assertEqual(found, [(case.name, case.text, case.wanted) for case in self.CASES])
+        self.assertEqual([case.is_read for case in unpacked(content)], [False, True])
+
+    def test_a_case_without_its_text(self):
+        case, = unpacked(packed([Case("a", None, {"by": "weedle2"})]))
+        self.assertEqual((case.name, case.text), ("a", None))
+
+    def test_what_is_stale(self):
+        with tempfile.TemporaryDirectory() as room, mock.patch("builtins.print"):
+            make_cases.write(room, {"a": self.CASES, "b": self.CASES})
+            self.assertEqual(list(wrong_sums(room)), [])
+            with mock.patch.object(make_cases, "made_texts", lambda: {"a": ["é\n", ""], "b": ["other"]}):
+                self.assertEqual(list(make_cases.stale(room)), ["tests/b.tar.xz: stale, tools/make_cases.py makes other texts"])
+            (Path(room) / archive_of("a")).write_bytes(packed(self.CASES[:1]))
+            (Path(room) / archive_of("b")).unlink()
+            (Path(room) / archive_of("c")).write_bytes(b"")
+            self.assertEqual(list(wrong_sums(room)), [
+                f"tests/a.tar.xz: not what tests/{INDEX} lists", f"tests/b.tar.xz: lacking, and listed in tests/{INDEX}",
+                f"tests/c.tar.xz: not what tests/{INDEX} lists",
+            ])
+
+    def test_an_archive_that_is_not_made_any_more_goes_and_that_of_real_files_stays(self):
+        with tempfile.TemporaryDirectory() as room, mock.patch("builtins.print"):
+            make_cases.write(room, {"a": self.CASES, "real": self.CASES})
+            make_cases.write(room, {"b": self.CASES})
+            self.assertEqual(folders(room), ["b", "real"])
+            self.assertEqual(list(wrong_sums(room)), [])
+
+    def test_those_of_this_repository(self):
+        self.assertEqual(list(wrong_sums()), [])
+        self.assertEqual(len(cases_of("worked")), 102)
+
+
+if __name__ == "__main__":
+    unittest.main()

@@ -1,0 +1,101 @@
+#!/usr/bin/env python3
+"""Tests python_types.py and python_text.py, in a second.
+
+    python3 tools/test_python_types.py
+
+The types are those that the crates declare, and weedle2's names of them those of its documentation.
+"""
+
+import ast
+import unittest
+from pathlib import Path
+from unittest import mock
+
+import python_text
+import python_types
+from description.declarations import type_of
+from description.readings import Declared
+from python_types import Makers, Package, class_text, quoted_items
+
+TOP = Path(__file__).resolve().parent.parent
+
+
+class Texts(unittest.TestCase):
+    def test_the_first_sentence_of_a_doc(self):
+        table = [
+            ("A name. It is kept.", "A name."),
+            ("A number, as `1.5`. More.", "A number, as `1.5`."),
+            ("See [`Type`].", "See `Type`."),
+            ("The `:`.", "The `:`."),
+            ("Its types: two.", "Its types."),
+            ("No dot", "No dot"),
+        ]
+        for doc, sentence in table:
+            self.assertEqual(python_text.first_sentence(doc), sentence)
+
+    def test_a_backslash_makes_a_raw_docstring(self):
+        self.assertEqual(python_text.docstring(r"A `\n`.", ""), 'r"""A `\\n`."""\n')
+
+    def test_items_are_quoted_one_by_one(self):
+        self.assertEqual(quoted_items("Punctuated[A, B], C"), '"Punctuated[A, B]", "C"')
+
+    def test_a_class_is_no_word_of_python(self):
+        self.assertEqual([python_types.python_name(it) for it in ("False", "Null")], ["False_", "Null"])
+
+
+class Types(unittest.TestCase):
+    @classmethod
+    def setUpClass(cls):
+        cls.package = Package(Declared.of(TOP))
+        cls.makers = Makers(cls.package).makers
+
+    def test_annotations(self):
+        table = [
+            ("Option<Docstring>", "Optional[Docstring]"), ("Vec<Argument>", "List[Argument]"),
+            ("(Long, Long)", "Tuple[term.Long, term.Long]"), ("Box<Type>", "Type"),
+            ("ParenthesizedArgumentList", "Parenthesized[ArgumentList]"),
+            ("MayBeNull<Identifier>", "MayBeNull[Identifier]"), ("&'a str", "str"),
+        ]
+        for rust, python in table:
+            self.assertEqual(self.package.annotation(type_of(rust)), python)
+
+    def test_types_stand_in_weedle2s_modules(self):
+        table = {
+            "Interface": "term", "Braced": "common", "Default": "common", "DefaultValue": "literal",
+            "MayBeNull": "types", "SingleType": "types", "Argument": "argument",
+            "ExtendedAttribute": "attribute", "ConstMember": "interface", "MixinMember": "mixin",
+            "NamespaceMember": "namespace", "DictionaryMember": "dictionary",
+            "InterfaceDefinition": "definitions", "Definition": "definitions",
+        }
+        self.assertEqual({name: self.package.module[name] for name in table}, table)
+
+    def test_names_that_weedle2_has_otherwise(self):
+        for name in ("ParenthesizedArgumentList", "RecordTypes"):
+            self.assertNotIn(name, self.package.module)
+        result, record = (self.package.declared.aliases[it] for it in ("ReturnType", "RecordType"))
+        self.assertIn('(ReturnType, variant="Type", in_json="Type_")', class_text(self.package, result))
+        self.assertIn("    record: term.Record = word(0)\n", class_text(self.package, record))
+
+    def test_words_that_are_always_the_same_are_marked(self):
+        text = class_text(self.package, self.package.declared.types["AttributeInterfaceMember"])
+        self.assertIn("readonly: Optional[term.ReadOnly] = part(2)", text)
+        self.assertIn("attribute: term.Attribute = word(3)", text)
+
+    def test_what_rules_make(self):
+        table = {
+            "interface_definition": "definitions.InterfaceDefinition", "opt_docstring": "Maybe()",
+            "interface_members": "Many()", "record_types": 'Together("RecordTypes")',
+            "parenthesized_argument_list": "common.Parenthesized", "long_long": "Together()",
+            "tail_argument_comma": "Between(FOLLOWING)", "enum_value_list": "common.PunctuatedNonEmpty",
+        }
+        self.assertEqual({rule: self.makers[rule] for rule in table}, table)
+
+    def test_each_module_can_be_read(self):
+        with mock.patch.object(python_types, "TOP", TOP):
+            for name, text in python_types.texts():
+                ast.parse(text, name, feature_version=(3, 9))
+                self.assertLessEqual(max(map(len, text.splitlines())), 100, name)
+
+
+if __name__ == "__main__":
+    unittest.main()

@@ -1,0 +1,238 @@
+#!/usr/bin/env python3
+"""Tests run_cases.py and case_runs.py, with no built program, in some seconds.
+
+    python3 tools/test_run_cases.py
+
+In the place of the programs stand scripts that answer by the rows of the grammar, some of them wrongly.
+"""
+
+import contextlib
+import io
+import json
+import sys
+import tempfile
+import unittest
+from pathlib import Path
+from unittest import mock
+
+import case_runs
+import run_cases
+from case_files import archive_of, numbered, packed
+from compare_with_weedle2 import BETWEEN, answer_by_rows
+from make_cases import excerpt, wanted_of
+from row_nodes import nodes_of, shown
+from row_words import position, refusal
+from table_reader import Table
+from tree_json import debug
+
+TEXTS = ["///d\ninterface A { attribute long x; };", "foo", "A includes B;\n?", "", "enum E { '\x01' };", "typedef any between;"]
+HEAD = """#!{python} -SE
+import json, os, sys
+with open({answers!r}, encoding="utf-8") as it:
+    answers = json.load(it)
+"""
+# The programs, by answers that are made before. weedle_check:
+CHECK = """
+files, refused = [word for word in sys.argv[1:] if word[:2] != "--"], 0
+for file in files:
+    with open(file, encoding="utf-8", newline="") as it:
+        answer = answers[it.read()]
+    refused += answer["is_refused"]
+    if answer["is_refused"] or "--tree" in sys.argv:
+        sys.stdout.write(answer["said"].replace("FILE", file))
+    elif "--syntax" in sys.argv:
+        sys.stdout.write(answer["nodes"])
+print(len(files), "file," if len(files) == 1 else "files,", refused, "refused", flush=True)
+if answers["is_crash"]:
+    os.kill(os.getpid(), 9)
+sys.exit(answers["status"] if refused else 0)
+"""
+LIST = """
+answer = answers[sys.stdin.read()]
+sys.stdout.write(answer["outline" if sys.argv[1:] else "list"])
+sys.exit(answer["is_refused"])
+"""
+
+
+def answer_of(text, wrong):
+    """What both programs answer of a text, by the rows, or wrong in one way."""
+    end, values = Table().read(text)
+    lines = [f"{line}\n" for line in answer_by_rows(text, ()).lines]
+    is_refused = end < len(text.encode())
+    outline = [lines[0], "  d\n", *lines[1:]] if text.startswith("///d") and not is_refused else lines
+    said = refused(text, end, wrong) if is_refused else trees(text, values, wrong)
+    if wrong == "exchanged":
+        lines, outline = outline, lines
+    nodes = "" if is_refused else nodes_in(text, wrong)
+    return {"is_refused": is_refused, "said": said, "nodes": nodes, "list": "".join(lines), "outline": "".join(outline)}
+
+
+def nodes_in(text, wrong):
+    """What --syntax prints, or with a name's node exchanged."""
+    lines = "".join(f"{shown(node)}\n" for node in nodes_of(text.encode()))
+    return lines.replace(" identifier ", " includes ") if wrong == "node" else lines
+
+
+def refused(text, end, wrong):
+    place, words = refusal(text, end)
+    shown = excerpt(text, place)
+    line, column = position(text, place)
+    return f"FILE:{line}:{column}: {words}\n" + (shown.replace("\ufffd", "\x01") if wrong == "excerpt" else shown)
+
+
+def trees(text, values, wrong):
+    shown = "".join(f"{at} {debug(value)}\n" for at, value in zip(wanted_of(text, None)["at"], values))
+    return shown.replace("Long(LongType", "Short(LongType") if wrong == "value" else shown
+
+
+class Cases(unittest.TestCase):
+    """Runs over cases of a few texts."""
+
+    def setUp(self):
+        room = tempfile.TemporaryDirectory()
+        self.addCleanup(room.cleanup)
+        self.room = Path(room.name)
+        cases = numbered((text, wanted_of(text, None)) for text in TEXTS)
+        (self.room / archive_of("some")).write_bytes(packed(cases))
+
+    def program(self, name, wrong=None):
+        """A program, right or wrong in one way."""
+        answers = {text: answer_of(text, wrong) for text in [*TEXTS, BETWEEN]}
+        answers |= {"is_crash": wrong == "crash", "status": 0 if wrong == "status" else 1}
+        (self.room / f"{name}.json").write_text(json.dumps(answers), encoding="utf-8")
+        file = self.room / name
+        head = HEAD.format(python=sys.executable, answers=str(self.room / f"{name}.json"))
+        file.write_text(head + (LIST if name == "weedle_list" else CHECK), encoding="utf-8")
+        file.chmod(0o755)
+        return str(file)
+
+    def ended(self, *words):
+        """The status, and what is printed on both outputs."""
+        argv = ["run_cases.py", *words, "--tests", str(self.room)]
+        with mock.patch.object(sys, "argv", argv), contextlib.redirect_stdout(io.StringIO()) as out, \
+                contextlib.redirect_stderr(io.StringIO()) as err:
+            return run_cases.main(run_cases.arguments()), out.getvalue(), err.getvalue()
+
+    def test_all_pass(self):
+        said = self.ended(self.program("weedle_check"), "some")
+        self.assertEqual(said, (0, "weedle_check, some: 12 passed, 0 failed\n12 passed, 0 failed\n", ""))
+        said = self.ended(self.program("weedle_list"), "some", "--every", "1")
+        self.assertEqual(said, (0, "weedle_list, some: 12 passed, 0 failed\n12 passed, 0 failed\n", ""))
+
+    def test_a_value_that_is_wrong(self):
+        status, out, _ = self.ended(self.program("weedle_check", "value"), "some")
+        self.assertEqual((status, out.splitlines()[-1]), (1, "11 passed, 1 failed"))
+        failed, wanted, came = out.splitlines()[:3]
+        self.assertEqual(failed, f"FAILED: {TEXTS[0]!r}")
+        self.assertIn('"Long":{"unsigned"', wanted)
+        self.assertIn('"Short":{"unsigned"', came)
+
+    def test_an_excerpt_that_is_wrong(self):
+        status, out, _ = self.ended(self.program("weedle_check", "excerpt"), "some")
+        self.assertEqual((status, out.splitlines()[-1]), (1, "11 passed, 1 failed"))
+
+    def test_a_node_that_is_wrong(self):
+        status, out, _ = self.ended(self.program("weedle_check", "node"), "some")
+        self.assertEqual((status, out.splitlines()[-1]), (1, "10 passed, 2 failed"))
+        self.assertIn("'identifier'", out.splitlines()[1])
+
+    def test_a_status_that_is_wrong_fails_what_is_refused(self):
+        status, out, _ = self.ended(self.program("weedle_check", "status"), "some")
+        self.assertEqual((status, out.splitlines()[-1]), (1, "9 passed, 3 failed"))
+
+    def test_a_program_that_crashes(self):
+        status, out, _ = self.ended(self.program("weedle_check", "crash"), "some")
+        self.assertEqual((status, out.splitlines()[-1]), (1, "0 passed, 12 failed"))
+        self.assertIn("status -9", out)
+
+    def test_an_outline_for_a_list(self):
+        status, out, _ = self.ended(self.program("weedle_list", "exchanged"), "some", "--every", "1")
+        self.assertEqual((status, out.splitlines()[-1]), (1, "10 passed, 2 failed"))
+
+    def test_a_folder_of_programs(self):
+        self.program("weedle_check")
+        self.assertEqual(self.ended(str(self.room))[0], 2)
+        self.program("weedle_list")
+        status, out, _ = self.ended(str(self.room), "some", "--every", "1")
+        self.assertEqual((status, out.splitlines()[-1]), (0, "24 passed, 0 failed"))
+
+    def test_what_cannot_be_run(self):
+        program = self.program("weedle_check")
+        for words in ([program, "none"], [program, "real"], [str(self.room / "no")], [self.program("other")],
+                      ["--try", str(self.room)]):
+            status, out, err = self.ended(*words)
+            self.assertEqual((status, out), (2, ""), words)
+            self.assertTrue(err.startswith("run_cases: "), words)
+
+    def test_some_bytes_of_all(self):
+        _, out, _ = self.ended(self.program("weedle_check"), "some", "--most", "40")
+        self.assertIn(" passed, 0 failed\n", out)
+        self.assertLess(int(out.split()[-4]), 5)
+
+
+class Parts(unittest.TestCase):
+    def test_taken(self):
+        self.assertEqual(run_cases.taken(list(range(10)), 0.3), [3, 6, 9])
+        self.assertEqual(run_cases.taken([1, 2], 1), [1, 2])
+
+    def test_parts_by_name(self):
+        out = "a:1:2: x\nline\n^\nb:3:4: y\na:b:\n^\n2 files, 2 refused\n"
+        parts = run_cases.parts_by_name(out, ["a", "b", "c"], "2 files, 2 refused\n")
+        self.assertEqual(parts, {"a": "a:1:2: x\nline\n^\n", "b": "b:3:4: y\na:b:\n^\n", "c": ""})
+        self.assertIsNone(run_cases.parts_by_name(out, ["a", "b"], "2 files, 1 refused\n"))
+        self.assertIsNone(run_cases.parts_by_name("x\n" + out, ["a", "b"], "2 files, 2 refused\n"))
+
+    def test_parts_between(self):
+        between = '1:1 Typedef(x: Identifier("between_two_texts"))\n'
+        self.assertEqual(run_cases.parts_between(f"1:1 A(x)\n{between}{between}end\n", "end\n"), ["1:1 A(x)\n", ""])
+        self.assertIsNone(run_cases.parts_between(f"{between}1:1 A(x)\nend\n", "end\n"))
+        self.assertIsNone(run_cases.parts_between(between, "end\n"))
+
+    def test_a_line_that_is_no_tree(self):
+        self.assertEqual(run_cases.trees_in("1:1 A(B)\nfoo\n"), [{"at": "1:1", "value": {"A": "B"}}, "foo"])
+
+
+class Runs(unittest.TestCase):
+    """case_runs.py, with programs of the system."""
+
+    def came(self, program, **keys):
+        run = case_runs.Run({"what": "w", "program": "p", "status": 0, **keys})
+        return run.wanted(), run.came(program)
+
+    def assert_right(self, program, **keys):
+        self.assertEqual(*self.came(program, **keys))
+
+    def test_files_and_output(self):
+        self.assert_right("cat", arguments=["a", "b"], files={"a": "é", "b": {"front": "<", "piece": "x", "times": 3, "back": ">"}}, stdout="é<xxx>")
+        self.assert_right("cat", bytes={"a": "ff41"}, arguments=["a"], stdout="\ufffdA")
+        self.assert_right("cat", input="x", stdout="x")
+        self.assert_right("cat", input_bytes="78", stdout="x")
+
+    def test_faults(self):
+        self.assert_right("cat", arguments=["a"], folders=["a"], status=1, stderr_like="cat: a: .*\n")
+        self.assert_right("cat", input_folder=True, status=1, stderr_like="cat: .*\n")
+        self.assert_right("cat", input="x", output="full", status=1, stderr_like="cat: .*\n")
+        self.assert_right("cat", arguments=["missing"], status=1, stderr_like="cat: missing: .*\n")
+
+    def test_memory(self):
+        wanted, came = self.came(sys.executable, arguments=["-c", "bytes(1 << 30)"], memory=1 << 29, status=1)
+        self.assertIn("MemoryError", came)
+        self.assertNotIn("MemoryError", wanted)
+
+    def test_what_is_other(self):
+        self.assertNotEqual(*self.came("cat", input="x"))
+        self.assertNotEqual(*self.came("cat", input="x", stdout="x", status=1))
+        self.assertNotEqual(*self.came("cat", input="x", stdout_like="y+"))
+
+    def test_keys(self):
+        self.assertRaises(ValueError, case_runs.Run, {"what": "w", "program": "p", "status": 0, "stdot": ""})
+
+    def test_those_of_this_repository(self):
+        runs = case_runs.runs()
+        self.assertEqual({run.program for run in runs}, set(run_cases.PROGRAMS))
+        self.assertEqual(len(runs), len({(run.program, run.what) for run in runs}))
+        self.assertEqual(len(runs), 83)
+
+
+if __name__ == "__main__":
+    unittest.main()
