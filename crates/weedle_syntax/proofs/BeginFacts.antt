@@ -1,5 +1,5 @@
 -- With which bytes a row begins that takes one.
-use Rattle.std.proofs.Common.{◌≡◌, ◌≢◌, inl, inr, ℕ, zero, suc, ◌+◌, ◌<◌, ◌≤◌, List, [], ◌∷◌, length, drop, set, replicate, Bool, true, false, Option, Some, None, refl, sym, subst, ◌∙◌, ap, arith, length-set}
+use Rattle.std.proofs.Common.{◌≡◌, inl, inr, ℕ, suc, ◌+◌, ◌<◌, ◌≤◌, List, [], ◌∷◌, length, drop, set, replicate, Bool, true, false, Option, Some, None, refl, sym, subst, ◌∙◌, ap, arith, length-set}
 use Rattle.std.specs.Prelude.{◌==◌, ◌&&◌, ◌||◌, not, if◌then◌else◌, nat_lt, slice_index}
 use Rattle.std.specs.List.{list_any, list_all}
 use Rattle.std.specs.Int.{bit_at}
@@ -23,7 +23,7 @@ use Rattle.weedle_rules.proofs.PartEnds.{below}
 use Rattle.weedle_rules.proofs.RowEnds.{row_ends, raw_end}
 use Rattle.weedle_rules.specs.Outcomes.{EndsAt}
 use Rattle.weedle_rules.proofs.OutcomeFacts.{has_end}
-use Rattle.weedle_syntax.specs.Starts.{CoversStarts, IsWithin, CoversClass, CoversFirst, has_some, flag_of, Leads, AllWithin, Begins, always_takes}
+use Rattle.weedle_syntax.specs.Starts.{CoversStarts, IsWithin, CoversFirst, flag_of, Leads, AllWithin, Begins, always_takes}
 use Rattle.weedle_syntax.proofs.ChildFacts.{or_left, or_right, and_true}
 use Rattle.weedle_syntax.proofs.ReadFacts.{ends_after, first_reads, opt_reads, list_reads, list1_reads, if_reads}
 

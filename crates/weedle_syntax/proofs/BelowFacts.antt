@@ -1,13 +1,12 @@
 -- How many nodes stand below a node: the nodes behind it as long as they are deeper.
-use Rattle.std.proofs.Common.{◌≡◌, inl, inr, ℕ, ◌+◌, ◌-◌, ◌<◌, ◌≤◌, List, length, drop, set, get_or, Bool, true, false, refl, sym, subst, ◌∙◌, ap, arith, length-set}
+use Rattle.std.proofs.Common.{◌≡◌, inl, inr, ℕ, ◌+◌, ◌-◌, ◌<◌, ◌≤◌, List, length, drop, set, get_or, true, false, sym, subst, ◌∙◌, ap, arith, length-set}
 use Rattle.std.specs.Prelude.{nat_lt, replicate}
-use Rattle.std.specs.List.{prefix_len}
 use Rattle.std.proofs.lemmas.Bool.{cases_lt, lt-ltb, le-ltb}
 use Rattle.std.proofs.lemmas.List.{get_or_default, get_or-drop, get_or-set_same, get_or-set_other, length-drop, length-replicate}
 use Rattle.std.proofs.lemmas.List.Sums.{prefix_len-le-length, prefix_len_is, prefix_len_passes, prefix_len_stops}
 use Rattle.weedle_syntax.specs.declared.node.Node.{Node}
 use Rattle.weedle_syntax.specs.Syntax.{root_to}
-use Rattle.weedle_syntax.specs.Tree.{node_at, is_deeper, below_of, IsChild, IsLeaf, AreCounts}
+use Rattle.weedle_syntax.specs.Tree.{node_at, is_deeper, below_of, AreCounts}
 
 -- the depth of node i
 abbrev pub depth_at : List Node → ℕ → ℕ

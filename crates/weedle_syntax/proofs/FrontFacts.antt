@@ -1,5 +1,5 @@
 -- Definitions at the front of a text: they never fail; what is promised of their nodes.
-use Rattle.std.proofs.Common.{◌≡◌, ℕ, ◌-◌, ◌<◌, ◌≤◌, List, Option, Some, None, refl, sym, subst, ◌∙◌, ap, arith, length, take}
+use Rattle.std.proofs.Common.{◌≡◌, ℕ, ◌-◌, ◌<◌, List, None, refl, sym, ◌∙◌, ap, arith, length, take}
 use Rattle.std.specs.Prelude.{All, IsUtf8}
 use Rattle.weedle_grammar.specs.Rows.{Many}
 use Rattle.weedle_grammar.specs.Trees.{Tree}

@@ -4,7 +4,7 @@ use Rattle.std.specs.Prelude.{option_map, if◌then◌else◌, ◌==◌, ◌&&�
 use Rattle.std.proofs.lemmas.List.{drop_more, drop_all, length-drop, take_rest}
 use Rattle.std.proofs.lemmas.Bool.{ne_eqb}
 use Rattle.weedle_grammar.specs.declared.class.Class.{Class}
-use Rattle.weedle_grammar.specs.Rows.{begins, is_in, take_bytes, take_one, take_not_next, run_length, take_past}
+use Rattle.weedle_grammar.specs.Rows.{begins, is_in, run_length, take_past}
 
 -- what is left from a place on
 pub left_is : (text left : List ℕ) (p : ℕ) → left ≡ take (length text - p) (drop p text) → left ≡ drop p text

@@ -6,6 +6,8 @@ pub mod LoadFacts
 pub mod TreeFacts
 pub mod SyntaxFacts
 pub mod LeafFacts
+mod NumberFacts
+mod IterFacts
 pub mod OneFacts
 pub mod DescentFacts
 pub mod RepeatFacts

@@ -1,5 +1,5 @@
 -- A rule whose word lacks the bit of the byte that stands at a place fails there.
-use Rattle.std.proofs.Common.{◌≡◌, ℕ, ◌+◌, ◌/◌, ◌^◌, ◌<◌, ◌≤◌, List, ◌∷◌, length, drop, get_or, Some, None, refl, sym, subst, ◌∙◌, ap, arith}
+use Rattle.std.proofs.Common.{◌≡◌, ℕ, ◌+◌, ◌/◌, ◌^◌, ◌<◌, List, length, drop, get_or, None, refl, sym, ◌∙◌, ap, arith}
 use Rattle.std.specs.Prelude.{bit_and}
 use Rattle.std.specs.Int.{bit_at}
 use Rattle.std.proofs.lemmas.List.{drop_more}
@@ -9,7 +9,7 @@ use Rattle.weedle_grammar.specs.written.Bound.{rule_count}
 use Rattle.weedle_grammar.specs.written.Table.{Reads}
 use Rattle.weedle_grammar.proofs.GrammarFacts.{one}
 use Rattle.weedle_rules.specs.Cells.{HasEnd}
-use Rattle.weedle_syntax.specs.Starts.{CoversStarts, AreStarts}
+use Rattle.weedle_syntax.specs.Starts.{AreStarts}
 
 module _ (text words : List ℕ) (r p : ℕ) (are : AreStarts words) (low : r < rule_count) (fits : p < length text) where
   by_outcome : (o : Outcome) → Reads text r p o → get_or text p 0 < 128 → bit_at (get_or words r 0) (get_or text p 0) ≡ 0 → HasEnd text r p None

@@ -1,15 +1,13 @@
 -- From a node to the one behind it: its first part begins where it begins, or what follows begins where it ends.
-use Rattle.std.proofs.Common.{◌≡◌, ◌⊎◌, inl, inr, ℕ, zero, suc, ◌+◌, ◌-◌, ◌<◌, ◌≤◌, List, [], ◌∷◌, ◌++◌, length, refl, sym, subst, ◌∙◌, ap, arith, add-one}
-use Rattle.std.proofs.lemmas.Bool.{cases_lt}
+use Rattle.std.proofs.Common.{◌≡◌, ◌⊎◌, inl, inr, ℕ, zero, suc, ◌+◌, ◌<◌, ◌≤◌, List, [], ◌∷◌, ◌++◌, length, refl, sym, subst, ap, arith, add-one}
 use Rattle.weedle_grammar.specs.written.Table.{row_of}
-use Rattle.weedle_rules.proofs.OutcomeFacts.{one_end}
 use Rattle.weedle_syntax.specs.declared.node.Node.{Node}
-use Rattle.weedle_syntax.specs.Syntax.{RestBegins, root_to, IsSyntaxTo, IsFront, rest_of}
-use Rattle.weedle_syntax.specs.Tree.{node_at, below_of, IsChild, IsLeaf, IsLeafAt}
+use Rattle.weedle_syntax.specs.Syntax.{RestBegins, root_to, IsFront, rest_of}
+use Rattle.weedle_syntax.specs.Tree.{node_at}
 use Rattle.weedle_syntax.proofs.TreeFacts.{AreNodes, nodes_of}
 use Rattle.weedle_syntax.proofs.ChildFacts.{Each, each_append}
-use Rattle.weedle_syntax.proofs.LeafFacts.{Tile, Rise, Level, Covers, row_covers, tile_append, rise_append, rise_more, tile_on}
-use Rattle.weedle_syntax.proofs.BelowFacts.{depth_at, below_within, below_deeper, next_no_deeper, below_is, below_reaches}
+use Rattle.weedle_syntax.proofs.LeafFacts.{Tile, Rise, Level, Covers, row_covers, tile_append, rise_append, rise_more}
+use Rattle.weedle_syntax.proofs.BelowFacts.{depth_at}
 
 -- node m comes behind node n
 abbrev pub Follows : Node → Node → Type 0

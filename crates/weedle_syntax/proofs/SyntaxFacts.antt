@@ -8,7 +8,6 @@ use Rattle.weedle_rules.specs.Outcomes.{EndsAt}
 use Rattle.weedle_syntax.specs.declared.node.Node.{Node}
 use Rattle.weedle_syntax.specs.Parts.{HasParts}
 use Rattle.weedle_syntax.specs.Syntax.{RestBegins, root_to, IsSyntaxTo}
-use Rattle.weedle_syntax.specs.Laid.{node}
 use Rattle.weedle_syntax.proofs.TreeFacts.{AreNodes, AreAll, trees_of}
 use Rattle.weedle_syntax.proofs.ChildFacts.{Each, each_append, each_so, IsChild, parts_are_children}
 use Rattle.weedle_syntax.proofs.LoadFacts.{weight, load, load_append, parts_are_light}

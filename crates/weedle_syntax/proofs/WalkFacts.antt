@@ -1,10 +1,10 @@
 -- From node to node: first parts, siblings, parents, and the leaf at a byte.
-use Rattle.std.proofs.Common.{◌≡◌, ◌≢◌, inl, inr, ℕ, ◌+◌, ◌-◌, ◌<◌, ◌≤◌, List, length, sym, subst, ◌∙◌, ap, arith}
+use Rattle.std.proofs.Common.{◌≡◌, ◌≢◌, inl, inr, ℕ, ◌+◌, ◌<◌, ◌≤◌, List, length, sym, subst, ap, arith}
 use Rattle.std.proofs.lemmas.Bool.{cases_lt}
 use Rattle.weedle_syntax.specs.declared.node.Node.{Node}
 use Rattle.weedle_syntax.specs.Tree.{node_at, below_of, IsChild, IsLeaf, IsLeafAt}
 use Rattle.weedle_syntax.proofs.BelowFacts.{depth_at, below_within, below_deeper, next_no_deeper, below_is, below_reaches}
-use Rattle.weedle_syntax.proofs.StepFacts.{Follows, IsJoined}
+use Rattle.weedle_syntax.proofs.StepFacts.{IsJoined}
 
 -- looked back from node i to node `at`: none of these is shallower than node i
 pub record IsBack (ns : List Node) (i at : ℕ) : Type 0 where

@@ -1,5 +1,5 @@
 -- Which node stands below which, by their numbers in preorder.
-use Rattle.std.specs.Prelude.{◌≡◌, ◌≤◌, ◌<◌, ◌+◌, ◌==◌, ◌&&◌, ℕ, Bool, nat_lt, nat_le, drop, length, slice_index, slice_index_or, All, List, Option, MatchOption}
+use Rattle.std.specs.Prelude.{◌≡◌, ◌≤◌, ◌<◌, ◌+◌, ◌-◌, ◌==◌, ℕ, zero, suc, Bool, cond, nat_lt, drop, length, slice_index, slice_index_or, All, List, [], ◌∷◌, Option, MatchOption}
 use Rattle.std.specs.List.{prefix_len}
 use Rattle.weedle_syntax.specs.declared.node.Node.{Node}
 use Rattle.weedle_syntax.specs.Syntax.{root_to, IsFront, IsRead}
@@ -30,6 +30,27 @@ IsLeaf ns i = below_of ns i ≡ 0
 abbrev pub HasRule : List Node → ℕ → ℕ → Type 0
 HasRule ns rule i = (node_at ns i).rule ≡ rule
 
+-- of so many numbers from i on, those for which the test gives true
+unfoldable pub numbers_where : (ℕ → Bool) → ℕ → ℕ → List ℕ
+numbers_where test i zero = []
+numbers_where test i (suc many) = cond (test i) (i ∷ numbers_where test (i + 1) many) (numbers_where test (i + 1) many)
+
+-- from node `from` up to node `end`, those that are one deeper than this
+abbrev pub children_from : List Node → ℕ → ℕ → ℕ → List ℕ
+children_from ns depth from end = numbers_where (λ j. (node_at ns j).depth == depth + 1) from (end - from)
+
+-- the nodes that node i reads directly, in their order
+abbrev pub children_of : List Node → ℕ → List ℕ
+children_of ns i = children_from ns (node_at ns i).depth (i + 1) (i + 1 + below_of ns i)
+
+-- the nodes that read no other, in their order
+abbrev pub leaf_numbers : List Node → List ℕ
+leaf_numbers ns = numbers_where (λ j. below_of ns j == 0) 0 (length ns)
+
+-- the places from this one on at which a list has 0
+abbrev pub zeros_from : List ℕ → ℕ → List ℕ
+zeros_from counts from = numbers_where (λ j. slice_index counts j == 0) from (length counts - from)
+
 -- of the numbers below n, i is the first from this one on of which P holds
 pub record IsNext (P : ℕ → Type 0) (from n i : ℕ) : Type 0 where
   pub after : from ≤ i
@@ -58,3 +79,12 @@ pub record IsTree (text : List ℕ) (ns : List Node) (counts : List ℕ) : Type 
   pub front : IsFront text ns
   pub read : All (IsRead text) ns
   pub counted : AreCounts ns counts 0
+
+-- what always holds of `Children` of a node of this depth: up to `end` all is deeper than it, and `next` is one of them
+pub record AreChildren (ns : List Node) (counts : List ℕ) (depth next end : ℕ) : Type 0 where
+  pub counted : AreCounts ns counts 0
+  pub within : next ≤ end
+  pub inside : end ≤ length ns
+  pub deeper : (k : ℕ) → next ≤ k → k < end → depth < (node_at ns k).depth
+  pub first : next < end → (node_at ns next).depth ≡ depth + 1
+  pub stops : end < length ns → (node_at ns end).depth ≤ depth

@@ -19,6 +19,7 @@
 
 mod below;
 mod descent;
+mod iter;
 mod kinds;
 pub mod laws;
 mod leaves;
@@ -30,6 +31,7 @@ mod starts;
 mod tree;
 mod walk;
 
+pub use iter::{Children, Leaves};
 pub use node::Node;
 pub use quick::{syntax_of_front, syntax_quick};
 pub use readers::{front_of, syntax, syntax_by_descent, syntax_of};

@@ -25,9 +25,12 @@ ghost use Rattle.weedle_syntax.specs.Tree.{
   HasRule,
   FindsNext,
   IsLeafAt,
+  children_of,
+  leaf_numbers,
 };
 
 use crate::below::count_below;
+use crate::iter::{Children, Leaves};
 use crate::node::Node;
 use crate::quick::syntax_of_front;
 use std::alloc::{AllocError, Global};
@@ -184,6 +187,22 @@ impl<'a> Syntax<'a> {
         None
     }
 
+    /// The nodes that a node reads directly, in their order. It takes a step for each.
+    ///
+    /// Those of the root are the definitions, with what stands between them.
+    pub fn children(&self, node: usize) -> Children<'_>
+        requires { node < length self.now.nodes }
+        ensures { result ≡ children_of self.now.nodes node }
+    {
+        Children {
+            nodes: &self.nodes,
+            below: &self.below,
+            depth: self.nodes[node].depth,
+            next: node + 1,
+            end: node + 1 + self.below[node],
+        }
+    }
+
     /// The node that reads a node directly; None of the root.
     ///
     /// It looks back from the node: a step for each node between the two.
@@ -235,6 +254,18 @@ impl<'a> Syntax<'a> {
             }
         }
         None
+    }
+
+    /// The leaves, in their order: the nodes that read no other. A step for each node.
+    ///
+    /// Their bytes, one after another, are the text up to where the rest begins. Some take no byte.
+    pub fn leaves(&self) -> Leaves<'_>
+        ensures { result ≡ leaf_numbers self.now.nodes }
+    {
+        Leaves {
+            below: &self.below,
+            next: 0,
+        }
     }
 
     /// The first leaf from a number on: a node that reads no other. A step for each node that it

@@ -76,12 +76,35 @@ fn from_node_to_node(rt: HostRuntime) -> Result<(), Fail> {
     Ok(())
 }
 
+/// The numbers are those of the worked text, whose nodes stand by hand in `worked.rt`.
+#[test]
+fn children_and_leaves(rt: HostRuntime) -> Result<(), Fail> {
+    let alloc = rt.alloc();
+    let syntax = Syntax::of_front(alloc, "A includes B;")?;
+    assert_eq!(rt; syntax.nodes().len(), 35);
+    for (node, wanted) in [
+        (0, &[1][..]),
+        (2, &[3, 4, 15, 24, 31]),
+        (4, &[5, 6, 7, 10]),
+        (3, &[]),
+    ] {
+        let children: Vec<usize> = syntax.children(node).collect(alloc)?;
+        assert!(rt; children[..] == *wanted);
+    }
+    let leaves: Vec<usize> = syntax.leaves().collect(alloc)?;
+    let wanted = [
+        3, 5, 6, 8, 9, 13, 14, 16, 17, 18, 22, 23, 25, 26, 28, 29, 30, 32, 33, 34,
+    ];
+    assert!(rt; leaves[..] == wanted);
+    Ok(())
+}
+
 /// How many nodes of a rule `find` comes by.
 fn count(syntax: &Syntax<'_>, rule: Rule) -> usize {
-    let mut many = 0;
+    let mut many: usize = 0;
     for i in 0..syntax.nodes().len() {
         if syntax.find(rule, i) == Some(i) {
-            many += 1;
+            many = many.saturating_add(1);
         }
     }
     many
@@ -124,12 +147,12 @@ fn words_blanks_and_comments(rt: HostRuntime) -> Result<(), Fail> {
     let words = ["interface", "A", "const", "long", "c"];
     assert!(rt; are_words(alloc, text, &words)?);
     let syntax = Syntax::of_front(alloc, text)?;
-    let mut blanks = 0;
-    let mut comments = 0;
-    for node in syntax.nodes() {
-        blanks += node.is_blank() as usize;
-        comments += node.is_comment() as usize;
-    }
+    let blanks = syntax.nodes().iter().filter(|node| node.is_blank()).count();
+    let comments = syntax
+        .nodes()
+        .iter()
+        .filter(|node| node.is_comment())
+        .count();
     assert_eq!(rt; blanks, 9);
     assert_eq!(rt; comments, 2);
     Ok(())

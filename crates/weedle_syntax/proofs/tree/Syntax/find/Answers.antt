@@ -1,5 +1,5 @@
 use Rattle.std.proofs.Common.{sym, ◌∙◌, ap, arith, eqb-true, eq-eqb}
-use Rattle.weedle_syntax.specs.Tree.{HasRule, IsNext}
+use Rattle.weedle_syntax.specs.Tree.{HasRule}
 use Rattle.weedle_syntax.proofs.BelowFacts.{looked_at}
 use Rattle.weedle_syntax.proofs.WalkFacts.{none_yet}
 use Rattle.weedle_syntax.proofs.tree.Syntax.find.Goals as goal

@@ -1,4 +1,4 @@
-use Rattle.std.proofs.Common.{refl, sym, ◌∙◌, arith}
+use Rattle.std.proofs.Common.{refl, ◌∙◌, arith}
 use Rattle.weedle_syntax.proofs.BelowFacts.{count_read}
 use Rattle.weedle_syntax.proofs.StepFacts.{joined}
 use Rattle.weedle_syntax.proofs.WalkFacts.{first_is_child}

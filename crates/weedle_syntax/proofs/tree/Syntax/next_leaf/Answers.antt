@@ -1,5 +1,5 @@
 use Rattle.std.proofs.Common.{sym, ◌∙◌, arith}
-use Rattle.weedle_syntax.specs.Tree.{IsLeaf, IsNext}
+use Rattle.weedle_syntax.specs.Tree.{IsLeaf}
 use Rattle.weedle_syntax.proofs.BelowFacts.{count_read}
 use Rattle.weedle_syntax.proofs.WalkFacts.{none_yet}
 use Rattle.weedle_syntax.proofs.tree.Syntax.next_leaf.Goals as goal

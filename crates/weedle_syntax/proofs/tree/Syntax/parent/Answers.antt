@@ -1,4 +1,4 @@
-use Rattle.std.proofs.Common.{◌-◌, subst, sym, arith}
+use Rattle.std.proofs.Common.{◌-◌, subst, arith}
 use Rattle.weedle_syntax.proofs.BelowFacts.{depth_read}
 use Rattle.weedle_syntax.proofs.StepFacts.{joined}
 use Rattle.weedle_syntax.proofs.WalkFacts.{IsBack, back_start, back_step, parent_is, no_parent}
