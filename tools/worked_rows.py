@@ -26,7 +26,7 @@ CUT_LEFT = {0: range(1, 15), 16: [17], 22: [it for it in range(23, 36) if it != 
 
 
 def attributes(levels):
-    """Attributes that nest so deep, in front of an interface."""
+    """Extended attributes that nest so deep, in front of an interface."""
     inner = "a... b"
     for _ in range(levels):
         inner = f"[A({inner})] a... b"
