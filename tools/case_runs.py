@@ -8,6 +8,7 @@ A run has the keys
     bytes       the bytes of files in hexadecimal, by their names
     folders     names of folders that lie beside the files
     input       the text on standard input; or input_bytes, in hexadecimal; or input_folder = true: a folder
+    breaks      true: behind this text a read of standard input fails, as where a connection breaks off
     output      "full": a device that takes no byte; or a number: a file that takes so many bytes
     memory      how many bytes of address space the program has; one that is built with checks has none to spare
                 for them, so no request of it may be for so many
@@ -21,6 +22,7 @@ import os
 import re
 import resource
 import signal
+import socket
 import subprocess
 import tempfile
 import tomllib
@@ -31,8 +33,8 @@ from case_files import TESTS
 RUNS = "runs"
 SECONDS = 120
 KEYS = set(
-    "what program arguments files bytes folders input input_bytes input_folder output memory built status stdout stderr "
-    "stdout_like stderr_like".split()
+    "what program arguments files bytes folders input input_bytes input_folder breaks output memory built status stdout "
+    "stderr stdout_like stderr_like".split()
 )
 
 
@@ -88,9 +90,7 @@ class Run:
     def ended(self, program, room):
         words = [program, *self.keys.get("arguments", ())]
         with open("/dev/full" if self.keys.get("output") == "full" else f"{room}/.output", "w+b") as out, \
-                tempfile.TemporaryFile() as given:
-            given.write(self.given())
-            given.seek(0)
+                (broken_off if self.keys.get("breaks") else kept)(self.given()) as given:
             how = {"cwd": room, "stdin": given, "stdout": out, "stderr": subprocess.PIPE, "timeout": SECONDS}
             if self.keys.get("input_folder"):
                 how["stdin"] = subprocess.DEVNULL
@@ -113,6 +113,23 @@ class Run:
         if self.room is not None:
             found.append((resource.RLIMIT_FSIZE, self.room))
         return how | {"preexec_fn": lambda: limit(found)} if found else how
+
+
+def kept(content):
+    """A file with this content, from its front on."""
+    file = tempfile.TemporaryFile()
+    file.write(content)
+    file.seek(0)
+    return file
+
+
+def broken_off(content):
+    """A connection that gives this content, and breaks off behind it: it was closed with a byte that nobody had read."""
+    end, other = socket.socketpair()
+    end.send(b"x")
+    other.sendall(content)
+    other.close()
+    return end
 
 
 def limit(found):

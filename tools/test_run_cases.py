@@ -211,6 +211,7 @@ class Runs(unittest.TestCase):
     def test_faults(self):
         self.assert_right("cat", arguments=["a"], folders=["a"], status=1, stderr_like="cat: a: .*\n")
         self.assert_right("cat", input_folder=True, status=1, stderr_like="cat: .*\n")
+        self.assert_right("cat", input="x", breaks=True, status=1, stdout="x", stderr_like="cat: .*\n")
         self.assert_right("cat", input="x", output="full", status=1, stderr_like="cat: .*\n")
         self.assert_right("cat", arguments=["missing"], status=1, stderr_like="cat: missing: .*\n")
 
@@ -245,7 +246,7 @@ class Runs(unittest.TestCase):
         runs = case_runs.runs()
         self.assertEqual({run.program for run in runs}, set(run_cases.PROGRAMS))
         self.assertEqual(len(runs), len({(run.program, run.what) for run in runs}))
-        self.assertEqual(len(runs), 91)
+        self.assertEqual(len(runs), 94)
 
 
 if __name__ == "__main__":
