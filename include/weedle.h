@@ -86,8 +86,8 @@ struct weedle_refusal {
  * Only with WEEDLE_STATUS_READ is anything written to `nodes`.
  *
  * A text has about as many nodes as bytes. While it is read each takes 32 bytes of memory, and up to 64 where the
- * list grows. Where brackets nest deeper than 64 levels, or attributes so that descent would read again and again,
- * it takes a table of 1,544 bytes for each byte of the text beside that, and the time for it.
+ * list grows. Where brackets nest deeper than 64 levels, or extended attributes so that descent would read again and
+ * again, it takes a table of 1,544 bytes for each byte of the text beside that, and the time for it.
  */
 uint32_t weedle_syntax(
     const char *text, size_t length,

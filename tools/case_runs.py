@@ -8,16 +8,21 @@ A run has the keys
     bytes       the bytes of files in hexadecimal, by their names
     folders     names of folders that lie beside the files
     input       the text on standard input; or input_bytes, in hexadecimal; or input_folder = true: a folder
-    output      "full": a device that takes no byte
-    memory      how many bytes of address space the program has
+    breaks      true: behind this text a read of standard input fails, as where a connection breaks off
+    output      "full": a device that takes no byte; or a number: a file that takes so many bytes
+    memory      how many bytes of address space the program has; one that is built with checks has none to spare
+                for them, so no request of it may be for so many
     built       true: a build with checks takes too long for it
     status, stdout, stderr    what is to come; stdout and stderr are nothing where they are left out
     stdout_like, stderr_like  the same as a regular expression, for what differs from run to run
 A text may be a table of front, piece, times and back: the piece so many times, between the two others.
 """
 
+import os
 import re
 import resource
+import signal
+import socket
 import subprocess
 import tempfile
 import tomllib
@@ -28,8 +33,8 @@ from case_files import TESTS
 RUNS = "runs"
 SECONDS = 120
 KEYS = set(
-    "what program arguments files bytes folders input input_bytes input_folder output memory built status stdout stderr "
-    "stdout_like stderr_like".split()
+    "what program arguments files bytes folders input input_bytes input_folder breaks output memory built status stdout "
+    "stderr stdout_like stderr_like".split()
 )
 
 
@@ -47,7 +52,9 @@ class Run:
         self.keys = keys
         self.what, self.program, self.memory = keys["what"], keys["program"], keys.get("memory")
         # Whether it isn't for a build with checks.
-        self.is_for_built = "memory" in keys or keys.get("built", False)
+        self.is_for_built = keys.get("built", False)
+        # How many bytes the output takes, where it is a file that takes only some.
+        self.room = keys["output"] if isinstance(keys.get("output"), int) else None
 
     def wanted(self):
         """What is to come, in one text."""
@@ -83,22 +90,58 @@ class Run:
     def ended(self, program, room):
         words = [program, *self.keys.get("arguments", ())]
         with open("/dev/full" if self.keys.get("output") == "full" else f"{room}/.output", "w+b") as out, \
-                tempfile.TemporaryFile() as given:
-            given.write(self.given())
-            given.seek(0)
+                (broken_off if self.keys.get("breaks") else kept)(self.given()) as given:
             how = {"cwd": room, "stdin": given, "stdout": out, "stderr": subprocess.PIPE, "timeout": SECONDS}
             if self.keys.get("input_folder"):
                 how["stdin"] = subprocess.DEVNULL
                 words = ["sh", "-c", 'exec "$@" < .', "sh", *words]
             try:
-                done = subprocess.run(words, preexec_fn=self.limit if self.memory else None, check=False, **how)
+                done = subprocess.run(words, check=False, **how, **self.limits(program, room))
             except subprocess.TimeoutExpired:
                 return -1, "", f"it hadn't ended after {SECONDS} s\n"
             written = b"" if self.keys.get("output") == "full" else Path(f"{room}/.output").read_bytes()
         return done.returncode, written.decode(errors="replace"), done.stderr.decode(errors="replace")
 
-    def limit(self):
-        resource.setrlimit(resource.RLIMIT_AS, (self.memory, self.memory))
+    def limits(self, program, room):
+        """How a program is run that has little memory, or an output with little room."""
+        found, how = [], {}
+        if self.memory and has_checks(program):
+            most = f"allocator_may_return_null=1:max_allocation_size_mb={self.memory >> 20}:log_path={room}/.checks"
+            how["env"] = os.environ | {"ASAN_OPTIONS": most}
+        elif self.memory:
+            found.append((resource.RLIMIT_AS, self.memory))
+        if self.room is not None:
+            found.append((resource.RLIMIT_FSIZE, self.room))
+        return how | {"preexec_fn": lambda: limit(found)} if found else how
+
+
+def kept(content):
+    """A file with this content, from its front on."""
+    file = tempfile.TemporaryFile()
+    file.write(content)
+    file.seek(0)
+    return file
+
+
+def broken_off(content):
+    """A connection that gives this content, and breaks off behind it: it was closed with a byte that nobody had read."""
+    end, other = socket.socketpair()
+    end.send(b"x")
+    other.sendall(content)
+    other.close()
+    return end
+
+
+def limit(found):
+    """Sets limits of a process. One that writes more than a file takes is answered so, and not killed."""
+    signal.signal(signal.SIGXFSZ, signal.SIG_IGN)
+    for what, most in found:
+        resource.setrlimit(what, (most, most))
+
+
+def has_checks(program):
+    """Whether a program is built with checks of each access, as `rt try` builds one."""
+    return b"__asan_init" in Path(program).read_bytes()
 
 
 def shown(status, out, err):

@@ -78,6 +78,14 @@ interface A {};\nenum E {};\n\n\nfoo
     16 24 2:9: expected `"` or `///`
 interface A {}; ?
     16 16 1:17: expected `[`, `callback`, `dictionary`, `enum`, `interface`, `namespace` or 4 more
+\u{20}
+    0 1 1:2: expected `[`, `callback`, `dictionary`, `enum`, `interface`, `namespace` or 4 more
+\n\n\n
+    0 3 4:1: expected `[`, `callback`, `dictionary`, `enum`, `interface`, `namespace` or 4 more
+interface A {};}
+    15 15 1:16: expected `[`, `callback`, `dictionary`, `enum`, `interface`, `namespace` or 4 more
+partial\u{20}
+    0 8 1:9: expected `dictionary`, `includes`, `interface`, `namespace` or `implements`
 """
 
 # Texts of tests that read them in other ways.
@@ -188,4 +196,5 @@ long z;
 partial interface mixin M {long g();};
 interface A { long f() };
 dictionary D {long x;long y;};
+interface _Window {};
 """

@@ -5,12 +5,13 @@
 
 The program reads standard input to its end and ends with status 0 where it has read it, as
 crates/weedle_list/out/weedle_list does, once `rt run` has built it. That reads by `parse_quick`, which takes
-the table of ends for whatever nests deeper than 1,000 brackets, and for attributes within attributes: so what
+the table of ends for whatever nests deeper than 1,000 brackets, and for extended attributes within others: so what
 it says is `parse`'s depth too. A program that refuses what nests too deep, as
 crates/weedle_check/out/weedle_check does with and without `--tree`, ends with status 1 there: it must never die.
 
 With `--direct` in front the program is one that reads by descent, as one of your own that calls
-`parse_by_descent`, and isn't given attributes, which take such a reader up to three times as long at each level.
+`parse_by_descent`, and isn't given extended attributes, which take such a reader up to three times as long at each
+level.
 
 Of each family the deepest text that is read is looked for, between one that is and one that isn't. The line
 says what became of the latter: the program died for want of stack, of which it has 8 MB (or what STACK says, in
@@ -43,7 +44,7 @@ FAMILIES = {
     "keys of records": typedef("record<", ", long>"),
     "unions, each the first member": typedef("(", " or a)"),
     "unions, each the last member": typedef("(a or ", ")"),
-    "arguments in attributes": attributes,
+    "arguments in extended attributes": attributes,
 }
 
 

@@ -30,14 +30,14 @@ def listing(names):
 
 
 TEXTS = {
-    "attributes nested 199 deep": (attributes(199), listing(["I"])),
-    "attributes open 30 deep": ("[A(" * 30, UNREAD),
+    "extended attributes nested 199 deep": (attributes(199), listing(["I"])),
+    "extended attributes open 30 deep": ("[A(" * 30, UNREAD),
     "the same, each closed in a string": ('[A(optional long a = "]", ' * 30, UNREAD),
     "the same, each closed in a comment": ("[A(/*]*/" * 30, UNREAD),
     "the same, in strings and comments at once": ('[A(/*"*/optional long a = "/*]//", /*//"]*/' * 30, UNREAD),
     "1,000 parentheses open": ("typedef " + "(" * 1_000, UNREAD),
-    "a long text in three open attributes": ("[A([A([A(" + "(a or b)... c, " * 10_000, UNREAD),
-    "100 kB with attributes nested five deep": (
+    "a long text in three open extended attributes": ("[A([A([A(" + "(a or b)... c, " * 10_000, UNREAD),
+    "100 kB with extended attributes nested five deep": (
         attributes(4) + "interface A {};\n" * 6_250,
         listing(["I", *["A"] * 6_250]),
     ),

@@ -8,12 +8,13 @@ PROGRAM is a built weedle_check or weedle_list, which the name of its file says;
 such programs below it are run (after `rt ci`: crates). With --try it is the crate of weedle_check, which `rt
 try` builds and runs, once over all texts. A FOLDER is one of tests/, as random; `runs` is tests/runs.toml.
 Without one all are run, but for `real` where no folder of the real files is given by --real, and for `runs`
-with --try. A program that was built with checks can't be run with little memory: --checked leaves such runs out.
+with --try. --checked leaves out what takes too long where a program was built with checks.
 
 weedle_check reads many files at once: first all texts of a folder, of which it has to say where and why those are
 refused that are, and nothing of the others; then with --tree those that are read, of which it has to print the
-values, and with --syntax, of which it has to print the nodes that the rows of the grammar give. weedle_list reads one text a process: each of `tests` and `worked`, and of the other folders each Nth
-(--every, 10 if left out). With --most no more texts are taken than have so many bytes, evenly of all folders.
+values, and with --syntax, of which it has to print the nodes that the rows of the grammar give. weedle_list reads
+one text a process: each of `tests` and `worked`, and of the other folders each Nth (--every, 10 if left out). With
+--most no more texts are taken than have so many bytes, evenly of all folders.
 
 For each folder it prints `N passed, M failed`, and for a failure the text, what was wanted and what came; ten
 at most of a folder. The last line is the sum, `N passed, M failed`.
@@ -329,7 +330,7 @@ def arguments():
     words.add_argument("--every", type=int, default=EVERY, metavar="N", help=f"weedle_list reads each Nth text of a folder ({EVERY})")
     words.add_argument("--real", metavar="FOLDER", help="where the real files are")
     words.add_argument("--try", dest="tried", action="store_true", help="PROGRAM is a crate, which rt try builds and runs")
-    words.add_argument("--checked", action="store_true", help="PROGRAM is built with checks: leave out runs with little memory")
+    words.add_argument("--checked", action="store_true", help="PROGRAM is built with checks: leave out what then takes too long")
     words.add_argument("--tests", default=TESTS, metavar="FOLDER", help="where the cases are, if not in tests")
     return words.parse_args()
 

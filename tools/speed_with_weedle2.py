@@ -12,8 +12,8 @@ whole, joined to one. Of each text it prints
 - nanoseconds a byte: of weedle2 the median of N readings in one process; of the port what
   `weedle_check --time` prints, reader by reader;
 - instructions a byte, as valgrind's callgrind counts them: of weedle2 what ten readings more cost, the
-  tenth part, with the letting go of the list; of the port each reader's own calls in `weedle_check --time`, of a
-  text of the same kind that has a tenth of the size, and with them the letting go of the list; then what
+  tenth part, with the freeing of the list; of the port each reader's own calls in `weedle_check --time`, of a
+  text of the same kind that has a tenth of the size, and with them the freeing of the list; then what
   `weedle_list` costs with the text more than without one, so with the taking in of the text and the
   writing of the list. Without valgrind on PATH it leaves these out;
 - kB of memory that the process held at most: weedle2's with the text and what it read; of the port, as GNU
@@ -38,7 +38,7 @@ MORE = 10
 # The part of a text whose instructions are counted reader by reader: the table takes hundreds of bytes for each.
 PART = 10
 # What the function of weedle_check that times a reader calls: its readers, of which `parse_quick` stands in
-# place as a look at the nesting and `parse_by_descent`, and what lets go of a list.
+# place as a look at the nesting and `parse_by_descent`, and what frees a list.
 TIMED = "weedle_check::timing::time_reader"
 DESCENT = "weedle_front::descent::parse_by_descent"
 LOOK = "weedle_nesting::look::look_over"

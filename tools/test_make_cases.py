@@ -70,7 +70,7 @@ class Words(unittest.TestCase):
         self.assertEqual(sentence(list("abcdefgh")), "expected a, b, c, d, e, f or 2 more")
 
     def test_what_is_said_by_hand(self):
-        self.assertEqual(len(make_cases.said()), 36)
+        self.assertEqual(len(make_cases.said()), 40)
         for text, words in make_cases.said().items():
             NOW.take(text.encode())
             rest = NOW.ends_at()

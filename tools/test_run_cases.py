@@ -211,6 +211,7 @@ class Runs(unittest.TestCase):
     def test_faults(self):
         self.assert_right("cat", arguments=["a"], folders=["a"], status=1, stderr_like="cat: a: .*\n")
         self.assert_right("cat", input_folder=True, status=1, stderr_like="cat: .*\n")
+        self.assert_right("cat", input="x", breaks=True, status=1, stdout="x", stderr_like="cat: .*\n")
         self.assert_right("cat", input="x", output="full", status=1, stderr_like="cat: .*\n")
         self.assert_right("cat", arguments=["missing"], status=1, stderr_like="cat: missing: .*\n")
 
@@ -218,6 +219,20 @@ class Runs(unittest.TestCase):
         wanted, came = self.came(sys.executable, arguments=["-c", "bytes(1 << 30)"], memory=1 << 29, status=1)
         self.assertIn("MemoryError", came)
         self.assertNotIn("MemoryError", wanted)
+
+    def test_output_with_little_room(self):
+        self.assert_right("echo", arguments=["ab"], output=3, stdout="ab\n")
+        self.assert_right("echo", arguments=["ab"], output=2, stdout="ab", status=1, stderr_like="echo: .*\n")
+        self.assert_right("echo", arguments=["ab"], output=0, status=1, stderr_like="echo: .*\n")
+
+    def test_limits(self):
+        with tempfile.TemporaryDirectory() as room:
+            for content, is_checked in ((b"\0__asan_init\0", True), (b"\0", False)):
+                (Path(room) / "p").write_bytes(content)
+                run = case_runs.Run({"what": "w", "program": "p", "status": 0, "memory": 5 << 20})
+                how = run.limits(f"{room}/p", room)
+                self.assertEqual(("preexec_fn" in how, "env" in how), (not is_checked, is_checked))
+                self.assertTrue(not is_checked or "max_allocation_size_mb=5:" in how["env"]["ASAN_OPTIONS"])
 
     def test_what_is_other(self):
         self.assertNotEqual(*self.came("cat", input="x"))
@@ -231,7 +246,7 @@ class Runs(unittest.TestCase):
         runs = case_runs.runs()
         self.assertEqual({run.program for run in runs}, set(run_cases.PROGRAMS))
         self.assertEqual(len(runs), len({(run.program, run.what) for run in runs}))
-        self.assertEqual(len(runs), 83)
+        self.assertEqual(len(runs), 94)
 
 
 if __name__ == "__main__":

@@ -26,7 +26,7 @@ CUT_LEFT = {0: range(1, 15), 16: [17], 22: [it for it in range(23, 36) if it != 
 
 
 def attributes(levels):
-    """Attributes that nest so deep, in front of an interface."""
+    """Extended attributes that nest so deep, in front of an interface."""
     inner = "a... b"
     for _ in range(levels):
         inner = f"[A({inner})] a... b"
@@ -121,5 +121,17 @@ LEFT = [
 ]
 
 # Texts that weedle2 isn't asked of, since it takes too long at each level: those that are read, and those that are left.
-DEEP_READ = [(attributes(levels), ["interface I"], ()) for levels in (39, 199)]
-DEEP_LEFT = [("typedef " + "(" * 300, 0), ("[A(" * 30, 0)]
+DEEP_READ = [
+    *((attributes(levels), ["interface I"], ()) for levels in (39, 199)),
+    (attributes(30) + "\n A includes B;", ["interface I", "includes A"], ('"rhs_identifier":{"Identifier":"B"}',)),
+]
+# Of the last five each bracket that a string or a comment has, and that would close another, closes none.
+DEEP_LEFT = [
+    ("typedef " + "(" * 300, 0),
+    ("[A(" * 30, 0),
+    ('[A(optional long a = "]", ' * 30, 0),
+    ("[A(/*]*/" * 30, 0),
+    ("[A(//]\n" * 30, 0),
+    ('[A(/*"*/optional long a = "/*]//", /*//"]*/' * 30, 0),
+    ('[A(//"/*]\n' * 30, 0),
+]

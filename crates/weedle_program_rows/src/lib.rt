@@ -1,5 +1,5 @@
-//! Tests of runs of the program, of what errors and refusals say, and of the example in README.md: of
-//! what can't be seen from outside the built programs.
+//! Tests of runs of the program, of what errors and refusals say, and of the examples in README.md and docs/USING.md:
+//! of what can't be seen from outside the built programs.
 #![tactic(auto)]
 
 #[cfg(test)]
@@ -16,3 +16,5 @@ mod program;
 mod readme;
 #[cfg(test)]
 mod refusals;
+#[cfg(test)]
+mod taking_apart;

@@ -18,5 +18,3 @@ mod passes;
 mod readers;
 #[cfg(test)]
 mod requests;
-#[cfg(test)]
-mod taking_apart;

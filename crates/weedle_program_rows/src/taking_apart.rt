@@ -2,11 +2,9 @@
 
 use std::alloc::{AllocError, Global};
 use std::test::Fail;
-use weedle_base::Parse;
-use weedle_idl::interface::{InterfaceMember, InterfaceMembers};
-use weedle_idl::{Definition, Definitions};
-use weedle_parts::common::Braced;
-use weedle_report::name_of;
+use weedle::common::Braced;
+use weedle::interface::{InterfaceMember, InterfaceMembers};
+use weedle::{Definition, Definitions, Parse, name_of};
 
 /// All members of the interface of this name and of its parts, in the order of the definitions.
 fn members_of<'a>(
