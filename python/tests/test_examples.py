@@ -19,6 +19,7 @@ interface Window : EventTarget {
   const unsigned short ELEMENT_NODE = 1;
   readonly attribute Storage sessionStorage;
   attribute (DOMString or sequence<long>?)? mixed;
+  attribute (record<DOMString, (A or B)> or (record<DOMString, (C or B)> or B? or A)) nested;
   Promise<undefined> open(optional USVString url = "", any... rest);
   record<DOMString, (Node or ArrayBuffer)> map(FrozenArray<double> xs);
   stringifier;
@@ -31,6 +32,7 @@ interface Window extends EventTarget {
   readonly ELEMENT_NODE: 1;
   readonly sessionStorage: Storage;
   mixed: string | Array<number> | null;
+  nested: Record<string, A | B> | Record<string, C | B> | B | null | A;
   open(url?: string, ...rest: Array<any>): Promise<void>;
   map(xs: ReadonlyArray<number>): Record<string, Node | ArrayBuffer>;
 }
@@ -54,7 +56,7 @@ class Examples(unittest.TestCase):
             return done.returncode, out, err
 
     def test_declarations(self):
-        expected = (0, DECLARED, "8:3: left out: stringifier;\n")
+        expected = (0, DECLARED, "9:3: left out: stringifier;\n")
         self.assertEqual(self.run_example("dts.py", WINDOW), expected)
 
     def test_names(self):
