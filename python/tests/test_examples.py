@@ -1,10 +1,12 @@
-"""Runs the examples of examples/python.
+"""Runs the examples of examples/python, the one of docs/LANGUAGES.md, and those of docstrings.
 
 Expected is what a person writes for the same interfaces in TypeScript, as its library lib.dom.d.ts
-has them, and what the Web's design principles say of names.
+has them, what the Web's design principles say of names, and what the page says.
 """
 
+import doctest
 import os
+import re
 import subprocess
 import sys
 import tempfile
@@ -12,6 +14,8 @@ import unittest
 from pathlib import Path
 
 from support import TOP
+import weedle
+from weedle import nodes
 
 WINDOW = """\
 [Exposed=Window]
@@ -40,6 +44,28 @@ interface Window {
   f(): boolean | null;
 }
 """
+
+
+# Python on a page, and what it says that is printed.
+CODE, PRINTED = re.compile(r"^```python\n(.*?)^```$", re.M | re.S), re.compile(r"^prints `(.*)`\.$", re.M)
+
+
+class Pages(unittest.TestCase):
+    def test_what_the_page_prints(self):
+        page = (TOP / "docs/LANGUAGES.md").read_text(encoding="utf-8")
+        codes, printed = CODE.findall(page), PRINTED.findall(page)
+        self.assertEqual((len(codes), len(printed)), (1, 1))
+        done = subprocess.run(
+            [sys.executable, "-c", codes[0]], capture_output=True, text=True, check=False,
+            env={**os.environ, "PYTHONPATH": str(TOP / "python")},
+        )
+        self.assertEqual((done.stdout, done.stderr), (f"{printed[0]}\n", ""))
+
+
+    def test_docstrings(self):
+        for module in (weedle, nodes):
+            failed, attempted = doctest.testmod(module)
+            self.assertEqual((failed, attempted > 0), (0, True))
 
 
 class Examples(unittest.TestCase):
