@@ -13,8 +13,6 @@ out=$top/c/out
 library=$out/libweedle.a
 sample=$top/examples/pages.webidl
 warnings="-Wall -Wextra -Wpedantic -Werror"
-# The tests refuse requests for memory, so they stand before the C library's own.
-wrapped="-pthread -Wl,--wrap=malloc,--wrap=realloc"
 
 failed() {
     echo "run_tests.sh: $1" >&2
@@ -35,17 +33,31 @@ for standard in c++98 c++11 c++17; do
     "$CXX" -std=$standard $warnings -x c++ -fsyntax-only "$top/include/weedle.h"
 done
 
-echo "the tests"
-"$CC" -std=c11 -O2 $warnings -I"$top/include" -o "$out/tests" "$top/c/tests/test_weedle.c" "$library" $wrapped
-"$out/tests"
+# Builds both programs of tests, with these flags more. The first refuses requests for memory, so its functions stand
+# before the C library's own.
+build_tests() {
+    "$CC" -std=c11 $warnings "$@" -I"$top/include" -o "$out/test_weedle" \
+        "$top/c/tests/test_weedle.c" "$library" -pthread -Wl,--wrap=malloc,--wrap=realloc
+    "$CC" -std=c11 $warnings "$@" -I"$top/include" -o "$out/test_hostile" \
+        "$top/c/tests/test_hostile.c" "$library" -pthread
+}
+
+# Runs both, behind these words.
+run_tests() {
+    "$@" "$out/test_weedle"
+    "$@" "$out/test_hostile" "$top/tests/families.txt"
+}
 
 echo "the tests, with sanitizers"
-"$CC" -std=c11 -g -O1 -fsanitize=address,undefined -fno-sanitize-recover=all $warnings -I"$top/include" \
-    -o "$out/sanitized" "$top/c/tests/test_weedle.c" "$library" $wrapped
-WEEDLE_SMALL=1 ASAN_OPTIONS=allocator_may_return_null=1 "$out/sanitized"
+build_tests -g -O1 -fsanitize=address,undefined -fno-sanitize-recover=all
+run_tests env WEEDLE_SMALL=1 ASAN_OPTIONS=allocator_may_return_null=1
+
+echo "the tests"
+build_tests -O2
+run_tests env
 
 echo "the tests, under valgrind"
-WEEDLE_SMALL=1 "$VALGRIND" -q --error-exitcode=1 --leak-check=full "$out/tests"
+run_tests env WEEDLE_SMALL=1 "$VALGRIND" -q --error-exitcode=1 --leak-check=full
 
 echo "the examples"
 "$CC" -std=c99 -O2 $warnings -I"$top/include" -o "$out/count_c" "$top/examples/c/count_interfaces.c" "$library"

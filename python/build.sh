@@ -4,7 +4,7 @@
 #     python/build.sh
 #
 # `rt lib` proves and builds the crate weedle_c, and the C compiler (cc, or what CC names) links it with the
-# C part of the kit, which `rt doc` finds.
+# toolchain's part in C, which `rt doc` finds. A word behind the command goes on to `rt lib`, as --jobs 2.
 set -eu
 
 top=$(cd "$(dirname "$0")/.." && pwd)
@@ -16,12 +16,11 @@ missing() {
 }
 
 command -v rt >/dev/null || missing "the toolchain's command rt isn't on PATH"
-command -v "${CC:-cc}" >/dev/null || missing "there is no C compiler ${CC:-cc}; CC may name another"
-kit=$(dirname "$(rt doc)")
-libc=$(find "$kit" -path '*/c/liblibc_c.a' | head -n 1)
-[ -n "$libc" ] || missing "the kit in $kit has no c/liblibc_c.a"
+command -v "${CC:=cc}" >/dev/null || missing "there is no C compiler $CC; CC may name another"
+part=$(dirname "$(rt doc)")/c/liblibc_c.a
+[ -f "$part" ] || missing "the toolchain has no $part"
 
 (cd "$crate" && rt lib "$@")
-"${CC:-cc}" -shared -o "$top/python/weedle/libweedle.so" \
-    -Wl,--whole-archive "$crate/out/libweedle_c.a" -Wl,--no-whole-archive "$libc"
+"$CC" -shared -o "$top/python/weedle/libweedle.so" \
+    -Wl,--whole-archive "$crate/out/libweedle_c.a" -Wl,--no-whole-archive "$part"
 echo "built $top/python/weedle/libweedle.so"

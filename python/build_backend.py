@@ -51,7 +51,7 @@ def metadata() -> Dict[str, bytes]:
 def package_files() -> Iterator[Tuple[str, bytes]]:
     """The modules, and what lies beside them."""
     if not LIBRARY.exists():
-        raise SystemExit(f"{LIBRARY} isn't there: build.sh makes it")
+        raise SystemExit(f"there is no {LIBRARY}: python/build.sh makes it")
     for path in sorted(PACKAGE.iterdir()):
         if path.suffix in (".py", ".so", ".typed"):
             yield f"weedle/{path.name}", path.read_bytes()

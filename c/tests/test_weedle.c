@@ -1,31 +1,15 @@
 /*
- * Tests of the C library: statuses, nodes, messages, room, memory that is refused, threads and little stack.
+ * Tests of the C library: statuses, nodes, messages, room, memory that is refused, and threads.
  *
  *     c/run_tests.sh
  *
  * builds and runs them. The expected nodes are worked out by hand from the rows of tools/description, the expected
  * words are those of docs/USING.md and of the tests of weedle_program_rows. It is linked with
- * `-Wl,--wrap=malloc,--wrap=realloc`, so that requests for memory can be refused. Where WEEDLE_SMALL is set in the
- * environment, large texts are a hundredth as long, for runs in which each byte costs much.
+ * `-Wl,--wrap=malloc,--wrap=realloc`, so that requests for memory can be refused.
  */
-#define _POSIX_C_SOURCE 200809L
 #include <pthread.h>
-#include <stdint.h>
-#include <stdio.h>
-#include <stdlib.h>
-#include <string.h>
 
-#include "weedle.h"
-
-static int failures;
-
-#define CHECK(holds)                                                            \
-    do {                                                                        \
-        if (!(holds)) {                                                         \
-            fprintf(stderr, "%s:%d: %s does not hold\n", __FILE__, __LINE__, #holds); \
-            failures++;                                                         \
-        }                                                                       \
-    } while (0)
+#include "checks.h"
 
 /* Memory that is refused: the request of this number, from 1 on. */
 static unsigned long requests, refused;
@@ -41,29 +25,6 @@ static int is_refused(void) { return counts && ++requests == refused; }
 void *__wrap_malloc(size_t size) { return is_refused() ? NULL : __real_malloc(size); }
 
 void *__wrap_realloc(void *block, size_t size) { return is_refused() ? NULL : __real_realloc(block, size); }
-
-/* How long a large text is to be. */
-static size_t large(size_t length) { return getenv("WEEDLE_SMALL") ? length / 100 : length; }
-
-/* So many times a text, between two others. The caller frees it. */
-static char *repeated(const char *front, const char *text, size_t times, const char *end, size_t *length) {
-    size_t part = strlen(text);
-    *length = strlen(front) + part * times + strlen(end);
-    char *made = malloc(*length + 1);
-    if (made == NULL)
-        abort();
-    char *at = made + strlen(strcpy(made, front));
-    for (size_t i = 0; i < times; i++, at += part)
-        memcpy(at, text, part);
-    strcpy(at, end);
-    return made;
-}
-
-/* The status of a reading with no room, and the answer. */
-static uint32_t counted(const char *text, size_t length, struct weedle_answer *answer) {
-    struct weedle_node none;
-    return weedle_syntax(text, length, &none, 0, answer);
-}
 
 /* A statement, and what its rows read. */
 static const char STATEMENT[] = "A includes B;// c";
@@ -259,131 +220,43 @@ static void test_memory_that_is_refused(void) {
     free(deep);
 }
 
-/* A call with little stack. */
-struct call {
-    const char *text;
+/* What a thread reads, and what it found. */
+struct reading {
+    char *text;
     size_t length;
-    uint32_t status, said;
-    struct weedle_answer answer;
-    struct weedle_refusal refusal;
+    uint32_t status;
+    int others;
 };
-
-static void *read_it(void *given) {
-    struct call *call = given;
-    call->status = counted(call->text, call->length, &call->answer);
-    return NULL;
-}
-
-static void *read_and_explain_it(void *given) {
-    struct call *call = given;
-    char none;
-    read_it(given);
-    call->said = weedle_explain(call->text, call->length, &none, 0, &call->refusal);
-    return NULL;
-}
-
-/* Makes the call in a thread with 256 kB of stack. */
-static void with_little_stack(void *(*start)(void *), struct call *call) {
-    pthread_attr_t little;
-    pthread_t thread;
-    CHECK(pthread_attr_init(&little) == 0);
-    CHECK(pthread_attr_setstacksize(&little, 256 * 1024) == 0);
-    if (pthread_create(&thread, &little, start, call) != 0)
-        abort();
-    CHECK(pthread_join(thread, NULL) == 0);
-    pthread_attr_destroy(&little);
-}
-
-static struct call made(const char *front, const char *text, size_t times, const char *end) {
-    struct call call = {0};
-    call.text = repeated(front, text, times, end, &call.length);
-    return call;
-}
-
-static void test_little_stack(void) {
-    static const char *const openers[] = {
-        "(", "[", "{", "<", "typedef (", "typedef sequence<", "[A(", "[A(optional any a=", "interface A{", "\"", "/*",
-        "void f(", "[A=(", "///",
-    };
-    for (size_t i = 0; i < sizeof openers / sizeof *openers; i++) {
-        struct call call = made("", openers[i], large(10000), "");
-        with_little_stack(read_and_explain_it, &call);
-        CHECK(call.status == WEEDLE_STATUS_REFUSED && call.answer.rest == 0);
-        CHECK(call.said == WEEDLE_STATUS_REFUSED);
-        free((char *)call.text);
-    }
-    struct call call = made("", "(", large(1000000), "");
-    with_little_stack(read_it, &call);
-    CHECK(call.status == WEEDLE_STATUS_REFUSED && call.answer.rest == 0);
-    free((char *)call.text);
-}
-
-/* Types in one another, from none to more than descent reads: each is read, with little stack. */
-static void test_types_in_one_another(void) {
-    for (size_t depth = 1; depth < 200; depth++) {
-        size_t length;
-        char *front = repeated("typedef ", "sequence<", depth, "long", &length);
-        struct call call = made(front, ">", depth, " A;");
-        with_little_stack(read_it, &call);
-        CHECK(call.status == WEEDLE_STATUS_NO_ROOM && call.answer.rest == call.length);
-        free(front);
-        free((char *)call.text);
-    }
-}
-
-/* Attributes in one another: the deepest that descent reads takes most stack. */
-static void test_attributes_in_one_another(void) {
-    for (size_t depth = 1; depth < 60; depth++) {
-        size_t length;
-        char *front = repeated("", "[A(", depth, "long x", &length);
-        struct call call = made(front, ")] long x", depth - 1, ")] interface A {};");
-        with_little_stack(read_it, &call);
-        CHECK(call.status == WEEDLE_STATUS_NO_ROOM && call.answer.rest == call.length);
-        free(front);
-        free((char *)call.text);
-    }
-}
-
-/* Below the last TRIVIA of the statement stand seven nodes of a comment; here four of blanks do. */
-static void test_blanks(void) {
-    struct call call = made("A includes B;", " ", large(100000000), "");
-    with_little_stack(read_it, &call);
-    CHECK(call.status == WEEDLE_STATUS_NO_ROOM && call.answer.count == COUNT - 7 + 4 && call.answer.rest == call.length);
-    free((char *)call.text);
-}
 
 /* What a thread reads again and again. */
 static void *read_often(void *given) {
-    struct call *call = given;
+    struct reading *own = given;
     struct weedle_node nodes[COUNT];
     for (int i = 0; i < 2000; i++) {
         struct weedle_answer answer;
-        call->status |= weedle_syntax(STATEMENT, strlen(STATEMENT), nodes, COUNT, &answer);
-        call->said += memcmp(nodes, NODES, sizeof nodes) != 0 || answer.count != COUNT;
-        call->said += counted(call->text, call->length, &answer) != WEEDLE_STATUS_REFUSED || answer.rest != 16;
+        own->status |= weedle_syntax(STATEMENT, strlen(STATEMENT), nodes, COUNT, &answer);
+        own->others += memcmp(nodes, NODES, sizeof nodes) != 0 || answer.count != COUNT;
+        own->others += counted(own->text, own->length, &answer) != WEEDLE_STATUS_REFUSED || answer.rest != 16;
     }
     return NULL;
 }
 
 static void test_two_threads(void) {
     pthread_t threads[2];
-    struct call calls[2];
+    struct reading own[2] = {{0}};
     for (int i = 0; i < 2; i++) {
-        calls[i] = made("interface A {}; ", i ? "[" : "enum E ", 100, "");
-        if (pthread_create(&threads[i], NULL, read_often, &calls[i]) != 0)
+        own[i].text = repeated("interface A {}; ", i ? "[" : "enum E ", 100, "", &own[i].length);
+        if (pthread_create(&threads[i], NULL, read_often, &own[i]) != 0)
             abort();
     }
     for (int i = 0; i < 2; i++) {
         CHECK(pthread_join(threads[i], NULL) == 0);
-        CHECK(calls[i].status == WEEDLE_STATUS_READ && calls[i].said == 0);
-        free((char *)calls[i].text);
+        CHECK(own[i].status == WEEDLE_STATUS_READ && own[i].others == 0);
+        free(own[i].text);
     }
 }
 
-static const struct {
-    const char *name;
-    void (*run)(void);
-} TESTS[] = {
+static const struct test TESTS[] = {
     {"nodes of a statement", test_nodes_of_a_statement},
     {"room", test_room},
     {"no text", test_no_text},
@@ -394,21 +267,7 @@ static const struct {
     {"any message has room in 1,024 bytes", test_any_message_has_room_in_1024_bytes},
     {"version, rules and names", test_version_rules_and_names},
     {"memory that is refused", test_memory_that_is_refused},
-    {"little stack", test_little_stack},
-    {"types in one another", test_types_in_one_another},
-    {"attributes in one another", test_attributes_in_one_another},
-    {"100 MB of blanks", test_blanks},
     {"two threads", test_two_threads},
 };
 
-int main(void) {
-    size_t count = sizeof TESTS / sizeof *TESTS, failed = 0;
-    for (size_t i = 0; i < count; i++) {
-        int before = failures;
-        TESTS[i].run();
-        failed += failures != before;
-        printf("%s: %s\n", TESTS[i].name, failures == before ? "ok" : "FAILED");
-    }
-    printf("%zu passed, %zu failed\n", count - failed, failed);
-    return failed ? EXIT_FAILURE : EXIT_SUCCESS;
-}
+int main(void) { return run_tests(TESTS, sizeof TESTS / sizeof *TESTS); }

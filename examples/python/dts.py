@@ -3,9 +3,8 @@
 
     python3 examples/python/dts.py FILE.. > window.d.ts
 
-It declares attributes, operations and constants, with what an interface inherits from. An interface
-and its parts each have a declaration, which TypeScript merges. What it has no word for, it says on
-standard error, with its place, and leaves out.
+It declares attributes, operations and constants, with what an interface inherits from. What it has
+no word for, it says on standard error, with its place, and leaves out.
 """
 
 import sys
@@ -15,60 +14,55 @@ from weedle import Definition
 from weedle.interface import InterfaceMember
 from weedle.types import NonAnyType, RecordKeyType, ReturnType, SingleType, Type
 
-NUMBERS = {"Integer", "FloatingPoint", "Byte", "Octet"}
-STRINGS = {"ByteString", "DOMString", "USVString"}
 # Types that TypeScript has by another name; all others are called the same.
 NAMES = {
+    **dict.fromkeys(("Integer", "FloatingPoint", "Byte", "Octet"), "number"),
+    **dict.fromkeys(("ByteString", "DOMString", "USVString"), "string"),
     "Boolean": "boolean", "Object": "object", "Symbol": "symbol",
-    "BufferSource": "ArrayBufferView | ArrayBuffer",
 }
+LISTS = {"Sequence": "Array", "FrozenArrayType": "ReadonlyArray"}
 
 
 def type_text(type_):
     """A type: `unsigned long?` is `number | null`."""
     if isinstance(type_, Type.Union):
-        return union_text(type_.value)
-    if isinstance(type_.value, SingleType.Any):
-        return "any"
-    return non_any_text(type_.value.value)
+        return one_of(union_parts(type_.value))
+    is_any = isinstance(type_.value, SingleType.Any)
+    return "any" if is_any else one_of(single_parts(type_.value.value))
 
 
-def non_any_text(type_):
-    """A type that is neither `any` nor a union."""
+def one_of(parts):
+    """A union of types, each once: `number | null`."""
+    return " | ".join(dict.fromkeys(parts))
+
+
+def union_parts(union):
+    """The types of a union: of `(long or (Node or DOMString))?` they are four."""
+    for it in union.type_.body.list:
+        yield from union_parts(it.value) if it.variant == "Union" else single_parts(it.value.type_)
+    yield from ["null"] if union.q_mark else []
+
+
+def single_parts(type_):
+    """A type that is neither `any` nor a union, and `null` where it may be."""
+    yield single_text(type_)
+    if not isinstance(type_, NonAnyType.Promise) and type_.value.q_mark:
+        yield "null"
+
+
+def single_text(type_):
     if isinstance(type_, NonAnyType.Promise):
         return f"Promise<{result_text(type_.value.generics.body)}>"
     inner = type_.value.type_
-    if type_.variant in NUMBERS:
-        text = "number"
-    elif type_.variant in STRINGS:
-        text = "string"
-    elif isinstance(type_, NonAnyType.Sequence):
-        text = f"Array<{type_text(inner.generics.body)}>"
-    elif isinstance(type_, NonAnyType.FrozenArrayType):
-        text = f"ReadonlyArray<{type_text(inner.generics.body)}>"
-    elif isinstance(type_, NonAnyType.RecordType):
+    if type_.variant in LISTS:
+        return f"{LISTS[type_.variant]}<{type_text(inner.generics.body)}>"
+    if isinstance(type_, NonAnyType.RecordType):
         key, _, value = inner.generics.body
-        text = f"Record<{key_text(key)}, {type_text(value)}>"
-    elif isinstance(type_, NonAnyType.Identifier):
-        text = inner.value
-    else:
-        text = NAMES.get(type_.variant, type_.variant)
-    return f"{text} | null" if type_.value.q_mark else text
-
-
-def key_text(key):
-    """The type of a record's keys."""
-    return non_any_text(key.value) if isinstance(key, RecordKeyType.NonAny) else "string"
-
-
-def union_text(union):
-    """A union: `(long or DOMString)?` is `number | string | null`."""
-    texts = []
-    for it in union.type_.body.list:
-        nested = it.variant == "Union"
-        texts.append(union_text(it.value) if nested else non_any_text(it.value.type_))
-    texts += ["null"] if union.q_mark else []
-    return " | ".join(dict.fromkeys(" | ".join(texts).split(" | ")))
+        is_named = isinstance(key, RecordKeyType.NonAny)
+        return f"Record<{single_text(key.value) if is_named else 'string'}, {type_text(value)}>"
+    if isinstance(type_, NonAnyType.Identifier):
+        return inner.value
+    return NAMES.get(type_.variant, type_.variant)
 
 
 def result_text(type_):
@@ -79,10 +73,9 @@ def result_text(type_):
 def argument_text(argument):
     """An argument: `optional long x = 5` is `x?: number`."""
     it = argument.value
-    name = it.identifier.value
     if argument.variant == "Variadic":
-        return f"...{name}: Array<{type_text(it.type_)}>"
-    return f"{name}{'?' if it.optional else ''}: {type_text(it.type_.type_)}"
+        return f"...{it.identifier.value}: Array<{type_text(it.type_)}>"
+    return f"{it.identifier.value}{'?' if it.optional else ''}: {type_text(it.type_.type_)}"
 
 
 def member_text(member):
@@ -99,35 +92,34 @@ def member_text(member):
     return None
 
 
-def interface_lines(name, definition):
-    """The declaration of an interface or of a part of one."""
+def write_interface(name, definition):
+    """Writes an interface, or a part of one: TypeScript merges these."""
     parent = getattr(definition, "inheritance", None)
     extends = f" extends {parent.identifier.value}" if parent else ""
-    yield f"interface {definition.identifier.value}{extends} {{"
+    print(f"interface {definition.identifier.value}{extends} {{")
     for member in definition.members.body:
         text = member_text(member)
-        if text is None:
-            line, column = member.position
-            print(f"{name}:{line}:{column}: left out: {member.text}", file=sys.stderr)
+        if text:
+            print(f"  {text}")
         else:
-            yield f"  {text}"
-    yield "}"
+            place = ":".join(map(str, member.position))
+            print(f"{name}:{place}: left out: {member.text}", file=sys.stderr)
+    print("}")
 
 
 def main(names):
     """Writes the declarations of files; the status is 1 where one is refused."""
     status = 0
     for name in names:
+        with open(name, "rb") as file:
+            data = file.read()
         try:
-            with open(name, "rb") as file:
-                definitions = weedle.parse(file.read())
+            for it in weedle.parse(data):
+                if isinstance(it, (Definition.Interface, Definition.PartialInterface)):
+                    write_interface(name, it.value)
         except weedle.Refused as refused:
             print(f"{name}:{refused}", file=sys.stderr)
             status = 1
-            continue
-        for it in definitions:
-            if isinstance(it, (Definition.Interface, Definition.PartialInterface)):
-                print(*interface_lines(name, it.value), sep="\n")
     return status
 
 

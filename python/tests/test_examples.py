@@ -1,10 +1,12 @@
-"""Runs the examples of examples/python.
+"""Runs the examples of examples/python, the one of docs/LANGUAGES.md, and those of docstrings.
 
 Expected is what a person writes for the same interfaces in TypeScript, as its library lib.dom.d.ts
-has them, and what the Web's design principles say of names.
+has them, what the Web's design principles say of names, and what the page says.
 """
 
+import doctest
 import os
+import re
 import subprocess
 import sys
 import tempfile
@@ -12,6 +14,8 @@ import unittest
 from pathlib import Path
 
 from support import TOP
+import weedle
+from weedle import nodes
 
 WINDOW = """\
 [Exposed=Window]
@@ -19,6 +23,7 @@ interface Window : EventTarget {
   const unsigned short ELEMENT_NODE = 1;
   readonly attribute Storage sessionStorage;
   attribute (DOMString or sequence<long>?)? mixed;
+  attribute (record<DOMString, (A or B)> or (record<DOMString, (C or B)> or B? or A)) nested;
   Promise<undefined> open(optional USVString url = "", any... rest);
   record<DOMString, (Node or ArrayBuffer)> map(FrozenArray<double> xs);
   stringifier;
@@ -31,6 +36,7 @@ interface Window extends EventTarget {
   readonly ELEMENT_NODE: 1;
   readonly sessionStorage: Storage;
   mixed: string | Array<number> | null;
+  nested: Record<string, A | B> | Record<string, C | B> | B | null | A;
   open(url?: string, ...rest: Array<any>): Promise<void>;
   map(xs: ReadonlyArray<number>): Record<string, Node | ArrayBuffer>;
 }
@@ -38,6 +44,28 @@ interface Window {
   f(): boolean | null;
 }
 """
+
+
+# Python on a page, and what it says that is printed.
+CODE, PRINTED = re.compile(r"^```python\n(.*?)^```$", re.M | re.S), re.compile(r"^prints `(.*)`\.$", re.M)
+
+
+class Pages(unittest.TestCase):
+    def test_what_the_page_prints(self):
+        page = (TOP / "docs/LANGUAGES.md").read_text(encoding="utf-8")
+        codes, printed = CODE.findall(page), PRINTED.findall(page)
+        self.assertEqual((len(codes), len(printed)), (1, 1))
+        done = subprocess.run(
+            [sys.executable, "-c", codes[0]], capture_output=True, text=True, check=False,
+            env={**os.environ, "PYTHONPATH": str(TOP / "python")},
+        )
+        self.assertEqual((done.stdout, done.stderr), (f"{printed[0]}\n", ""))
+
+
+    def test_docstrings(self):
+        for module in (weedle, nodes):
+            failed, attempted = doctest.testmod(module)
+            self.assertEqual((failed, attempted > 0), (0, True))
 
 
 class Examples(unittest.TestCase):
@@ -54,7 +82,7 @@ class Examples(unittest.TestCase):
             return done.returncode, out, err
 
     def test_declarations(self):
-        expected = (0, DECLARED, "8:3: left out: stringifier;\n")
+        expected = (0, DECLARED, "9:3: left out: stringifier;\n")
         self.assertEqual(self.run_example("dts.py", WINDOW), expected)
 
     def test_names(self):

@@ -1,36 +1,50 @@
 """Texts that are made to be slow or deep, and memory that runs out.
 
-The families are those of tools/hostile.py, with what is right of each.
+The families are those of tests/families.txt, with what the grammar's rows say of each.
 """
 
 import os
 import subprocess
 import sys
 import threading
+import time
 import unittest
 
 import support  # (finds the package and the scripts)
-import hostile
 import weedle
+from families import NOT_UTF8, READ, REFUSED, families
+from weedle import _library
 
 DEEP = "typedef " + "sequence<" * 10_000 + "long" + ">" * 10_000 + " A;"
 # The address space of a process that has little, in bytes.
 LITTLE = 256 << 20
 
 
-def listing(text):
-    """What tools/hostile.py expects of a text: a line an interface, or the byte that is unread."""
-    try:
-        return hostile.listing([it.value.identifier.value for it in weedle.parse(text)])
-    except weedle.Refused as refused:
-        return f"unread at byte {refused.start}\n"
+# How long a text may take, in seconds of a processor.
+MOST_SECONDS = 2.0
 
 
 class Families(unittest.TestCase):
     def test_each_has_its_answer(self):
-        for name, (text, expected) in hostile.TEXTS.items():
-            with self.subTest(name):
-                self.assertEqual(listing(text), expected)
+        for family in families():
+            with self.subTest(family.name):
+                text, began = family.text(), time.process_time()
+                self.assertEqual(self.said(text), (family.kind, family.rest()))
+                self.assertLess(time.process_time() - began, MOST_SECONDS)
+
+    def said(self, text):
+        """What is said of a text, and up to which byte it is read or UTF-8."""
+        try:
+            self.assertGreater(len(weedle.parse(text)), 0)
+        except weedle.Refused as refused:
+            self.assertIn("\n", str(refused))
+            return REFUSED, refused.start
+        except UnicodeDecodeError as fault:
+            with self.assertRaises(_library.Unread) as raised:
+                _library.read_nodes(text)
+            self.assertEqual((raised.exception.status, raised.exception.rest), (_library.NOT_UTF8, fault.start))
+            return NOT_UTF8, fault.start
+        return READ, weedle.syntax(text).span.end
 
 
 class Deep(unittest.TestCase):

@@ -1,6 +1,6 @@
 """The program `python3 -m weedle`: what it writes, and its status.
 
-Expected is what docs/USING.md says of weedle_check.
+Expected is what docs/USING.md says of weedle_check, and what tests/runs.toml has of its runs without an option.
 """
 
 import os
@@ -11,6 +11,7 @@ import unittest
 from pathlib import Path
 
 from support import TOP
+from case_runs import runs
 from test_values import INCLUDES
 
 
@@ -32,13 +33,14 @@ class Program(unittest.TestCase):
         status, out, _ = run("--syntax", given=b"A includes B;")
         rows = out.splitlines()
         self.assertEqual((status, rows[0], rows[1]), (0, "definitions 0..13", "  definition 0..13"))
+        self.assertIn('          one_of_letter 0..1 "A"', rows)
 
     def test_a_check(self):
-        self.assertEqual(run(given=b"Request includes Body;"), (0, "1 files, 0 refused\n", ""))
+        self.assertEqual(run(given=b"Request includes Body;"), (0, "1 file, 0 refused\n", ""))
         status, out, err = run(given=b"interface A {};\ninterface B {}")
         self.assertEqual((status, err), (1, ""))
         self.assertTrue(out.startswith("<stdin>:2:15: expected "), out)
-        self.assertTrue(out.endswith("\n1 files, 1 refused\n"), out)
+        self.assertTrue(out.endswith("\n1 file, 1 refused\n"), out)
 
     def test_files(self):
         with tempfile.TemporaryDirectory() as room:
@@ -62,11 +64,45 @@ class Program(unittest.TestCase):
                 env={**os.environ, "PYTHONPATH": str(TOP / "python")},
             )
         self.assertEqual(done.returncode, 4)
-        self.assertIn(b"cannot write output", done.stderr)
+        self.assertEqual(done.stderr, b"cannot write output\n")
 
     def test_other_arguments(self):
         for words in (["--tree"], ["--json", "--syntax"]):
             self.assertEqual(run(*words)[0], 5, words)
+
+    def test_an_option_between_files(self):
+        with tempfile.TemporaryDirectory() as room:
+            file = Path(room, "a")
+            file.write_bytes(b"Request includes Body;")
+            self.assertEqual(run(file, "--json", file)[:2], (0, f"{INCLUDES}\n{INCLUDES}\n"))
+
+    def test_what_is_refused_beside_json(self):
+        status, out, err = run("--json", "-", given=b"A includes B")
+        self.assertEqual((status, out), (1, ""))
+        self.assertEqual(err, "<stdin>:1:13: expected `;`\nA includes B\n            ^\n")
+
+
+class AsWeedleCheck(unittest.TestCase):
+    """The runs of weedle_check that ask for nothing that Python hasn't, and need no little memory or stack."""
+
+    def test_each_run(self):
+        count = 0
+        with tempfile.TemporaryDirectory() as room:
+            program = Path(room, "weedle")
+            program.write_text(f'#!/bin/sh\nPYTHONPATH="{TOP / "python"}" exec "{sys.executable}" -m weedle "$@"\n')
+            program.chmod(0o755)
+            for it in filter(is_for_python, runs()):
+                with self.subTest(it.what):
+                    self.assertEqual(it.came(str(program)), it.wanted())
+                count += 1
+        self.assertGreater(count, 20)
+
+
+def is_for_python(run_):
+    """Whether the package answers as weedle_check has to."""
+    has_options = any(it.startswith("-") and it != "-" for it in run_.keys.get("arguments", ()))
+    is_other = has_options or run_.memory or "input_folder" in run_.keys
+    return run_.program == "weedle_check" and not is_other and "nests" not in run_.keys.get("stdout", "")
 
 
 if __name__ == "__main__":

@@ -2,23 +2,26 @@
 
     python3 -m weedle [--json | --syntax] [FILE..]
 
-Without a file it reads standard input. With `--json` it writes each definition as JSON on a line,
-with `--syntax` each node on a line, indented by its depth, and else where a file is refused, and
-why. The status is 0 where all is read, 1 where something is refused, 2 where a file can't be read
-or isn't UTF-8, 3 where memory ran out, 4 where the output can't be written, and 5 where the
-arguments are others; of several the greatest.
+Without a file it reads standard input, which `-` names too. With `--json` it writes each definition
+as JSON on a line, with `--syntax` each node on a line, indented by its depth; what is refused, and
+why, it then says on standard error. With neither it says that on standard output, and last how many
+files were read and refused, as weedle_check does. The status is 0 where all is read, 1 where
+something is refused, 2 where a file can't be read or isn't UTF-8, 3 where memory ran out, 4 where
+the output can't be written, and 5 where the arguments are others; of several the greatest.
 """
 
 from __future__ import annotations
 
 import argparse
+import json
 import sys
 from enum import IntEnum
 from typing import BinaryIO, Callable, NoReturn, Optional, Sequence
 
 from weedle import Refused, parse, syntax
 
-STANDARD_INPUT = "<stdin>"
+# How a message calls standard input, and what names it.
+STANDARD_INPUT, DASH = "<stdin>", "-"
 
 
 class Status(IntEnum):
@@ -49,10 +52,13 @@ def write_json(data: bytes, out: BinaryIO) -> None:
 
 
 def write_syntax(data: bytes, out: BinaryIO) -> None:
-    """Writes each node on a line: its name, and from which byte up to which it goes."""
+    """Writes each node on a line: its name, its bytes, and of one with none below it its text."""
     for node in syntax(data).walk():
         start, end = node.span
-        out.write(f"{'  ' * node.depth}{node.name} {start}..{end}\n".encode())
+        said = f"{'  ' * node.depth}{node.name} {start}..{end}"
+        if not node.children:
+            said += f" {json.dumps(node.text, ensure_ascii=False)}"
+        out.write(f"{said}\n".encode())
 
 
 def write_nothing(data: bytes, out: BinaryIO) -> None:
@@ -60,11 +66,11 @@ def write_nothing(data: bytes, out: BinaryIO) -> None:
     parse(data)
 
 
-def bytes_of(name: str) -> bytes:
+def bytes_of(word: str) -> bytes:
     """What stands in a file, or comes from standard input."""
-    if name == STANDARD_INPUT:
+    if word == DASH:
         return sys.stdin.buffer.read()
-    with open(name, "rb") as file:
+    with open(word, "rb") as file:
         return file.read()
 
 
@@ -73,25 +79,27 @@ class Run:
 
     def __init__(self, write: Callable[[bytes, BinaryIO], None], out: BinaryIO) -> None:
         self.write, self.out = write, out
-        self.files = self.refused = 0
+        self.files = self.refused = self.unread = 0
 
-    def read(self, name: str) -> Status:
-        """Reads a file and writes what stands in it."""
-        self.files += 1
+    def read(self, word: str) -> Status:
+        """Reads the file that an argument names, and writes what stands in it."""
+        name = STANDARD_INPUT if word == DASH else word
         try:
-            data = bytes_of(name)
+            data = bytes_of(word)
         except OSError as fault:
-            return complain(name, f"cannot read input: {fault.strerror}", Status.UNREADABLE)
+            why = f"{fault.strerror} (os error {fault.errno})"
+            return self.complain(name, f"cannot read input: {why}", Status.UNREADABLE)
         try:
             self.write(data, self.out)
         except Refused as refused:
-            self.refused += 1
             self.tell(f"{name}:{refused}")
+            self.files, self.refused = self.files + 1, self.refused + 1
             return Status.REFUSED
         except UnicodeDecodeError:
-            return complain(name, "input is not UTF-8", Status.UNREADABLE)
+            return self.complain(name, "input is not UTF-8", Status.UNREADABLE)
         except MemoryError:
-            return complain(name, "out of memory", Status.NO_MEMORY)
+            return self.complain(name, "out of memory", Status.NO_MEMORY)
+        self.files += 1
         return Status.READ
 
     def tell(self, line: str) -> None:
@@ -102,19 +110,24 @@ class Run:
             self.out.flush()
             print(line, file=sys.stderr)
 
-    def read_all(self, names: Sequence[str]) -> Status:
-        """Reads all files, and says how many there were where nothing else is written."""
-        status = max(self.read(name) for name in names)
-        if self.write is write_nothing:
-            self.out.write(f"{self.files} files, {self.refused} refused\n".encode())
-        self.out.flush()
+    def complain(self, name: str, why: str, status: Status) -> Status:
+        """Says on standard error why a file isn't read."""
+        self.unread += 1
+        print(f"{name}: {why}", file=sys.stderr)
         return status
 
+    def summary(self) -> str:
+        """How many files there were."""
+        files = f"{self.files} file{'s' * (self.files != 1)}, {self.refused} refused"
+        return f"{files}, {self.unread} not read" if self.unread else files
 
-def complain(name: str, why: Optional[str], status: Status) -> Status:
-    """Says on standard error why a file isn't read."""
-    print(f"{name}: {why}", file=sys.stderr)
-    return status
+    def read_all(self, words: Sequence[str]) -> Status:
+        """Reads all files, and says how many there were where nothing else is written."""
+        status = max(map(self.read, words))
+        if self.write is write_nothing:
+            self.out.write(f"{self.summary()}\n".encode())
+        self.out.flush()
+        return status
 
 
 def arguments(words: Optional[Sequence[str]]) -> argparse.Namespace:
@@ -129,18 +142,19 @@ def arguments(words: Optional[Sequence[str]]) -> argparse.Namespace:
             option, dest="write", action="store_const", const=write, default=write_nothing,
             help=words_,
         )
-    parser.add_argument("files", metavar="FILE", nargs="*", help="else standard input is read")
-    return parser.parse_args(words)
+    parser.add_argument("files", metavar="FILE", nargs="*", help="else standard input is read, as by -")
+    return parser.parse_intermixed_args(words)
 
 
 def main(words: Optional[Sequence[str]] = None) -> int:
     """Does what the arguments ask for."""
     wanted = arguments(words)
     try:
-        return Run(wanted.write, sys.stdout.buffer).read_all(wanted.files or [STANDARD_INPUT])
-    except OSError as fault:
+        return Run(wanted.write, sys.stdout.buffer).read_all(wanted.files or [DASH])
+    except OSError:
         sys.stdout = None
-        return complain("weedle", f"cannot write output: {fault.strerror}", Status.UNWRITTEN)
+        print("cannot write output", file=sys.stderr)
+        return Status.UNWRITTEN
 
 
 if __name__ == "__main__":

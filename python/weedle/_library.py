@@ -21,10 +21,10 @@ FIELDS = ("rule", "depth", "start", "end")
 NODE_SIZE = len(FIELDS) * ctypes.sizeof(NUMBER)
 # What `weedle_syntax` answers.
 READ, REFUSED, NOT_UTF8, NO_MEMORY, NO_ROOM, TOO_LONG = range(6)
-# How many nodes there is room for at first: most texts have fewer than five for four bytes.
-LEAST_NODES = 64
+# How many nodes there is room for at first: most texts have fewer than two for a byte.
+NODES_A_BYTE, LEAST_NODES = 2, 64
 # Room of more bytes is taken page by page as it is written to.
-LARGE = 1 << 24
+LARGE = 1 << 20
 
 Buffer = Union[bytearray, mmap.mmap]
 
@@ -71,14 +71,28 @@ def _loaded() -> ctypes.CDLL:
     try:
         library = ctypes.CDLL(str(path))
     except OSError as fault:
-        where = f"the file that {VARIABLE} names" if named else f"{OWN} ({VARIABLE} isn't set)"
+        raise ImportError(_unloaded(path, bool(named), fault)) from None
+    try:
+        _declare(library)
+        found = library.weedle_version(), library.weedle_rules()
+    except AttributeError as fault:
+        raise ImportError(f"{path} isn't weedle's shared object: {fault}") from None
+    if found != (VERSION, len(RULES)):
         raise ImportError(
-            f"weedle finds no shared object: it looked for {where}. "
-            f"python/build.sh of the repository makes it. ({fault})"
-        ) from None
-    _declare(library)
-    _check(library, path)
+            f"{path} has version {found[0]:#08x} and {found[1]} rules, and this package "
+            f"{VERSION:#08x} and {len(RULES)}: build it anew by python/build.sh"
+        )
     return library
+
+
+def _unloaded(path: Path, is_named: bool, fault: OSError) -> str:
+    """What is said where the shared object isn't there, or is for another machine."""
+    where = f"{path}, which {VARIABLE} names" if is_named else f"{path} ({VARIABLE} isn't set)"
+    if path.exists():
+        said = f"can't load {where}. It has to be for Linux on x86-64, as this Python"
+    else:
+        said = f"finds no shared object: it looked for {where}"
+    return f"weedle {said}. python/build.sh of the repository makes it. ({fault})"
 
 
 def _declare(library: ctypes.CDLL) -> None:
@@ -91,16 +105,6 @@ def _declare(library: ctypes.CDLL) -> None:
     ]
     library.weedle_explain.restype = c_uint32
     library.weedle_version.restype = library.weedle_rules.restype = c_uint32
-
-
-def _check(library: ctypes.CDLL, path: Path) -> None:
-    """Refuses a shared object that was built for another version of the package."""
-    found = library.weedle_version(), library.weedle_rules()
-    if found != (VERSION, len(RULES)):
-        raise ImportError(
-            f"{path} has version {found[0]:#08x} and {found[1]} rules, and this package "
-            f"{VERSION:#08x} and {len(RULES)}: build it anew by python/build.sh"
-        )
 
 
 LIBRARY = _loaded()
@@ -128,7 +132,7 @@ def _call(data: bytes, nodes: int) -> tuple[int, Buffer, SyntaxAnswer]:
 
 def read_nodes(data: bytes) -> memoryview:
     """The numbers of all nodes, four a node, or Unread."""
-    status, room, answer = _call(data, len(data) + len(data) // 4 + LEAST_NODES)
+    status, room, answer = _call(data, len(data) * NODES_A_BYTE + LEAST_NODES)
     if status == NO_ROOM:
         status, room, answer = _call(data, answer.count)
     if status != READ:
