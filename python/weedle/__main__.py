@@ -149,8 +149,10 @@ def arguments(words: Optional[Sequence[str]]) -> argparse.Namespace:
 def main(words: Optional[Sequence[str]] = None) -> int:
     """Does what the arguments ask for."""
     wanted = arguments(words)
+    # with PYTHONUNBUFFERED `sys.stdout.buffer` may take a part of what is written, and say so to nobody
+    out = open(sys.stdout.fileno(), "wb", closefd=False)
     try:
-        return Run(wanted.write, sys.stdout.buffer).read_all(wanted.files or [DASH])
+        return Run(wanted.write, out).read_all(wanted.files or [DASH])
     except OSError:
         sys.stdout = None
         print("cannot write output", file=sys.stderr)
