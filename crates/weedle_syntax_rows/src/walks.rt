@@ -2,7 +2,7 @@
 
 ghost use Rattle.std.specs.Prelude.{◌<◌, length};
 
-use std::alloc::Global;
+use std::alloc::{AllocError, Global};
 use std::process::Abort;
 use std::test::Fail;
 use weedle_grammar::Rule;
@@ -76,26 +76,36 @@ fn from_node_to_node(rt: HostRuntime) -> Result<(), Fail> {
     Ok(())
 }
 
+/// Asserts of a node that the numbers of its children are these.
+fn assert_children(
+    rt: &impl Abort,
+    alloc: Global,
+    syntax: &Syntax<'_>,
+    node: usize,
+    wanted: &[usize],
+) -> Result<(), AllocError>
+    requires { node < length syntax.now.nodes }
+{
+    let children: Vec<usize> = syntax.children(node).collect(alloc)?;
+    assert!(rt; children.as_slice() == wanted);
+    Ok(())
+}
+
 /// The numbers are those of the worked text, whose nodes stand by hand in `worked.rt`.
 #[test]
 fn children_and_leaves(rt: HostRuntime) -> Result<(), Fail> {
     let alloc = rt.alloc();
     let syntax = Syntax::of_front(alloc, "A includes B;")?;
     assert_eq!(rt; syntax.nodes().len(), 35);
-    for (node, wanted) in [
-        (0, &[1][..]),
-        (2, &[3, 4, 15, 24, 31]),
-        (4, &[5, 6, 7, 10]),
-        (3, &[]),
-    ] {
-        let children: Vec<usize> = syntax.children(node).collect(alloc)?;
-        assert!(rt; children[..] == *wanted);
-    }
+    assert_children(&rt, alloc, &syntax, 0, &[1])?;
+    assert_children(&rt, alloc, &syntax, 2, &[3, 4, 15, 24, 31])?;
+    assert_children(&rt, alloc, &syntax, 3, &[])?;
+    assert_children(&rt, alloc, &syntax, 4, &[5, 6, 7, 10])?;
     let leaves: Vec<usize> = syntax.leaves().collect(alloc)?;
-    let wanted = [
+    let wanted: &[usize] = &[
         3, 5, 6, 8, 9, 13, 14, 16, 17, 18, 22, 23, 25, 26, 28, 29, 30, 32, 33, 34,
     ];
-    assert!(rt; leaves[..] == wanted);
+    assert!(rt; leaves.as_slice() == wanted);
     Ok(())
 }
 
