@@ -61,6 +61,16 @@ class Pages(unittest.TestCase):
         )
         self.assertEqual((done.stdout, done.stderr), (f"{printed[0]}\n", ""))
 
+    def test_what_the_readme_prints(self):
+        page = (TOP / "README.md").read_text(encoding="utf-8")
+        codes = CODE.findall(page)
+        self.assertEqual(len(codes), 1)
+        done = subprocess.run(
+            [sys.executable, "-c", codes[0]], capture_output=True, text=True, check=False,
+            env={**os.environ, "PYTHONPATH": str(TOP / "python")},
+        )
+        self.assertEqual(done.stderr, "")
+        self.assertIn(f"It prints `{done.stdout.strip()}`.", page)
 
     def test_docstrings(self):
         for module in (weedle, nodes):
