@@ -1,0 +1,43 @@
+//! How many files there were.
+
+use crate::outcome::Outcome;
+
+/// How many files were read, how many of them changed or would, how many were refused, how many others there were,
+/// and what it comes to.
+#[derive(Clone, Copy)]
+pub struct Tally {
+    pub read: usize,
+    pub changed: usize,
+    pub refused: usize,
+    pub failed: usize,
+    pub outcome: Outcome,
+}
+
+impl Tally {
+    /// Of no file.
+    pub fn new() -> Tally {
+        Tally {
+            read: 0,
+            changed: 0,
+            refused: 0,
+            failed: 0,
+            outcome: Outcome::Well,
+        }
+    }
+
+    /// Counts one more file, and whether it changed or would. One on which there was a fault counts by itself.
+    pub fn count(&mut self, outcome: Outcome, changes: bool) {
+        let one_more = match outcome {
+            Outcome::Well | Outcome::Changing | Outcome::Refused => &mut self.read,
+            _ => &mut self.failed,
+        };
+        *one_more = one_more.saturating_add(1);
+        if changes {
+            self.changed = self.changed.saturating_add(1);
+        }
+        if outcome == Outcome::Refused {
+            self.refused = self.refused.saturating_add(1);
+        }
+        self.outcome = self.outcome.or_worse(outcome);
+    }
+}
