@@ -7,6 +7,8 @@ pub enum Outcome {
     Well,
     /// It would change.
     Changing,
+    /// Its layout would say something else. No text is known of which that is so.
+    LeftAsItIs,
     /// It isn't read whole.
     Refused,
     /// It can't be read, or isn't UTF-8.
@@ -24,7 +26,7 @@ impl Outcome {
     pub fn status(self) -> u8 {
         match self {
             Outcome::Well => 0,
-            Outcome::Changing | Outcome::Refused => 1,
+            Outcome::Changing | Outcome::LeftAsItIs | Outcome::Refused => 1,
             Outcome::Unreadable => 2,
             Outcome::NoMemory => 3,
             Outcome::Unwritten => 4,

@@ -28,8 +28,8 @@ impl Tally {
     /// Counts one more file, and whether it changed or would. One on which there was a fault counts by itself.
     pub fn count(&mut self, outcome: Outcome, changes: bool) {
         let one_more = match outcome {
-            Outcome::Well | Outcome::Changing | Outcome::Refused => &mut self.read,
-            _ => &mut self.failed,
+            Outcome::Unreadable | Outcome::NoMemory | Outcome::Unwritten => &mut self.failed,
+            _ => &mut self.read,
         };
         *one_more = one_more.saturating_add(1);
         if changes {

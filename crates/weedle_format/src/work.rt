@@ -36,23 +36,42 @@ pub fn work_on<R: Runtime + AllocGlobal, W: Write, S: Write>(
         });
     };
     let changes = answer.text.as_str() != text;
-    let outcome = match task {
-        Task::Print => {
-            out.write_all(answer.text.as_bytes())?;
-            Outcome::Well
-        }
+    let outcome = hand_out(rt, task, name, answer.text.as_str(), changes, out)?;
+    if answer.is_laid_out {
+        return Ok(Done { outcome, changes });
+    }
+    writeln!(
+        said,
+        "{name}: left as it is, since its layout would say something else"
+    )?;
+    Ok(Done {
+        outcome: Outcome::LeftAsItIs,
+        changes,
+    })
+}
+
+/// Does with what was laid out what is asked for.
+fn hand_out<R: Runtime + AllocGlobal, W: Write>(
+    rt: &R,
+    task: Task,
+    name: &str,
+    text: &str,
+    changes: bool,
+    out: &mut W,
+) -> Result<Outcome, Fault> {
+    match task {
+        Task::Print => out.write_all(text.as_bytes())?,
         Task::Check if changes => {
             writeln!(out, "{name}")?;
-            Outcome::Changing
+            return Ok(Outcome::Changing);
         }
         Task::Write if changes => {
-            replace(rt, name, answer.text.as_str())?;
+            replace(rt, name, text)?;
             writeln!(out, "{name}")?;
-            Outcome::Well
         }
-        Task::Check | Task::Write => Outcome::Well,
-    };
-    Ok(Done { outcome, changes })
+        Task::Check | Task::Write => {}
+    }
+    Ok(Outcome::Well)
 }
 
 /// Writes where a text is refused and why.

@@ -1,7 +1,8 @@
 //! What is written between pieces, where no list is broken.
 
-use crate::joint::{is_tight_behind, is_tight_in_front, opens};
+use crate::joint::{is_tight_behind, is_tight_in_front};
 use crate::piece::{Gap, Joint, Kind, Piece, Role};
+use weedle_grammar::grammar::symbols::OPEN_BRACE;
 
 /// How many characters attributes have at most that stand in front of what they belong to, on its line.
 const MOST_IN_FRONT: usize = 40;
@@ -46,6 +47,14 @@ fn set_end(pieces: &mut [Piece], first: usize) {
     }
 }
 
+/// How many lines end in the text in front of a piece.
+fn lines_at(pieces: &[Piece], i: usize) -> usize {
+    match pieces.get(i) {
+        Some(piece) => piece.lines,
+        None => 0,
+    }
+}
+
 /// Sets what is written in front of a piece.
 fn set_gap(pieces: &mut [Piece], i: usize, gap: Gap) {
     if let Some(piece) = pieces.get_mut(i) {
@@ -63,7 +72,7 @@ fn set_run(pieces: &mut [Piece], first: usize, last: usize) {
         return;
     }
     for i in first..last {
-        let gap = gap_at(&run, i, pieces[i].lines);
+        let gap = gap_at(&run, i, lines_at(pieces, i));
         set_gap(pieces, i, gap);
     }
     let gap = gap_at(&run, last, run.token.lines);
@@ -91,7 +100,7 @@ fn run_of(pieces: &[Piece], first: usize, last: usize) -> Option<Run> {
     let token = pieces.get(last)?;
     let mut has_lines = false;
     for i in first..last {
-        if pieces[i].lines > 0 && i > 0 {
+        if lines_at(pieces, i) > 0 && i > 0 {
             has_lines = true;
         }
     }
@@ -115,7 +124,9 @@ fn are_long(pieces: &[Piece], behind: usize) -> bool {
     let mut width: usize = 0;
     let mut depth: usize = 0;
     for back in 0..behind {
-        let piece = pieces[behind - 1 - back];
+        let Some(piece) = pieces.get(behind - 1 - back) else {
+            break;
+        };
         let Some(more) = piece.width else {
             return true;
         };
@@ -230,15 +241,18 @@ fn gap_of_lines(run: &Run, i: usize, lines: usize) -> Gap {
     }
 }
 
+/// Whether a token is the `{` of the default value `{}`.
+fn opens_dictionary(token: &Piece) -> bool {
+    token.rule == OPEN_BRACE && token.role == Role::Plain
+}
+
 /// What is written where no line ends.
 fn gap_on_line(run: &Run, i: usize) -> Gap {
     if i == run.first {
-        let is_tight = match run.before {
-            Some(piece) => is_tight_behind(piece.rule) || piece.role == Role::OpensBody,
-            None => false,
-        };
-        if is_tight && run.token.joint != Joint::Member {
-            return Gap::Nothing;
+        if let Some(before) = run.before {
+            if is_tight_behind(before.rule) || opens_dictionary(&before) {
+                return Gap::Nothing;
+            }
         }
     }
     if i == run.last && run.token.joint == Joint::Tight && is_tight_in_front(run.token.rule) {

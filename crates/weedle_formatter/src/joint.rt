@@ -50,7 +50,7 @@ pub(crate) fn role_of(token: Token) -> Role {
 }
 
 /// Whether the rule is of a bracket that opens.
-pub(crate) fn opens(rule: u16) -> bool {
+fn opens(rule: u16) -> bool {
     match rule {
         OPEN_PAREN | OPEN_BRACKET | OPEN_BRACE | LESS_THAN => true,
         _ => false,
