@@ -2,14 +2,18 @@
 
 use crate::outcome::Outcome;
 
-/// How many files were read, how many of them changed or would, how many were refused, how many others there were,
-/// and what it comes to.
+/// How many files there were of each kind, and what all comes to.
 #[derive(Clone, Copy)]
 pub struct Tally {
+    /// Those that were read.
     pub read: usize,
+    /// Those of them that changed, or would.
     pub changed: usize,
+    /// Those of them that aren't read whole.
     pub refused: usize,
+    /// The others, on which there was a fault.
     pub failed: usize,
+    /// The worst of all.
     pub outcome: Outcome,
 }
 

@@ -13,6 +13,7 @@ use weedle_formatter::format;
 /// What the work on a text came to.
 #[derive(Clone, Copy)]
 pub struct Done {
+    /// How it ended.
     pub outcome: Outcome,
     /// The file changed, or would.
     pub changes: bool,

@@ -147,10 +147,10 @@ fn are_long(pieces: &[Piece], behind: usize) -> bool {
     width > MOST_IN_FRONT
 }
 
-/// Whether the token before has this role.
-fn is_behind(run: &Run, role: Role) -> bool {
+/// Whether the token before opens braces of members or a list.
+fn is_behind_opener(run: &Run) -> bool {
     match run.before {
-        Some(piece) => piece.role == role,
+        Some(piece) => piece.role == Role::OpensBody || piece.role == Role::OpensList,
         None => false,
     }
 }
@@ -174,9 +174,9 @@ fn gap_alone(run: &Run) -> Gap {
     match run.token.joint {
         Joint::Tight => Gap::Nothing,
         Joint::Space => Gap::Space,
-        Joint::EndOfBody if is_behind(run, Role::OpensBody) => Gap::Nothing,
+        Joint::EndOfBody if is_behind_opener(run) => Gap::Nothing,
         Joint::EndOfBody | Joint::Definition => Gap::Line,
-        Joint::Member if run.token.lines > 1 && !is_behind(run, Role::OpensBody) => Gap::EmptyLine,
+        Joint::Member if run.token.lines > 1 && !is_behind_opener(run) => Gap::EmptyLine,
         Joint::Member => Gap::Line,
         Joint::BehindAttributes if run.is_behind_line || run.token.lines > 0 => Gap::Line,
         Joint::BehindAttributes => Gap::Space,
@@ -226,7 +226,7 @@ fn gap_of_lines(run: &Run, i: usize, lines: usize) -> Gap {
         Joint::EndOfBody => i < run.last,
         _ => false,
     };
-    let is_first = i == run.first && is_behind(run, Role::OpensBody);
+    let is_first = i == run.first && is_behind_opener(run);
     if may_be_empty {
         if lines > 1 && !is_first && !is_behind_doc_line(run) {
             return Gap::EmptyLine;
@@ -234,11 +234,15 @@ fn gap_of_lines(run: &Run, i: usize, lines: usize) -> Gap {
         return Gap::Line;
     }
     match run.token.joint {
-        Joint::Tight | Joint::Space if !run.token.is_item && !is_behind_doc_line(run) => {
-            Gap::Continued
-        }
+        Joint::Tight | Joint::Space if is_in_midst(run) => Gap::Continued,
         _ => Gap::Line,
     }
+}
+
+/// Whether a line that begins with the token begins in the midst of a statement or an item.
+fn is_in_midst(run: &Run) -> bool {
+    let begins = run.token.is_item || run.token.role == Role::ClosesList;
+    !begins && !is_behind_doc_line(run)
 }
 
 /// Whether a token is the `{` of the default value `{}`.
