@@ -10,7 +10,7 @@ comments sown. Of each text that is read whole
 - its layout has the same words, numbers, strings, signs and comments in the same order: a scanner of this file says so,
   which knows of no rule of the grammar;
 - its layout is laid out to itself, and has no blanks at the end of a line that no comment and no string holds;
-- with --weedle2, the program of compare/, weedle2 reads the same values of both.
+- with --weedle2, the program of compare/, weedle2 reads the same values of both; it isn't asked of the folder `deep`.
 
 Then it runs the program over files, as tools/layout_runs.py has them.
 
@@ -29,11 +29,11 @@ from pathlib import Path
 
 from case_files import cases_of, folders
 from command_line import parser_of, runnable
-from compare_with_weedle2 import NoUse, Weedle2
+from compare_with_weedle2 import DEPTH, NoUse, Weedle2
 from layout_runs import RUNS, failures_of_runs
 
-# Which texts are sown.
-SOWN = "random"
+# Which texts are sown, and which weedle2 takes too long for.
+SOWN, DEEP = "random", "deep"
 # How many texts a process is given, and how many failures of a kind are shown.
 TOGETHER, SHOWN = 250, 10
 # What is sown, and how often between two words.
@@ -162,10 +162,11 @@ def arguments():
 def main(wanted):
     weedle2 = Weedle2(wanted.weedle2) if wanted.weedle2 else None
     program = str(Path(wanted.program).resolve())
+    sys.setrecursionlimit(DEPTH)
     total, failed = 0, 0
     try:
         for kind, texts in kinds(wanted.seed, wanted.most, wanted.real):
-            laid_out, failures = failures_of(program, weedle2, texts)
+            laid_out, failures = failures_of(program, None if kind == DEEP else weedle2, texts)
             for text, what in failures[:SHOWN]:
                 print(f"FAILED: {text[:2_000]!r}\n  {what[:2_000]}")
             print(f"{kind}: {laid_out} laid out, {len(texts) - laid_out} not read, {len(failures)} failed", flush=True)
