@@ -140,7 +140,8 @@ def kinds(seed, most, real):
     maker = random.Random(seed)
     for folder in folders():
         texts = [case.text for case in cases_of(folder) if case.text is not None][:most]
-        yield folder, texts
+        if texts:
+            yield folder, texts
         if folder == SOWN:
             yield f"{folder}, sown", [sown(maker, text) for text in texts]
     if real:

@@ -33,8 +33,9 @@ pub struct Formatted {
 /// Blanks are moved, and nothing else changes. What was laid out is read again and compared: so a slip in
 /// the layout never comes out.
 ///
-/// It reads as `syntax_quick` does, twice, and costs about as much as that. It asks for memory for the
-/// nodes of both texts, for what stands between their blanks, and for the answer.
+/// It reads as [`syntax_quick`] does, the layout too where it isn't the text itself, and costs some two
+/// fifths more than that. It asks for memory for the nodes of both texts, for what stands between their
+/// blanks, and for the answer.
 pub fn format(alloc: Global, raw: &str) -> Result<Option<Formatted>, AllocError>
     ensures whole { IfOk result (λ found. IsSome found ↔ IsWhole raw.now) }
 
@@ -69,6 +70,9 @@ fn says_the_same(alloc: Global, raw: &str, nodes: &[Node], out: &str) -> Result<
     requires are { IsSyntax raw.now nodes.now }
     ensures { IfOk result (λ same. IsTrue same → SaysTheSame raw.now out.now) }
 {
+    if out == raw {
+        return Ok(true);
+    }
     let Some(others) = syntax_quick(alloc, out)? else {
         return Ok(false);
     };
