@@ -47,7 +47,10 @@ fn long_runs(rt: HostRuntime) -> Result<(), Fail> {
     for part in [" ", "\n", "\t", "\r\n"] {
         let text = repeated(alloc, "A includes B;", part, 4_000, "")?;
         match format(alloc, &text)? {
-            Some(answer) => assert_eq!(rt; answer.text.len(), if part.len() == 2 { 15 } else { 14 }),
+            Some(answer) => assert_eq!(rt;
+                answer.text.len(),
+                if part.len() == 2 { 15 } else { 14 }
+            ),
             None => assert!(rt; false),
         }
     }
@@ -64,7 +67,13 @@ fn long_runs(rt: HostRuntime) -> Result<(), Fail> {
 fn one_line_of_a_hundred_thousand_bytes(rt: HostRuntime) -> Result<(), Fail> {
     let alloc = rt.alloc();
     let front = "namespace N {\n  undefined f(\n    long a";
-    let line = repeated(alloc, "namespace N{undefined f(long a", ",long a", 14_300, ");};")?;
+    let line = repeated(
+        alloc,
+        "namespace N{undefined f(long a",
+        ",long a",
+        14_300,
+        ");};",
+    )?;
     let lines = repeated(alloc, front, ",\n    long a", 14_300, "\n  );\n};\n")?;
     match format(alloc, &line)? {
         Some(answer) => assert_eq!(rt; answer.text.as_str(), lines.as_str()),

@@ -7,7 +7,7 @@ use std::test::Fail;
 use weedle_formatter::format;
 use weedle_syntax::syntax_quick;
 use weedle_testing::definitions;
-use weedle_testing::examples::{CUT, SOUNDS, TEXTS};
+use weedle_testing::examples::{CUT, TEXTS};
 
 /// How many bytes of a text are neither blanks nor line ends.
 fn dark(text: &str) -> usize {
@@ -36,9 +36,6 @@ fn assert_kept(rt: &impl Abort, alloc: Global, text: &str) -> Result<(), AllocEr
 #[test]
 fn of_the_worked_texts(rt: HostRuntime) -> Result<(), Fail> {
     for text in TEXTS {
-        assert_kept(&rt, rt.alloc(), text)?;
-    }
-    for text in SOUNDS {
         assert_kept(&rt, rt.alloc(), text)?;
     }
     Ok(())

@@ -22,9 +22,7 @@ fn a_text_is_laid_out_or_memory_is_wanted(rt: HostRuntime) -> Result<(), Fail> {
         for _ in 0..2 {
             if let Some(answer) = wanted.given(format(alloc, text)) {
                 match (answer, layout) {
-                    (Some(answer), Some(layout)) => {
-                        assert_eq!(rt; answer.text.as_str(), layout)
-                    }
+                    (Some(answer), Some(layout)) => { assert_eq!(rt; answer.text.as_str(), layout) }
                     (None, None) => {}
                     _ => assert!(rt; false),
                 }

@@ -26,7 +26,8 @@ fn assert_layout(
 
 #[test]
 fn members_take_a_line_each(rt: HostRuntime) -> Result<(), Fail> {
-    let text = "interface   A:B{attribute long x;readonly attribute  DOMString ? y ;undefined f( ) ;} ;";
+    let text =
+        "interface   A:B{attribute long x;readonly attribute  DOMString ? y ;undefined f( ) ;} ;";
     let layout = "\
 interface A : B {
   attribute long x;
@@ -136,8 +137,7 @@ interface J {};
 #[test]
 fn an_empty_line_is_kept_between_members(rt: HostRuntime) -> Result<(), Fail> {
     let text = "dictionary D {\n\n\n  long x;\n  long y = 1;\n\n\n\n  required long z;\n\n};\n\n\n";
-    let layout =
-        "dictionary D {\n  long x;\n  long y = 1;\n\n  required long z;\n};\n";
+    let layout = "dictionary D {\n  long x;\n  long y = 1;\n\n  required long z;\n};\n";
     assert_layout(&rt, rt.alloc(), text, layout)?;
     Ok(())
 }
