@@ -19,8 +19,8 @@ Without a file, or for `-`, it reads the standard input.
 
 Without an option it prints what was laid out.
 
-Status: 0 all is well, 1 something is refused or would change, 2 a file can't be read or isn't UTF-8,
-3 out of memory, 4 a file or the output can't be written, 5 other arguments than these.";
+Status: 0 all is well, 1 something is refused or would change, 2 a file can't be read or isn't
+UTF-8, 3 out of memory, 4 a file or the output can't be written, 5 other arguments than these.";
 
 /// What is done with what was laid out.
 #[derive(Clone, Copy, Debug, PartialEq, Eq)]
@@ -42,9 +42,9 @@ pub enum Request {
     Files(Task, Vec<String>),
 }
 
-/// What is asked for by the arguments, of which the first is the program's name: nothing that there is use for,
-/// where an argument begins with `-` and is no option and not `-` itself, where two options are given, or where the
-/// standard input is to be replaced.
+/// What is asked for by the arguments, of which the first is the program's name: nothing that there
+/// is use for, where an argument begins with `-` and is no option and not `-` itself, where two
+/// options are given, or where the standard input is to be replaced.
 pub fn request_of(alloc: Global, words: Args) -> Result<Option<Request>, AllocError> {
     let mut asked = Asked {
         task: None,

@@ -16,8 +16,8 @@ const STANDARD_INPUT: &str = "<stdin>";
 
 /// Does what the arguments ask for, and says what it came to.
 ///
-/// A file that can't be laid out gets a line on standard error, and the others are done all the same. Only where the
-/// output can't be written the run ends at once.
+/// A file that can't be laid out gets a line on standard error, and the others are done all the
+/// same. Only where the output can't be written the run ends at once.
 pub fn run<R: Runtime + AllocGlobal>(rt: &R) -> Outcome {
     let Ok(words) = env::args(rt) else {
         return end(rt, Fault::Memory);
@@ -118,7 +118,8 @@ fn lay_out<R: Runtime + AllocGlobal, I: Read + Drop, W: Write>(
     Ok(done)
 }
 
-/// Says of a text that isn't read whole what there is to say: beside what was laid out, where that is printed.
+/// Says of a text that isn't read whole what there is to say: beside what was laid out, where that
+/// is printed.
 fn say<W: Write>(rt: &impl Eprint, task: Task, said: &[u8], out: &mut W) -> io::Result<()> {
     if task != Task::Print {
         return out.write_all(said);
@@ -129,8 +130,8 @@ fn say<W: Write>(rt: &impl Eprint, task: Task, said: &[u8], out: &mut W) -> io::
     Ok(())
 }
 
-/// Counts what the work on a file came to, and says on standard error why there was none. Where the output can't be
-/// written, it ends all.
+/// Counts what the work on a file came to, and says on standard error why there was none. Where the
+/// output can't be written, it ends all.
 fn settle(
     rt: &impl Eprint,
     name: &str,

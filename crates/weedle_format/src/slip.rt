@@ -10,8 +10,8 @@ use weedle_syntax::syntax_of_front;
 pub struct Slip {
     /// The byte of the text at which it is.
     pub place: usize,
-    /// What would have been read there, or None where memory ran out for more than the place, which then is where
-    /// the unread rest begins.
+    /// What would have been read there, or None where memory ran out for more than the place, which
+    /// then is where the unread rest begins.
     pub words: Option<String>,
 }
 
@@ -32,7 +32,8 @@ pub fn slip_in(alloc: Global, text: &str) -> Result<Slip, AllocError> {
     })
 }
 
-/// Writes where the text of this name is refused and why, and below it the line of the text with a mark.
+/// Writes where the text of this name is refused and why, and below it the line of the text with a
+/// mark.
 pub fn write_slip<W: Write>(name: &str, text: &str, slip: &Slip, out: &mut W) -> io::Result<()> {
     let said = match &slip.words {
         Some(words) => words.as_str(),

@@ -29,7 +29,8 @@ impl Tally {
         }
     }
 
-    /// Counts one more file, and whether it changed or would. One on which there was a fault counts by itself.
+    /// Counts one more file, and whether it changed or would. One on which there was a fault counts
+    /// by itself.
     pub fn count(&mut self, outcome: Outcome, changes: bool) {
         let one_more = match outcome {
             Outcome::Unreadable | Outcome::NoMemory | Outcome::Unwritten => &mut self.failed,

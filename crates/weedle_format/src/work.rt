@@ -19,8 +19,8 @@ pub struct Done {
     pub changes: bool,
 }
 
-/// Lays out a text, and does with it what is asked for. What is said of a text that isn't read whole is written to
-/// `said`, all else to `out`.
+/// Lays out a text, and does with it what is asked for. What is said of a text that isn't read
+/// whole is written to `said`, all else to `out`.
 pub fn work_on<R: Runtime + AllocGlobal, W: Write, S: Write>(
     rt: &R,
     task: Task,

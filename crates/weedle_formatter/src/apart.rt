@@ -25,7 +25,8 @@ pub(crate) fn set_apart(pieces: &mut [Piece]) {
     }
 }
 
-/// The rule of the statement that begins with the piece of this number and takes one line; 0 of what is none.
+/// The rule of the statement that begins with the piece of this number and takes one line; 0 of
+/// what is none.
 fn kind_at(pieces: &[Piece], i: usize) -> u16 {
     let rule = match pieces.get(i) {
         Some(piece) => piece.definition,
@@ -41,7 +42,8 @@ fn kind_at(pieces: &[Piece], i: usize) -> u16 {
     }
 }
 
-/// Sets an empty line before the first of these pieces that begins a line, where there is none among them.
+/// Sets an empty line before the first of these pieces that begins a line, where there is none
+/// among them.
 fn set_empty_line(pieces: &mut [Piece], first: usize, last: usize) {
     let mut found = None;
     for i in first..=last {

@@ -4,9 +4,10 @@ use crate::piece::{Gap, Piece, Role};
 use weedle_grammar::grammar::symbols::SEMI_COLON;
 
 /// How many columns a line has.
-pub(crate) const COLUMNS: usize = 80;
+const COLUMNS: usize = 80;
 
-/// The column behind a piece that goes on a line from this column on; None where it doesn't fit, or a line ends.
+/// The column behind a piece that goes on a line from this column on; None where it doesn't fit, or
+/// a line ends.
 fn column_behind(piece: &Piece, column: usize) -> Option<usize> {
     if piece.gap.is_line() {
         return None;
@@ -21,7 +22,8 @@ fn column_behind(piece: &Piece, column: usize) -> Option<usize> {
     Some(behind)
 }
 
-/// Whether the list fits on the line that is opened by the piece of this number, which ends at this column.
+/// Whether the list fits on the line that is opened by the piece of this number, which ends at this
+/// column.
 pub(crate) fn list_fits(pieces: &[Piece], opener: usize, column: usize) -> bool {
     let mut column = column;
     let mut open: usize = 1;

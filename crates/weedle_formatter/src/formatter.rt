@@ -23,24 +23,24 @@ use weedle_syntax::{Node, syntax_quick};
 pub struct Formatted {
     /// The text laid out, or as it stood.
     pub text: String,
-    /// Whether it was laid out. Else the layout would have changed what it says, and it is as it stood:
-    /// no text is known of which that is so.
+    /// Whether it was laid out. Else the layout would have changed what it says, and it is as it
+    /// stood: no text is known of which that is so.
     pub is_laid_out: bool,
 }
 
 /// The text laid out, where it is read whole; None where it isn't, as `interface A {`.
 ///
-/// Blanks are moved, and nothing else changes. What was laid out is read again and compared: so a slip in
-/// the layout never comes out.
+/// Blanks are moved, and nothing else changes. What was laid out is read again and compared: so a
+/// slip in the layout never comes out.
 ///
-/// It reads as [`syntax_quick`] does, the layout too where it isn't the text itself, and costs some two
-/// fifths more than that. It asks for memory for the nodes of both texts, for what stands between their
-/// blanks, and for the answer.
+/// It reads as [`syntax_quick`] does, the layout too where it isn't the text itself, and costs some
+/// two fifths more than that. It asks for memory for the nodes of both texts, for what stands
+/// between their blanks, and for the answer.
 pub fn format(alloc: Global, raw: &str) -> Result<Option<Formatted>, AllocError>
     ensures whole { IfOk result (λ found. IsSome found ↔ IsWhole raw.now) }
 
-    // The same rules are read, each as deep, and all bytes but those of blanks and of the ends of line
-    // comments are the same.
+    // The same rules are read, each as deep, and all bytes but those of blanks and of the ends of
+    // line comments are the same.
     ensures same { IfOk result
         (λ found. IfSome found (λ answer. SaysTheSame raw.now (string_bytes answer.text))) }
     ensures as_it_stood { IfOk result

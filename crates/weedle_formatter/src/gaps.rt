@@ -4,7 +4,8 @@ use crate::joint::{is_tight_behind, is_tight_in_front};
 use crate::piece::{Gap, Joint, Kind, Piece, Role};
 use weedle_grammar::grammar::symbols::OPEN_BRACE;
 
-/// How many characters attributes have at most that stand in front of what they belong to, on its line.
+/// How many characters attributes have at most that stand in front of what they belong to, on its
+/// line.
 const MOST_IN_FRONT: usize = 40;
 
 /// A token, and the comments between it and the token before it.
@@ -183,8 +184,8 @@ fn gap_alone(run: &Run) -> Gap {
     }
 }
 
-/// What is written in front of the piece of this number among comments and the token behind them, where so many
-/// lines end in the text before it.
+/// What is written in front of the piece of this number among comments and the token behind them,
+/// where so many lines end in the text before it.
 fn gap_at(run: &Run, i: usize, lines: usize) -> Gap {
     if i == 0 {
         return Gap::Nothing;

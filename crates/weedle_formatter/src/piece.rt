@@ -13,8 +13,8 @@ pub(crate) enum Kind {
     DocLine,
 }
 
-/// How a token stands to the token before it, where no comment stands in between. A docstring's line counts
-/// as a token.
+/// How a token stands to the token before it, where no comment stands in between. A docstring's
+/// line counts as a token.
 #[derive(Clone, Copy, Debug, PartialEq, Eq)]
 pub(crate) enum Joint {
     /// With nothing in between, as `;`.

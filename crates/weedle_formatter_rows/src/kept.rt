@@ -1,5 +1,5 @@
-//! Texts made of a seed and texts of the other tests: each that is read whole is laid out, and stays as it was laid
-//! out.
+//! Texts made of a seed and texts of the other tests: each that is read whole is laid out, and
+//! stays as it was laid out.
 
 use std::alloc::{AllocError, Global};
 use std::process::Abort;
@@ -16,8 +16,8 @@ fn dark(text: &str) -> usize {
         .count()
 }
 
-/// Asserts that a text is laid out where it is read whole, to as many bytes that are no blanks; and the layout to
-/// itself.
+/// Asserts that a text is laid out where it is read whole, to as many bytes that are no blanks; and
+/// the layout to itself.
 fn assert_kept(rt: &impl Abort, alloc: Global, text: &str) -> Result<(), AllocError> {
     let is_read = syntax_quick(alloc, text)?.is_some();
     let Some(answer) = format(alloc, text)? else {

@@ -1,5 +1,5 @@
-//! Tests of the formatter: worked texts with their layouts, texts made of a seed, hostile ones, and memory that is
-//! refused.
+//! Tests of the formatter: worked texts with their layouts, texts made of a seed, hostile ones, and
+//! memory that is refused.
 #![tactic(auto)]
 
 #[cfg(test)]

@@ -40,7 +40,8 @@ fn lines_end_as_the_first_does(rt: HostRuntime) -> Result<(), Fail> {
     Ok(())
 }
 
-/// A text that isn't read whole has no layout: blanks or comments alone, a part, a mark of byte order.
+/// A text that isn't read whole has no layout: blanks or comments alone, a part, a mark of byte
+/// order.
 #[test]
 fn what_is_not_read_whole(rt: HostRuntime) -> Result<(), Fail> {
     let alloc = rt.alloc();
