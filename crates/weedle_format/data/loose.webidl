@@ -1,0 +1,2 @@
+interface Store {readonly attribute unsigned long length;
+};

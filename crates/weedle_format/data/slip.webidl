@@ -1,0 +1,3 @@
+interface Store {
+  readonly attribute unsigned long length
+};

@@ -1,0 +1,81 @@
+//! Why a file isn't laid out.
+
+use crate::outcome::Outcome;
+use std::alloc::AllocError;
+use std::fmt::{self, Display, Formatter, Write};
+use std::io::{self, ErrorKind};
+
+/// Why a file isn't laid out, though it may well be one that is read whole.
+#[derive(Debug, Drop)]
+pub enum Fault {
+    /// It can't be opened or read.
+    Input(io::Error),
+    /// What was read is no text.
+    NotUtf8,
+    /// It can't be replaced.
+    Replace(io::Error),
+    /// Memory was refused.
+    Memory,
+    /// The output can't be written.
+    Output,
+}
+
+impl Fault {
+    /// What is wrong with an input that gives this error.
+    pub fn of_input(error: io::Error) -> Fault {
+        if error.kind() == ErrorKind::OutOfMemory {
+            Fault::Memory
+        } else {
+            Fault::Input(error)
+        }
+    }
+
+    /// What is wrong with a file that can't be replaced for this error.
+    pub fn of_file(error: io::Error) -> Fault {
+        if error.kind() == ErrorKind::OutOfMemory {
+            Fault::Memory
+        } else {
+            Fault::Replace(error)
+        }
+    }
+
+    /// What it comes to.
+    pub fn outcome(&self) -> Outcome {
+        match self {
+            Fault::Input(_) | Fault::NotUtf8 => Outcome::Unreadable,
+            Fault::Memory => Outcome::NoMemory,
+            Fault::Replace(_) | Fault::Output => Outcome::Unwritten,
+        }
+    }
+}
+
+impl From<AllocError> for Fault {
+    fn from(_error: AllocError) -> Fault {
+        Fault::Memory
+    }
+}
+
+/// What fails with it is a write to the output, or the making of the room for one: all other calls
+/// say by themselves what their errors are.
+impl From<io::Error> for Fault {
+    fn from(error: io::Error) -> Fault {
+        if error.kind() == ErrorKind::OutOfMemory {
+            Fault::Memory
+        } else {
+            Fault::Output
+        }
+    }
+}
+
+/// Says it, as `input is not UTF-8`.
+impl Display for Fault {
+    fn fmt<W: Write>(&self, f: &mut Formatter<W>) -> fmt::Result {
+        match self {
+            Fault::Input(error) => write!(f, "cannot read input: {error}"),
+            Fault::NotUtf8 => f.write_str("input is not UTF-8"),
+            Fault::Replace(error) => write!(f, "cannot replace the file: {error}"),
+            Fault::Memory => f.write_str("out of memory"),
+            Fault::Output => f.write_str("cannot write output"),
+        }
+    }
+}

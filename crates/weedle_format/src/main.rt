@@ -1,0 +1,43 @@
+//! Lays out Web IDL: moves blanks, and changes nothing else.
+//!
+//! ```text
+//! weedle_format [--check | --write] [FILE..]
+//! ```
+//!
+//! It reads the files that are named, or else the standard input, which `-` names too, and prints
+//! each laid out. With `--write` it replaces each file by what was laid out, at once: never half,
+//! and never one that is laid out already. With `--check` it prints the names of the files that
+//! would change. Both print how many there were:
+//!
+//! ```text
+//! a.webidl
+//! 3 files, 1 to be laid out, 0 refused
+//! ```
+//!
+//! A file that isn't read whole is left as it is. It is said of it where and why, as `weedle_check`
+//! does, on standard output with `--check` and `--write`, and else on standard error; and the other
+//! files are done all the same.
+//!
+//! The status is 0 where all is well, 1 where something is refused or would change, 2 where a file
+//! can't be read or isn't UTF-8, 3 where memory ran out, 4 where a file or the output can't be
+//! written, and 5 where the arguments ask for nothing that it does: the greatest of those that fit.
+//!
+//! It is proved that each function is safe and returns, and that what is laid out says the same as
+//! the text. What is written to files is only tested.
+#![tactic(auto)]
+
+mod arguments;
+mod fault;
+mod input;
+mod outcome;
+mod program;
+mod replace;
+mod slip;
+mod tally;
+mod work;
+
+use std::process::ExitCode;
+
+fn main(rt: HostRuntime) -> ExitCode {
+    ExitCode::from(program::run(&rt).status())
+}

@@ -1,0 +1,87 @@
+//! The work on a text.
+
+use crate::arguments::Task;
+use crate::fault::Fault;
+use crate::outcome::Outcome;
+use crate::replace::replace;
+use crate::slip::{slip_in, write_slip};
+use std::alloc::Global;
+use std::io::Write;
+use std::rt::Runtime;
+use weedle_formatter::format;
+
+/// What the work on a text came to.
+#[derive(Clone, Copy)]
+pub struct Done {
+    /// How it ended.
+    pub outcome: Outcome,
+    /// The file changed, or would.
+    pub changes: bool,
+}
+
+/// Lays out a text, and does with it what is asked for. What is said of a text that isn't read
+/// whole is written to `said`, all else to `out`.
+pub fn work_on<R: Runtime + AllocGlobal, W: Write, S: Write>(
+    rt: &R,
+    task: Task,
+    name: &str,
+    text: &str,
+    out: &mut W,
+    said: &mut S,
+) -> Result<Done, Fault> {
+    let Some(answer) = format(rt.alloc(), text)? else {
+        write_refusal(rt.alloc(), name, text, said)?;
+        return Ok(Done {
+            outcome: Outcome::Refused,
+            changes: false,
+        });
+    };
+    let changes = answer.text.as_str() != text;
+    let outcome = hand_out(rt, task, name, answer.text.as_str(), changes, out)?;
+    if answer.is_laid_out {
+        return Ok(Done { outcome, changes });
+    }
+    writeln!(
+        said,
+        "{name}: left as it is, since its layout would say something else"
+    )?;
+    Ok(Done {
+        outcome: Outcome::LeftAsItIs,
+        changes,
+    })
+}
+
+/// Does with what was laid out what is asked for.
+fn hand_out<R: Runtime + AllocGlobal, W: Write>(
+    rt: &R,
+    task: Task,
+    name: &str,
+    text: &str,
+    changes: bool,
+    out: &mut W,
+) -> Result<Outcome, Fault> {
+    match task {
+        Task::Print => out.write_all(text.as_bytes())?,
+        Task::Check if changes => {
+            writeln!(out, "{name}")?;
+            return Ok(Outcome::Changing);
+        }
+        Task::Write if changes => {
+            replace(rt, name, text)?;
+            writeln!(out, "{name}")?;
+        }
+        Task::Check | Task::Write => {}
+    }
+    Ok(Outcome::Well)
+}
+
+/// Writes where a text is refused and why.
+fn write_refusal<W: Write>(
+    alloc: Global,
+    name: &str,
+    text: &str,
+    out: &mut W,
+) -> Result<(), Fault> {
+    let slip = slip_in(alloc, text)?;
+    Ok(write_slip(name, text, &slip, out)?)
+}

@@ -1,0 +1,63 @@
+//! Empty lines between definitions.
+
+use crate::fits::is_one_line;
+use crate::piece::{Gap, Joint, Piece};
+use weedle_grammar::grammar::definitions::{
+    CALLBACK_DEFINITION, IMPLEMENTS_DEFINITION, INCLUDES_STATEMENT_DEFINITION, TYPEDEF_DEFINITION,
+};
+
+/// Sets an empty line between definitions, but for statements of one kind that take a line each.
+pub(crate) fn set_apart(pieces: &mut [Piece]) {
+    let mut first = 0;
+    let mut before = 0;
+    for i in 0..pieces.len() {
+        let piece = pieces[i];
+        if piece.joint == Joint::Definition && !piece.is_comment() {
+            let kind = kind_at(pieces, i);
+            if first > 0 && (kind == 0 || kind != before) {
+                set_empty_line(pieces, first, i);
+            }
+            before = kind;
+        }
+        if !piece.is_comment() {
+            first = i + 1;
+        }
+    }
+}
+
+/// The rule of the statement that begins with the piece of this number and takes one line; 0 of
+/// what is none.
+fn kind_at(pieces: &[Piece], i: usize) -> u16 {
+    let rule = match pieces.get(i) {
+        Some(piece) => piece.definition,
+        None => 0,
+    };
+    match rule {
+        CALLBACK_DEFINITION
+        | TYPEDEF_DEFINITION
+        | INCLUDES_STATEMENT_DEFINITION
+        | IMPLEMENTS_DEFINITION
+            if is_one_line(pieces, i) => { rule }
+        _ => 0,
+    }
+}
+
+/// Sets an empty line before the first of these pieces that begins a line, where there is none
+/// among them.
+fn set_empty_line(pieces: &mut [Piece], first: usize, last: usize) {
+    let mut found = None;
+    for i in first..=last {
+        if let Some(piece) = pieces.get(i) {
+            match piece.gap {
+                Gap::EmptyLine => return,
+                Gap::Line if found.is_none() => found = Some(i),
+                _ => {}
+            }
+        }
+    }
+    if let Some(i) = found {
+        if let Some(piece) = pieces.get_mut(i) {
+            piece.gap = Gap::EmptyLine;
+        }
+    }
+}

@@ -1,0 +1,80 @@
+//! A text laid out anew.
+
+ghost use Rattle.std.specs.Prelude.{
+  ◌≡◌,
+  ◌↔◌,
+  false,
+  IsTrue,
+  IsSome,
+  IfOk,
+  IfSome,
+  string_bytes,
+};
+ghost use Rattle.weedle_syntax.specs.Syntax.{IsWhole, IsSyntax};
+ghost use Rattle.weedle_formatter.specs.Words.{SaysTheSame};
+
+use crate::page::lay_out;
+use crate::words::same_words;
+use std::alloc::{AllocError, Global};
+use weedle_syntax::{Node, syntax_quick};
+
+/// What [`format`] makes of a text that is read whole.
+#[derive(Debug, Drop)]
+pub struct Formatted {
+    /// The text laid out, or as it stood.
+    pub text: String,
+    /// Whether it was laid out. Else the layout would have changed what it says, and it is as it
+    /// stood: no text is known of which that is so.
+    pub is_laid_out: bool,
+}
+
+/// The text laid out, where it is read whole; None where it isn't, as `interface A {`.
+///
+/// Blanks are moved, and nothing else changes. What was laid out is read again and compared: so a
+/// slip in the layout never comes out.
+///
+/// It reads as [`syntax_quick`] does, the layout too where it isn't the text itself, and costs some
+/// two fifths more than that. It asks for memory for the nodes of both texts, for what stands
+/// between their blanks, and for the answer.
+pub fn format(alloc: Global, raw: &str) -> Result<Option<Formatted>, AllocError>
+    ensures whole { IfOk result (λ found. IsSome found ↔ IsWhole raw.now) }
+
+    // The same rules are read, each as deep, and all bytes but those of blanks and of the ends of
+    // line comments are the same.
+    ensures same { IfOk result
+        (λ found. IfSome found (λ answer. SaysTheSame raw.now (string_bytes answer.text))) }
+    ensures as_it_stood { IfOk result
+        (λ found. IfSome found
+        (λ answer. answer.is_laid_out ≡ false → string_bytes answer.text ≡ raw.now)) }
+{
+    let Some(nodes) = syntax_quick(alloc, raw)? else {
+        return Ok(None);
+    };
+    let text = lay_out(alloc, raw, &nodes)?;
+    if says_the_same(alloc, raw, &nodes, text.as_str())? {
+        return Ok(Some(Formatted {
+            text,
+            is_laid_out: true,
+        }));
+    }
+    let text = String::from_str(alloc, raw)?;
+    Ok(Some(Formatted {
+        text,
+        is_laid_out: false,
+    }))
+}
+
+/// Whether another text is read whole and says the same as the text of these nodes.
+fn says_the_same(alloc: Global, raw: &str, nodes: &[Node], out: &str) -> Result<bool, AllocError>
+    requires whole { IsWhole raw.now }
+    requires are { IsSyntax raw.now nodes.now }
+    ensures { IfOk result (λ same. IsTrue same → SaysTheSame raw.now out.now) }
+{
+    if out == raw {
+        return Ok(true);
+    }
+    let Some(others) = syntax_quick(alloc, out)? else {
+        return Ok(false);
+    };
+    Ok(same_words(raw.as_bytes(), nodes, out.as_bytes(), &others))
+}

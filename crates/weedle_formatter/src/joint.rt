@@ -1,0 +1,127 @@
+//! How tokens stand to one another, by their rules.
+
+use crate::piece::{Joint, Role};
+use weedle_grammar::grammar::interface_members::BRACED_INTERFACE_MEMBERS;
+use weedle_grammar::grammar::literals::EMPTY_DICTIONARY_LIT;
+use weedle_grammar::grammar::other_members::{
+    BRACED_DICTIONARY_MEMBERS, BRACED_ENUM_VALUE_LIST, BRACED_MIXIN_MEMBERS,
+    BRACED_NAMESPACE_MEMBERS, OPT_COMMA, TAIL_ENUM_VARIANT_COMMA,
+};
+use weedle_grammar::grammar::simple_types::TAIL_IDENTIFIER_COMMA;
+use weedle_grammar::grammar::symbols::{
+    ASSIGN, CLOSE_BRACE, CLOSE_BRACKET, CLOSE_PAREN, COMMA, ELLIPSIS, GREATER_THAN, LESS_THAN,
+    OPEN_BRACE, OPEN_BRACKET, OPEN_PAREN, Q_MARK, SEMI_COLON,
+};
+use weedle_grammar::grammar::types::{
+    EXTENDED_ATTRIBUTE_IDENT, EXTENDED_ATTRIBUTE_IDENT_LIST, EXTENDED_ATTRIBUTE_LIST,
+    EXTENDED_ATTRIBUTE_NAMED_ARG_LIST, PARENTHESIZED_ARGUMENT_LIST, TAIL_ARGUMENT_COMMA,
+    TAIL_EXTENDED_ATTRIBUTE_COMMA,
+};
+
+/// A token: the numbers of its rule and of the rule that reads it.
+#[derive(Clone, Copy)]
+pub(crate) struct Token {
+    pub(crate) rule: u16,
+    pub(crate) parent: u16,
+}
+
+/// What a token does to the lines behind it.
+pub(crate) fn role_of(token: Token) -> Role {
+    match token.parent {
+        BRACED_INTERFACE_MEMBERS
+        | BRACED_MIXIN_MEMBERS
+        | BRACED_NAMESPACE_MEMBERS
+        | BRACED_DICTIONARY_MEMBERS => {
+            if token.rule == OPEN_BRACE {
+                Role::OpensBody
+            } else {
+                Role::ClosesBody
+            }
+        }
+        PARENTHESIZED_ARGUMENT_LIST | EXTENDED_ATTRIBUTE_LIST | BRACED_ENUM_VALUE_LIST => {
+            if opens(token.rule) {
+                Role::OpensList
+            } else {
+                Role::ClosesList
+            }
+        }
+        _ => Role::Plain,
+    }
+}
+
+/// Whether the rule is of a bracket that opens.
+fn opens(rule: u16) -> bool {
+    match rule {
+        OPEN_PAREN | OPEN_BRACKET | OPEN_BRACE | LESS_THAN => true,
+        _ => false,
+    }
+}
+
+/// Whether an item of a list begins behind the token, which may be broken there.
+pub(crate) fn ends_item(token: Token) -> bool {
+    match token.parent {
+        TAIL_ARGUMENT_COMMA | TAIL_EXTENDED_ATTRIBUTE_COMMA | TAIL_ENUM_VARIANT_COMMA | OPT_COMMA =>
+            { token.rule == COMMA }
+        _ => role_of(token) == Role::OpensList,
+    }
+}
+
+/// Whether a token has nothing in front of it on its line, wherever it stands.
+pub(crate) fn is_tight_in_front(rule: u16) -> bool {
+    match rule {
+        SEMI_COLON
+        | COMMA
+        | CLOSE_PAREN
+        | CLOSE_BRACKET
+        | LESS_THAN
+        | GREATER_THAN
+        | Q_MARK
+        | ELLIPSIS => true,
+        _ => false,
+    }
+}
+
+/// Whether nothing stands behind a token on its line, whatever follows.
+pub(crate) fn is_tight_behind(rule: u16) -> bool {
+    match rule {
+        OPEN_PAREN | OPEN_BRACKET | LESS_THAN => true,
+        _ => false,
+    }
+}
+
+/// Whether a token is the `=` of an attribute, as in `Exposed=Window`.
+fn is_assign_of_attribute(token: Token) -> bool {
+    match token.parent {
+        EXTENDED_ATTRIBUTE_IDENT
+        | EXTENDED_ATTRIBUTE_IDENT_LIST
+        | EXTENDED_ATTRIBUTE_NAMED_ARG_LIST => token.rule == ASSIGN,
+        _ => false,
+    }
+}
+
+/// Whether nothing stands between two tokens. Arguments stand apart from a type in front of them.
+fn is_tight(before: Token, token: Token, are_apart: bool) -> bool {
+    if is_tight_in_front(token.rule) || is_tight_behind(before.rule) {
+        return true;
+    }
+    if is_assign_of_attribute(before) || is_assign_of_attribute(token) {
+        return true;
+    }
+    match token.parent {
+        EMPTY_DICTIONARY_LIT => token.rule == CLOSE_BRACE,
+        PARENTHESIZED_ARGUMENT_LIST => !are_apart && token.rule == OPEN_PAREN,
+        _ => before.parent == TAIL_IDENTIFIER_COMMA && before.rule == COMMA,
+    }
+}
+
+/// How a token stands to the one before it.
+pub(crate) fn joint_of(before: Token, token: Token, are_apart: bool) -> Joint {
+    if role_of(token) == Role::ClosesBody {
+        return Joint::EndOfBody;
+    }
+    if is_tight(before, token, are_apart) {
+        Joint::Tight
+    } else {
+        Joint::Space
+    }
+}

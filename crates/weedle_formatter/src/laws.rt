@@ -1,0 +1,23 @@
+//! What always holds of texts that say the same. Each of these functions does nothing when it runs:
+//! its contract is the law.
+
+ghost use Rattle.std.specs.Prelude.{◌≡◌, ℕ, List};
+ghost use Rattle.weedle_syntax.specs.declared.node.Node.{Node as TheNode};
+ghost use Rattle.weedle_syntax.specs.Syntax.{IsSyntax};
+ghost use Rattle.weedle_formatter.specs.Words.{SaysTheSame, words_of};
+
+/// Whatever lists of nodes the two texts have, their words are the same.
+pub fn all_nodes_say_the_same()
+    ensures { (a b : List ℕ) (ns ms : List TheNode) → SaysTheSame a b → IsSyntax a ns → IsSyntax b ms
+        → words_of a ns ≡ words_of b ms }
+{}
+
+/// Where a text says the same as another, that one says the same as the first.
+pub fn is_symmetric()
+    ensures { (a b : List ℕ) → SaysTheSame a b → SaysTheSame b a }
+{}
+
+/// What is laid out twice says the same as the first text.
+pub fn is_transitive()
+    ensures { (a b c : List ℕ) → SaysTheSame a b → SaysTheSame b c → SaysTheSame a c }
+{}

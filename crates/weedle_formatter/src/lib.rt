@@ -1,0 +1,24 @@
+//! A text laid out anew, which says the same as before.
+//!
+//! ```rust
+//! use weedle_formatter::format;
+//!
+//! if let Some(answer) = format(rt.alloc(), "interface A{attribute long x;};")? {
+//!     assert_eq!(rt; answer.text.as_str(), "interface A {\n  attribute long x;\n};\n");
+//! }
+//! ```
+#![tactic(auto)]
+
+mod apart;
+mod fits;
+mod formatter;
+mod gaps;
+mod joint;
+pub mod laws;
+mod line_end;
+mod page;
+mod piece;
+mod pieces;
+mod words;
+
+pub use formatter::{Formatted, format};

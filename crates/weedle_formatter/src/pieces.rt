@@ -1,0 +1,223 @@
+//! The pieces of a text, from the nodes of its syntax tree.
+
+use crate::joint::{Token, ends_item, joint_of, role_of};
+use crate::piece::{Gap, Joint, Kind, Piece, Role, line_feeds, width_of};
+use crate::words::between;
+use std::alloc::{AllocError, Global};
+use weedle_grammar::grammar::definitions::{CALLBACK_DEFINITION, DEFINITION};
+use weedle_grammar::grammar::interface_members::{INTERFACE_MEMBER, OPT_IDENTIFIER};
+use weedle_grammar::grammar::leaves::{BYTES_THREE_SLASHES, DOC_LINE, PAST_LF};
+use weedle_grammar::grammar::other_members::{DICTIONARY_MEMBER, MIXIN_MEMBER, NAMESPACE_MEMBER};
+use weedle_grammar::grammar::symbols::CLOSE_BRACKET;
+use weedle_grammar::grammar::trivia::{
+    BLANKS, BLOCK_COMMENT, LINE_COMMENT, LINE_END, RUN_BLANK, TRIVIA,
+};
+use weedle_grammar::grammar::types::{
+    ATTRIBUTED_NON_ANY_TYPE, ATTRIBUTED_TYPE, EXTENDED_ATTRIBUTE_LIST, PARENTHESIZED_ARGUMENT_LIST,
+    SINGLE_ARGUMENT, VARIADIC_ARGUMENT,
+};
+use weedle_syntax::Node;
+
+/// A walk over the nodes of a text.
+#[derive(Drop)]
+struct Walk<'a> {
+    text: &'a [u8],
+    /// The numbers of the rules of the nodes in which the last one stands, and of that one.
+    rules: Vec<u16>,
+    pieces: Vec<Piece>,
+    /// Where the token begins that is being read.
+    token: usize,
+    /// Where the comment or the docstring's line begins that is being read.
+    start: usize,
+    /// How many lines ended since the last piece.
+    lines: usize,
+    /// What begins with the next token, if something does.
+    begins: Option<Joint>,
+    /// The rule of the definition that begins with it.
+    definition: u16,
+    /// The last token.
+    before: Token,
+    /// The next parenthesis stands apart from what is in front of it.
+    is_apart: bool,
+}
+
+/// The pieces of the text of these nodes, in their order.
+pub(crate) fn pieces_of(
+    alloc: Global,
+    text: &[u8],
+    nodes: &[Node],
+) -> Result<Vec<Piece>, AllocError> {
+    let mut walk = Walk {
+        text,
+        rules: Vec::new(alloc),
+        pieces: Vec::new(alloc),
+        token: 0,
+        start: 0,
+        lines: 0,
+        begins: None,
+        definition: 0,
+        before: Token { rule: 0, parent: 0 },
+        is_apart: false,
+    };
+    for node in nodes {
+        walk.enter(node)?;
+    }
+    Ok(walk.pieces)
+}
+
+impl<'a> Walk<'a> {
+    /// The rule of the last node, or of the one so many levels above it.
+    fn above(&self, levels: usize) -> u16 {
+        let many = self.rules.len();
+        if levels < many {
+            return self.rules[many - 1 - levels];
+        }
+        0
+    }
+
+    /// Goes on to the next node.
+    fn enter(&mut self, node: &Node) -> Result<(), AllocError> {
+        let number = node.rule.number();
+        let last = self.above(0);
+        let is_first = self.rules.len() == node.depth;
+        self.rules.truncate(node.depth);
+        self.rules.push(number)?;
+        match number {
+            TRIVIA if is_first => self.token = node.end,
+            TRIVIA => self.push_token(node.start)?,
+            BLANKS => self.skip(node),
+            RUN_BLANK if self.above(1) == DOC_LINE => self.skip(node),
+            LINE_COMMENT | BYTES_THREE_SLASHES => self.start = node.start,
+            LINE_END => self.push_line_comment(node.start)?,
+            BLOCK_COMMENT => self.push_comment(Kind::BlockComment, node.start, node.end)?,
+            PAST_LF => self.push_doc_line(node.end)?,
+            _ => self.begin(number, last),
+        }
+        Ok(())
+    }
+
+    /// Counts the lines that end in blanks.
+    fn skip(&mut self, node: &Node) {
+        let ended = line_feeds(between(self.text, node.start, node.end));
+        self.lines = self.lines.saturating_add(ended);
+    }
+
+    /// Keeps what begins with a node that reads tokens, where the last node is of this rule.
+    fn begin(&mut self, number: u16, last: u16) {
+        if last == DEFINITION {
+            self.definition = number;
+        }
+        match number {
+            DEFINITION => self.begins = Some(Joint::Definition),
+            INTERFACE_MEMBER | MIXIN_MEMBER | NAMESPACE_MEMBER | DICTIONARY_MEMBER => {
+                self.begins = Some(Joint::Member)
+            }
+            PARENTHESIZED_ARGUMENT_LIST => {
+                self.is_apart = last == OPT_IDENTIFIER || self.above(1) == CALLBACK_DEFINITION
+            }
+            _ => {}
+        }
+    }
+
+    /// Adds the token that ends there, of whose nodes the last one is the second.
+    fn push_token(&mut self, end: usize) -> Result<(), AllocError> {
+        let token = Token {
+            rule: self.above(1),
+            parent: self.above(2),
+        };
+        let piece = self.token_piece(token, end);
+        self.push(piece)?;
+        self.before = token;
+        self.is_apart = false;
+        self.begins = None;
+        if token.rule == CLOSE_BRACKET && token.parent == EXTENDED_ATTRIBUTE_LIST {
+            self.end_attributes();
+        }
+        Ok(())
+    }
+
+    /// The piece of the token that ends there.
+    fn token_piece(&self, token: Token, end: usize) -> Piece {
+        let start = self.token;
+        let before = self.before;
+        let is_apart = self.is_apart;
+        let mut piece = self.piece(start, end);
+        piece.rule = token.rule;
+        piece.role = role_of(token);
+        piece.is_item = ends_item(before) != (piece.role == Role::ClosesList);
+        piece.joint = match self.begins {
+            Some(joint) => joint,
+            None => joint_of(before, token, is_apart),
+        };
+        piece
+    }
+
+    /// Keeps that attributes ended, where they are those of a definition or a member.
+    fn end_attributes(&mut self) {
+        match self.above(4) {
+            SINGLE_ARGUMENT | VARIADIC_ARGUMENT | ATTRIBUTED_TYPE | ATTRIBUTED_NON_ANY_TYPE => {}
+            _ => self.begins = Some(Joint::BehindAttributes),
+        }
+    }
+
+    /// Adds the line comment that ends there.
+    fn push_line_comment(&mut self, end: usize) -> Result<(), AllocError> {
+        let start = self.start;
+        self.push_comment(Kind::LineComment, start, end)
+    }
+
+    /// Adds a comment.
+    fn push_comment(&mut self, kind: Kind, start: usize, end: usize) -> Result<(), AllocError> {
+        let mut piece = self.piece(start, end);
+        piece.kind = kind;
+        piece.definition = 0;
+        self.push(piece)?;
+        if kind == Kind::LineComment {
+            self.lines = 1;
+        }
+        Ok(())
+    }
+
+    /// Adds a docstring's line, which ends there.
+    fn push_doc_line(&mut self, end: usize) -> Result<(), AllocError> {
+        let start = self.start;
+        let mut piece = self.piece(start, end);
+        piece.kind = Kind::DocLine;
+        piece.joint = match self.begins {
+            Some(joint) => joint,
+            None => Joint::Member,
+        };
+        self.push(piece)?;
+        self.lines = 1;
+        self.begins = None;
+        self.before = Token { rule: 0, parent: 0 };
+        Ok(())
+    }
+
+    /// A piece of these bytes.
+    fn piece(&self, start: usize, end: usize) -> Piece {
+        Piece {
+            kind: Kind::Token,
+            rule: 0,
+            definition: match self.begins {
+                Some(Joint::Definition) => self.definition,
+                _ => 0,
+            },
+            start,
+            end,
+            width: width_of(between(self.text, start, end)),
+            lines: self.lines,
+            joint: Joint::Space,
+            role: Role::Plain,
+            is_item: false,
+            gap: Gap::Space,
+        }
+    }
+
+    /// Adds a piece.
+    fn push(&mut self, piece: Piece) -> Result<(), AllocError> {
+        self.lines = 0;
+        self.pieces.push(piece)?;
+        Ok(())
+    }
+}

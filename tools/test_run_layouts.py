@@ -1,0 +1,43 @@
+"""Tests of run_layouts.py."""
+
+import random
+import unittest
+
+from run_layouts import SEEDS, has_blanks_at_end, pieces_of, sown
+
+
+class Pieces(unittest.TestCase):
+    def test_words_numbers_and_signs(self):
+        self.assertEqual(
+            pieces_of("long... x=-1.5e+3;_a-b?"), ["long", "...", "x", "=", "-1.5e+3", ";", "_a-b", "?"]
+        )
+
+    def test_words_that_are_joined_are_others(self):
+        self.assertNotEqual(pieces_of("unsigned long"), pieces_of("unsignedlong"))
+
+    def test_strings_and_comments_are_whole(self):
+        text = '"a  b"/* c\n * d */// e "f\n/// g\n'
+        self.assertEqual(pieces_of(text), ['"a  b"', "/* c\n * d */", '// e "f', "/// g"])
+
+    def test_a_comment_that_took_up_what_follows_is_another(self):
+        self.assertNotEqual(pieces_of("// c\nA includes B;"), pieces_of("// c A includes B;"))
+
+
+class Sown(unittest.TestCase):
+    def test_the_pieces_stay_but_for_what_is_sown(self):
+        text = 'interface A { attribute DOMString x; }; enum E { "a b" };'
+        made = sown(random.Random(1), text)
+        self.assertNotEqual(made, text)
+        comments = {piece for seed in SEEDS for piece in pieces_of(seed)}
+        left = [piece for piece in pieces_of(made) if piece.rstrip("\r") not in comments and piece not in comments]
+        self.assertEqual(left, pieces_of(text))
+
+
+class Blanks(unittest.TestCase):
+    def test_only_those_of_no_comment_and_no_string(self):
+        self.assertTrue(has_blanks_at_end("A includes B; \n"))
+        self.assertFalse(has_blanks_at_end('enum E { "a \n" }; // c \r\n/* d \n */\n'))
+
+
+if __name__ == "__main__":
+    unittest.main()
