@@ -1,5 +1,5 @@
 -- Nodes as C has them.
-use Rattle.std.specs.Prelude.{ℕ, ◌<◌}
+use Rattle.std.specs.Prelude.{◌<◌}
 use Rattle.weedle_c.specs.declared.node.WeedleNode.{WeedleNode}
 use Rattle.weedle_syntax.specs.declared.node.Node.{Node}
 

@@ -9,6 +9,7 @@
 //! and a length, and no `alloc`.
 #![tactic(auto)]
 
+mod format;
 mod message;
 mod node;
 mod reader;
@@ -17,8 +18,10 @@ mod status;
 ghost use Rattle.std.specs.Prelude.{◌≡◌, ◌≢◌, ◌≤◌, ◌↔◌, IsUtf8, length};
 ghost use Rattle.std.specs.Str.{IsValidUpTo};
 ghost use Rattle.weedle_c.specs.Answers.{IsCounted, IsExplained, IsTree, IsUnread};
+ghost use Rattle.weedle_c.specs.Formatted.{IsFormatted, IsLonger, IsUnformatted};
 ghost use Rattle.weedle_syntax.specs.Syntax.{IsWhole};
 
+use crate::format::{WeedleFormatted, format};
 use crate::message::{WeedleRefusal, explain};
 use crate::node::WeedleNode;
 use crate::reader::{WeedleAnswer, read};
@@ -26,8 +29,8 @@ use crate::status::{NO_MEMORY, NO_ROOM, NOT_UTF8, READ, REFUSED, TOO_LONG};
 use std::alloc::Global;
 use weedle_grammar::RULES;
 
-/// The version: a byte each for the three numbers of 0.4.0.
-const VERSION: u32 = 0x000400;
+/// The version: a byte each for the three numbers of 0.5.0.
+const VERSION: u32 = 0x000500;
 
 /// Reads a text, and writes the nodes of its syntax tree where there is room for all. The answer is the status.
 #[unsafe(no_mangle)]
@@ -65,6 +68,25 @@ pub extern "C" fn weedle_explain(
     ensures unwritten { result ≢ REFUSED → message.new ≡ message.old }
 {
     explain(alloc, text, message, answer)
+}
+
+/// Lays a text out anew, and writes it where there is room for all. The answer is the status.
+#[unsafe(no_mangle)]
+pub extern "C" fn weedle_format(
+    alloc: Global,
+    text: &[u8],
+    out: &mut [u8],
+    answer: &mut WeedleFormatted,
+) -> u32
+    ensures known { result ≤ NO_ROOM }
+    ensures read { result ≡ READ → IsFormatted text.now out.old out.new answer.new }
+    ensures refused { result ≡ REFUSED → IsUnformatted text.now answer.new }
+    ensures not_utf8 { (result ≡ NOT_UTF8) ↔ ¬ IsUtf8 text.now }
+    ensures byte { result ≡ NOT_UTF8 → IsValidUpTo text.now answer.new.rest }
+    ensures no_room { result ≡ NO_ROOM → IsLonger text.now (length out.old) answer.new }
+    ensures unwritten { result ≢ READ → out.new ≡ out.old }
+{
+    format(alloc, text, out, answer)
 }
 
 /// The version of the library.

@@ -22,3 +22,5 @@ mod pieces;
 mod words;
 
 pub use formatter::{Formatted, format};
+pub use page::lay_out;
+pub use words::same_words;
