@@ -31,7 +31,7 @@ extern "C" {
 #endif
 
 /* The version that this header belongs to: a byte each for its three numbers. weedle_version() has the library's. */
-#define WEEDLE_VERSION 0x000400
+#define WEEDLE_VERSION 0x000500
 
 /* How many rules the grammar of this header has. weedle_rules() says it of the library. */
 #define WEEDLE_RULE_COUNT 386
@@ -70,6 +70,13 @@ struct weedle_refusal {
     size_t line;   /* the line of that place, from 1 on */
     size_t column; /* its column, in characters, from 1 on */
     size_t length; /* how many bytes the whole message has, without the zero behind it */
+};
+
+/* What weedle_format says beside its status. */
+struct weedle_formatted {
+    size_t length;      /* WEEDLE_STATUS_READ, WEEDLE_STATUS_NO_ROOM: how many bytes the text has once it is laid out */
+    size_t rest;        /* as weedle_answer has it */
+    size_t is_laid_out; /* 1; or 0 where the layout would have changed what the text says, and it is as it stood */
 };
 
 /*
@@ -115,6 +122,26 @@ uint32_t weedle_explain(
     const char *text, size_t length,
     char *message, size_t room,
     struct weedle_refusal *refusal);
+
+/*
+ * Lays a text out anew, as `weedle_format` does: blanks are moved, and nothing else changes.
+ *
+ * WEEDLE_STATUS_READ: the grammar reads the whole text, and the first `length` of `out` are the text laid out. The
+ *     grammar reads it whole too, by the same rules, each as deep, and all bytes but those of blanks and of the ends
+ *     of line comments are the same, in the same order. What stands behind them in `out` stays as it was; no zero is
+ *     written.
+ * WEEDLE_STATUS_REFUSED: it doesn't, and leaves what stands from `rest` on.
+ * WEEDLE_STATUS_NOT_UTF8: exactly where the bytes aren't UTF-8.
+ * WEEDLE_STATUS_NO_MEMORY: memory was refused.
+ * WEEDLE_STATUS_NO_ROOM: it needs `length` bytes, more than `room`. So with a room of 0 it tells how much is needed.
+ * Only with WEEDLE_STATUS_READ is anything written to `out`, which `text` isn't a part of.
+ *
+ * It reads the text and what was made of it as weedle_syntax does, and takes twice its memory and its time.
+ */
+uint32_t weedle_format(
+    const char *text, size_t length,
+    char *out, size_t room,
+    struct weedle_formatted *formatted);
 
 /* The version of the library, as WEEDLE_VERSION has that of the header. */
 uint32_t weedle_version(void);

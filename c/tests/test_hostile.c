@@ -51,6 +51,18 @@ static void *explain_it(void *given) {
     return NULL;
 }
 
+/* It reads twice, the text and what it made. */
+static void *format_it(void *given) {
+    struct call *call = given;
+    struct weedle_formatted formatted;
+    char none;
+    double began = seconds();
+    call->said = weedle_format(call->text, call->length, &none, 0, &formatted);
+    call->seconds = (seconds() - began) / 2;
+    CHECK(formatted.rest == call->answer.rest);
+    return NULL;
+}
+
 /* Makes the call in a thread with little stack. With `painted` it says how much of that was written to. */
 static void with_little_stack(void *(*start)(void *), struct call *call, unsigned char *painted) {
     pthread_attr_t little;
@@ -148,7 +160,7 @@ static struct family family_of(char *line) {
     return family;
 }
 
-/* Reads the text of a family, and explains it. */
+/* Reads the text of a family, explains it and lays it out. */
 static int is_right(struct family *family) {
     struct call *call = &family->call;
     uint32_t said = family->status == WEEDLE_STATUS_NO_ROOM ? WEEDLE_STATUS_READ : family->status;
@@ -157,6 +169,9 @@ static int is_right(struct family *family) {
         return 0;
     with_little_stack(explain_it, call, NULL);
     if (call->said != said || call->seconds > MOST_SECONDS)
+        return 0;
+    with_little_stack(format_it, call, NULL);
+    if (call->said != family->status || call->seconds > MOST_SECONDS)
         return 0;
     return said != WEEDLE_STATUS_REFUSED || (call->refusal.start == family->rest && call->refusal.place <= call->length);
 }

@@ -175,6 +175,34 @@ static void test_any_message_has_room_in_1024_bytes(void) {
     free(text);
 }
 
+/* Laid out by hand, as docs/LAYOUT.md says. */
+static void test_a_text_laid_out(void) {
+    static const char text[] = "interface A{attribute long x;};//\xc3\xa9", laid_out[] =
+        "interface A {\n  attribute long x;\n}; //\xc3\xa9\n";
+    size_t length = strlen(laid_out);
+    struct weedle_formatted formatted;
+    char out[100];
+    for (size_t room = 0; room <= length + 1; room++) {
+        int fits = room >= length;
+        memset(out, 'x', sizeof out);
+        CHECK(weedle_format(text, strlen(text), out, room, &formatted) ==
+              (fits ? WEEDLE_STATUS_READ : WEEDLE_STATUS_NO_ROOM));
+        CHECK(formatted.length == length && formatted.rest == strlen(text) && formatted.is_laid_out == 1);
+        CHECK(memcmp(out, fits ? laid_out : "xxx", fits ? length : 3) == 0 && out[length] == 'x');
+    }
+    CHECK(weedle_format(out, 0, out, 0, &formatted) == WEEDLE_STATUS_READ && formatted.length == 0);
+}
+
+static void test_no_layout(void) {
+    static const char text[] = "interface A {}; foo", odd[] = "interface A {}; // \xff";
+    struct weedle_formatted formatted;
+    char out[4] = "xyz";
+    CHECK(weedle_format(text, strlen(text), out, sizeof out, &formatted) == WEEDLE_STATUS_REFUSED);
+    CHECK(formatted.rest == 16 && formatted.length == 0 && strcmp(out, "xyz") == 0);
+    CHECK(weedle_format(odd, strlen(odd), out, sizeof out, &formatted) == WEEDLE_STATUS_NOT_UTF8);
+    CHECK(formatted.rest == 19 && formatted.length == 0 && strcmp(out, "xyz") == 0);
+}
+
 static void test_version_rules_and_names(void) {
     CHECK(weedle_version() == WEEDLE_VERSION);
     CHECK(weedle_rules() == WEEDLE_RULE_COUNT);
@@ -218,6 +246,26 @@ static void test_memory_that_is_refused(void) {
         CHECK(status == WEEDLE_STATUS_READ || strcmp(message, whole) == 0);
     }
     free(deep);
+}
+
+/* The same of a text that is laid out. */
+static void test_memory_of_a_layout_that_is_refused(void) {
+    static const char text[] = "interface A{};enum E{\"a\",};";
+    struct weedle_formatted ample, formatted;
+    char whole[100] = {0}, out[100];
+    uint32_t status;
+    CHECK(weedle_format(text, strlen(text), whole, sizeof whole, &ample) == WEEDLE_STATUS_READ);
+    for (refused = 1;; refused++) {
+        requests = 0, counts = 1;
+        strcpy(out, "xyz");
+        status = weedle_format(text, strlen(text), out, sizeof out, &formatted);
+        counts = 0;
+        if (requests < refused)
+            break;
+        CHECK(status == WEEDLE_STATUS_NO_MEMORY && strcmp(out, "xyz") == 0 && formatted.length == 0);
+    }
+    CHECK(refused > 1 && status == WEEDLE_STATUS_READ && formatted.length == ample.length);
+    CHECK(memcmp(out, whole, ample.length) == 0);
 }
 
 /* What a thread reads, and what it found. */
@@ -265,8 +313,11 @@ static const struct test TESTS[] = {
     {"words of a refusal", test_words_of_a_refusal},
     {"a message is cut at a character", test_a_message_is_cut_at_a_character},
     {"any message has room in 1,024 bytes", test_any_message_has_room_in_1024_bytes},
+    {"a text laid out", test_a_text_laid_out},
+    {"no layout", test_no_layout},
     {"version, rules and names", test_version_rules_and_names},
     {"memory that is refused", test_memory_that_is_refused},
+    {"memory of a layout that is refused", test_memory_of_a_layout_that_is_refused},
     {"two threads", test_two_threads},
 };
 

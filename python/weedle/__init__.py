@@ -7,7 +7,8 @@
 Window Span(start=10, end=16)
 
 `parse` gives the definitions of a text, each with its parts as fields; `syntax` gives the nodes,
-rule by rule. What isn't WebIDL is `Refused`, with line, column and what was expected there.
+rule by rule; `format` lays a text out. What isn't WebIDL is `Refused`, with line, column and what was
+expected there.
 """
 
 from __future__ import annotations
@@ -18,6 +19,7 @@ from weedle import (
     _readers, argument, attribute, common, dictionary, interface, literal, mixin, namespace, term,
     types,
 )
+from weedle._formatting import format
 from weedle._reading import tree_of
 from weedle._text import Position, Span
 from weedle._values import Choice, Terminal, Value, made
@@ -27,11 +29,11 @@ from weedle.definitions import Definition
 from weedle.errors import Refused
 from weedle.nodes import Node, syntax
 
-__version__ = "0.4.0"
+__version__ = "0.5.0"
 __all__ = [
     "Choice", "Node", "Position", "Refused", "Span", "Terminal", "Value", "argument", "attribute",
-    "common", "dictionary", "interface", "literal", "mixin", "namespace", "parse", "syntax", "term",
-    "types", *definitions.__all__,
+    "common", "dictionary", "format", "interface", "literal", "mixin", "namespace", "parse", "syntax",
+    "term", "types", *definitions.__all__,
 ]
 
 

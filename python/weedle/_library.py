@@ -47,6 +47,12 @@ class ExplainAnswer(Structure):
     ]
 
 
+class FormatAnswer(Structure):
+    """How long the text laid out is, where the unread rest begins, and whether it was laid out."""
+
+    _fields_ = [("length", c_size_t), ("rest", c_size_t), ("is_laid_out", c_size_t)]
+
+
 class Explanation(NamedTuple):
     """Why a text is refused: the place in bytes, its line and column, and the message."""
 
@@ -104,6 +110,10 @@ def _declare(library: ctypes.CDLL) -> None:
         c_char_p, c_size_t, ctypes.c_void_p, c_size_t, POINTER(ExplainAnswer),
     ]
     library.weedle_explain.restype = c_uint32
+    library.weedle_format.argtypes = [
+        c_char_p, c_size_t, ctypes.c_void_p, c_size_t, POINTER(FormatAnswer),
+    ]
+    library.weedle_format.restype = c_uint32
     library.weedle_version.restype = library.weedle_rules.restype = c_uint32
 
 
@@ -156,3 +166,17 @@ def explain(data: bytes) -> Explanation:
             return Explanation(answer.place, answer.line, answer.column, message)
         # A zero stands behind the message.
         room = bytearray(answer.length + 1)
+
+
+def lay_out(data: bytes) -> bytes:
+    """The text laid out, or Unread."""
+    size = 2 * len(data) + LEAST_NODES
+    while True:
+        room, answer = _room(size), FormatAnswer()
+        address = ctypes.addressof(ctypes.c_char.from_buffer(room))
+        status = LIBRARY.weedle_format(data, len(data), address, size, byref(answer))
+        if status == READ:
+            return bytes(memoryview(room)[:answer.length])
+        if status != NO_ROOM:
+            raise Unread(status, answer.rest)
+        size = answer.length
