@@ -1,10 +1,15 @@
 //! What always holds of texts that say the same. Each of these functions does nothing when it runs:
 //! its contract is the law.
 
-ghost use Rattle.std.specs.Prelude.{◌≡◌, ℕ, List};
+ghost use Rattle.std.specs.Prelude.{◌≡◌, ◌↔◌, ℕ, List};
+ghost use Rattle.weedle_grammar.specs.Trees.{Tree};
 ghost use Rattle.weedle_syntax.specs.declared.node.Node.{Node as TheNode};
 ghost use Rattle.weedle_syntax.specs.Syntax.{IsSyntax};
-ghost use Rattle.weedle_formatter.specs.Words.{SaysTheSame, words_of};
+ghost use Rattle.weedle_formatter.specs.Words.{
+  SaysTheSame,
+  ReadsAs,
+  words_of,
+};
 
 /// Whatever lists of nodes the two texts have, their words are the same.
 pub fn all_nodes_say_the_same()
@@ -20,4 +25,9 @@ pub fn is_symmetric()
 /// What is laid out twice says the same as the first text.
 pub fn is_transitive()
     ensures { (a b c : List ℕ) → SaysTheSame a b → SaysTheSame b c → SaysTheSame a c }
+{}
+
+/// Where a text says the same as another, the grammar reads the same trees of both.
+pub fn same_reading()
+    ensures { (a b : List ℕ) → SaysTheSame a b → (ts : List Tree) → ReadsAs a ts ↔ ReadsAs b ts }
 {}
