@@ -1,5 +1,5 @@
 -- Texts that say the same are read as the same trees.
-use Rattle.std.proofs.Common.{◌≡◌, ◌↔◌, inl, inr, ℕ, ◌+◌, List, [], ◌∷◌, ◌++◌, length, Bool, true, false, refl, sym, subst, ◌∙◌, ap, append-nil}
+use Rattle.std.proofs.Common.{◌≡◌, inl, inr, ℕ, ◌+◌, List, [], ◌∷◌, ◌++◌, length, Bool, true, false, refl, sym, subst, ◌∙◌, ap, append-nil}
 use Rattle.std.specs.Prelude.{if◌then◌else◌}
 use Rattle.weedle_grammar.specs.Trees.{Tree, Gives}
 use Rattle.weedle_grammar.specs.Meaning.{Raw, Breaks, Yields, ReadsRow, by_row, between, shaped}
@@ -11,7 +11,7 @@ use Rattle.weedle_syntax.specs.Parts.{IsNode, HasParts}
 use Rattle.weedle_syntax.specs.Syntax.{IsWhole, IsSyntax, AreTrees, no_trees, a_tree, root_to}
 use Rattle.weedle_syntax.proofs.ChildFacts.{Each}
 use Rattle.weedle_syntax.proofs.LeafFacts.{Covers, row_covers}
-use Rattle.weedle_formatter.specs.Words.{SaysTheSame, ReadsAs, words_of}
+use Rattle.weedle_formatter.specs.Words.{SaysTheSame, ReadsAs, IsReadAlike, words_of}
 use Rattle.weedle_formatter.proofs.LawFacts.{turned}
 use Rattle.weedle_formatter.proofs.Said.{Said, says, is_solid, flat, one_said}
 use Rattle.weedle_formatter.proofs.Named.{is_pure, parts_each, told, names_any, names_pure}
@@ -97,5 +97,11 @@ forth a b s ts h =
     subst (ReadsAs b) (ap (λ z. z.given) (sym given) ∙ trees) gives
 
 -- one gives what the other gives
-pub same_reading : (a b : List ℕ) → SaysTheSame a b → (ts : List Tree) → ReadsAs a ts ↔ ReadsAs b ts
-same_reading a b s ts = (forth a b s ts, forth b a (turned a b s) ts)
+pub same_reading : (a b : List ℕ) → SaysTheSame a b → IsReadAlike a b
+unfolding IsReadAlike
+same_reading a b s = λ ts. (forth a b s ts, forth b a (turned a b s) ts)
+
+-- a text that stays as it is
+pub read_as_itself : (raw out : List ℕ) → out ≡ raw → IsReadAlike raw out
+unfolding IsReadAlike
+read_as_itself raw out e ts = (subst (λ z. ReadsAs z ts) (sym e), subst (λ z. ReadsAs z ts) e)

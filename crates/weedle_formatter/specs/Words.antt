@@ -1,5 +1,5 @@
 -- What a text says: its words, which are all that was read but blanks and the ends of line comments.
-use Rattle.std.specs.Prelude.{◌≡◌, ◌==◌, ◌||◌, ℕ, Bool, if◌then◌else◌, nat_lt, List, [], ◌∷◌, length}
+use Rattle.std.specs.Prelude.{◌≡◌, ◌↔◌, ◌==◌, ◌||◌, ℕ, Bool, if◌then◌else◌, nat_lt, List, [], ◌∷◌, length}
 use Rattle.weedle_grammar.specs.Meaning.{between}
 use Rattle.weedle_grammar.specs.Trees.{Tree, Gives}
 use Rattle.weedle_grammar.specs.written.Table.{Reads}
@@ -53,3 +53,7 @@ pub record SaysTheSame (raw out : List ℕ) : Type 0 where
 -- the grammar reads the whole text, and gives these trees
 abbrev pub ReadsAs : List ℕ → List Tree → Type 0
 ReadsAs text ts = Reads text DEFINITIONS 0 (Gives ts (length text))
+
+-- whatever trees the grammar reads of one of two whole texts, it reads of the other
+unfoldable pub IsReadAlike : List ℕ → List ℕ → Type 0
+IsReadAlike raw out = (ts : List Tree) → ReadsAs raw ts ↔ ReadsAs out ts

@@ -1,13 +1,12 @@
 //! What always holds of texts that say the same. Each of these functions does nothing when it runs:
 //! its contract is the law.
 
-ghost use Rattle.std.specs.Prelude.{◌≡◌, ◌↔◌, ℕ, List};
-ghost use Rattle.weedle_grammar.specs.Trees.{Tree};
+ghost use Rattle.std.specs.Prelude.{◌≡◌, ℕ, List};
 ghost use Rattle.weedle_syntax.specs.declared.node.Node.{Node as TheNode};
 ghost use Rattle.weedle_syntax.specs.Syntax.{IsSyntax};
 ghost use Rattle.weedle_formatter.specs.Words.{
   SaysTheSame,
-  ReadsAs,
+  IsReadAlike,
   words_of,
 };
 
@@ -29,5 +28,5 @@ pub fn is_transitive()
 
 /// Where a text says the same as another, the grammar reads the same trees of both.
 pub fn same_reading()
-    ensures { (a b : List ℕ) → SaysTheSame a b → (ts : List Tree) → ReadsAs a ts ↔ ReadsAs b ts }
+    ensures { (a b : List ℕ) → SaysTheSame a b → IsReadAlike a b }
 {}
