@@ -128,12 +128,12 @@ not_solid : (b : Bool) → b ≡ false → not b ≡ true
 not_solid true h = cc
 not_solid false h = refl
 
--- the table passes: the tests are computed here
-told_here : (r : ℕ) → is_told (shape_of r) (row_of r) ≡ true
-told_here = passes (λ r e. is_told e.shape e.row) (λ n r. refl) refl
+-- the table passes the tests: they are computed here
+pub told : (r : ℕ) → is_told (shape_of r) (row_of r) ≡ true
+told = passes (λ r e. is_told e.shape e.row) (λ n r. refl) refl
 
-rules_here : (r : ℕ) → all_named (λ x. true) (row_of r) ≡ true
-rules_here = passes (λ r e. all_named (λ x. true) e.row) (λ n r. refl) refl
+pub names_any : (r : ℕ) → all_named (λ x. true) (row_of r) ≡ true
+names_any = passes (λ r e. all_named (λ x. true) e.row) (λ n r. refl) refl
 
 trivia_here : (r : ℕ) → not (is_trivia r) || (is_silent (shape_of r) && all_named is_trivia (row_of r)) ≡ true
 trivia_here = passes (λ r e. not (is_trivia r) || (is_silent e.shape && all_named is_trivia e.row)) (λ n r. or_right (not (is_trivia n)) true refl) refl
@@ -141,17 +141,13 @@ trivia_here = passes (λ r e. not (is_trivia r) || (is_silent e.shape && all_nam
 pure_here : (r : ℕ) → not (is_solid r && is_silent (shape_of r)) || all_named is_pure (row_of r) ≡ true
 pure_here = passes (λ r e. not (is_solid r && is_silent e.shape) || all_named is_pure e.row) (λ n r. or_right (not (is_solid n && true)) true refl) refl
 
-pub told : (r : ℕ) → is_told (shape_of r) (row_of r) ≡ true
-told = told_here
-
-pub names_any : (r : ℕ) → all_named (λ x. true) (row_of r) ≡ true
-names_any = rules_here
-
+-- rules of trivia give nothing, and read rules of trivia
 pub trivia_silent : (r : ℕ) → is_solid r ≡ false → is_silent (shape_of r) ≡ true
 trivia_silent r h = (both _ _ (unless (is_trivia r) _ (trivia_here r) (not_solid _ h))).0
 
 pub names_trivia : (r : ℕ) → is_trivia r ≡ true → all_named is_trivia (row_of r) ≡ true
 names_trivia r h = (both _ _ (unless (is_trivia r) _ (trivia_here r) h)).1
 
+-- what gives nothing, and isn't of trivia, reads such rules
 pub names_pure : (r : ℕ) → is_pure r ≡ true → all_named is_pure (row_of r) ≡ true
 names_pure r h = unless (is_pure r) _ (pure_here r) h

@@ -17,15 +17,12 @@ use Rattle.weedle_formatter.proofs.Said.{Said, says, is_solid, flat, one_said}
 use Rattle.weedle_formatter.proofs.Named.{is_pure, parts_each, told, names_any, names_pure}
 use Rattle.weedle_formatter.proofs.SaidFacts.{own, said, solid, words_said}
 use Rattle.weedle_formatter.proofs.Told.{Told, all_bytes, gives, one_told, all_told}
-use Rattle.weedle_formatter.proofs.ToldFacts.{AreTold, none_told, a_told, left_out, front, of_none, pure_bytes}
+use Rattle.weedle_formatter.proofs.ToldFacts.{AreTold, none_told, a_told, left_out, front, of_none, same_gives, pure_bytes}
 use Rattle.weedle_formatter.proofs.RowFacts.{formed_told}
 
 -- a node's rule is read from its start to its end
 abbrev IsRead : List ℕ → Node → Type 0
 IsRead text n = EndsAt text n.rule n.start n.end
-
-same_gives : (ts us : List Tree) (p q : ℕ) → Gives ts p ≡ Gives us q → (ts ≡ us) × (p ≡ q)
-same_gives ts us p q e = (cc, cc)
 
 module _ (text : List ℕ) where
   parts_read : (n : Node) (inner : List Node) → HasParts text n inner → Each (IsRead text) inner

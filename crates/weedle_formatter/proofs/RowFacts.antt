@@ -16,7 +16,7 @@ use Rattle.weedle_syntax.specs.Parts.{AreInTurn, IsFirst, AreItems, NoneFollows,
 use Rattle.weedle_formatter.proofs.Said.{is_solid}
 use Rattle.weedle_formatter.proofs.Named.{keeps, row_told, is_told, all_and_one}
 use Rattle.weedle_formatter.proofs.Told.{Told, all_given, items_given, chosen, choice_given, option_given, yielded, row_bytes, gives}
-use Rattle.weedle_formatter.proofs.ToldFacts.{AreTold, clash, front, of_none, of_no_nodes, told_given, node_end, part_given, turn_given, turn_bytes, turn_length, other_pieces}
+use Rattle.weedle_formatter.proofs.ToldFacts.{AreTold, clash, same_gives, front, of_none, of_no_nodes, told_given, node_end, part_given, turn_given, turn_bytes, turn_length, other_pieces}
 
 same_yields : (ts us : List Tree) (es fs : List ℕ) (p q : ℕ) → Yields ts es p ≡ Yields us fs q → (ts ≡ us) × (es ≡ fs)
 same_yields ts us es fs p q e = (cc, cc)
@@ -43,9 +43,6 @@ module _ (text : List ℕ) (d : ℕ) where
     pub reads : EndsAt text first.rule p end
     pub given : ts ≡ chosen i rs first
 
-  same_out : (ts us : List Tree) (p q : ℕ) → Gives ts p ≡ Gives us q → ts ≡ us
-  same_out ts us p q e = cc
-
   first_told : (rs : List ℕ) (i p e q : ℕ) (ns : List Node) (bs : List Told) (ts : List Tree) → list_all is_solid rs ≡ true → IsFirst text rs d p e ns → AreTold text ns bs
       → ReadsFirst webidl text rs i p (Gives ts q) → OneRead p i rs bs ts
   first_told [] i p e q ns bs ts t h a m = absurd h
@@ -60,7 +57,7 @@ module _ (text : List ℕ) (d : ℕ) where
           is = f.is;
           end = n.end;
           reads = subst (λ x. EndsAt text x p n.end) (sym rule) h.0.reads;
-          given = same_out _ _ _ _ w ∙ ap (map (Alt i)) (told_given h.0 f.told given).0
+          given = (same_gives _ _ _ _ w).0 ∙ ap (map (Alt i)) (told_given h.0 f.told given).0
               ∙ ap (λ b. if b then map (Alt i) f.first.given else chosen (suc i) rs f.first) (sym (eq-eqb r f.first.rule (sym rule)));
         })
     | inr k ↦ absurd (not_both k.0 h.0.reads)
@@ -196,8 +193,8 @@ module _ (text : List ℕ) (d : ℕ) where
   same_some : (ps qs : List Piece) → Some ps ≡ Some qs → ps ≡ qs
   same_some ps qs e = cc
 
-  gave_both : (rs : List ℕ) (k p : ℕ) (pieces : List Piece) (b : Bool) → Gave text rs k p b → ReadsSeq webidl text rs p (Some pieces) → gave_some k pieces ≡ b
-  gave_both rs k p pieces b (ps, h, g) m = ap (gave_some k) (same_some pieces ps (one_seq m h refl)) ∙ g
+  gave_is : (rs : List ℕ) (k p : ℕ) (pieces : List Piece) (b : Bool) → Gave text rs k p b → ReadsSeq webidl text rs p (Some pieces) → gave_some k pieces ≡ b
+  gave_is rs k p pieces b (ps, h, g) m = ap (gave_some k) (same_some pieces ps (one_seq m h refl)) ∙ g
 
   chosen_end : (b : Bool) (ts us : List Tree) (c : Bool) → b ≡ c → ts ++ (if b then [] else us) ≡ ts ++ (if c then [] else us)
   chosen_end b ts us c e = ap (λ z. ts ++ (if z then [] else us)) e
@@ -225,7 +222,7 @@ module _ (text : List ℕ) (d : ℕ) where
       → ReadsRow webidl text (If rs k y) p (Yields us ends e) → us ≡ yielded (If rs k y) bs
   if_yields rs k y p e ns bs us ends t u (inl h) a m = elim (of_if m) [
     | inl x ↦ breaks us ends e x.1
-    | inr (inl (pieces, s, g, w)) ↦ clash (gave_some k pieces) (gave_both rs k p pieces true h.0 s) g
+    | inr (inl (pieces, s, g, w)) ↦ clash (gave_some k pieces) (gave_is rs k p pieces true h.0 s) g
     | inr (inr (pieces, o, s, g, more, w)) ↦ (
         let (vs, es, z, is, joins) = before_yields (given_of pieces) us ends e (raw_of o) w in
         joins ∙ present_yields rs y p e z ns bs pieces vs t u h.1 a s (raw_gives o y (last_end p pieces) vs es z is more))
@@ -233,7 +230,7 @@ module _ (text : List ℕ) (d : ℕ) where
   if_yields rs k y p e ns bs us ends t u (inr h) a m = elim (of_if m) [
     | inl x ↦ breaks us ends e x.1
     | inr (inl (pieces, s, g, w)) ↦ (same_yields _ _ _ _ _ _ w).0 ∙ absent_yields rs p e ns bs pieces t h.1 a s
-    | inr (inr (pieces, o, s, g, more, w)) ↦ clash (gave_some k pieces) g (gave_both rs k p pieces false h.0 s)
+    | inr (inr (pieces, o, s, g, more, w)) ↦ clash (gave_some k pieces) g (gave_is rs k p pieces false h.0 s)
   ]
 
   row_yields : (row : Row) (p e : ℕ) (ns : List Node) (bs : List Told) (us : List Tree) (ends : List ℕ) → row_told row ≡ true → AreParts text row d p e ns → AreTold text ns bs

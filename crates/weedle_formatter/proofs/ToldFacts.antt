@@ -56,7 +56,7 @@ module _ {text : List ℕ} where
   pub of_no_nodes : {ns : List Node} {cs : List Told} → ns ≡ [] → AreTold text ns cs → cs ≡ []
   of_no_nodes {cs = cs} e a = of_none (subst (λ z. AreTold text z cs) e a)
 
-same_gives : (ts us : List Tree) (p q : ℕ) → Gives ts p ≡ Gives us q → (ts ≡ us) × (p ≡ q)
+pub same_gives : (ts us : List Tree) (p q : ℕ) → Gives ts p ≡ Gives us q → (ts ≡ us) × (p ≡ q)
 same_gives ts us p q e = (cc, cc)
 
 module _ {text : List ℕ} where

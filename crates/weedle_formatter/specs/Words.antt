@@ -54,6 +54,6 @@ pub record SaysTheSame (raw out : List ℕ) : Type 0 where
 abbrev pub ReadsAs : List ℕ → List Tree → Type 0
 ReadsAs text ts = Reads text DEFINITIONS 0 (Gives ts (length text))
 
--- whatever trees the grammar reads of one of two whole texts, it reads of the other
+-- whatever trees the grammar reads of the whole of one text, it reads of the whole of the other, and the other way round
 unfoldable pub IsReadAlike : List ℕ → List ℕ → Type 0
 IsReadAlike raw out = (ts : List Tree) → ReadsAs raw ts ↔ ReadsAs out ts
