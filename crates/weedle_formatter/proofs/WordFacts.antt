@@ -31,17 +31,17 @@ kept : (b : Bool) (rest more : List Word) → b ≡ false → (if b then rest el
 kept true rest more h = cc
 kept false rest more h = refl
 
-none_here : (w : Word) (ws : List Word) → w ∷ ws ≡ [] → ⊥
+pub none_here : (w : Word) (ws : List Word) → w ∷ ws ≡ [] → ⊥
 none_here w ws e = cc
 
-same_first : (w v : Word) (ws vs : List Word) → w ∷ ws ≡ v ∷ vs → w ≡ v
+pub same_first : (w v : Word) (ws vs : List Word) → w ∷ ws ≡ v ∷ vs → w ≡ v
 same_first w v ws vs e = ap first e
   where
     first : List Word → Word
     first [] = w
     first (x ∷ xs) = x
 
-same_rest : (w v : Word) (ws vs : List Word) → w ∷ ws ≡ v ∷ vs → ws ≡ vs
+pub same_rest : (w v : Word) (ws vs : List Word) → w ∷ ws ≡ v ∷ vs → ws ≡ vs
 same_rest w v ws vs e = ap rest e
   where
     rest : List Word → List Word

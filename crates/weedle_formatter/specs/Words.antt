@@ -1,6 +1,9 @@
 -- What a text says: its words, which are all that was read but blanks and the ends of line comments.
-use Rattle.std.specs.Prelude.{◌≡◌, ◌==◌, ◌||◌, ℕ, Bool, if◌then◌else◌, nat_lt, List, [], ◌∷◌}
+use Rattle.std.specs.Prelude.{◌≡◌, ◌↔◌, ◌==◌, ◌||◌, ℕ, Bool, if◌then◌else◌, nat_lt, List, [], ◌∷◌, length}
 use Rattle.weedle_grammar.specs.Meaning.{between}
+use Rattle.weedle_grammar.specs.Trees.{Tree, Gives}
+use Rattle.weedle_grammar.specs.written.Table.{Reads}
+use Rattle.weedle_grammar.specs.written.Table.Definitions.{DEFINITIONS}
 use Rattle.weedle_grammar.specs.written.Table.Trivia.{BYTES_LF, NOT_NEXT_ANY, ONE_OF_BLANK, RUN_BLANK, BLANKS, PIECE}
 use Rattle.weedle_syntax.specs.declared.node.Node.{Node}
 use Rattle.weedle_syntax.specs.Syntax.{IsWhole, IsSyntax}
@@ -46,3 +49,11 @@ pub record SaysTheSame (raw out : List ℕ) : Type 0 where
   pub raw_is : IsSyntax raw raw_nodes
   pub out_is : IsSyntax out out_nodes
   pub same : words_of raw raw_nodes ≡ words_of out out_nodes
+
+-- the grammar reads the whole text, and gives these trees
+abbrev pub ReadsAs : List ℕ → List Tree → Type 0
+ReadsAs text ts = Reads text DEFINITIONS 0 (Gives ts (length text))
+
+-- whatever trees the grammar reads of the whole of one text, it reads of the whole of the other, and the other way round
+unfoldable pub IsReadAlike : List ℕ → List ℕ → Type 0
+IsReadAlike raw out = (ts : List Tree) → ReadsAs raw ts ↔ ReadsAs out ts

@@ -11,7 +11,7 @@ ghost use Rattle.std.specs.Prelude.{
   string_bytes,
 };
 ghost use Rattle.weedle_syntax.specs.Syntax.{IsWhole, IsSyntax};
-ghost use Rattle.weedle_formatter.specs.Words.{SaysTheSame};
+ghost use Rattle.weedle_formatter.specs.Words.{SaysTheSame, IsReadAlike};
 
 use crate::page::lay_out;
 use crate::words::same_words;
@@ -37,6 +37,7 @@ pub struct Formatted {
 /// text itself, it is read too and compared, and all costs two and a half times as much. It asks
 /// for memory for the nodes of both texts, for what stands between their blanks, and for the
 /// answer.
+#[tactic(auto, using(crate::proofs::ReadingFacts::same_reading))]
 pub fn format(alloc: Global, raw: &str) -> Result<Option<Formatted>, AllocError>
     ensures whole { IfOk result (λ found. IsSome found ↔ IsWhole raw.now) }
 
@@ -44,6 +45,10 @@ pub fn format(alloc: Global, raw: &str) -> Result<Option<Formatted>, AllocError>
     // line comments are the same.
     ensures same { IfOk result
         (λ found. IfSome found (λ answer. SaysTheSame raw.now (string_bytes answer.text))) }
+
+    // So whatever trees the grammar reads of the text, it reads of the answer's, and no others.
+    ensures trees { IfOk result
+        (λ found. IfSome found (λ answer. IsReadAlike raw.now (string_bytes answer.text))) }
     ensures as_it_stood { IfOk result
         (λ found. IfSome found
         (λ answer. answer.is_laid_out ≡ false → string_bytes answer.text ≡ raw.now)) }

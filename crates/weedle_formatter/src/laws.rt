@@ -4,7 +4,11 @@
 ghost use Rattle.std.specs.Prelude.{◌≡◌, ℕ, List};
 ghost use Rattle.weedle_syntax.specs.declared.node.Node.{Node as TheNode};
 ghost use Rattle.weedle_syntax.specs.Syntax.{IsSyntax};
-ghost use Rattle.weedle_formatter.specs.Words.{SaysTheSame, words_of};
+ghost use Rattle.weedle_formatter.specs.Words.{
+  SaysTheSame,
+  IsReadAlike,
+  words_of,
+};
 
 /// Whatever lists of nodes the two texts have, their words are the same.
 pub fn all_nodes_say_the_same()
@@ -20,4 +24,9 @@ pub fn is_symmetric()
 /// What is laid out twice says the same as the first text.
 pub fn is_transitive()
     ensures { (a b c : List ℕ) → SaysTheSame a b → SaysTheSame b c → SaysTheSame a c }
+{}
+
+/// Where a text says the same as another, the grammar reads the same trees of both.
+pub fn same_reading()
+    ensures { (a b : List ℕ) → SaysTheSame a b → IsReadAlike a b }
 {}
