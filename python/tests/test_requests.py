@@ -32,7 +32,9 @@ tool = ctypes.CDLL(None)
 
 def answer(text):
     try:
-        return weedle.parse(text)[0].to_json()
+        value = weedle.parse(text)[0].to_json()
+        weedle.format(text)
+        return value
     except weedle.Refused as refused:
         return str(refused)
     except MemoryError:
