@@ -79,16 +79,22 @@ def _loaded() -> ctypes.CDLL:
     except OSError as fault:
         raise ImportError(_unloaded(path, bool(named), fault)) from None
     try:
+        _compare(path, library)
         _declare(library)
-        found = library.weedle_version(), library.weedle_rules()
     except AttributeError as fault:
         raise ImportError(f"{path} isn't weedle's shared object: {fault}") from None
+    return library
+
+
+def _compare(path: Path, library: ctypes.CDLL) -> None:
+    """Refuses a shared object of another version, which may lack calls."""
+    library.weedle_version.restype = library.weedle_rules.restype = c_uint32
+    found = library.weedle_version(), library.weedle_rules()
     if found != (VERSION, len(RULES)):
         raise ImportError(
             f"{path} has version {found[0]:#08x} and {found[1]} rules, and this package "
             f"{VERSION:#08x} and {len(RULES)}: build it anew by python/build.sh"
         )
-    return library
 
 
 def _unloaded(path: Path, is_named: bool, fault: OSError) -> str:
@@ -114,7 +120,6 @@ def _declare(library: ctypes.CDLL) -> None:
         c_char_p, c_size_t, ctypes.c_void_p, c_size_t, POINTER(FormatAnswer),
     ]
     library.weedle_format.restype = c_uint32
-    library.weedle_version.restype = library.weedle_rules.restype = c_uint32
 
 
 LIBRARY = _loaded()
