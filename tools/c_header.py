@@ -154,7 +154,8 @@ uint32_t weedle_explain(
  * WEEDLE_STATUS_NO_ROOM: it needs `length` bytes, more than `room`. So with a room of 0 it tells how much is needed.
  * Only with WEEDLE_STATUS_READ is anything written to `out`, which `text` isn't a part of.
  *
- * It reads the text and what was made of it as weedle_syntax does, and takes twice its memory and its time.
+ * It reads the text as weedle_syntax does, and what was made of it once more where that isn't the text itself: so it
+ * takes a third more of its time where the text is laid out already, and else 2.4 times as much, and twice its memory.
  */
 uint32_t weedle_format(
     const char *text, size_t length,

@@ -81,7 +81,8 @@ fn format_text(alloc: Global, raw: &str, out: &mut [u8], answer: &mut WeedleForm
     }
 }
 
-/// The text of these nodes laid out, or None where that would say something else.
+/// The text of these nodes laid out, or None where that would say something else. What is laid out already isn't read
+/// again.
 fn laid_out(alloc: Global, raw: &str, nodes: &[Node]) -> Result<Option<String>, AllocError>
     requires are { IsFront raw.now nodes.now }
     requires whole { length raw.now ≤ the_rest_of nodes.now }
@@ -89,6 +90,9 @@ fn laid_out(alloc: Global, raw: &str, nodes: &[Node]) -> Result<Option<String>, 
         (λ found. IfSome found (λ text. SaysTheSame raw.now (string_bytes text))) }
 {
     let text = lay_out(alloc, raw, nodes)?;
+    if text.as_str() == raw {
+        return Ok(Some(text));
+    }
     let others = front(alloc, text.as_str())?;
     if rest_of(&others) < text.len() {
         return Ok(None);
