@@ -1,3 +1,4 @@
+pub mod OnceFacts
 pub mod TableFacts
 pub mod WordFacts
 pub mod FurthestFacts
