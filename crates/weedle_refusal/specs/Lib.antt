@@ -1,4 +1,5 @@
 pub mod Position
 pub mod Words
+pub mod Texts
 pub mod Furthest
 pub mod Refusal

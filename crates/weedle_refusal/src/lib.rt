@@ -14,6 +14,7 @@
 //! It prints ``a.webidl:3:1: expected `;` ``.
 #![tactic(auto)]
 
+mod display;
 mod excerpt;
 mod expected;
 mod furthest;
