@@ -2,6 +2,8 @@ pub mod OnceFacts
 pub mod TableFacts
 pub mod WordFacts
 pub mod TextFacts
+pub mod StartFacts
+pub mod EmptyFacts
 pub mod FurthestFacts
 pub mod RefusalFacts
 pub mod FrontFacts

@@ -7,7 +7,7 @@ use Rattle.std.proofs.lemmas.List.Quantifiers.{all_pairs_push}
 use Rattle.weedle_refusal.specs.Words.{IsEachOnce, none, again, anew}
 
 module _ {X : Type 0} where
-  nothing : (x : X) → Contains [] x → ⊥
+  pub nothing : (x : X) → Contains [] x → ⊥
   nothing x c = omega (arith, c.1)
 
   at_place : (xs : List X) (k : ℕ) (d x : X) → k < length xs → get_or xs k d ≡ x → Contains xs x
@@ -38,16 +38,16 @@ module _ {X : Type 0} where
   ]
 
   -- of a first element or one behind it
-  first_cases : (x : X) (xs : List X) (v : X) → Contains (x ∷ xs) v → (x ≡ v) ⊎ Contains xs v
+  pub first_cases : (x : X) (xs : List X) (v : X) → Contains (x ∷ xs) v → (x ≡ v) ⊎ Contains xs v
   first_cases x xs v c = elim (Contains-append_cases (x ∷ []) xs v c) [
     | inl a ↦ elim (Contains-push_cases [] x v a) [ inl n ↦ absurd (nothing v n) | inr e ↦ inl e ]
     | inr b ↦ inr b
   ]
 
-  first : (x : X) (xs : List X) (v : X) → x ≡ v → Contains (x ∷ xs) v
+  pub first : (x : X) (xs : List X) (v : X) → x ≡ v → Contains (x ∷ xs) v
   first x xs v e = subst (Contains (x ∷ xs)) e (Contains-append_left (x ∷ []) xs x (Contains-push [] x))
 
-  behind : (x : X) (xs : List X) (v : X) → Contains xs v → Contains (x ∷ xs) v
+  pub behind : (x : X) (xs : List X) (v : X) → Contains xs v → Contains (x ∷ xs) v
   behind x xs v c = Contains-append_right (x ∷ []) xs v c
 
   here : (o : Option X) (xs : List X) (v : X) → o ≡ Some v → Contains (cons_option o xs) v

@@ -1,6 +1,6 @@
 -- Texts in a row, from one of them on.
-use Rattle.std.proofs.Common.{◌≡◌, ◌≢◌, ◌∙◌, ◌⊎◌, inl, inr, ℕ, zero, suc, ◌+◌, ◌-◌, ◌<◌, ◌≤◌, min, Bool, true, false, cond, eqb, leb, List, [], ◌∷◌, ◌++◌, length, map, take, drop, get_or, refl, sym, ap, subst, arith, append-nil, append_assoc, add-one, length-append, length-drop, eqb-true, le-leb}
-use Rattle.std.specs.Prelude.{codes, decimal, ◌==◌, ◌&&◌, nat_le, if◌then◌else◌}
+use Rattle.std.proofs.Common.{◌≡◌, ◌≢◌, ◌∙◌, inl, inr, ℕ, zero, suc, ◌+◌, ◌-◌, ◌<◌, ◌≤◌, min, Bool, true, false, cond, eqb, leb, List, [], ◌∷◌, ◌++◌, length, map, take, drop, get_or, refl, sym, ap, arith, append-nil, append_assoc, add-one, length-append, length-drop, eqb-true, le-leb}
+use Rattle.std.specs.Prelude.{codes, decimal, ◌&&◌}
 use Rattle.std.proofs.Math.Dec.{eqb-suc-zero}
 use Rattle.std.proofs.Math.Seq.{drop-append_seam, drop-cons}
 use Rattle.std.proofs.lemmas.Bool.{cases_lt, eqb-false, lt-leb}
@@ -40,12 +40,12 @@ step (suc i) false text (next ∷ texts) none some = rw (eqb-suc-zero i) refl
 is_last : (i n more : ℕ) (texts : List (List ℕ)) → length texts ≡ n + length (unshown more) → i < n
     → ((eqb more 0 && eqb (i + 1) n ≡ true) → drop (suc i) texts ≡ []) × ((eqb more 0 && eqb (i + 1) n ≡ false) → drop (suc i) texts ≢ [])
 is_last i n zero texts long low = (
-    λ is. (let e : i + 1 ≡ n = eqb-true _ _ is in nil_from_length (drop (suc i) texts) (omega (arith, length-drop (suc i) texts))),
-    λ not none. (let e : length (drop (suc i) texts) ≡ 0 = ap length none in eqb-false _ _ not (omega (arith, length-drop (suc i) texts))),
+  λ is. (let e : i + 1 ≡ n = eqb-true _ _ is in nil_from_length (drop (suc i) texts) (omega (arith, length-drop (suc i) texts))),
+  λ not none. (let e : length (drop (suc i) texts) ≡ 0 = ap length none in eqb-false _ _ not (omega (arith, length-drop (suc i) texts))),
 )
 is_last i n (suc m) texts long low = (
-    λ is. (let e = rw (eqb-suc-zero m) at is in cc),
-    λ not none. (let e : length (drop (suc i) texts) ≡ 0 = ap length none in omega (arith, length-drop (suc i) texts)),
+  λ is. (let e = rw (eqb-suc-zero m) at is in cc),
+  λ not none. (let e : length (drop (suc i) texts) ≡ 0 = ap length none in omega (arith, length-drop (suc i) texts)),
 )
 
 last_said : (i more : ℕ) → (more ≢ 0 → i ≢ 0) → from i (unshown more) ≡ end more

@@ -18,6 +18,7 @@ mod display;
 mod excerpt;
 mod expected;
 mod furthest;
+pub mod laws;
 mod message;
 mod position;
 mod refusal;

@@ -1,4 +1,4 @@
-use Rattle.std.proofs.Common.{true, [], get_or, append-nil, ◌≡◌, ◌∙◌, ◌<◌, ◌≤◌, ◌-◌, ◌++◌, ℕ, List, min, length, refl, sym, ap, subst, take, arith}
+use Rattle.std.proofs.Common.{true, [], get_or, append-nil, ◌≡◌, ◌∙◌, ◌<◌, ◌-◌, ◌++◌, ℕ, List, length, refl, sym, ap, subst, take, arith}
 use Rattle.std.proofs.lemmas.List.{length-take-le}
 use Rattle.std.specs.Prelude.{codes, decimal, map}
 use Rattle.std.proofs.Output.{has_written_append, has_written_of_eq}
