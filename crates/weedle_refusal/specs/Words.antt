@@ -118,6 +118,7 @@ AreSound rules words = All (λ w. (r : ℕ) × Contains rules r × (has_word r �
 pub record AreWords (rules : List ℕ) (words : List Expected) : Type 0 where
   -- that for each rule in turn, each once: so in the order of the rules, and none that a rule has by itself where its kind is said of it
   pub are : IsEachOnce (filter_map (word_for rules) rules) (map word_view words)
+  -- no word stands twice
   pub once : AllPairs (λ v w. word_view v ≢ word_view w) words
   pub sound : AreSound rules words
   pub complete : (r : ℕ) → Contains rules r → has_word r ≡ true → IsSaid rules words r
