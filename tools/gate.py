@@ -37,10 +37,13 @@ SLACK = 300
 LONG, LONGEST = 240, 1800
 # With fewer processors than these none is idle for long, and each task gets one.
 FEWEST = 3
-# What part of the free memory is used, as rt has it, and how much of one job's memory each further job takes.
-ROOM, MEMORY_OF_A_JOB = 0.85, 0.6
-# Of rt's figure for the memory of a check: what part one takes that doesn't stand on the recursive types.
-OF_A_SMALL_CHECK, TYPES = 0.5, "weedle_types"
+# What part of the free memory is used, as rt has it.
+ROOM = 0.85
+# How many times rt's figure for its memory a check takes that doesn't stand on the recursive types, how many times one
+# that does, and how much more for each further job. As seen: 1.3 GB of the first, 4 to 5 of the others, 8 of the
+# types themselves by one job and 11 by four.
+OF_A_SMALL_CHECK, OF_A_CHECK, OF_A_JOB = 0.5, 1.4, 0.3
+TYPES = "weedle_types"
 
 
 class Task:
@@ -51,21 +54,22 @@ class Task:
         self.needs, self.call = needs, call
 
     def memory(self, jobs):
-        return self.needs * (1 + MEMORY_OF_A_JOB * (jobs - 1))
+        return self.needs * (1 + OF_A_JOB * (jobs - 1))
 
 
-def is_small(name, waits):
-    """Whether a crate doesn't stand on the recursive types, by what its proof waits for."""
-    return name != TYPES and (TYPES, "proof") not in waits
+def part_of(name, waits):
+    """How many times rt's figure a check of a crate takes, by what its proof waits for."""
+    is_small = name != TYPES and (TYPES, "proof") not in waits
+    return OF_A_SMALL_CHECK if is_small else OF_A_CHECK
 
 
 def known(tasks, times):
     """The tasks of rt by their keys."""
     found = {}
     for (name, kind), (waits, lines, needs, call) in tasks.items():
-        part = OF_A_SMALL_CHECK if is_small(name, tasks[name, "proof"][0]) else 1
         seconds = times.get((name, kind), SECONDS_OF_A_LINE * lines)
-        found[name, kind] = Task(waits, kind == "proof", seconds, part * needs, call)
+        memory = needs * part_of(name, tasks[name, "proof"][0])
+        found[name, kind] = Task(waits, kind == "proof", seconds, memory, call)
     return found
 
 

@@ -195,11 +195,8 @@ def simulated(tasks, processors, memory=math.inf):
 
 def in_own_order(tasks, processors, memory=math.inf):
     """The same by the order of tools/gate.py."""
-    parts = {key: gate.OF_A_SMALL_CHECK if gate.is_small(key[0], it.waits) else 1 for key, it in tasks.items()}
-    own = {
-        key: gate.Task(it.waits, key[1] == "proof", it.seconds, parts[key[0], "proof"] * it.needs)
-        for key, it in tasks.items()
-    }
+    rows = {key: (it.waits, it.lines, it.needs, None) for key, it in tasks.items()}
+    own = gate.known(rows, {key: it.seconds for key, it in tasks.items()})
     order, given, running, left, log, now = gate.Order(own, processors, memory), set(), {}, {}, {}, 0.0
     while len(given) < len(tasks):
         for key, jobs in order.begin(set(tasks) - set(log), given, running):

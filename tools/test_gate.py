@@ -89,7 +89,7 @@ class Began(unittest.TestCase):
 
     def test_memory_takes_jobs_away_and_then_holds_a_task_back(self):
         given = {("low", "proof"): 1, ("low", "tests"): 1, ("low", "edits"): 1}
-        order = order_of(rows_of(None), memory=0.9 * GB)
+        order = order_of(rows_of(None), memory=0.7 * GB)
         self.assertEqual(self.begun(order, given, {})["long", "proof"], 2)
         begun = self.begun(order, given, {("long", "tests"): 1})
         self.assertNotIn(("long", "proof"), begun)
@@ -102,15 +102,15 @@ class Began(unittest.TestCase):
         task = known({("new", "proof"): ([], 100, GB, None)}, TIMES)["new", "proof"]
         self.assertEqual(task.seconds, 30)
 
-    def test_what_stands_on_the_recursive_types_takes_what_rt_says(self):
+    def test_what_stands_on_the_recursive_types_takes_more_than_rt_says_and_all_else_less(self):
         tasks = {
             ("new", "proof"): ([("weedle_types", "proof")], 1, GB, None),
             ("new", "edits"): ([("new", "proof")], 1, GB, None),
             ("other", "proof"): ([("low", "proof")], 1, GB, None),
         }
         found = known(tasks, {})
-        self.assertEqual([found["new", it].memory(1) for it in ("proof", "edits")], [GB, GB])
-        self.assertEqual([found["other", "proof"].memory(it) for it in (1, 2)], [0.5 * GB, 0.8 * GB])
+        self.assertEqual([found["new", it].memory(1) for it in ("proof", "edits")], [1.4 * GB, 1.4 * GB])
+        self.assertEqual([found["other", "proof"].memory(it) for it in (1, 3)], [0.5 * GB, 0.8 * GB])
 
 
 class Known(unittest.TestCase):
