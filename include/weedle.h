@@ -415,7 +415,7 @@ enum weedle_rule {
     WEEDLE_TAIL_IDENTIFIER_COMMA = 253,
     WEEDLE_IDENTIFIER_LIST = 254,
     WEEDLE_PARENTHESIZED_IDENTIFIER_LIST = 255,
-    /* Types that hold types, attributes and arguments, which read one another. */
+    /* Types that hold types, extended attributes and arguments, which read one another. */
     WEEDLE_GENERICS_TYPE = 256,
     WEEDLE_SEQUENCE_TYPE = 257,
     WEEDLE_FROZEN_ARRAY_TYPE = 258,

@@ -70,7 +70,7 @@ def files():
         elsewhere = {it.name: f"super::{file_of(it)}" for it in BUILT if file_of(it) != file}
         yield f"types/{file}.rt", file_text(about, functions_in(file), elsewhere)
     yield "types/plain_types.rt", file_text(PLAIN_TYPES, plain_functions(), {"plain_type": None})
-    about = "Attributes that hold no arguments."
+    about = "Extended attributes that hold no arguments."
     yield "types/plain_attributes.rt", file_text(about, plain_builds(), {}, OWN_STEPS)
     about = "How the types that lead back to themselves are built as parts of others."
     functions = {it.name: f"crate::types::{file_of(it)}" for it in BUILT}

@@ -39,7 +39,7 @@ CRATES = {
         "literals": ("literals and defaults", ["weedle_literal"]),
         "modifiers": ("words before a member, and of what is inherited from", ["weedle_modifier"]),
         "attributes": (
-            "attributes and arguments",
+            "extended attributes and arguments",
             ["weedle_types::argument", "weedle_types::attribute"],
         ),
         "types": ("types", ["weedle_types::formers", "weedle_types::types"]),

@@ -60,15 +60,17 @@ class File:
 
 
 FILES = [
-    File(TYPES, "PlainAttributes", "attributes without arguments are spelt", "attributes without arguments",
+    File(TYPES, "PlainAttributes", "extended attributes without arguments are spelt",
+         "extended attributes without arguments",
          types="IdentifierOrString IdentifierList ExtendedAttributeIdent ExtendedAttributeIdentList"
                " ExtendedAttributeNoArgs"),
-    File(TYPES, "Arguments", "attributes and arguments are spelt",
-         "arguments, and of attributes that may have arguments", law_module="attributes",
+    File(TYPES, "Arguments", "extended attributes and arguments are spelt",
+         "arguments, and of extended attributes that may have arguments", law_module="attributes",
          types="Argument ArgumentList ParenthesizedArgumentList ExtendedAttribute ExtendedAttributeArgList"
                " ExtendedAttributeNamedArgList ExtendedAttributeList Option<ExtendedAttributeList>"
                " SingleArgument VariadicArgument"),
-    File(TYPES, "Types", "the types are spelt that are made of types, arguments and attributes", "types",
+    File(TYPES, "Types", "the types are spelt that are made of types, arguments and extended attributes",
+         "types",
          types="Type NonAnyType UnionMemberType SingleType ReturnType RecordKeyType RecordTypes Box<Type>"
                " Box<ReturnType> SequenceType FrozenArrayType PromiseType RecordType UnionType AttributedType"
                " AttributedNonAnyType", modules="weedle_types.types"),

@@ -38,7 +38,7 @@ FILES = {
     "types": "Clones of types.",
     "generic_types": "Clones of types over types in angle brackets.",
     "unions": "Clones of unions.",
-    "attributes": "Clones of attributes.",
+    "attributes": "Clones of extended attributes.",
     "arguments": "Clones of arguments.",
 }
 # The modules that declare the types; those in `formers` have their public names in `types`.
@@ -47,12 +47,12 @@ MODULES = ("argument", "attribute", "types")
 # read it: its tree, and its words. And the lists, by their items: what the function's name says, the
 # words, and the lemma by which an item is smaller than its list, where items lead back to the list.
 OTHERS = {
-    "attributes": ("attributes_tree", "attributes in brackets, where they stand"),
+    "attributes": ("attributes_tree", "extended attributes in brackets, where they stand"),
     "nullable_union_type": ("may_be_null_tree union_type_tree", "a union that may be null"),
 }
 LISTS = {
     "Argument": ("argument_items", "arguments", "argument_smaller"),
-    "ExtendedAttribute": ("extended_attributes", "attributes", "attribute_smaller"),
+    "ExtendedAttribute": ("extended_attributes", "extended attributes", "attribute_smaller"),
     "Identifier": ("identifiers", "names", None),
     "UnionMemberType": ("union_members", "the members of a union", "member_smaller"),
 }

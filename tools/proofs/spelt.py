@@ -26,7 +26,7 @@ NAMES = {
 }
 # What is spelt by a definition of its own, though it isn't declared, and what is said of it.
 HELPERS = {
-    "OPT_EXTENDED_ATTRIBUTE_LIST": "attributes, or none",
+    "OPT_EXTENDED_ATTRIBUTE_LIST": "extended attributes, or none",
     "KEY_AND_VALUE_TYPES": "the types of keys and values",
     "ASYNC_ITERABLE": "the words `async iterable`",
 }

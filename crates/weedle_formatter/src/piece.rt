@@ -25,7 +25,7 @@ pub(crate) enum Joint {
     Member,
     /// On the next line, as `}` behind members.
     EndOfBody,
-    /// Behind the attributes of a definition or of a member.
+    /// Behind the extended attributes of a definition or of a member.
     BehindAttributes,
     /// It begins a definition.
     Definition,
@@ -40,7 +40,8 @@ pub(crate) enum Role {
     OpensBody,
     /// It closes them.
     ClosesBody,
-    /// It opens a list, which may be broken: of arguments, of attributes, or of an enum's values.
+    /// It opens a list, which may be broken: of arguments, of extended attributes, or of an enum's
+    /// values.
     OpensList,
     /// It closes one.
     ClosesList,

@@ -13,7 +13,7 @@ use weedle_base::TryClone;
 use weedle_parts::common::{Docstring, Generics};
 use weedle_term::Comma;
 
-/// Copies attributes.
+/// Copies extended attributes.
 #[tactic(auto, using(crate::proofs::CopyFacts::attributes_alike))]
 pub fn copy_attributes<'a>(
     attributes: &Option<ExtendedAttributeList<'a>>,

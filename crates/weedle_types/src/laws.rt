@@ -1,7 +1,8 @@
-//! What the names of lists and brackets have to do with the grammar's rules. Each of these functions does
-//! nothing when it runs: its contract is the law.
+//! What the names of lists and brackets have to do with the grammar's rules. Each of these
+//! functions does nothing when it runs: its contract is the law.
 //!
-//! With these laws the types made of generic parts stand in further parts, as options, lists and brackets.
+//! With these laws the types made of generic parts stand in further parts, as options, lists and
+//! brackets.
 
 ghost use Rattle.weedle_base.specs.Rules.{HasRule};
 ghost use Rattle.weedle_parts.specs.ValueTrees.{
@@ -53,7 +54,7 @@ pub fn extended_attribute_list<'a>()
     ensures { HasRule ⟦<ExtendedAttributeList<'a> as Parse<'a>>⟧.reading EXTENDED_ATTRIBUTE_LIST extended_attribute_list_tree }
 {}
 
-/// Attributes that may be absent read what their rule reads.
+/// Extended attributes that may be absent read what their rule reads.
 #[tactic(auto, using(crate::proofs::AliasRules::attributes_has_rule))]
 pub fn attributes<'a>()
     ensures { HasRule ⟦<Option<ExtendedAttributeList<'a>> as Parse<'a>>⟧.reading OPT_EXTENDED_ATTRIBUTE_LIST attributes_tree }

@@ -9,7 +9,7 @@ use crate::attribute::ExtendedAttributeList;
 use std::alloc::Global;
 use weedle_base::{IResult, Parse};
 
-/// Reads attributes where they stand, as `[Exposed=Window]`.
+/// Reads extended attributes where they stand, as `[Exposed=Window]`.
 pub fn attributes<'a>(
     alloc: Global,
     input: &'a str,

@@ -292,7 +292,7 @@ simple_types =
     codes "parenthesized_identifier_list" ∷
     []
 
--- Types that hold types, attributes and arguments, which read one another.
+-- Types that hold types, extended attributes and arguments, which read one another.
 abbrev pub types : List (List ℕ)
 types =
     codes "generics_type" ∷

@@ -1,4 +1,4 @@
--- How the types are spelt that are made of types, arguments and attributes.
+-- How the types are spelt that are made of types, arguments and extended attributes.
 -- Written by tools/spellings.py.
 use Rattle.std.specs.Global.{Box}
 use Rattle.std.specs.Prelude.{codes}
@@ -83,7 +83,7 @@ abbrev pub union_type_spelling : Parenthesized (Punctuated UnionMemberType Or) â
 union_type_spelling =
     parenthesized_spelling (punctuated_spelling union_member_type_spelling (word (codes "or")))
 
--- a type with the attributes that stand before it
+-- a type with the extended attributes that stand before it
 abbrev pub attributed_type_spelling : AttributedType â†’ Form
 attributed_type_spelling v = attributes_spelling v.attributes then type_spelling v.type_
 

@@ -1,4 +1,4 @@
--- Attributes, and what follows from the answers of their parts.
+-- Extended attributes, and what follows from the answers of their parts.
 --
 -- Written by tools/types_proofs.py.
 use Rattle.std.proofs.Common.{inl, inr, refl, sym}

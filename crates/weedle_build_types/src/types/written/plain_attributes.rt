@@ -1,4 +1,4 @@
-//! Attributes that hold no arguments.
+//! Extended attributes that hold no arguments.
 //!
 //! Written by tools/build_types.py.
 #![tactic(auto, using(weedle_build_base::proofs::Finding::own_steps))]

@@ -1,4 +1,4 @@
-//! Orders of attributes and arguments.
+//! Orders of extended attributes and arguments.
 //!
 //! Written by tools/orders.py.
 

@@ -1,4 +1,4 @@
--- Types that hold types, attributes and arguments, which read one another.
+-- Types that hold types, extended attributes and arguments, which read one another.
 -- Written by tools/grammar.py: the number of each rule, and its row and shape, in the order of the numbers.
 use Rattle.std.specs.Prelude.{ℕ, List, [], ◌∷◌}
 use Rattle.weedle_grammar.specs.Rows.{First, If, ListOf, Opt, Seq, Tail}

@@ -1,4 +1,5 @@
-//! The laws of arguments, and of attributes that may have arguments. Written by tools/spellings.py.
+//! The laws of arguments, and of extended attributes that may have arguments.
+//! Written by tools/spellings.py.
 
 ghost use Rattle.weedle_grammar.specs.written.Table.Types.{
   ARGUMENT,
@@ -55,25 +56,25 @@ pub fn arguments()
     ensures { SpellsValues PARENTHESIZED_ARGUMENT_LIST arguments_tree arguments_spelling }
 {}
 
-/// An attribute, as `Exposed=Window` or `Constructor(long x)`.
+/// An extended attribute, as `Exposed=Window` or `Constructor(long x)`.
 #[tactic(auto, using(crate::proofs::written::ArgumentLaws::extended_attribute_law))]
 pub fn extended_attribute()
     ensures { SpellsValues EXTENDED_ATTRIBUTE extended_attribute_tree extended_attribute_spelling }
 {}
 
-/// An attribute with arguments, as `Constructor(long x)`.
+/// An extended attribute with arguments, as `Constructor(long x)`.
 #[tactic(auto, using(crate::proofs::written::ArgumentLaws::extended_attribute_arg_list_law))]
 pub fn extended_attribute_arg_list()
     ensures { SpellsValues EXTENDED_ATTRIBUTE_ARG_LIST extended_attribute_arg_list_tree extended_attribute_arg_list_spelling }
 {}
 
-/// An attribute with a name and arguments, as `NamedConstructor=Image(long x)`.
+/// An extended attribute with a name and arguments, as `NamedConstructor=Image(long x)`.
 #[tactic(auto, using(crate::proofs::written::ArgumentLaws::extended_attribute_named_arg_list_law))]
 pub fn extended_attribute_named_arg_list()
     ensures { SpellsValues EXTENDED_ATTRIBUTE_NAMED_ARG_LIST extended_attribute_named_arg_list_tree extended_attribute_named_arg_list_spelling }
 {}
 
-/// Attributes in brackets, as `[Exposed=Window, SecureContext]`.
+/// Extended attributes in brackets, as `[Exposed=Window, SecureContext]`.
 #[tactic(auto, using(crate::proofs::written::ArgumentLaws::extended_attribute_list_law))]
 pub fn extended_attribute_list()
     ensures { SpellsValues EXTENDED_ATTRIBUTE_LIST extended_attribute_list_tree extended_attribute_list_spelling }

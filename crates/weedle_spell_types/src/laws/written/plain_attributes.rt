@@ -1,4 +1,4 @@
-//! The laws of attributes without arguments. Written by tools/spellings.py.
+//! The laws of extended attributes without arguments. Written by tools/spellings.py.
 
 ghost use Rattle.weedle_grammar.specs.written.Table.SimpleTypes.{IDENTIFIER_LIST};
 ghost use Rattle.weedle_grammar.specs.written.Table.Types.{
@@ -35,19 +35,19 @@ pub fn identifier_list()
     ensures { SpellsValues IDENTIFIER_LIST (punctuated_tree identifier_tree) identifier_list_spelling }
 {}
 
-/// An attribute with a name or a string, as `PutForwards=name`.
+/// An extended attribute with a name or a string, as `PutForwards=name`.
 #[tactic(auto, using(crate::proofs::written::PlainAttributeLaws::extended_attribute_ident_law))]
 pub fn extended_attribute_ident()
     ensures { SpellsValues EXTENDED_ATTRIBUTE_IDENT extended_attribute_ident_tree extended_attribute_ident_spelling }
 {}
 
-/// An attribute with names, as `Exposed=(Window, Worker)`.
+/// An extended attribute with names, as `Exposed=(Window, Worker)`.
 #[tactic(auto, using(crate::proofs::written::PlainAttributeLaws::extended_attribute_ident_list_law))]
 pub fn extended_attribute_ident_list()
     ensures { SpellsValues EXTENDED_ATTRIBUTE_IDENT_LIST extended_attribute_ident_list_tree extended_attribute_ident_list_spelling }
 {}
 
-/// An attribute that is a name alone, as `Replaceable`.
+/// An extended attribute that is a name alone, as `Replaceable`.
 #[tactic(auto, using(crate::proofs::written::PlainAttributeLaws::extended_attribute_no_args_law))]
 pub fn extended_attribute_no_args()
     ensures { SpellsValues EXTENDED_ATTRIBUTE_NO_ARGS extended_attribute_no_args_tree extended_attribute_no_args_spelling }

@@ -124,7 +124,7 @@ pub fn union_type()
     ensures { SpellsValues UNION_TYPE union_type_tree union_type_spelling }
 {}
 
-/// A type with the attributes that stand before it, as `[Clamp] octet`.
+/// A type with the extended attributes that stand before it, as `[Clamp] octet`.
 #[tactic(auto, using(crate::proofs::written::TypeLaws::attributed_type_law))]
 pub fn attributed_type()
     ensures { SpellsValues ATTRIBUTED_TYPE attributed_type_tree attributed_type_spelling }

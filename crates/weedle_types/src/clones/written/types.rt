@@ -132,7 +132,7 @@ pub(crate) fn clone_return_type<'a>(
     }
 }
 
-/// Clones a type with the attributes that stand before it, as `[Clamp] octet`.
+/// Clones a type with the extended attributes that stand before it, as `[Clamp] octet`.
 #[cycle(clones)]
 pub(crate) fn clone_attributed_type<'a>(
     original: &AttributedType<'a>,
