@@ -4,7 +4,7 @@
 //! [`parse_counted`] counts what that takes. [`parse_by_descent`] answers the same with little memory, and
 //! [`parse_quick`] takes it where the text lets it; [`nesting`] says how deep a text nests. [`outline`]
 //! gives kinds, names and docstrings, and [`lend`] lends it a list that a function owns. [`run`] is the
-//! program: it reads a reader to its end, and writes what the text defines; [`run_outline`] writes an
+//! program: it reads its input to the end, and writes what the text defines; [`run_outline`] writes an
 //! outline of it.
 //!
 //! ```rust

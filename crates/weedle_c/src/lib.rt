@@ -1,4 +1,4 @@
-//! The proved reader as a C library. `include/weedle.h` declares what it exports, and says what a caller has to keep.
+//! The proved parser as a C library. `include/weedle.h` declares what it exports, and says what a caller has to keep.
 //!
 //! ```c
 //! struct weedle_answer answer;

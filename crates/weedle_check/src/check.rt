@@ -37,7 +37,7 @@ pub fn check_source<C: Clock + AllocGlobal, R: Read + Drop, W: Write>(
     check_text(rt, task, name, text, out)
 }
 
-/// What a reader gives up to its end.
+/// What an input gives up to its end.
 fn bytes_of<R: Read + Drop>(alloc: Global, opened: io::Result<R>) -> Result<Vec<u8>, Fault> {
     let mut bytes = Vec::new(alloc);
     match opened {

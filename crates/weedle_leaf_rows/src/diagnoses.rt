@@ -1,6 +1,6 @@
 //! Diagnoses: where and why a text is refused.
 //!
-//! The places, and what is named there, come from outside: from an independent reader over the grammar's
+//! The places, and what is named there, come from outside: from an independent program over the grammar's
 //! rows that notes its failing leaves. Rules of blanks and comments, which are tried nearly everywhere, are
 //! named only where the text breaks off within them.
 

@@ -10,7 +10,7 @@ use weedle_testing::{nested_attributes, repeated, short_reader, short_writer};
 
 const UNREAD: &str = "unread at byte 0\n";
 
-/// How many bytes a reader gives and a writer takes at once.
+/// How many bytes an input gives and an output takes at once.
 const MANY: usize = 1_000_000;
 
 /// Asserts that the text nests so, that descent isn't for it, and what a run says of it.

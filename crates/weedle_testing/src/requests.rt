@@ -59,7 +59,7 @@ impl Wanted {
         }
     }
 
-    /// Reads the whole text of each row, which is to be its value or to want memory, and copies what it reads. A copy
+    /// Reads the whole text of each example, which is to be its value or to want memory, and copies what it reads. A copy
     /// equals its original, which stays as it is where the copy wants memory.
     pub fn reads<'a, T: Parse<'a> + TryClone + PartialEq + Debug>(
         &mut self,
@@ -132,7 +132,7 @@ fn is_refused(alloc: Global) -> bool {
     false
 }
 
-/// Whether the whole text of each row is read as its value with no memory, and the text `#` is no value.
+/// Whether the whole text of each example is read as its value with no memory, and the text `#` is no value.
 pub fn reads_with_no_memory<'a, T: Parse<'a> + Debug>(
     alloc: Global,
     rows: &[(&'a str, &str)],
