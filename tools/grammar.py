@@ -23,6 +23,7 @@ import sys
 from pathlib import Path
 
 from command_line import refuse_writer
+from description.docs import comment
 from description.names import upper
 from description.webidl import (
     CAPITALIZED, KEYWORDS, NUMBER, RULES, SCANNED, SECTIONS, SYMBOLS, parts_of,
@@ -356,7 +357,7 @@ def fill_head(visibility, name, low, high):
 def code_fill_section(s):
     names = [r.name for r in s.rules]
     low, high = NUMBER[names[0]], NUMBER[names[-1]] + 1
-    out = [f"//! Works out the cells of a place, section: {s.about}", "//!", f"//! {HEAD[0].upper() + HEAD[1:]}.", ""]
+    out = [comment(f"Works out the cells of a place, section: {s.about}", "//! "), "//!", f"//! {HEAD[0].upper() + HEAD[1:]}.", ""]
     out += FILL_GHOSTS
     out += ["use crate::cell::Cell;", "use crate::fill::fill_cell;", "use crate::reader::Reader;",
             f"use weedle_grammar::grammar::{s.module};", ""]

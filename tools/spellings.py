@@ -19,7 +19,7 @@ import sys
 
 from command_line import refuse_writer
 from description.declarations import type_of
-from description.docs import with_example
+from description.docs import law as law_doc, small, with_example
 from description.imports import STATED, Names
 from description.layout import filled
 from description.names import snake
@@ -155,8 +155,10 @@ def law(item, stated):
 
 
 def law_function(item, stated, module):
-    doc = filled(with_example(item.doc).split(), "", "/// ")
-    return (f"{doc}#[tactic(auto, using({in_crate(module)}::{item.base}_law))]\npub fn {item.fact}()\n"
+    said = small(with_example(item.doc).removesuffix("."))
+    comma = "," if ", as `" in said else ""
+    doc = law_doc(f"the text of {said}{comma} spells its value.")
+    return (f"{doc}\n#[tactic(auto, using({in_crate(module)}::{item.base}_law))]\npub fn {item.fact}()\n"
             f"    ensures {{ {contract(item, stated)} }}\n{{}}\n")
 
 

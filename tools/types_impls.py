@@ -22,6 +22,7 @@ from pathlib import Path
 
 from command_line import refuse_writer
 from description.declarations import Type, declared_by
+from description.docs import comment
 from description.functions import NUMBERED, functions_of
 from description.names import snake
 from description.readings import LEAVES, Declared
@@ -294,7 +295,7 @@ def trees_alike(it):
 
 def function(it):
     """The text of a function that clones."""
-    lines = [f"/// Clones {it.words}."]
+    lines = [comment(f"Clones {it.words}.")]
     if is_in_cycle(it.name):
         lines.append("#[cycle(clones)]")
     if it.smaller:

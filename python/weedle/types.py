@@ -453,7 +453,9 @@ class AttributedType(Value):
 
 @value_class
 class AttributedNonAnyType(Value):
-    """The same where the type is neither `any` nor a union."""
+    """A type with the extended attributes that stand before it, which is neither `any` nor a
+    union, as `[Clamp] octet`.
+    """
 
     #: The extended attributes in brackets, as `[Clamp]`, where they stand.
     attributes: Optional[ExtendedAttributeList] = part(0)

@@ -217,7 +217,8 @@ impl Drop for AttributedType<'_> {
     }
 }
 
-/// The same where the type is neither `any` nor a union.
+/// A type with the extended attributes that stand before it, which is neither `any` nor a union, as
+/// `[Clamp] octet`.
 #[cycle(types)]
 #[derive(Debug, PartialEq, Eq, PartialOrd, Ord, Hash)]
 pub struct AttributedNonAnyType<'a> {

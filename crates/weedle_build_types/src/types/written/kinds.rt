@@ -196,8 +196,10 @@ pub(crate) fn attributed_type<'a>(
     Ok((AttributedType { attributes, type_ }, visit(at)))
 }
 
-/// Builds a type with its extended attributes, as `[Clamp] octet`, where the type is neither `any` nor a union.
-// It stays a call: within a member of a union its room would be held at each level of nested unions.
+/// Builds a type with its extended attributes, as `[Clamp] octet`, where the type is neither `any`
+/// nor a union.
+// It stays a call: within a member of a union its room would be held at each level of nested
+// unions.
 #[inline(never)]
 #[cycle(group)]
 pub(crate) fn attributed_non_any_type<'a>(

@@ -146,7 +146,8 @@ pub(crate) fn clone_attributed_type<'a>(
     })
 }
 
-/// Clones the same where the type is neither `any` nor a union.
+/// Clones a type with the extended attributes that stand before it, which is neither `any` nor a
+/// union, as `[Clamp] octet`.
 #[cycle(clones)]
 pub(crate) fn clone_attributed_non_any_type<'a>(
     original: &AttributedNonAnyType<'a>,

@@ -1,4 +1,5 @@
-//! Works out the cells of a place, section: Keywords with capitals: trivia, the keyword's bytes with no name character next, trivia.
+//! Works out the cells of a place, section: Keywords with capitals: trivia, the keyword's bytes
+//! with no name character next, trivia.
 //!
 //! Written by tools/grammar.py.
 

@@ -1,4 +1,5 @@
-//! Works out the cells of a place, section: Members of mixins, namespaces and dictionaries, and the values of an enum.
+//! Works out the cells of a place, section: Members of mixins, namespaces and dictionaries, and the
+//! values of an enum.
 //!
 //! Written by tools/grammar.py.
 

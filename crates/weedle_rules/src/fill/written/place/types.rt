@@ -1,4 +1,5 @@
-//! Works out the cells of a place, section: Types that hold types, extended attributes and arguments, which read one another.
+//! Works out the cells of a place, section: Types that hold types, extended attributes and
+//! arguments, which read one another.
 //!
 //! Written by tools/grammar.py.
 
