@@ -39,7 +39,7 @@ extern "C" {
 /* What a call comes to. */
 enum weedle_status {
     WEEDLE_STATUS_READ = 0, /* The grammar reads the whole text. */
-    WEEDLE_STATUS_REFUSED = 1, /* It doesn't. */
+    WEEDLE_STATUS_REFUSED = 1, /* The grammar doesn't read the whole text. */
     WEEDLE_STATUS_NOT_UTF8 = 2, /* The bytes aren't UTF-8. */
     WEEDLE_STATUS_NO_MEMORY = 3, /* Memory was refused. */
     WEEDLE_STATUS_NO_ROOM = 4, /* The grammar reads the whole text, and its nodes need more room. */

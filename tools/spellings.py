@@ -168,7 +168,7 @@ def imports(names, body, items=()):
 
 
 def ghost(line):
-    """The same in Rattle, one name a line where they don't fit."""
+    """A line `use` of the logic in Rattle, one name a line where they don't fit."""
     if len(f"ghost {line};") <= 100:
         return f"ghost {line};\n"
     module, names = re.fullmatch(r"(.*\.)\{(.*)\}", line).groups()

@@ -24,7 +24,7 @@ def about(doc):
 
 
 def with_example(doc):
-    """The same as a sentence, with the examples that the doc gives: "A callback, as `callback F = ..`."."""
+    """What a doc calls it as a sentence, with the examples that it gives: "A callback, as `callback F = ..`."."""
     found = EXAMPLE.match(doc)
     return f"{found[0] if found else FRONT.match(doc)[1]}."
 

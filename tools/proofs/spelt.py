@@ -119,7 +119,7 @@ def fact(type_, value, is_whole=False):
 
 
 def fact_of_any(type_):
-    """The same of all values of a type, as a term that another is applied to."""
+    """The fact of all values of a type, as a term that another is applied to."""
     return fact(type_, "") if is_named(type_) and not terminal(type_) else f"(λ w. {fact(type_, 'w')})"
 
 

@@ -63,7 +63,8 @@ pub(crate) fn explain(
     }
 }
 
-/// The same of what is UTF-8.
+/// Says where and why a text that is UTF-8 is refused, and writes as much of the message as there is
+/// room for.
 fn explain_text(alloc: Global, raw: &str, message: &mut [u8], answer: &mut WeedleRefusal) -> u32
     ensures known { (result ≤ NO_MEMORY) × (result ≢ NOT_UTF8) }
     ensures read { result ≡ READ → IsWhole raw.now }

@@ -14,7 +14,7 @@ pub struct Tally {
 }
 
 impl Tally {
-    /// Of no file.
+    /// The tally of no file.
     pub fn new() -> Tally {
         Tally {
             read: 0,

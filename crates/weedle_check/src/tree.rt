@@ -21,7 +21,8 @@ pub fn write_tree<W: Write>(alloc: Global, text: &str, out: &mut W) -> Result<()
     write_by_descent::<Definition<'_>, W>(alloc, text, out)
 }
 
-/// The same of any text, where it is read whole: says whether it is.
+/// Writes each definition of any text as [`write_tree`] does, where the text is read whole: says
+/// whether it is.
 ///
 /// It fills one table of ends, 1,544 bytes for each byte of the text.
 pub fn write_tree_over_table<W: Write>(
@@ -98,7 +99,7 @@ struct Cursor<'a> {
 }
 
 impl<'a> Cursor<'a> {
-    /// At the front of a text.
+    /// The cursor at the front of a text.
     fn new(text: &'a str) -> Cursor<'a> {
         Cursor {
             rest: text,

@@ -25,11 +25,11 @@ UTF-8, 3 out of memory, 4 a file or the output can't be written, 5 other argumen
 /// What is done with what was laid out.
 #[derive(Clone, Copy, Debug, PartialEq, Eq)]
 pub enum Task {
-    /// It is printed.
+    /// The layout is printed.
     Print,
-    /// It is compared.
+    /// The layout is compared with the text.
     Check,
-    /// It replaces the file.
+    /// The layout replaces the file.
     Write,
 }
 
@@ -38,7 +38,7 @@ pub enum Task {
 pub enum Request {
     /// How the program is used.
     Help,
-    /// Something of each of these files, of the standard input where there is none.
+    /// This task for each of these files, for the standard input where there is none.
     Files(Task, Vec<String>),
 }
 

@@ -19,13 +19,13 @@ struct Page {
     out: Vec<u8>,
     /// Lines end in CR and LF.
     in_two: bool,
-    /// At which column the last line ends.
+    /// The column at which the last line ends.
     column: usize,
     /// How many braces with members are open.
     level: usize,
-    /// Of each list that is open whether it is broken.
+    /// Whether each list that is open is broken, the innermost last.
     lists: Vec<bool>,
-    /// How many of them are.
+    /// How many open lists are broken.
     broken: usize,
     /// What was written last is a line comment, which an LF ends.
     is_behind_comment: bool,

@@ -19,7 +19,7 @@ pub trait Report {
         ensures { OnOk result (string_bytes report.new ≡ string_bytes report.old ++ lines definition.now) };
 }
 
-/// Of each definition its kind and its name.
+/// The report of titles: of each definition its kind and its name.
 pub struct Titles;
 
 impl Report for Titles {
@@ -32,7 +32,7 @@ impl Report for Titles {
     }
 }
 
-/// Of each definition its kind and its name, and below them its docstring.
+/// The report of outlines: of each definition its kind and its name, and below them its docstring.
 pub struct Outlines;
 
 impl Report for Outlines {

@@ -38,7 +38,8 @@ fn all_rise<T: Ord>(rt: &impl Abort, values: &[T]) {
     }
 }
 
-/// The same of lists of definitions. It takes the prover a minute at each place where the type is named.
+/// Checks that the list of definitions of each text is less than those of the texts behind it, and
+/// that a copy of all equals them. It takes the prover a minute at each place where the type is named.
 fn definitions_rise(rt: &impl Abort, alloc: Global, texts: &[&str]) -> Result<(), Fail> {
     rise::<Definitions<'_>>(rt, alloc, texts)
 }

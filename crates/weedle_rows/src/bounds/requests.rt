@@ -70,7 +70,7 @@ fn assert_reached(rt: &impl Abort, text: &str, counts: Counts) {
     }
 }
 
-/// The same as `assert_read`, by `parse_counted`, and asserts what is counted.
+/// Asserts that the text is read so by `parse_counted` or that memory is wanted, and what is counted.
 fn assert_counted(
     rt: &impl Abort,
     alloc: Global,
