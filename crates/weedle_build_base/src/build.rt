@@ -28,7 +28,7 @@ pub trait Build<'a> {
 
     ghost tree: { Self.Value → Tree };
 
-    /// Builds the value that the rule reads at a place, and goes on to its end. It looks at ends
+    /// Builds the value that `rule` reads at the place `at`, and goes on to its end. It looks at ends
     /// alone, a few for each node of the tree and for each line of a docstring, and one for each
     /// alternative that doesn't fit.
     /// It takes the memory that the value holds, and is refused for want of it alone.

@@ -34,8 +34,8 @@ pub trait Fields<'a> {
 
     ghost trees: { Self.Values → List Tree };
 
-    /// Builds the fields from a part of a sequence on, counted from 0. It takes the memory that the
-    /// values hold, and is refused for want of it alone.
+    /// Builds the fields from the part `first` of the sequence `rule` on, counted from 0, which it reads
+    /// from `at` on. It takes the memory that the values hold, and is refused for want of it alone.
     fn build_fields(
         alloc: Global,
         table: &Ends<'a>,
@@ -97,7 +97,9 @@ impl<'a, A: Build<'a>, P: Fields<'a>> Fields<'a> for (A, P) {
     }
 }
 
-/// Builds the fields of a sequence, and visits its node. It is refused where a field is.
+/// Builds the fields of a sequence, which `rule` reads one after another, and visits its node. `at` is
+/// a place where `rule` reads them, with the nodes that were visited before. It is refused where a
+/// field is.
 pub fn sequence<'a, P: Fields<'a>>(
     alloc: Global,
     table: &Ends<'a>,

@@ -22,7 +22,9 @@ pub struct Source<'a, R: Drop> {
     pub opened: io::Result<R>,
 }
 
-/// Reads a source to its end, checks the text and prints what is asked for.
+/// Reads a source to its end, checks the text and prints what is asked for. A text that is refused is
+/// an answer; it fails where the source can't be read or isn't UTF-8, where memory is refused, and
+/// where the output can't be written.
 pub fn check_source<C: Clock + AllocGlobal, R: Read + Drop, W: Write>(
     rt: &C,
     task: Task,

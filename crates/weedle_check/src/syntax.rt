@@ -16,6 +16,8 @@ const INDENT: &str = "  ";
 ///   definition 0..21
 ///     includes_statement_definition 0..21
 /// ```
+///
+/// It fails where memory is refused, and where the output can't be written.
 pub fn write_syntax<W: Write>(alloc: Global, text: &str, out: &mut W) -> Result<bool, Fault> {
     let Some(nodes) = syntax_quick(alloc, text)? else {
         return Ok(false);

@@ -17,6 +17,7 @@ use weedle_rules::Ends;
 /// `3:1 Interface(InterfaceDefinition { .. })`. The text is read whole, and suits descent.
 ///
 /// Each definition is read, written and let go of by itself, and no memory is taken but what it holds.
+/// It fails where memory is refused, and where the output can't be written.
 pub fn write_tree<W: Write>(alloc: Global, text: &str, out: &mut W) -> Result<(), Fault> {
     write_by_descent::<Definition<'_>, W>(alloc, text, out)
 }
@@ -24,7 +25,8 @@ pub fn write_tree<W: Write>(alloc: Global, text: &str, out: &mut W) -> Result<()
 /// Writes each definition of any text as [`write_tree`] does, where the text is read whole: says
 /// whether it is.
 ///
-/// It fills one table of ends, 1,544 bytes for each byte of the text.
+/// It fills one table of ends, 1,544 bytes for each byte of the text. It fails where memory is
+/// refused, and where the output can't be written.
 pub fn write_tree_over_table<W: Write>(
     alloc: Global,
     text: &str,

@@ -134,7 +134,8 @@ pub fn nullable_names_hash_alike(a: MayBeNull<Identifier<'_>>, b: MayBeNull<Iden
     hash_alike(&a, &b)
 }
 
-/// A clone of a name that may be null, and whether it equals that: `Ok((name, true))`.
+/// A clone of a name that may be null, which takes no memory and never fails, and whether it equals
+/// that: `Ok((name, true))`.
 pub fn clone_nullable_name<'a>(
     name: &MayBeNull<Identifier<'a>>,
 ) -> Result<(MayBeNull<Identifier<'a>>, bool), AllocError>
@@ -162,7 +163,8 @@ pub fn integer_types_hash_alike(a: IntegerType, b: IntegerType) -> bool
     hash_alike(&a, &b)
 }
 
-/// A clone of a type of integers, and whether it equals the type: `Ok((type, true))`.
+/// A clone of a type of integers, which takes no memory and never fails, and whether it equals the
+/// type: `Ok((type, true))`.
 pub fn clone_integer_type(integer: &IntegerType) -> Result<(IntegerType, bool), AllocError>
     ensures { IsOkAnd result (λ made. (made.0 ≡ integer.now) × IsTrue made.1) }
 {

@@ -41,7 +41,8 @@ pub fn names_or_strings_hash_alike(a: IdentifierOrString<'_>, b: IdentifierOrStr
     hash_alike(&a, &b)
 }
 
-/// A clone of a name or a string, and whether it equals that: `Ok((value, true))`.
+/// A clone of a name or a string, which takes no memory and never fails, and whether it equals
+/// that: `Ok((value, true))`.
 pub fn clone_name_or_string<'a>(
     value: &IdentifierOrString<'a>,
 ) -> Result<(IdentifierOrString<'a>, bool), AllocError>
@@ -84,8 +85,8 @@ pub fn valued_attributes_hash_alike(
     hash_alike(&a, &b)
 }
 
-/// A clone of an extended attribute with a value, and whether it equals that:
-/// `Ok((attribute, true))`.
+/// A clone of an extended attribute with a value, which takes no memory and never fails, and
+/// whether it equals that: `Ok((attribute, true))`.
 pub fn clone_valued_attribute<'a>(
     attribute: &ExtendedAttributeIdent<'a>,
 ) -> Result<(ExtendedAttributeIdent<'a>, bool), AllocError>

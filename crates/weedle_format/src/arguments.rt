@@ -44,7 +44,8 @@ pub enum Request {
 
 /// What is asked for by the arguments, of which the first is the program's name: nothing that there
 /// is use for, where an argument begins with `-` and is no option and not `-` itself, where two
-/// options are given, or where the standard input is to be replaced.
+/// options are given, or where the standard input is to be replaced. It fails where memory for
+/// the names is refused.
 pub fn request_of(alloc: Global, words: Args) -> Result<Option<Request>, AllocError> {
     let mut asked = Asked {
         task: None,

@@ -49,8 +49,10 @@ impl From<AllocError> for RunFault {
 /// For `interface A {}; // end` the lines are `interface A` and `definitions 1`. For
 /// `interface A {}; ///d`, which isn't read whole, the one line is `unread at byte 16`.
 ///
-/// The report stands in memory, beside the text and its definitions, before the first write. A write
-/// that fails or takes no byte ends the run, and no write is tried again. The output is not flushed.
+/// It fails where the input can't be read or isn't UTF-8, and where memory is refused, with nothing
+/// written: the report stands in memory, beside the text and its definitions, before the first write.
+/// And it fails at a write that fails or takes no byte, and no write is tried again. The output is not
+/// flushed.
 pub fn run<R: Read, W: Write>(
     alloc: Global,
     reader: &mut R,
@@ -81,7 +83,7 @@ pub fn run<R: Read, W: Write>(
 /// definition those of its docstring, each behind two blanks.
 ///
 /// For the lines `/// Shows pages.` and `interface Window {};` it writes `interface Window`, `   Shows pages.` and
-/// `definitions 1`. All else is as with [`run`].
+/// `definitions 1`. All else, and where it fails, is as with [`run`].
 pub fn run_outline<R: Read, W: Write>(
     alloc: Global,
     reader: &mut R,

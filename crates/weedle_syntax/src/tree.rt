@@ -68,7 +68,7 @@ impl<'a> Syntax<'a> {
     /// The nodes of a text that is read whole; None of one that isn't, as `interface A {`.
     ///
     /// It reads as [`syntax_quick`](crate::syntax_quick) does, and costs the same; beside that it asks
-    /// for memory once, 8 bytes for each node.
+    /// for memory once, 8 bytes for each node. Where memory is refused, the answer is an error.
     pub fn new(alloc: Global, text: &'a str) -> Result<Option<Syntax<'a>>, AllocError>
         ensures whole { IfOk result (λ found. IsSome found ↔ IsWhole text.entry.now) }
         ensures text { IfOk result (λ found. IfSome found (λ s. s.text ≡ text.entry.now)) }
@@ -84,7 +84,8 @@ impl<'a> Syntax<'a> {
     /// The nodes of the definitions at the front of a text, whatever stands behind them.
     ///
     /// [`rest`](Syntax::rest) says where the rest begins, which no definition reads: so a tool has a
-    /// tree while a text is written. It costs what [`new`](Syntax::new) costs.
+    /// tree while a text is written. It costs what [`new`](Syntax::new) costs. Where memory is refused,
+    /// the answer is an error.
     pub fn of_front(alloc: Global, text: &'a str) -> Result<Syntax<'a>, AllocError>
         ensures text { IfOk result (λ s. s.text ≡ text.entry.now) }
         ensures are { IfOk result (λ s. IsFront s.text s.nodes) }

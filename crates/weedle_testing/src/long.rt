@@ -4,7 +4,7 @@ use crate::requests::Wanted;
 use std::alloc::{AllocError, Global};
 
 /// Extended attributes within extended attributes, to so many levels, before an interface:
-/// `[A([A(a... b)] a... b)] interface I {};` has one.
+/// `[A([A(a... b)] a... b)] interface I {};` has one. It fails where memory is refused.
 pub fn nested_attributes(alloc: Global, levels: usize) -> Result<String, AllocError> {
     let mut text = String::new(alloc);
     for _ in 0..levels {
@@ -27,7 +27,7 @@ pub fn nested_text(alloc: Global, wanted: &mut Wanted) -> Result<String, AllocEr
     }
 }
 
-/// A text with a part of it so many times.
+/// A text with a part of it so many times. It fails where memory is refused.
 pub fn repeated(
     alloc: Global,
     front: &str,

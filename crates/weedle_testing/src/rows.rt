@@ -35,7 +35,7 @@ impl<'a> From<AllocError> for Unlike<'a> {
 }
 
 /// Whether the whole text of each example is read as its value, a clone equals what is read, and both
-/// are printed alike.
+/// are printed alike. An error says of which text it isn't so, and how.
 pub fn reads<'a, T: Parse<'a> + TryClone + PartialEq + Debug>(
     alloc: Global,
     rows: &[(&'a str, &str)],
@@ -47,7 +47,7 @@ pub fn reads<'a, T: Parse<'a> + TryClone + PartialEq + Debug>(
 }
 
 /// Whether each example, a text, the rest that is left of it and its value, is read so, a clone equals
-/// what is read, and both are printed alike.
+/// what is read, and both are printed alike. An error says of which text it isn't so, and how.
 pub fn reads_up_to<'a, T: Parse<'a> + TryClone + PartialEq + Debug>(
     alloc: Global,
     rows: &[(&'a str, &str, &str)],
@@ -59,7 +59,7 @@ pub fn reads_up_to<'a, T: Parse<'a> + TryClone + PartialEq + Debug>(
 }
 
 /// Whether the whole text of each example is read as its value, a copy by assignment equals what is
-/// read, and both are printed alike.
+/// read, and both are printed alike. An error says of which text it isn't so, and how.
 pub fn reads_copied<'a, T: Parse<'a> + Copy + PartialEq + Debug>(
     alloc: Global,
     rows: &[(&'a str, &str)],
@@ -71,7 +71,8 @@ pub fn reads_copied<'a, T: Parse<'a> + Copy + PartialEq + Debug>(
 }
 
 /// Whether each example, a text, the rest that is left of it and its value, is read so, a copy by
-/// assignment equals what is read, and both are printed alike.
+/// assignment equals what is read, and both are printed alike. An error says of which text it isn't so,
+/// and how.
 pub fn reads_copied_up_to<'a, T: Parse<'a> + Copy + PartialEq + Debug>(
     alloc: Global,
     rows: &[(&'a str, &str, &str)],
