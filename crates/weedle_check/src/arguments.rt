@@ -43,9 +43,9 @@ pub enum Request {
     Files(Task, Vec<String>),
 }
 
-/// What is asked for by the arguments, of which the first is the program's name: nothing that there is use for,
-/// where an argument begins with `-` and is no option and not `-` itself, or where two options are given. It
-/// fails where memory for the names is refused.
+/// What is asked for by the arguments, of which the first is the program's name: nothing that there
+/// is use for, where an argument begins with `-` and is no option and not `-` itself, or where two
+/// options are given. It fails where memory for the names is refused.
 pub fn request_of(alloc: Global, words: Args) -> Result<Option<Request>, AllocError> {
     let mut asked = Asked {
         task: None,

@@ -44,8 +44,8 @@ impl From<AllocError> for Fault {
     }
 }
 
-/// What fails with it is a write, or the making of the room for one: all other calls say by themselves what their
-/// errors are.
+/// What fails with it is a write, or the making of the room for one: all other calls say by
+/// themselves what their errors are.
 impl From<io::Error> for Fault {
     fn from(error: io::Error) -> Fault {
         if error.kind() == ErrorKind::OutOfMemory {

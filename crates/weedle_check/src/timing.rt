@@ -25,11 +25,12 @@ enum Reader {
 
 /// Times a text that is read whole, and writes the times, of five each the median.
 ///
-/// Descent is left out for a text that nests so that it takes it long. The table takes 1,544 bytes for each byte
-/// of the text: where that isn't to be had, the times of the other readers stand all the same.
+/// Descent is left out for a text that nests so that it takes it long. The table takes 1,544 bytes
+/// for each byte of the text: where that isn't to be had, the times of the other readers stand all
+/// the same.
 ///
-/// It fails where memory for the list is refused, where the clock can't be read, and where the output
-/// can't be written.
+/// It fails where memory for the list is refused, where the clock can't be read, and where the
+/// output can't be written.
 pub fn write_times<C: Clock + AllocGlobal, W: Write>(
     rt: &C,
     name: &str,

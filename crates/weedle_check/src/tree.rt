@@ -16,8 +16,8 @@ use weedle_rules::Ends;
 /// Writes each definition of a text on a line, behind the line and the column at which it begins:
 /// `3:1 Interface(InterfaceDefinition { .. })`. The text is read whole, and suits descent.
 ///
-/// Each definition is read, written and let go of by itself, and no memory is taken but what it holds.
-/// It fails where memory is refused, and where the output can't be written.
+/// Each definition is read, written and let go of by itself, and no memory is taken but what it
+/// holds. It fails where memory is refused, and where the output can't be written.
 pub fn write_tree<W: Write>(alloc: Global, text: &str, out: &mut W) -> Result<(), Fault> {
     write_by_descent::<Definition<'_>, W>(alloc, text, out)
 }
@@ -109,8 +109,8 @@ impl<'a> Cursor<'a> {
         }
     }
 
-    /// Goes on to where this rest of the text begins, and says where that is. It looks twice at most at each byte in
-    /// between.
+    /// Goes on to where this rest of the text begins, and says where that is. It looks twice at
+    /// most at each byte in between.
     fn go_to(&mut self, rest: &'a str) -> Position {
         let passed = self.rest.len().saturating_sub(rest.len());
         let moved = position_of(self.rest, passed);

@@ -56,7 +56,8 @@ pub fn equal_kinds(a: ErrorKind, b: ErrorKind) -> bool
     a == b
 }
 
-/// Two faults are equal where they have the same text and kind: not a mismatch at `a` and one at `b`.
+/// Two faults are equal where they have the same text and kind: not a mismatch at `a` and one at
+/// `b`.
 pub fn equal_errors(a: Error<&str>, b: Error<&str>) -> bool
     ensures { IsTrue result
         ↔ ((a.entry.input.now ≡ b.entry.input.now) × (a.entry.code ≡ b.entry.code)) }

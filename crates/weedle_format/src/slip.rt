@@ -15,8 +15,8 @@ pub struct Slip {
     pub words: Option<String>,
 }
 
-/// Where a text is refused that isn't read whole. It fails where there is no memory even to find that
-/// place.
+/// Where a text is refused that isn't read whole. It fails where there is no memory even to find
+/// that place.
 pub fn slip_in(alloc: Global, text: &str) -> Result<Slip, AllocError> {
     if let Ok(Some(refusal)) = refusal_of(alloc, text) {
         if let Ok(words) = format!(in alloc; "{refusal}") {

@@ -23,8 +23,8 @@ pub fn is_symmetric()
     ensures { (a b : List ℕ) → SaysTheSame a b → SaysTheSame b a }
 {}
 
-/// A law, which does nothing: where a text says the same as a second, and that as a third, the first
-/// says the same as the third.
+/// A law, which does nothing: where a text says the same as a second, and that as a third, the
+/// first says the same as the third.
 pub fn is_transitive()
     ensures { (a b c : List ℕ) → SaysTheSame a b → SaysTheSame b c → SaysTheSame a c }
 {}

@@ -33,8 +33,8 @@ struct Page {
     is_line_begun: bool,
 }
 
-/// The text of these nodes laid out. What it says isn't known before it is read again: so [`format`](crate::format) reads
-/// it. It is for callers who read in a way of their own.
+/// The text of these nodes laid out. What it says isn't known before it is read again: so
+/// [`format`](crate::format) reads it. It is for callers who read in a way of their own.
 ///
 /// It asks for memory for what stands between the blanks of the text, and for the answer.
 pub fn lay_out(alloc: Global, raw: &str, nodes: &[Node]) -> Result<String, AllocError> {

@@ -1,4 +1,5 @@
-//! What always holds of the grammar's rules. Each of these functions does nothing when it runs: its contract is the law.
+//! What always holds of the grammar's rules. Each of these functions does nothing when it runs: its
+//! contract is the law.
 
 ghost use Rattle.std.specs.Prelude.{ℕ, ◌≤◌, List, length, IsUtf8, IsCharBoundary};
 ghost use Rattle.weedle_grammar.specs.Laws.{HasOneOutcome, IsShifted, EndsAtBoundary};

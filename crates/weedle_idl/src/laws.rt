@@ -1,5 +1,5 @@
-//! What always holds of lists of definitions. Each of these functions does nothing when it runs: its
-//! contract is the law.
+//! What always holds of lists of definitions. Each of these functions does nothing when it runs:
+//! its contract is the law.
 
 ghost use Rattle.weedle_base.specs.Rules.{HasRule};
 ghost use Rattle.weedle_idl.specs.written.DefinitionTrees.{definitions_tree};

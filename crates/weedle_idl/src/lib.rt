@@ -10,7 +10,8 @@
 //! use weedle_base::Parse;
 //! use weedle_idl::{Definition, Definitions};
 //!
-//! let text = "interface Window { readonly attribute Storage sessionStorage; }; Window includes Timers;";
+//! let text =
+//!     "interface Window { readonly attribute Storage sessionStorage; }; Window includes Timers;";
 //! let (rest, definitions) = Definitions::parse(rt.alloc(), text).expect(rt, "definitions");
 //! assert!(rt; rest == "" && definitions.len() == 2);
 //! ```

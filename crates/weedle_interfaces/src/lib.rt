@@ -10,7 +10,8 @@
 //! use weedle_base::Parse;
 //! use weedle_interfaces::InterfaceDefinition;
 //!
-//! let text = "interface Window { readonly attribute Storage sessionStorage; }; Window includes Timers;";
+//! let text =
+//!     "interface Window { readonly attribute Storage sessionStorage; }; Window includes Timers;";
 //! let (rest, window) = InterfaceDefinition::parse(rt.alloc(), text).expect(rt, "interface");
 //! assert!(rt; rest == "Window includes Timers;" && window.members.body.len() == 1);
 //! ```

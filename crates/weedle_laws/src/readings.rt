@@ -1,7 +1,8 @@
 //! Arguments in parentheses stand in their types as a struct of their own,
-//! `ParenthesizedArgumentList`, and members in braces as the generic part, `Braced<InterfaceMembers>`
-//! and the like. This generic part, and `Parenthesized<ArgumentList>` beside that struct, read what the
-//! rules of arguments in parentheses and of members in braces read.
+//! `ParenthesizedArgumentList`, and members in braces as the generic part,
+//! `Braced<InterfaceMembers>` and the like. This generic part, and `Parenthesized<ArgumentList>`
+//! beside that struct, read what the rules of arguments in parentheses and of members in braces
+//! read.
 
 ghost use Rattle.weedle_base.specs.Rules.{HasRule};
 ghost use Rattle.weedle_grammar.specs.written.Table.InterfaceMembers.{BRACED_INTERFACE_MEMBERS};

@@ -8,7 +8,8 @@
 //! use weedle_base::Parse;
 //! use weedle_mixins::InterfaceMixinDefinition;
 //!
-//! let text = "interface mixin Body { readonly attribute boolean bodyUsed; long size(); }; interface A {};";
+//! let text =
+//!     "interface mixin Body { readonly attribute boolean bodyUsed; long size(); }; interface A {};";
 //! let (rest, body) = InterfaceMixinDefinition::parse(rt.alloc(), text).expect(rt, "mixin");
 //! assert!(rt; rest == "interface A {};" && body.members.body.len() == 2);
 //! ```

@@ -28,9 +28,9 @@ pub struct Depths {
 ///
 /// It looks once at each byte, and takes no memory.
 ///
-/// Who reads texts of strangers can ask it first: with 8 MB of stack, as a main thread has, each reader of whole
-/// texts reads what has up to 8,000 of `(` and `<` open at once, and `parse` and `parse_quick` what has up to
-/// 3,000 of `[`. So it was measured; nothing promises it.
+/// Who reads texts of strangers can ask it first: with 8 MB of stack, as a main thread has, each
+/// reader of whole texts reads what has up to 8,000 of `(` and `<` open at once, and `parse` and
+/// `parse_quick` what has up to 3,000 of `[`. So it was measured; nothing promises it.
 pub fn nesting(raw: &str) -> Depths
     ensures attributes { result.attributes ≡ most_attributes (bare raw.now) }
     ensures brackets { result.brackets ≡ most_brackets (bare raw.now) }

@@ -1,5 +1,6 @@
-//! Texts that nest deep or seem to: which reader a run takes, and what it writes. A run that took descent for one that
-//! it isn't for would not end. `tools/hostile.py` times the program with these texts and longer ones.
+//! Texts that nest deep or seem to: which reader a run takes, and what it writes. A run that took
+//! descent for one that it isn't for would not end. `tools/hostile.py` times the program with these
+//! texts and longer ones.
 
 use std::alloc::Global;
 use std::process::Abort;

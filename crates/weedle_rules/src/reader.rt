@@ -1,4 +1,4 @@
-//! The counting view of a table: the one way to the text and to the cells of a table that is being filled.
+//! The counting view: the one way to the text and to the cells of a table that is being filled.
 //!
 //! Its fields are private to this module. While a cell is worked out, bytes and cells are looked at
 //! by `byte` and `cell` alone, each of which counts; the text is never handed out.
@@ -118,7 +118,8 @@ impl<'a, C: Cell> Reader<'a, C> {
         })
     }
 
-    /// Lays the cells of one more place out, where all those before are known. None of them is known.
+    /// Lays the cells of one more place out, where all those before are known. None of them is
+    /// known.
     #[inline(always)]
     pub(crate) fn lay(&mut self)
         requires room { self.old.laid + rule_count ≤ (length self.old.text + 1) * rule_count }
@@ -212,7 +213,8 @@ impl<'a, C: Cell> Reader<'a, C> {
         self.known(rule, place)
     }
 
-    /// What the cell of the rule at the place says, while none is being worked out. It counts nothing.
+    /// What the cell of the rule at the place says, while none is being worked out. It counts
+    /// nothing.
     #[inline(always)]
     pub(crate) fn asked(&self, rule: Rule, place: usize) -> Option<usize>
         requires closed { self.now.is_open ≡ false }

@@ -1,4 +1,5 @@
-//! What always holds of nodes. Each of these functions does nothing when it runs: its contract is the law.
+//! What always holds of nodes. Each of these functions does nothing when it runs: its contract is
+//! the law.
 
 ghost use Rattle.std.specs.Prelude.{◌≡◌, ℕ, List, All, IsUtf8};
 ghost use Rattle.weedle_syntax.specs.declared.node.Node.{Node as TheNode};

@@ -34,8 +34,8 @@ impl<'a> From<AllocError> for Unlike<'a> {
     }
 }
 
-/// Whether the whole text of each example is read as its value, a clone equals what is read, and both
-/// are printed alike. An error says of which text it isn't so, and how.
+/// Whether the whole text of each example is read as its value, a clone equals what is read, and
+/// both are printed alike. An error says of which text it isn't so, and how.
 pub fn reads<'a, T: Parse<'a> + TryClone + PartialEq + Debug>(
     alloc: Global,
     rows: &[(&'a str, &str)],
@@ -46,8 +46,9 @@ pub fn reads<'a, T: Parse<'a> + TryClone + PartialEq + Debug>(
     Ok(())
 }
 
-/// Whether each example, a text, the rest that is left of it and its value, is read so, a clone equals
-/// what is read, and both are printed alike. An error says of which text it isn't so, and how.
+/// Whether each example, a text, the rest that is left of it and its value, is read so, a clone
+/// equals what is read, and both are printed alike. An error says of which text it isn't so, and
+/// how.
 pub fn reads_up_to<'a, T: Parse<'a> + TryClone + PartialEq + Debug>(
     alloc: Global,
     rows: &[(&'a str, &str, &str)],
@@ -71,8 +72,8 @@ pub fn reads_copied<'a, T: Parse<'a> + Copy + PartialEq + Debug>(
 }
 
 /// Whether each example, a text, the rest that is left of it and its value, is read so, a copy by
-/// assignment equals what is read, and both are printed alike. An error says of which text it isn't so,
-/// and how.
+/// assignment equals what is read, and both are printed alike. An error says of which text it isn't
+/// so, and how.
 pub fn reads_copied_up_to<'a, T: Parse<'a> + Copy + PartialEq + Debug>(
     alloc: Global,
     rows: &[(&'a str, &str, &str)],

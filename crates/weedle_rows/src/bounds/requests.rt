@@ -70,7 +70,8 @@ fn assert_reached(rt: &impl Abort, text: &str, counts: Counts) {
     }
 }
 
-/// Asserts that the text is read so by `parse_counted` or that memory is wanted, and what is counted.
+/// Asserts that the text is read so by `parse_counted` or that memory is wanted, and what is
+/// counted.
 fn assert_counted(
     rt: &impl Abort,
     alloc: Global,

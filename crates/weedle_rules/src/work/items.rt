@@ -28,8 +28,8 @@ pub(crate) fn opt<C: Cell>(
     }
 }
 
-/// Works out a row `Many`: the item from end to end until it fails. It is an item here, and what the
-/// rule itself takes behind it.
+/// Works out a row `Many`: the item from end to end until it fails. It is an item here, and what
+/// the rule itself takes behind it.
 #[inline(always)]
 pub(crate) fn many<C: Cell>(
     reader: &Reader<'_, C>,
@@ -94,8 +94,8 @@ pub(crate) fn list1<C: Cell>(
     }
 }
 
-/// Works out a row `Tail`: items, each behind a separator. They are one here, and what the rule itself
-/// takes behind it.
+/// Works out a row `Tail`: items, each behind a separator. They are one here, and what the rule
+/// itself takes behind it.
 #[inline(always)]
 pub(crate) fn tail<C: Cell>(
     reader: &Reader<'_, C>,

@@ -145,8 +145,8 @@ pub(crate) fn run<C: Cell>(
     }
 }
 
-/// Works out a row `Past`: everything up to the bytes, and these. They stand here, or else it is what
-/// the rule itself takes behind this place.
+/// Works out a row `Past`: everything up to the bytes, and these. They stand here, or else it is
+/// what the rule itself takes behind this place.
 #[inline(always)]
 pub(crate) fn past<C: Cell>(
     reader: &Reader<'_, C>,
