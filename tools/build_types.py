@@ -27,7 +27,7 @@ from description.uses import code_uses, ghost_uses, stated
 from written_places import in_logic, put
 
 CRATE = "weedle_build_types"
-HEAD = "{}\n//!\n//! Written by tools/build_types.py.\n"
+HEAD = "{}\n//!\n//! Written by tools/build_types.py, and not edited by hand.\n"
 OWN_STEPS = "#![tactic(auto, using(weedle_build_base::proofs::Finding::own_steps))]\n"
 HELD = """/// How a `T` is built. It is the `Build` of a type that stands in another crate.
 pub struct Held<T>(T);

@@ -64,7 +64,7 @@ FLAT = flat_variants(Declared.of(TOP))
 FORMERS = "weedle_types"
 # The first of the types that lead back to themselves: the logic's views of all of them stand by it.
 RING = "Rattle.weedle_types.specs.declared.argument.Argument"
-HEAD = "Written by tools/orders.py."
+HEAD = "Written by tools/orders.py, and not edited by hand."
 TYPE_NAME = re.compile(r"\b[A-Z]\w*")
 PRELUDE = ("Box", "Option", "Ord", "String", "Vec")
 

@@ -29,7 +29,7 @@ from proofs.spelling_terms import WHOLE, Item, definition, proof
 from proofs.spelt import HELPERS, function, is_made, type_text
 from written_places import in_crate, in_logic, put
 
-HEAD = "Written by tools/spellings.py."
+HEAD = "Written by tools/spellings.py, and not edited by hand."
 COLUMNS = 110
 LEAVES, TYPES, IDL = "weedle_spell", "weedle_spell_types", "weedle_spell_idl"
 # The module of the types that are made over one, each under the name of a `type`.

@@ -119,7 +119,7 @@ class Files(unittest.TestCase):
         crate = "weedle_iterables"
         [definitions] = trees.Order(crate).texts.values()
         text = trees.file_text(names, crate, "Iterations.", definitions)
-        self.assertTrue(text.startswith("-- Iterations. Written by tools/trees.py.\nuse a.{b}\nuse "))
+        self.assertTrue(text.startswith("-- Iterations. Written by tools/trees.py, and not edited by hand.\nuse a.{b}\nuse "))
         self.assertIn("Single as IterableInterfaceMember-Single, Double as", text)
 
 

@@ -22,7 +22,7 @@ from description.readings import CRATES, IDL, lacking
 from proofs.idl_parts import DECLARED, SHARED, TOP, part_of, tree_name
 from written_places import in_logic, put
 
-HEAD = "Written by tools/trees.py."
+HEAD = "Written by tools/trees.py, and not edited by hand."
 COLUMNS = 110
 # The files, in their order, each with what its head says.
 FILES = {

@@ -65,7 +65,7 @@ STEPS = "crate::proofs::TreeLaws::clone_steps"
 SMALLER = "crate::proofs::Smaller"
 ABOUT_TRY_CLONE = "`TryClone` for the types that hold boxes and lists: a clone has the tree of the original."
 ABOUT_PARSE = "`Parse` for the types of the recursive group: each has the reading of its rule."
-HEAD = "//! {}\n//!\n//! Written by tools/types_impls.py.\n"
+HEAD = "//! {}\n//!\n//! Written by tools/types_impls.py, and not edited by hand.\n"
 OUTER = {
     "AllocError": "std::alloc",
     "Global": "std::alloc",

@@ -1,6 +1,6 @@
 //! The defaults and the orders of the terminals: each has one value.
 //!
-//! Written by tools/terminals.py.
+//! Written by tools/terminals.py, and not edited by hand.
 
 ghost use Rattle.std.specs.Prelude.{◌≡◌, ◌↔◌};
 

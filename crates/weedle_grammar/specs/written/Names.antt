@@ -1,4 +1,4 @@
--- The names of the rules, as a syntax tree has them. Written by tools/grammar.py.
+-- The names of the rules, as a syntax tree has them. Written by tools/grammar.py, and not edited by hand.
 use Rattle.std.specs.Prelude.{ℕ, zero, suc, List, [], ◌∷◌, ◌++◌, codes}
 
 -- Trivia: line comments, blanks and block comments.

@@ -1,4 +1,5 @@
--- How extended attributes and arguments are spelt. Written by tools/spellings.py.
+-- How extended attributes and arguments are spelt.
+-- Written by tools/spellings.py, and not edited by hand.
 use Rattle.std.specs.Prelude.{Option, codes}
 use Rattle.weedle_parts.specs.declared.common.brackets.Bracketed.{Bracketed}
 use Rattle.weedle_parts.specs.declared.common.punctuated.Punctuated.{Punctuated}

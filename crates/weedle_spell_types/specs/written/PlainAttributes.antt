@@ -1,4 +1,5 @@
--- How extended attributes without arguments are spelt. Written by tools/spellings.py.
+-- How extended attributes without arguments are spelt.
+-- Written by tools/spellings.py, and not edited by hand.
 use Rattle.std.specs.Prelude.{codes}
 use Rattle.weedle_parts.specs.declared.common.identifier.Identifier.{Identifier}
 use Rattle.weedle_parts.specs.declared.common.punctuated.Punctuated.{Punctuated}

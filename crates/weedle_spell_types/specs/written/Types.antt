@@ -1,5 +1,5 @@
 -- How the types are spelt that are made of types, arguments and extended attributes.
--- Written by tools/spellings.py.
+-- Written by tools/spellings.py, and not edited by hand.
 use Rattle.std.specs.Global.{Box}
 use Rattle.std.specs.Prelude.{codes}
 use Rattle.weedle_parts.specs.declared.common.brackets.Parenthesized.{Parenthesized}

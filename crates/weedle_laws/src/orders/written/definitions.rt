@@ -1,6 +1,6 @@
 //! Orders of definitions.
 //!
-//! Written by tools/orders.py.
+//! Written by tools/orders.py, and not edited by hand.
 
 ghost use Rattle.std.specs.Prelude.{◌≡◌, ◌<◌};
 ghost use Rattle.weedle_laws.specs.written.Places.{definition_place};

@@ -1,4 +1,4 @@
-//! The laws of definitions. Written by tools/spellings.py.
+//! The laws of definitions. Written by tools/spellings.py, and not edited by hand.
 
 ghost use Rattle.weedle_grammar.specs.written.Table.Definitions.{DEFINITION, DEFINITIONS};
 ghost use Rattle.weedle_idl.specs.written.DefinitionTrees.{definition_tree, definitions_tree};

@@ -1,5 +1,5 @@
 //! The laws of the members of interfaces, of interfaces and of mixins.
-//! Written by tools/spellings.py.
+//! Written by tools/spellings.py, and not edited by hand.
 
 ghost use Rattle.weedle_grammar.specs.written.Table.Definitions.{
   CALLBACK_INTERFACE_DEFINITION,

@@ -1,4 +1,4 @@
-//! The laws of iterations, maps and sets. Written by tools/spellings.py.
+//! The laws of iterations, maps and sets. Written by tools/spellings.py, and not edited by hand.
 
 ghost use Rattle.weedle_async_iterables.specs.written.Trees.{
   async_iterable_interface_member_tree,

@@ -1,5 +1,5 @@
 //! The laws of constants, attributes, operations, constructors and stringifiers of interfaces, and
-//! of the members of mixins. Written by tools/spellings.py.
+//! of the members of mixins. Written by tools/spellings.py, and not edited by hand.
 
 ghost use Rattle.weedle_grammar.specs.written.Table.InterfaceMembers.{
   ATTRIBUTE_INTERFACE_MEMBER,

@@ -1,5 +1,5 @@
 //! The laws of what is inherited from, and of the words before a member.
-//! Written by tools/spellings.py.
+//! Written by tools/spellings.py, and not edited by hand.
 
 ghost use Rattle.weedle_grammar.specs.written.Table.InterfaceMembers.{
   INHERITANCE,

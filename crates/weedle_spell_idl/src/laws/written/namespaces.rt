@@ -1,4 +1,5 @@
-//! The laws of namespaces and dictionaries, and of their members. Written by tools/spellings.py.
+//! The laws of namespaces and dictionaries, and of their members.
+//! Written by tools/spellings.py, and not edited by hand.
 
 ghost use Rattle.weedle_grammar.specs.written.Table.Definitions.{
   DICTIONARY_DEFINITION,

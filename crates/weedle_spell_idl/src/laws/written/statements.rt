@@ -1,4 +1,4 @@
-//! The laws of definitions without members. Written by tools/spellings.py.
+//! The laws of definitions without members. Written by tools/spellings.py, and not edited by hand.
 
 ghost use Rattle.weedle_grammar.specs.written.Table.Definitions.{
   CALLBACK_DEFINITION,

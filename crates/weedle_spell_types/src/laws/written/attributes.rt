@@ -1,5 +1,5 @@
 //! The laws of arguments, and of extended attributes that may have arguments.
-//! Written by tools/spellings.py.
+//! Written by tools/spellings.py, and not edited by hand.
 
 ghost use Rattle.weedle_grammar.specs.written.Table.Types.{
   ARGUMENT,

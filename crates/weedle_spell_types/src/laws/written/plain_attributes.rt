@@ -1,4 +1,5 @@
-//! The laws of extended attributes without arguments. Written by tools/spellings.py.
+//! The laws of extended attributes without arguments.
+//! Written by tools/spellings.py, and not edited by hand.
 
 ghost use Rattle.weedle_grammar.specs.written.Table.SimpleTypes.{IDENTIFIER_LIST};
 ghost use Rattle.weedle_grammar.specs.written.Table.Types.{

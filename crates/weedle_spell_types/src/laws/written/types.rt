@@ -1,4 +1,4 @@
-//! The laws of types. Written by tools/spellings.py.
+//! The laws of types. Written by tools/spellings.py, and not edited by hand.
 
 ghost use Rattle.weedle_grammar.specs.written.Table.Types.{
   ATTRIBUTED_NON_ANY_TYPE,
