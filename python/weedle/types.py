@@ -453,8 +453,8 @@ class AttributedType(Value):
 
 @value_class
 class AttributedNonAnyType(Value):
-    """A type with the extended attributes that stand before it, which is neither `any` nor a
-    union, as `[Clamp] octet`.
+    """A type that is neither `any` nor a union, with the extended attributes that stand
+    before it, as `[Clamp] octet`.
     """
 
     #: The extended attributes in brackets, as `[Clamp]`, where they stand.

@@ -150,7 +150,7 @@ bracketed("BRACKETED", "LIST_EXTENDED_ATTRIBUTE_COMMA", "EXTENDED_ATTRIBUTE_LIST
 opt("EXTENDED_ATTRIBUTE_LIST")
 seq("ATTRIBUTED_TYPE", "OPT_EXTENDED_ATTRIBUTE_LIST", "TYPE", doc="A type with extended attributes, as `[Clamp] long`.")
 seq("ATTRIBUTED_NON_ANY_TYPE", "OPT_EXTENDED_ATTRIBUTE_LIST", "NON_ANY_TYPE",
-    doc="A type with extended attributes, which is neither `any` nor a union, as `[Clamp] long`.")
+    doc="A type that is neither `any` nor a union, with extended attributes, as `[Clamp] long`.")
 first("UNION_MEMBER_TYPE", "ATTRIBUTED_NON_ANY_TYPE", "MAY_BE_NULL_UNION_TYPE", doc="A member of a union.")
 punctuated("UNION_MEMBER_TYPE", "OR")
 opt("OPTIONAL")

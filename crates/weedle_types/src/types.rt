@@ -217,7 +217,7 @@ impl Drop for AttributedType<'_> {
     }
 }
 
-/// A type with the extended attributes that stand before it, which is neither `any` nor a union, as
+/// A type that is neither `any` nor a union, with the extended attributes that stand before it, as
 /// `[Clamp] octet`.
 #[cycle(types)]
 #[derive(Debug, PartialEq, Eq, PartialOrd, Ord, Hash)]

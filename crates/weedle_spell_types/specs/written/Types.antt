@@ -87,6 +87,6 @@ union_type_spelling =
 abbrev pub attributed_type_spelling : AttributedType → Form
 attributed_type_spelling v = attributes_spelling v.attributes then type_spelling v.type_
 
--- a type with the extended attributes that stand before it, which is neither `any` nor a union
+-- a type that is neither `any` nor a union, with the extended attributes that stand before it
 abbrev pub attributed_non_any_type_spelling : AttributedNonAnyType → Form
 attributed_non_any_type_spelling v = attributes_spelling v.attributes then non_any_type_spelling v.type_

@@ -175,7 +175,7 @@ impl Rule {
     pub const EXTENDED_ATTRIBUTE_LIST: Rule = Rule(EXTENDED_ATTRIBUTE_LIST);
     /// A type with extended attributes, as `[Clamp] long`.
     pub const ATTRIBUTED_TYPE: Rule = Rule(ATTRIBUTED_TYPE);
-    /// A type with extended attributes, which is neither `any` nor a union, as `[Clamp] long`.
+    /// A type that is neither `any` nor a union, with extended attributes, as `[Clamp] long`.
     pub const ATTRIBUTED_NON_ANY_TYPE: Rule = Rule(ATTRIBUTED_NON_ANY_TYPE);
     /// A member of a union.
     pub const UNION_MEMBER_TYPE: Rule = Rule(UNION_MEMBER_TYPE);

@@ -139,8 +139,8 @@ pub fn attributed_type()
     ensures { SpellsValues ATTRIBUTED_TYPE attributed_type_tree attributed_type_spelling }
 {}
 
-/// A law, which does nothing: the text of a type with the extended attributes that stand before it,
-/// which is neither `any` nor a union, as `[Clamp] octet`, spells its value.
+/// A law, which does nothing: the text of a type that is neither `any` nor a union, with the
+/// extended attributes that stand before it, as `[Clamp] octet`, spells its value.
 #[tactic(auto, using(crate::proofs::written::TypeLaws::attributed_non_any_type_law))]
 pub fn attributed_non_any_type()
     ensures { SpellsValues ATTRIBUTED_NON_ANY_TYPE attributed_non_any_type_tree attributed_non_any_type_spelling }

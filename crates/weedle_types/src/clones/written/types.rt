@@ -146,8 +146,8 @@ pub(crate) fn clone_attributed_type<'a>(
     })
 }
 
-/// Clones a type with the extended attributes that stand before it, which is neither `any` nor a
-/// union, as `[Clamp] octet`.
+/// Clones a type that is neither `any` nor a union, with the extended attributes that stand before
+/// it, as `[Clamp] octet`.
 #[cycle(clones)]
 pub(crate) fn clone_attributed_non_any_type<'a>(
     original: &AttributedNonAnyType<'a>,
