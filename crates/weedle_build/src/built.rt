@@ -15,7 +15,7 @@ use weedle_rules::Ends;
 pub struct Built<'a> {
     /// The definitions that stand at the front of the text, in order.
     pub list: Definitions<'a>,
-    /// What follows them.
+    /// What follows the definitions.
     pub rest: &'a str,
     /// How many nodes the tree of the list has, each of which was visited once.
     pub visits: u128,

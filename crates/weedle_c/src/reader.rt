@@ -56,7 +56,7 @@ pub(crate) fn read(
     }
 }
 
-/// Reads what is UTF-8.
+/// Reads a text that is UTF-8, and writes its nodes where there is room for all.
 fn read_text(alloc: Global, raw: &str, nodes: &mut [WeedleNode], answer: &mut WeedleAnswer) -> u32
     ensures known { (result ≤ TOO_LONG) × (result ≢ NOT_UTF8) }
     ensures read { result ≡ READ → IsTree raw.now nodes.old nodes.new answer.new }

@@ -28,7 +28,7 @@ impl Fault {
         }
     }
 
-    /// What it comes to.
+    /// What a check with this fault comes to.
     pub fn outcome(&self) -> Outcome {
         match self {
             Fault::Input(_) | Fault::NotUtf8 => Outcome::Unreadable,

@@ -98,7 +98,7 @@ impl Look {
 }
 
 impl Level {
-    /// One more is open.
+    /// Counts one more bracket that is open.
     pub(crate) fn enter(&mut self)
         requires { self.old.depth + 1 < 2 ^ 64 }
         ensures depth { self.new.depth ≡ self.old.depth + 1 }
@@ -108,7 +108,7 @@ impl Level {
         self.most = self.most.max(self.depth);
     }
 
-    /// One is closed, where one is open.
+    /// Counts one bracket as closed, where one is open.
     pub(crate) fn leave(&mut self)
         ensures depth { self.new.depth ≡ self.old.depth - 1 }
         ensures most { self.new.most ≡ self.old.most }

@@ -19,7 +19,7 @@ pub struct Wanted {
 }
 
 impl Wanted {
-    /// None yet.
+    /// The count of no call.
     pub fn new() -> Wanted {
         Wanted { calls: 0 }
     }
