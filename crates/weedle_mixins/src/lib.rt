@@ -9,7 +9,7 @@
 //! use weedle_mixins::InterfaceMixinDefinition;
 //!
 //! let text =
-//!     "interface mixin Body { readonly attribute boolean bodyUsed; long size(); }; interface A {};";
+//!     "interface mixin Body { readonly attribute boolean used; long size(); }; interface A {};";
 //! let (rest, body) = InterfaceMixinDefinition::parse(rt.alloc(), text).expect(rt, "mixin");
 //! assert!(rt; rest == "interface A {};" && body.members.body.len() == 2);
 //! ```
