@@ -14,11 +14,16 @@
 //! those that begin a comment or a blank, which may stand there too.
 #![tactic(auto)]
 
+mod descent;
 mod diagnosis;
+mod leaves;
 mod marking;
 mod marks;
+mod noted;
+mod quick;
 mod tries;
 mod unmet;
 mod ways;
 
 pub use diagnosis::{Diagnosis, diagnose_from};
+pub use quick::{diagnose_by_descent, diagnose_quick};
