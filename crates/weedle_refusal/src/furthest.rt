@@ -6,8 +6,7 @@ ghost use Rattle.weedle_refusal.specs.Furthest.{IsFurthest};
 use crate::expected::Expected;
 use crate::words::words_of;
 use std::alloc::{AllocError, Global};
-use weedle_diagnose::diagnose_from;
-use weedle_rules::Ends;
+use weedle_diagnose::diagnose_quick;
 
 /// Where the reading of a text as definitions comes furthest, in bytes from its front, and what would have been read
 /// there.
@@ -21,8 +20,7 @@ pub fn furthest_in(alloc: Global, text: &str) -> Result<(usize, Vec<Expected>), 
     ensures found { IfOk result (λ found. IsFurthest text.now found.0 found.1.items) }
     ensures short { IfOk result (λ found. found.0 ≤ length text.now) }
 {
-    let ends = Ends::new(alloc, text)?;
-    let diagnosis = diagnose_from(alloc, &ends, 0)?;
+    let diagnosis = diagnose_quick(alloc, text, 0)?;
     let expected = words_of(alloc, &diagnosis.expected)?;
     Ok((diagnosis.place, expected))
 }
