@@ -20,6 +20,10 @@ use Rattle.weedle_diagnose.proofs.LaterFacts.{tries_later}
 use Rattle.weedle_diagnose.proofs.OutcomeFacts.{same_end, no_end, no_failure}
 use Rattle.weedle_diagnose.proofs.NotingFacts.{nothing_noted, alike, Of, Left, set_out, go_on, finish, arrive}
 
+-- what is known of a call's answer, once that is known
+pub has_now : {text : List ℕ} {r p : ℕ} {o now : Option ℕ} → o ≡ now → HasEnd text r p o → HasEnd text r p now
+has_now {text} {r} {p} e h = subst (HasEnd text r p) e h
+
 -- what a rule tries is in the text, is a rule, and its cell comes before the rule's
 pub row_before : (text : List ℕ) {r p x q : ℕ} {row : Row} → row_of r ≡ row → p ≤ length text → r < rule_count → RowTries text row r p x q → (q ≤ length text) × (x < rule_count) × (cell_number (length text) x q < cell_number (length text) r p)
 row_before text {r} {p} {x} {q} is fits low t =

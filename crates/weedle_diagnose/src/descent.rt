@@ -3,7 +3,7 @@
 //! Each rule is read where it is tried, and a rule without parts that fails is noted. Nothing is passed over: what
 //! can't begin with the byte that stands there is tried too, since what it lacks is to be noted.
 
-ghost use Rattle.std.specs.Prelude.{◌≡◌, ◌≤◌, ◌<◌, length, if◌then◌else◌};
+ghost use Rattle.std.specs.Prelude.{◌≡◌, ◌≤◌, ◌<◌, length, IfOk, if◌then◌else◌};
 ghost use Rattle.weedle_grammar.specs.Rows.{Seq, First, Opt, Many, ListOf, List1, Tail, If};
 ghost use Rattle.weedle_grammar.specs.View.{numbers_of};
 ghost use Rattle.weedle_grammar.specs.written.Bound.{rule_count};
@@ -15,98 +15,134 @@ use crate::leaves::{end_of_bytes, end_of_not_next, end_of_one, end_of_run, end_p
 use crate::noted::Furthest;
 use weedle_grammar::{Parts, Row, Rule, row_of};
 
+/// The descent gave up: it would have to read more rules than it may, or deeper in one another.
+#[derive(Drop)]
+pub(crate) struct GaveUp;
+
 /// Notes what fails where the rule is read, and says where it ends; nothing where it fails.
+///
+/// So many rules may be read that `left` says, and so many in one another that `depth` says.
 #[cycle(descent)]
-pub(crate) fn read(furthest: &mut Furthest, text: &[u8], rule: Rule, place: usize) -> Option<usize>
+pub(crate) fn read(
+    furthest: &mut Furthest,
+    left: &mut usize,
+    text: &[u8],
+    rule: Rule,
+    place: usize,
+    depth: usize,
+) -> Result<Option<usize>, GaveUp>
     requires within { place ≤ length text.now }
     requires low { rule < rule_count }
-    ensures end { HasEnd text.now rule place result }
-    ensures notes { Notes (IsUnmetIn text.now rule place) furthest.old furthest.new }
+    ensures end { IfOk result (λ o. HasEnd text.now rule place o) }
+    ensures notes { IfOk result (λ o. Notes (IsUnmetIn text.now rule place) furthest.old furthest.new) }
 {
+    let below = step(left, depth)?;
     match row_of(rule) {
-        Row::Bytes(bytes) => furthest.unless(end_of_bytes(bytes, text, place), rule, place),
-        Row::OneOf(class) => furthest.unless(end_of_one(class, text, place), rule, place),
-        Row::NotNext(class) => furthest.unless(end_of_not_next(class, text, place), rule, place),
-        Row::Run(class) => Some(end_of_run(class, text, place)),
-        Row::Past(bytes) => furthest.unless(end_past(bytes, text, place), rule, place),
-        Row::Seq(parts) => read_parts(furthest, text, rule, place, parts),
-        Row::First(choices) => read_choice(furthest, text, rule, place, choices),
-        Row::Opt(item) => read_optional(furthest, text, rule, place, item),
-        Row::Many(item) => read_items(furthest, text, rule, place, item),
-        Row::List(item, tail) => read_list(furthest, text, rule, place, item, tail),
-        Row::List1(item, tail) => read_list1(furthest, text, rule, place, item, tail),
-        Row::Tail(item, separator) => read_tail(furthest, text, rule, place, item, separator),
-        Row::If(parts, k, y) => read_conditional(furthest, text, rule, place, parts, k, y),
+        Row::Bytes(bytes) => Ok(furthest.unless(end_of_bytes(bytes, text, place), rule, place)),
+        Row::OneOf(class) => Ok(furthest.unless(end_of_one(class, text, place), rule, place)),
+        Row::NotNext(class) => {
+            Ok(furthest.unless(end_of_not_next(class, text, place), rule, place))
+        }
+        Row::Run(class) => Ok(Some(end_of_run(class, text, place))),
+        Row::Past(bytes) => Ok(furthest.unless(end_past(bytes, text, place), rule, place)),
+        Row::Seq(parts) => read_parts(furthest, left, text, rule, place, parts, below),
+        Row::First(choices) => read_choice(furthest, left, text, rule, place, choices, below),
+        Row::Opt(item) => read_optional(furthest, left, text, rule, place, item, below),
+        Row::Many(item) => read_items(furthest, left, text, rule, place, item, below),
+        Row::List(item, tail) => read_list(furthest, left, text, rule, place, item, tail, below),
+        Row::List1(item, tail) => read_list1(furthest, left, text, rule, place, item, tail, below),
+        Row::Tail(item, separator) => {
+            read_tail(furthest, left, text, rule, place, item, separator, below)
+        }
+        Row::If(parts, k, y) => {
+            read_conditional(furthest, left, text, rule, place, parts, k, y, below)
+        }
     }
+}
+
+/// Counts a rule that is read, and says how deep those may stand in one another that it reads.
+#[inline(always)]
+fn step(left: &mut usize, depth: usize) -> Result<usize, GaveUp> {
+    if *left == 0 || depth == 0 {
+        return Err(GaveUp);
+    }
+    *left -= 1;
+    Ok(depth - 1)
 }
 
 /// Parts one behind another.
 #[cycle(descent)]
 fn read_parts(
     furthest: &mut Furthest,
+    left: &mut usize,
     text: &[u8],
     rule: Rule,
     place: usize,
     parts: Parts,
-) -> Option<usize>
+    depth: usize,
+) -> Result<Option<usize>, GaveUp>
     requires within { place ≤ length text.now }
     requires low { rule < rule_count }
     requires row { the_row_of rule ≡ Seq (numbers_of parts) }
-    ensures end { HasEnd text.now rule place result }
-    ensures notes { Notes (IsUnmetIn text.now rule place) furthest.old furthest.new }
+    ensures end { IfOk result (λ o. HasEnd text.now rule place o) }
+    ensures notes { IfOk result (λ o. Notes (IsUnmetIn text.now rule place) furthest.old furthest.new) }
 {
     let mut at = place;
     for i in 0..parts.len() {
-        match read(furthest, text, parts.rule(i), at) {
+        match read(furthest, left, text, parts.rule(i), at, depth)? {
             Some(end) => at = end,
-            None => return None,
+            None => return Ok(None),
         }
     }
-    Some(at)
+    Ok(Some(at))
 }
 
 /// The first that fits.
 #[cycle(descent)]
 fn read_choice(
     furthest: &mut Furthest,
+    left: &mut usize,
     text: &[u8],
     rule: Rule,
     place: usize,
     choices: Parts,
-) -> Option<usize>
+    depth: usize,
+) -> Result<Option<usize>, GaveUp>
     requires within { place ≤ length text.now }
     requires low { rule < rule_count }
     requires row { the_row_of rule ≡ First (numbers_of choices) }
-    ensures end { HasEnd text.now rule place result }
-    ensures notes { Notes (IsUnmetIn text.now rule place) furthest.old furthest.new }
+    ensures end { IfOk result (λ o. HasEnd text.now rule place o) }
+    ensures notes { IfOk result (λ o. Notes (IsUnmetIn text.now rule place) furthest.old furthest.new) }
 {
     for i in 0..choices.len() {
-        match read(furthest, text, choices.rule(i), place) {
-            Some(end) => return Some(end),
+        match read(furthest, left, text, choices.rule(i), place, depth)? {
+            Some(end) => return Ok(Some(end)),
             None => {}
         }
     }
-    None
+    Ok(None)
 }
 
 /// The rule, or nothing.
 #[cycle(descent)]
 fn read_optional(
     furthest: &mut Furthest,
+    left: &mut usize,
     text: &[u8],
     rule: Rule,
     place: usize,
     item: Rule,
-) -> Option<usize>
+    depth: usize,
+) -> Result<Option<usize>, GaveUp>
     requires within { place ≤ length text.now }
     requires low { rule < rule_count }
     requires row { the_row_of rule ≡ Opt item }
-    ensures end { HasEnd text.now rule place result }
-    ensures notes { Notes (IsUnmetIn text.now rule place) furthest.old furthest.new }
+    ensures end { IfOk result (λ o. HasEnd text.now rule place o) }
+    ensures notes { IfOk result (λ o. Notes (IsUnmetIn text.now rule place) furthest.old furthest.new) }
 {
-    match read(furthest, text, item, place) {
-        Some(end) => Some(end),
-        None => Some(place),
+    match read(furthest, left, text, item, place, depth)? {
+        Some(end) => Ok(Some(end)),
+        None => Ok(Some(place)),
     }
 }
 
@@ -114,25 +150,27 @@ fn read_optional(
 #[cycle(descent)]
 fn read_items(
     furthest: &mut Furthest,
+    left: &mut usize,
     text: &[u8],
     rule: Rule,
     place: usize,
     item: Rule,
-) -> Option<usize>
+    depth: usize,
+) -> Result<Option<usize>, GaveUp>
     requires within { place ≤ length text.now }
     requires low { rule < rule_count }
     requires row { the_row_of rule ≡ Many item }
-    ensures end { HasEnd text.now rule place result }
-    ensures notes { Notes (IsUnmetIn text.now rule place) furthest.old furthest.new }
+    ensures end { IfOk result (λ o. HasEnd text.now rule place o) }
+    ensures notes { IfOk result (λ o. Notes (IsUnmetIn text.now rule place) furthest.old furthest.new) }
 {
     let mut at = place;
     loop {
-        let found = read(furthest, text, item, at);
+        let found = read(furthest, left, text, item, at, depth)?;
         let Some(end) = found else {
-            return Some(at);
+            return Ok(Some(at));
         };
         if end == at {
-            return None;
+            return Ok(None);
         }
         at = end;
     }
@@ -142,21 +180,26 @@ fn read_items(
 #[cycle(descent)]
 fn read_list(
     furthest: &mut Furthest,
+    left: &mut usize,
     text: &[u8],
     rule: Rule,
     place: usize,
     item: Rule,
     tail: Rule,
-) -> Option<usize>
+    depth: usize,
+) -> Result<Option<usize>, GaveUp>
     requires within { place ≤ length text.now }
     requires low { rule < rule_count }
     requires row { the_row_of rule ≡ ListOf item tail }
-    ensures end { HasEnd text.now rule place result }
-    ensures notes { Notes (IsUnmetIn text.now rule place) furthest.old furthest.new }
+    ensures end { IfOk result (λ o. HasEnd text.now rule place o) }
+    ensures notes { IfOk result (λ o. Notes (IsUnmetIn text.now rule place) furthest.old furthest.new) }
 {
-    match read(furthest, text, item, place) {
-        Some(at) => read(furthest, text, tail, at),
-        None => Some(place),
+    match read(furthest, left, text, item, place, depth)? {
+        Some(at) => {
+            let end = read(furthest, left, text, tail, at, depth)?;
+            Ok(end)
+        }
+        None => Ok(Some(place)),
     }
 }
 
@@ -164,21 +207,26 @@ fn read_list(
 #[cycle(descent)]
 fn read_list1(
     furthest: &mut Furthest,
+    left: &mut usize,
     text: &[u8],
     rule: Rule,
     place: usize,
     item: Rule,
     tail: Rule,
-) -> Option<usize>
+    depth: usize,
+) -> Result<Option<usize>, GaveUp>
     requires within { place ≤ length text.now }
     requires low { rule < rule_count }
     requires row { the_row_of rule ≡ List1 item tail }
-    ensures end { HasEnd text.now rule place result }
-    ensures notes { Notes (IsUnmetIn text.now rule place) furthest.old furthest.new }
+    ensures end { IfOk result (λ o. HasEnd text.now rule place o) }
+    ensures notes { IfOk result (λ o. Notes (IsUnmetIn text.now rule place) furthest.old furthest.new) }
 {
-    match read(furthest, text, item, place) {
-        Some(at) => read(furthest, text, tail, at),
-        None => None,
+    match read(furthest, left, text, item, place, depth)? {
+        Some(at) => {
+            let end = read(furthest, left, text, tail, at, depth)?;
+            Ok(end)
+        }
+        None => Ok(None),
     }
 }
 
@@ -186,30 +234,32 @@ fn read_list1(
 #[cycle(descent)]
 fn read_tail(
     furthest: &mut Furthest,
+    left: &mut usize,
     text: &[u8],
     rule: Rule,
     place: usize,
     item: Rule,
     separator: Rule,
-) -> Option<usize>
+    depth: usize,
+) -> Result<Option<usize>, GaveUp>
     requires within { place ≤ length text.now }
     requires low { rule < rule_count }
     requires row { the_row_of rule ≡ Tail item separator }
-    ensures end { HasEnd text.now rule place result }
-    ensures notes { Notes (IsUnmetIn text.now rule place) furthest.old furthest.new }
+    ensures end { IfOk result (λ o. HasEnd text.now rule place o) }
+    ensures notes { IfOk result (λ o. Notes (IsUnmetIn text.now rule place) furthest.old furthest.new) }
 {
     let mut at = place;
     loop {
-        let found = read(furthest, text, separator, at);
+        let found = read(furthest, left, text, separator, at, depth)?;
         let Some(behind) = found else {
-            return Some(at);
+            return Ok(Some(at));
         };
         if behind == at {
-            return None;
+            return Ok(None);
         }
-        let next = read(furthest, text, item, behind);
+        let next = read(furthest, left, text, item, behind, depth)?;
         let Some(end) = next else {
-            return Some(at);
+            return Ok(Some(at));
         };
         at = end;
     }
@@ -219,34 +269,37 @@ fn read_tail(
 #[cycle(descent)]
 fn read_conditional(
     furthest: &mut Furthest,
+    left: &mut usize,
     text: &[u8],
     rule: Rule,
     place: usize,
     parts: Parts,
     k: usize,
     y: Rule,
-) -> Option<usize>
+    depth: usize,
+) -> Result<Option<usize>, GaveUp>
     requires within { place ≤ length text.now }
     requires low { rule < rule_count }
     requires row { the_row_of rule ≡ If (numbers_of parts) k y }
-    ensures end { HasEnd text.now rule place result }
-    ensures notes { Notes (IsUnmetIn text.now rule place) furthest.old furthest.new }
+    ensures end { IfOk result (λ o. HasEnd text.now rule place o) }
+    ensures notes { IfOk result (λ o. Notes (IsUnmetIn text.now rule place) furthest.old furthest.new) }
 {
     let mut at = place;
     let mut present = false;
     for i in 0..parts.len() {
-        match read(furthest, text, parts.rule(i), at) {
+        match read(furthest, left, text, parts.rule(i), at, depth)? {
             Some(end) => {
                 present = choose(i == k, end != at, present);
                 at = end;
             }
-            None => return None,
+            None => return Ok(None),
         }
     }
     if present {
-        return read(furthest, text, y, at);
+        let end = read(furthest, left, text, y, at, depth)?;
+        return Ok(end);
     }
-    Some(at)
+    Ok(Some(at))
 }
 
 /// The first where the test holds, else the second.

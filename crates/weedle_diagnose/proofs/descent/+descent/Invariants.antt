@@ -39,17 +39,17 @@ invariant-read_parts-loop-i l = Turning l.text l.fn.rule l.fn.place (numbers_of 
 abbrev pub invariant-read_choice-loop-i : goal.invariant-read_choice-loop-i
 invariant-read_choice-loop-i l = Choosing l.text l.fn.rule l.fn.place (numbers_of l.fn.choices) l.fn.furthest (drop l.i (numbers_of l.fn.choices)) l.furthest
 
-abbrev pub invariant-read_items-loop-end : goal.invariant-read_items-loop-end
-invariant-read_items-loop-end l = Repeating l.text l.fn.rule l.fn.item l.fn.place l.fn.furthest l.at l.furthest
+abbrev pub invariant-read_items-loop-found : goal.invariant-read_items-loop-found
+invariant-read_items-loop-found l = Repeating l.text l.fn.rule l.fn.item l.fn.place l.fn.furthest l.at l.furthest
 
-abbrev pub decreases-read_items-loop-end : goal.decreases-read_items-loop-end
-decreases-read_items-loop-end l = length l.text - l.at
+abbrev pub decreases-read_items-loop-found : goal.decreases-read_items-loop-found
+decreases-read_items-loop-found l = length l.text - l.at
 
-abbrev pub invariant-read_tail-loop-behind : goal.invariant-read_tail-loop-behind
-invariant-read_tail-loop-behind l = Following l.text l.fn.rule l.fn.item l.fn.separator l.fn.place l.fn.furthest l.at l.furthest
+abbrev pub invariant-read_tail-loop-found : goal.invariant-read_tail-loop-found
+invariant-read_tail-loop-found l = Following l.text l.fn.rule l.fn.item l.fn.separator l.fn.place l.fn.furthest l.at l.furthest
 
-abbrev pub decreases-read_tail-loop-behind : goal.decreases-read_tail-loop-behind
-decreases-read_tail-loop-behind l = length l.text - l.at
+abbrev pub decreases-read_tail-loop-found : goal.decreases-read_tail-loop-found
+decreases-read_tail-loop-found l = length l.text - l.at
 
 abbrev pub invariant-read_conditional-loop-i : goal.invariant-read_conditional-loop-i
 invariant-read_conditional-loop-i l = Testing l.text l.fn.rule l.fn.k l.fn.y l.fn.place (numbers_of l.fn.parts) l.fn.furthest (drop l.i (numbers_of l.fn.parts)) (note_at l.fn.k l.i l.present) l.at l.furthest
