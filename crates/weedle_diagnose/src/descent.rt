@@ -1,7 +1,7 @@
 //! What fails furthest on, by descent, without a table.
 //!
-//! Each rule is read where it is tried, and a rule without parts that fails is noted. Nothing is passed over: what
-//! can't begin with the byte that stands there is tried too, since what it lacks is to be noted.
+//! Each rule is read where it is tried, and a rule without parts that fails is noted. Nothing is passed
+//! over: what can't begin with the byte that stands there is tried too, since that it fails is noted.
 
 ghost use Rattle.std.specs.Prelude.{◌≡◌, ◌≤◌, ◌<◌, length, IfOk, if◌then◌else◌};
 ghost use Rattle.weedle_grammar.specs.Rows.{Seq, First, Opt, Many, ListOf, List1, Tail, If};
