@@ -116,7 +116,9 @@ uint32_t weedle_syntax(
  * WEEDLE_STATUS_NO_MEMORY: memory was refused.
  * Only with WEEDLE_STATUS_REFUSED is anything written to `message`.
  *
- * It reads the text as weedle_syntax does, and then takes a table of the unread rest: some 1,600 bytes for each byte.
+ * It reads the text as weedle_syntax does, and then goes by descent over the first definition that isn't read, in some 200
+ * to 300 nanoseconds for each byte of it and with no more memory than for a list. Where that would take too long or too
+ * much of the stack, since the rest nests deep, it takes a table of the rest: some 1,600 bytes for each byte.
  */
 uint32_t weedle_explain(
     const char *text, size_t length,

@@ -19,7 +19,8 @@ class Refused(ValueError):
     Of `interface A {}; enum E { "a" "b" };` the second definition, from byte 16 on, isn't read:
     the reading comes to line 1, column 30, where a `,` or a `}` would go on.
 
-    What is expected is found when it is asked for, by a table of the text from `start` on, which
+    What is expected is found when it is asked for: mostly in some 300 nanoseconds for each byte of
+    the definition that isn't read. Where the text nests deep, by a table of it from `start` on, which
     takes some 1,600 bytes of memory and 2 microseconds a byte.
     """
 

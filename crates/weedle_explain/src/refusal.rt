@@ -15,8 +15,8 @@ use weedle_refusal::{Refusal, furthest_in};
 /// explained.
 ///
 /// It reads the text by [`parse_quick`], and costs what that costs. Where that leaves a rest, it
-/// fills a table of ends of the rest alone, and marks what is tried: together some 1,600 bytes of
-/// memory for each byte of the rest. Where memory is refused, the answer is an error.
+/// goes on as [`furthest_in`] does: mostly in some 200 to 300 nanoseconds for each byte of the
+/// definition that isn't read. Where memory is refused, the answer is an error.
 pub fn explain(alloc: Global, raw: &str) -> Result<Option<Refusal>, AllocError>
     ensures explains { IfOk result (Explains raw.now) }
 
