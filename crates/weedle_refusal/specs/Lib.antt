@@ -1,4 +1,5 @@
 pub mod Position
 pub mod Words
 pub mod Furthest
+pub mod Hint
 pub mod Refusal

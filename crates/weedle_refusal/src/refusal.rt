@@ -6,6 +6,7 @@ ghost use Rattle.weedle_syntax.specs.Syntax.{RestBegins, rest_of as the_rest_of}
 
 use crate::expected::Expected;
 use crate::furthest::furthest_in;
+use crate::hint::{Hint, hint_of};
 use std::alloc::{AllocError, Global};
 use std::error;
 use std::fmt::{self, Display, Formatter, Write};
@@ -29,6 +30,9 @@ pub struct Refusal {
     /// What would have been read at that place, each word once. Blanks and comments, which may stand
     /// nearly everywhere, aren't among it.
     pub expected: Vec<Expected>,
+    /// What would mend the definition, or what it lacks, where something was found: it may stand well before the
+    /// furthest place.
+    pub hint: Option<Hint>,
 }
 
 /// Says what was expected, as ``expected `}` or `,` ``: six words at most, and then how many more there are.
@@ -89,10 +93,13 @@ pub fn refusal_from(alloc: Global, raw: &str, start: usize) -> Result<Refusal, A
     ensures within { IfOk result (λ refusal. refusal.place ≤ length raw.now) }
 {
     let (furthest, expected) = furthest_in(alloc, &raw[start..])?;
+    let place = start + furthest;
+    let hint = hint_of(alloc, raw, start, place)?;
     Ok(Refusal {
         start,
-        place: start + furthest,
+        place,
         expected,
+        hint,
     })
 }
 
