@@ -6,7 +6,7 @@ ghost use Rattle.weedle_explain.specs.Refusal.{Explains, IsUnreadRest};
 use std::alloc::{AllocError, Global};
 use weedle_base::Err;
 use weedle_front::parse_quick;
-use weedle_refusal::{Refusal, furthest_in};
+use weedle_refusal::{Refusal, furthest_in, hint_of};
 
 /// Why a text is refused, or None where it is read whole.
 ///
@@ -27,10 +27,13 @@ pub fn explain(alloc: Global, raw: &str) -> Result<Option<Refusal>, AllocError>
     };
     let start = raw.len() - rest.len();
     let (furthest, expected) = furthest_in(alloc, rest)?;
+    let place = start + furthest;
+    let hint = hint_of(alloc, raw, start, place)?;
     Ok(Some(Refusal {
         start,
-        place: start + furthest,
+        place,
         expected,
+        hint,
     }))
 }
 

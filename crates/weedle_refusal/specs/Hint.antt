@@ -1,5 +1,5 @@
 -- What a hint says of a text whose definition at `start` is read up to `place` and no further.
-use Rattle.std.specs.Prelude.{◌≡◌, ◌≤◌, ◌<◌, ◌+◌, ◌-◌, ◌⊎◌, ◌==◌, ℕ, Bool, true, false, List, [], ◌∷◌, ◌++◌, length, take, drop, slice_index, slice_range, codes}
+use Rattle.std.specs.Prelude.{◌≡◌, ◌≤◌, ◌<◌, ◌+◌, ◌-◌, ◌⊎◌, ◌==◌, ℕ, true, false, List, [], ◌∷◌, ◌++◌, length, take, drop, slice_index, slice_range, codes}
 use Rattle.std.specs.List.{list_any}
 use Rattle.weedle_grammar.specs.Rows.{Bytes, is_in, run_length}
 use Rattle.weedle_grammar.specs.declared.class.Class.TheVariants.{Name}
@@ -11,6 +11,7 @@ use Rattle.weedle_refusal.specs.declared.hint.Hint.{Hint}
 use Rattle.weedle_refusal.specs.declared.hint.Hint.TheVariants as hint
 use Rattle.weedle_rules.specs.Outcomes.{EndsAt}
 use Rattle.weedle_syntax.specs.Kinds.{has_letter}
+use Rattle.weedle_syntax.specs.Syntax.{RestBegins}
 
 -- it is the text from `start` on, with these bytes in place of `taken` bytes from `at` on
 pub record IsChanged (raw : List ℕ) (start at taken : ℕ) (bytes text : List ℕ) : Type 0 where
@@ -18,14 +19,22 @@ pub record IsChanged (raw : List ℕ) (start at taken : ℕ) (bytes text : List 
   pub within : at + taken ≤ length raw
   pub is : text ≡ slice_range raw start at ++ bytes ++ drop (at + taken) raw
 
--- with this change the reading comes further: its furthest place leaves fewer bytes behind it than `place` does
+-- a definition is read at the front of the text
+abbrev pub HasDefinition : List ℕ → Type 0
+HasDefinition text = (end : ℕ) × RestBegins text end × (0 < end)
+
+-- the furthest place of the text leaves fewer bytes behind it than so many
+pub record LeavesLess (text : List ℕ) (left : ℕ) : Type 0 where
+  pub place : ℕ
+  pub words : List Expected
+  pub found : IsFurthest text place words
+  pub less : length text - place < left
+
+-- with this change the reading comes further than to `place`: to the end of a definition, or to a place that leaves fewer bytes behind it
 pub record ComesFurther (raw : List ℕ) (start place at taken : ℕ) (bytes : List ℕ) : Type 0 where
   pub text : List ℕ
   pub changed : IsChanged raw start at taken bytes text
-  pub furthest : ℕ
-  pub words : List Expected
-  pub found : IsFurthest text furthest words
-  pub further : length text - furthest < length raw - place
+  pub further : HasDefinition text ⊎ LeavesLess text (length raw - place)
 
 -- the bytes of a keyword: some rule reads just them, and a letter is among them
 abbrev pub IsKeyword : List ℕ → Type 0

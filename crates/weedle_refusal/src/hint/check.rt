@@ -8,11 +8,13 @@ ghost use Rattle.weedle_grammar.specs.declared.class.Class.TheVariants.{Name};
 ghost use Rattle.weedle_grammar.specs.written.Table.Trivia.{TRIVIA};
 ghost use Rattle.weedle_refusal.specs.Hint.{
   ComesFurther,
+  HasDefinition,
   IsChanged,
   IsHint,
   IsOpenString,
   IsSign,
   IsWordAt,
+  LeavesLess,
   StandAt,
 };
 ghost use Rattle.weedle_rules.specs.Outcomes.{EndsAt};
@@ -20,10 +22,12 @@ ghost use Rattle.weedle_rules.specs.Outcomes.{EndsAt};
 use crate::furthest::furthest_in;
 use crate::hint::Hint;
 use crate::hint::keywords::is_keyword;
+use crate::refusal::rest_of;
 use std::alloc::{AllocError, Global};
 use weedle_base::scan::{run, skip_trivia};
 use weedle_grammar::{Class, holds};
 use weedle_nesting::suits_descent;
+use weedle_syntax::syntax_of_front;
 
 /// What begins a docstring's line.
 const SLASHES: &[u8] = b"///";
@@ -119,8 +123,28 @@ fn comes_further(
     if !suits_descent(text) {
         return Ok(false);
     }
+    let left = raw.len() - place;
+    if left == 0 {
+        has_definition(alloc, text)
+    } else {
+        leaves_less(alloc, text, left)
+    }
+}
+
+/// Whether a definition is read at the front of a text.
+fn has_definition(alloc: Global, text: &str) -> Result<bool, AllocError>
+    ensures { IfOk result (λ has. IsTrue has → HasDefinition text.now) }
+{
+    let nodes = syntax_of_front(alloc, text)?;
+    Ok(rest_of(&nodes) > 0)
+}
+
+/// Whether the furthest place of a text leaves fewer bytes behind it than so many.
+fn leaves_less(alloc: Global, text: &str, left: usize) -> Result<bool, AllocError>
+    ensures { IfOk result (λ less. IsTrue less → LeavesLess text.now left) }
+{
     let (furthest, _) = furthest_in(alloc, text)?;
-    Ok(text.len() - furthest < raw.len() - place)
+    Ok(text.len() - furthest < left)
 }
 
 /// The text from `start` on with a change, or None where that takes out what isn't there.

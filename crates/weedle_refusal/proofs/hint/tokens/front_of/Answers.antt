@@ -1,4 +1,4 @@
-use Rattle.std.proofs.Common.{◌≤◌, length, arith}
+use Rattle.std.proofs.Common.{arith}
 use Rattle.weedle_grammar.specs.declared.class.Class.TheVariants.{Name}
 use Rattle.weedle_refusal.proofs.HintFacts.{run_within}
 use Rattle.weedle_refusal.proofs.hint.tokens.front_of.Goals as goal
