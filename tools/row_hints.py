@@ -5,16 +5,18 @@ the port. A hint is a place in bytes and a line of words.
 """
 
 import re
+from itertools import islice
 
 import grammar
 from row_ends import NOW, ROWS
 from row_words import position
 
-# How many changes are tried at most.
-MOST_TRIES = 8
+# How many changes are tried at most, and how many of them are keywords.
+MOST_TRIES, MOST_KEYWORDS = 8, 3
 # What descent may look at, on the average of a byte, and how many `(` and `<` may be open at once.
 LOOKS, BRACKETS = 4, 1000
 
+MISPLACED = "no docstring here"
 BYTE_ORDER_MARK = "\ufeff".encode()
 NAME = re.compile(rb"[A-Za-z0-9_-]+")
 LINE = re.compile(rb"///[^\n]*")
@@ -93,19 +95,24 @@ def fact(text, start, place, tokens):
 
 def changes(text, place, tokens):
     """The changes that are tried, in their order: where, how many bytes are taken, what is put there, what is said."""
+    yield from islice(keywords(text, tokens), MOST_KEYWORDS)
     for kind, first, end in reversed(tokens):
         if kind == "docstring":
-            yield first, end - first, b"", "no docstring here"
+            yield first, end - first, b"", MISPLACED
             break
+    for end, signs in gaps(text, [it for it in tokens if it[2] <= place]):
+        for sign in signs:
+            yield end, 0, sign, f"`{sign.decode()}` missing here?"
+
+
+def keywords(text, tokens):
+    """The changes of a word to a keyword, those of the last word first."""
     for kind, first, end in reversed(tokens):
         word = text[first:end]
         if kind == "word" and word not in KEYWORDS:
             for keyword in KEYWORDS:
                 if differ_by_one(word, keyword):
                     yield first, end - first, keyword, f"`{keyword.decode()}` in place of `{word.decode()}`?"
-    for end, signs in gaps(text, [it for it in tokens if it[2] <= place]):
-        for sign in signs:
-            yield end, 0, sign, f"`{sign.decode()}` missing here?"
 
 
 def gaps(text, tokens):
@@ -124,16 +131,28 @@ def gaps(text, tokens):
 
 
 def helps(text, start, place, change):
-    """Whether the rest is read further with a change: a definition, or so that fewer bytes are left behind the furthest place."""
-    at, taken, put, _ = change
+    """Whether the rest is read further with a change: a definition, or so that fewer bytes are left behind the furthest place.
+
+    It must come past what was changed too, and without a docstring past the token at the place: an unknown word behind a
+    docstring isn't laid to that.
+    """
+    at, taken, put, said = change
     changed = text[start:at] + put + text[at + taken:]
     if not suits_descent(changed):
         return False
+    if said == MISPLACED:
+        place = past_token(text, place)
+    left = len(text) - max(place, at + taken)
     NOW.take(changed)
     end = NOW.ends_at()
-    if place == len(text):
-        return end > 0
-    return len(changed) - NOW.unmet()[0] < len(text) - place
+    return len(changed) - NOW.unmet()[0] < left if left else end > 0
+
+
+def past_token(text, place):
+    """Where the token behind the first one from a place on begins, or the text ends."""
+    NOW.take(text)
+    first = NOW.at["TRIVIA"](place)
+    return NOW.at["TRIVIA"](kind_at(text, first)[1].end()) if first < len(text) else first
 
 
 def hint(text, start, place):
@@ -142,9 +161,7 @@ def hint(text, start, place):
     tokens = tokens_of(text, start, place)
     if said := fact(text, start, place, tokens):
         return said
-    for number, change in enumerate(changes(text, place, tokens)):
-        if number == MOST_TRIES:
-            return None
+    for change in islice(changes(text, place, tokens), MOST_TRIES):
         if helps(text, start, place, change):
             return change[0], change[3]
     return None

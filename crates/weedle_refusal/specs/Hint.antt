@@ -1,5 +1,5 @@
 -- What a hint says of a text whose definition at `start` is read up to `place` and no further.
-use Rattle.std.specs.Prelude.{◌≡◌, ◌≤◌, ◌<◌, ◌+◌, ◌-◌, ◌⊎◌, ◌==◌, ℕ, true, false, List, [], ◌∷◌, ◌++◌, length, take, drop, slice_index, slice_range, codes}
+use Rattle.std.specs.Prelude.{◌≡◌, ◌≤◌, ◌<◌, ◌+◌, ◌-◌, ◌⊎◌, ◌==◌, ℕ, true, false, List, [], ◌∷◌, ◌++◌, length, max, take, drop, slice_index, slice_range, codes}
 use Rattle.std.specs.List.{list_any}
 use Rattle.weedle_grammar.specs.Rows.{Bytes, is_in, run_length}
 use Rattle.weedle_grammar.specs.declared.class.Class.TheVariants.{Name}
@@ -30,11 +30,11 @@ pub record LeavesLess (text : List ℕ) (left : ℕ) : Type 0 where
   pub found : IsFurthest text place words
   pub less : length text - place < left
 
--- with this change the reading comes further than to `place`: to the end of a definition, or to a place that leaves fewer bytes behind it
+-- with this change the reading comes further than to `place`: to the end of a definition, or to a place that leaves fewer bytes behind it than `place` does, and than what was changed does
 pub record ComesFurther (raw : List ℕ) (start place at taken : ℕ) (bytes : List ℕ) : Type 0 where
   pub text : List ℕ
   pub changed : IsChanged raw start at taken bytes text
-  pub further : HasDefinition text ⊎ LeavesLess text (length raw - place)
+  pub further : HasDefinition text ⊎ LeavesLess text (length raw - max place (at + taken))
 
 -- the bytes of a keyword: some rule reads just them, and a letter is among them
 abbrev pub IsKeyword : List ℕ → Type 0

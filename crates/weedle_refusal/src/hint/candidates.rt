@@ -24,7 +24,10 @@ pub(crate) fn fact(raw: &str, start: usize, place: usize, tokens: &[Token]) -> O
     }
 }
 
-/// The changes that are worth a try, the likeliest first: no docstring, a keyword in place of a word, a sign more.
+/// How many keywords are tried at most.
+const MOST_KEYWORDS: usize = 3;
+
+/// The changes that are worth a try, the likeliest first: a keyword in place of a word, no docstring, a sign more.
 pub(crate) fn candidates(
     alloc: Global,
     raw: &str,
@@ -32,8 +35,9 @@ pub(crate) fn candidates(
     tokens: &[Token],
 ) -> Result<Vec<Hint>, AllocError> {
     let mut hints = Vec::new(alloc);
-    add_docstring(&mut hints, tokens)?;
     add_keywords(alloc, &mut hints, raw, tokens)?;
+    hints.truncate(MOST_KEYWORDS);
+    add_docstring(&mut hints, tokens)?;
     add_signs(&mut hints, raw, place, tokens)?;
     Ok(hints)
 }
@@ -59,6 +63,9 @@ fn add_keywords(
 ) -> Result<(), AllocError> {
     let keywords = keywords(alloc)?;
     for token in tokens.iter().rev() {
+        if hints.len() >= MOST_KEYWORDS {
+            break;
+        }
         if token.kind == Kind::Word {
             add_keywords_near(hints, &keywords, raw, token)?;
         }

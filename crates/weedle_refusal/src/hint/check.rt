@@ -22,6 +22,7 @@ ghost use Rattle.weedle_rules.specs.Outcomes.{EndsAt};
 use crate::furthest::furthest_in;
 use crate::hint::Hint;
 use crate::hint::keywords::is_keyword;
+use crate::hint::tokens::past_token;
 use crate::refusal::rest_of;
 use std::alloc::{AllocError, Global};
 use weedle_base::scan::{run, skip_trivia};
@@ -86,14 +87,7 @@ pub(crate) fn is_right(
             }
         }
         Hint::Docstring { place: at, taken } => {
-            if !stand_at(SLASHES, raw.as_bytes(), at) {
-                return Ok(false);
-            }
-            Change {
-                at,
-                taken,
-                bytes: "",
-            }
+            return is_misplaced(alloc, raw, start, place, at, taken);
         }
         Hint::OpenString { place: at } => return Ok(is_open(raw.as_bytes(), place, at)),
         Hint::ByteOrderMark { place: at } => {
@@ -104,8 +98,32 @@ pub(crate) fn is_right(
     comes_further(alloc, raw, start, place, change)
 }
 
-/// Whether the text from `start` on is read further with a change than up to `place`. Where the changed text doesn't
-/// suit descent, it isn't read.
+/// Whether a docstring stands there and the text from `start` on is read further without it: past the word or sign at
+/// `place`, so that no unknown word behind a docstring is laid to the docstring.
+fn is_misplaced(
+    alloc: Global,
+    raw: &str,
+    start: usize,
+    place: usize,
+    at: usize,
+    taken: usize,
+) -> Result<bool, AllocError>
+    requires { place ≤ length raw.now }
+    ensures { IfOk result (λ right. IsTrue right → IsHint raw.now start place (Hint.Docstring at taken)) }
+{
+    if !stand_at(SLASHES, raw.as_bytes(), at) {
+        return Ok(false);
+    }
+    let change = Change {
+        at,
+        taken,
+        bytes: "",
+    };
+    comes_further(alloc, raw, start, past_token(raw, place), change)
+}
+
+/// Whether the text from `start` on is read further with a change than up to `place`, and past what was changed. Where
+/// the changed text doesn't suit descent, it isn't read.
 fn comes_further(
     alloc: Global,
     raw: &str,
@@ -123,7 +141,7 @@ fn comes_further(
     if !suits_descent(text) {
         return Ok(false);
     }
-    let left = raw.len() - place;
+    let left = raw.len() - place.max(change.at + change.taken);
     if left == 0 {
         has_definition(alloc, text)
     } else {

@@ -72,10 +72,25 @@ fn add(tokens: &mut Vec<Token>, token: Token) -> Result<(), AllocError> {
     Ok(())
 }
 
+/// Where the token behind the first one from a place on begins, or the text ends.
+pub(crate) fn past_token(raw: &str, at: usize) -> usize
+    requires { at ≤ length raw.now }
+    ensures after { at ≤ result }
+    ensures within { result ≤ length raw.now }
+{
+    let Some(first) = next_token(raw, at) else {
+        return raw.len();
+    };
+    match next_token(raw, first.end) {
+        Some(second) => second.start,
+        None => raw.len(),
+    }
+}
+
 /// The first token from a place on, or None where blanks and comments alone follow.
 fn next_token(raw: &str, at: usize) -> Option<Token>
     requires { at ≤ length raw.now }
-    ensures { IfSome result (λ token. (at < token.end) × (token.end ≤ length raw.now)) }
+    ensures { IfSome result (λ token. (at ≤ token.start) × (token.start < token.end) × (token.end ≤ length raw.now)) }
 {
     let rest = skip_trivia(raw.get(at..)?).as_bytes();
     if rest.is_empty() {
