@@ -29,6 +29,7 @@ import hashlib
 import sys
 import tempfile
 import unicodedata
+from itertools import accumulate
 from pathlib import Path
 
 import case_texts
@@ -49,7 +50,7 @@ SEED = 7
 RANDOM, PREFIXES, CHANGED, NEAR = 2_000, 5_000, 2_000, 1_000
 # Who says it.
 BY_WEEDLE2, BY_ROWS = "weedle2", "the grammar's rows"
-# How many characters of a line are shown.
+# How many characters are shown of a line.
 WIDTH = 100
 # What can't be seen beside control characters, or not for what it is: a blank that doesn't break, separators of lines
 # and paragraphs, what has no width, a mark of byte order, and what turns the direction of a line.
@@ -149,14 +150,18 @@ def made_texts():
 
 # What is wanted.
 def excerpt(text, place):
-    """What weedle_check shows of a place: at most 100 characters of its line, and a mark below it."""
+    """What weedle_check shows of a place: at most 100 characters of its line, as they are shown, and a mark below it."""
     line, column = position(text, place)
     shown = text.split("\n")[line - 1]
     if line <= text.count("\n"):
         shown = shown.removesuffix("\r")
-    first = min(max(column - 1 - WIDTH // 2, 0), max(len(shown) - WIDTH, 0))
-    mark = "".join("\t" if it == "\t" else " " * len(visible(it)) for it in shown[first:column - 1])
-    return "".join(map(visible, shown[first:first + WIDTH])) + f"\n{mark}^\n"
+    pieces = [visible(it) for it in shown]
+    ends = list(accumulate(map(len, pieces)))
+    behind = [0, *ends]
+    first = min(max(behind[column - 1] - WIDTH // 2, 0), max(behind[-1] - WIDTH, 0))
+    mark = "".join("\t" if piece == "\t" else " " * len(piece) for start, piece in zip(behind, pieces[:column - 1]) if start >= first)
+    line = "".join(piece for start, end, piece in zip(behind, ends, pieces) if start >= first and end <= first + WIDTH)
+    return f"{line}\n{mark}^\n"
 
 
 def visible(character):
