@@ -11,6 +11,8 @@ from weedle._text import Text
 
 # A message begins with line and column, and what was expected ends with its line.
 MESSAGE = re.compile(r"\d+:\d+: (?:expected )?(.*)")
+# Behind that line, the line of the text and the mark stands the hint, if there is one.
+HINT = 3
 
 
 class Refused(ValueError):
@@ -58,8 +60,19 @@ class Refused(ValueError):
         return found[1] if found else ""
 
     @property
+    def hint(self) -> Optional[str]:
+        """What would mend the text, or what it lacks, with line and column; None where nothing was found.
+
+        Of `interface A { atribute long x; };`, which is read up to column 29, it is
+        "1:15: `attribute` in place of `atribute`?". A keyword, a closing sign or the place of a
+        docstring is told only where the text was read again with the change, and came further.
+        """
+        lines = self._explanation.message.split("\n") if self._explanation else []
+        return lines[HINT] or None if len(lines) > HINT else None
+
+    @property
     def message(self) -> str:
-        """Line, column and what was expected, and below that the line of the text with a mark."""
+        """Line, column and what was expected, the line of the text with a mark, and the hint."""
         if self._explanation:
             return self._explanation.message.rstrip("\n")
         line, column = self._text.position(self.start)
