@@ -22,7 +22,8 @@ class Refused(ValueError):
     the reading comes to line 1, column 30, where a `,` or a `}` would go on.
 
     What is expected is found when it is asked for, by a table of the text from `start` on, which
-    takes some 1,600 bytes of memory and 2 microseconds a byte.
+    takes some 1,600 bytes of memory and 2 microseconds a byte; for a hint the text is read so up to
+    eight times more.
     """
 
     def __init__(self, text: Text, start: int) -> None:

@@ -121,7 +121,7 @@ fn tell(
     REFUSED
 }
 
-/// The message, as `weedle_check` prints it behind the name of a file.
+/// The message, as `weedle_check` prints it behind the name of a file, the hint below it.
 fn message_of(alloc: Global, raw: &str, refusal: &Refusal) -> io::Result<Vec<u8>> {
     let words = format!(in alloc; "{refusal}")?;
     let mut message = Vec::new(alloc);

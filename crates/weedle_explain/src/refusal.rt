@@ -15,7 +15,8 @@ use weedle_refusal::{Refusal, furthest_in, hint_of};
 ///
 /// It reads the text by [`parse_quick`], and costs what that costs. Where that leaves a rest, it fills a
 /// table of ends of the rest alone, and marks what is tried: together some 1,600 bytes of memory for each
-/// byte of the rest. Where memory is refused, the answer is an error.
+/// byte of the rest; the search for a hint may do so up to eight times more. Where memory is refused, the answer
+/// is an error.
 pub fn explain(alloc: Global, raw: &str) -> Result<Option<Refusal>, AllocError>
     ensures explains { IfOk result (Explains raw.now) }
 
