@@ -13,8 +13,8 @@ from row_words import position
 
 # How many changes are tried at most, and how many of them are keywords.
 MOST_TRIES, MOST_KEYWORDS = 8, 3
-# What descent may look at, on the average of a byte, and how many `(` and `<` may be open at once.
-LOOKS, BRACKETS = 4, 1000
+# What descent may look at, on the average of a byte, and how many levels a text may nest that is read again.
+LOOKS, LEVELS = 4, 64
 
 MISPLACED = "no docstring here"
 BYTE_ORDER_MARK = "\ufeff".encode()
@@ -62,9 +62,9 @@ def kind_at(text, place):
     return "sign", CHARACTER.match(text, place)
 
 
-def suits_descent(text):
-    """Whether descent looks four times at a byte at most, on the average of one more, and no deeper than it may."""
-    looks = attributes = brackets = place = 0
+def is_read_again(text):
+    """Whether descent looks four times at a byte at most, on the average of one more, and takes little stack."""
+    looks = attributes = brackets = deep = broad = place = 0
     while place < len(text):
         match = ASIDE.match(text, place)
         size = match.end() - place if match else 1
@@ -73,12 +73,11 @@ def suits_descent(text):
             byte = text[place:place + 1]
             attributes = max(0, attributes + (byte == b"[") - (byte == b"]"))
             brackets = max(0, brackets + (byte in b"(<") - (byte in b")>"))
-            if brackets > BRACKETS:
-                return False
+            deep, broad = max(deep, attributes), max(broad, brackets)
         if looks >= LOOKS * (len(text) + 1):
             return False
         place += size
-    return True
+    return 2 * deep + broad <= LEVELS
 
 
 def fact(text, start, place, tokens):
@@ -138,7 +137,7 @@ def helps(text, start, place, change):
     """
     at, taken, put, said = change
     changed = text[start:at] + put + text[at + taken:]
-    if not suits_descent(changed):
+    if not is_read_again(changed):
         return False
     if said == MISPLACED:
         place = past_token(text, place)

@@ -8,7 +8,7 @@ import unittest
 
 import row_hints
 from row_ends import NOW
-from row_hints import KEYWORDS, differ_by_one, suits_descent, tokens_of
+from row_hints import KEYWORDS, differ_by_one, is_read_again, tokens_of
 from row_words import refusal
 
 
@@ -49,11 +49,11 @@ class Tokens(unittest.TestCase):
     def test_no_token_begins_behind_the_place(self):
         self.assertEqual([start for _, start, _ in tokens_of(b"ab cd ef", 0, 3)], [0, 3])
 
-    def test_what_suits_descent(self):
-        for text in (b"", b"[A] interface B {};", b'"[[[[[[" /*[[[[[*/ //[[[[[\n', b"(" * 1000):
-            self.assertTrue(suits_descent(text), text)
-        for text in (b"[A([A([A([A(", b"(" * 1001):
-            self.assertFalse(suits_descent(text), text)
+    def test_what_is_read_again(self):
+        for text in (b"", b"[A] interface B {};", b'"[[[[[[" /*[[[[[*/ //[[[[[\n', b"(" * 64, b"()" * 100, b"[" + b"<" * 62):
+            self.assertTrue(is_read_again(text), text)
+        for text in (b"[A([A([A([A(", b"(" * 65, b"[]" + b"<" * 63):
+            self.assertFalse(is_read_again(text), text)
 
 
 class Hints(unittest.TestCase):
@@ -98,10 +98,9 @@ class Hints(unittest.TestCase):
         self.assertEqual(told(" // a\n/* b */"), "1:1: no definitions")
         self.assertIsNone(told(" // a\n?"))
 
-    def test_nothing_is_tried_where_descent_does_not_suit(self):
-        hostile = "[A([A([A([A([A([A("
-        self.assertEqual(told("atribute B;"), None)
-        self.assertIsNone(told(f"interface A {{ atribute long x; }}; {hostile}"))
+    def test_nothing_is_tried_of_what_nests_deep(self):
+        for behind in ("[A([A([A([A([A([A(", "(" * 65):
+            self.assertIsNone(told(f"interface A {{ atribute long x; }}; {behind}"))
 
 
 if __name__ == "__main__":

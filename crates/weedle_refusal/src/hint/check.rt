@@ -27,7 +27,7 @@ use crate::refusal::rest_of;
 use std::alloc::{AllocError, Global};
 use weedle_base::scan::{run, skip_trivia};
 use weedle_grammar::{Class, holds};
-use weedle_nesting::suits_descent;
+use weedle_nesting::{nesting, suits_descent};
 use weedle_syntax::syntax_of_front;
 
 /// What begins a docstring's line.
@@ -38,6 +38,9 @@ const QUOTE: &[u8] = b"\"";
 
 /// The bytes of a byte order mark.
 const BYTE_ORDER_MARK: &[u8] = b"\xEF\xBB\xBF";
+
+/// How many levels a text may nest that is read again: some 1.6 kB of stack for each.
+const MOST_LEVELS: usize = 64;
 
 /// Some bytes in place of others.
 #[derive(Clone, Copy)]
@@ -122,8 +125,8 @@ fn is_misplaced(
     comes_further(alloc, raw, start, past_token(raw, place), change)
 }
 
-/// Whether the text from `start` on is read further with a change than up to `place`, and past what was changed. Where
-/// the changed text doesn't suit descent, it isn't read.
+/// Whether the text from `start` on is read further with a change than up to `place`, and past
+/// what was changed. Where the changed text doesn't suit descent, or nests deep, it isn't read.
 fn comes_further(
     alloc: Global,
     raw: &str,
@@ -138,7 +141,7 @@ fn comes_further(
         return Ok(false);
     };
     let text = changed.as_str();
-    if !suits_descent(text) {
+    if !suits_descent(text) || !nests_little(text) {
         return Ok(false);
     }
     let left = raw.len() - place.max(change.at + change.taken);
@@ -147,6 +150,17 @@ fn comes_further(
     } else {
         leaves_less(alloc, text, left)
     }
+}
+
+/// Whether descent needs little stack for a text. A `[` counts as two levels, since its arguments
+/// take more stack.
+fn nests_little(text: &str) -> bool {
+    let depths = nesting(text);
+    depths
+        .attributes
+        .saturating_mul(2)
+        .saturating_add(depths.brackets)
+        <= MOST_LEVELS
 }
 
 /// Whether a definition is read at the front of a text.
