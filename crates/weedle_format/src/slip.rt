@@ -17,7 +17,8 @@ pub struct Slip {
     pub hint: Option<Hint>,
 }
 
-/// Where a text is refused that isn't read whole.
+/// Where a text is refused that isn't read whole. It fails where there is no memory even to find
+/// that place.
 pub fn slip_in(alloc: Global, text: &str) -> Result<Slip, AllocError> {
     if let Ok(Some(refusal)) = refusal_of(alloc, text) {
         if let Ok(words) = format!(in alloc; "{refusal}") {
@@ -36,8 +37,8 @@ pub fn slip_in(alloc: Global, text: &str) -> Result<Slip, AllocError> {
     })
 }
 
-/// Writes where the text of this name is refused and why, below it the line of the text with a mark,
-/// and below that the hint.
+/// Writes where the text of this name is refused and why, below it the line of the text with a
+/// mark, and below that the hint. It fails where a write does.
 pub fn write_slip<W: Write>(name: &str, text: &str, slip: &Slip, out: &mut W) -> io::Result<()> {
     let said = match &slip.words {
         Some(words) => words.as_str(),

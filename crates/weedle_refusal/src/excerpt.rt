@@ -10,10 +10,10 @@ const BELOW_NUMBER: &str = "      ";
 
 /// Writes a line, and below it a `^` behind what is as wide.
 ///
-/// Of a longer line it shows 100 characters around the place. A tab in front of the mark is written as a tab, so
-/// that the mark stands below its place whatever a tab's width is. What can't be seen is shown by its number, as
-/// `U+00A0`: other control characters, a blank that doesn't break, what has no width, and what turns the direction
-/// of a line.
+/// Of a longer line it shows 100 characters around the place. A tab in front of the mark is written
+/// as a tab, so that the mark stands below its place whatever a tab's width is. What can't be seen
+/// is shown by its number, as `U+00A0`: other control characters, a blank that doesn't break, what
+/// has no width, and what turns the direction of a line.
 pub fn write_excerpt<W: Write>(line: &str, column: usize, out: &mut W) -> io::Result<()> {
     let first = first_shown(width_of(line, usize::MAX), width_of(line, column));
     let mut at = 0;

@@ -19,18 +19,21 @@ use std::alloc::{AllocError, Global};
 /// How many changes of a definition are tried at most.
 const MOST_TRIES: usize = 8;
 
-/// What would mend a refused definition, or what it lacks. Places are in bytes from the front of the text.
+/// What would mend a refused definition, or what it lacks. Places are in bytes from the front of
+/// the text.
 ///
 /// The first three are changes that were tried: with them the reading comes further.
 #[derive(Clone, Copy, Debug, PartialEq, Eq)]
 pub enum Hint {
-    /// A keyword in place of a word: of `interface A { atribute long x; };` the 8 bytes from 14 on, and `attribute`.
+    /// A keyword in place of a word: of `interface A { atribute long x; };` the 8 bytes from 14 on,
+    /// and `attribute`.
     Keyword {
         /// Where the word begins.
         place: usize,
         /// How many bytes it has.
         taken: usize,
-        /// The keyword that differs from it by one letter missing, added or changed, or by two neighbours exchanged.
+        /// The keyword that differs from it by one letter missing, added or changed, or by two
+        /// neighbours exchanged.
         keyword: &'static str,
     },
     /// A closing sign is missing: of `interface A {} interface B {};` a `;` at 14.
@@ -40,7 +43,8 @@ pub enum Hint {
         /// `;`, `}` or `};`.
         sign: &'static str,
     },
-    /// A docstring stands where none may: of `/// text` before `typedef long T;` the 8 bytes from 0 on.
+    /// A docstring stands where none may: of `/// text` before `typedef long T;` the 8 bytes from 0
+    /// on.
     Docstring {
         /// Where it begins.
         place: usize,
@@ -75,15 +79,17 @@ impl Hint {
     }
 }
 
-/// What would mend the definition of a text that begins at `start` and can be read up to `place` and no further, or
-/// None where nothing was found.
+/// What would mend the definition of a text that begins at `start` and can be read up to `place`
+/// and no further, or None where nothing was found.
 ///
-/// Of `interface A { atribute long x; };` the definition at 0 is read up to 28, and `attribute` at 14 would mend it.
+/// Of `interface A { atribute long x; };` the definition at 0 is read up to 28, and `attribute` at
+/// 14 would mend it.
 ///
-/// A change is told only where it was tried: the text from `start` on is read again with it, and comes further. At most
-/// eight are tried, the first that helps is told, and where the text doesn't suit descent, or nests more than 64
-/// levels deep, none is tried. Each costs a copy of the text from `start` on, and what [`furthest_in`](crate::furthest_in) costs. Where memory is refused, the
-/// answer is an error.
+/// A change is told only where it was tried: the text from `start` on is read again with it, and
+/// comes further. At most eight are tried, the first that helps is told, and where the text doesn't
+/// suit descent, or nests more than 64 levels deep, none is tried. Each costs a copy of the text
+/// from `start` on, and what [`furthest_in`](crate::furthest_in) costs. Where memory is refused,
+/// the answer is an error.
 pub fn hint_of(
     alloc: Global,
     raw: &str,

@@ -4,7 +4,8 @@ use crate::excerpt::write_excerpt;
 use crate::position::position_of;
 use std::io::{self, Write};
 
-/// Writes the line and the column of a place of a text, what is said of it, and below that the line with a mark:
+/// Writes the line and the column of a place of a text, what is said of it, and below that the line
+/// with a mark:
 ///
 /// ```text
 /// 3:1: expected `;`
@@ -12,7 +13,8 @@ use std::io::{self, Write};
 /// ^
 /// ```
 ///
-/// The place is given in bytes from the front of the text. One behind the end of the text is taken as that end.
+/// The place is given in bytes from the front of the text. One behind the end of the text is taken
+/// as that end.
 pub fn write_message<W: Write>(
     text: &str,
     place: usize,

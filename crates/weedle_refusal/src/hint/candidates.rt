@@ -27,7 +27,8 @@ pub(crate) fn fact(raw: &str, start: usize, place: usize, tokens: &[Token]) -> O
 /// How many keywords are tried at most.
 const MOST_KEYWORDS: usize = 3;
 
-/// The changes that are worth a try, the likeliest first: a keyword in place of a word, no docstring, a sign more.
+/// The changes that are worth a try, the likeliest first: a keyword in place of a word, no
+/// docstring, a sign more.
 pub(crate) fn candidates(
     alloc: Global,
     raw: &str,
@@ -96,8 +97,8 @@ fn add_keywords_near(
     Ok(())
 }
 
-/// Adds the closing signs that may be missing: behind the last token that is read, and in front of what looks like
-/// another definition.
+/// Adds the closing signs that may be missing: behind the last token that is read, and in front of
+/// what looks like another definition.
 fn add_signs(
     hints: &mut Vec<Hint>,
     raw: &str,

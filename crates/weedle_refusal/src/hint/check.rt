@@ -101,8 +101,9 @@ pub(crate) fn is_right(
     comes_further(alloc, raw, start, place, change)
 }
 
-/// Whether a docstring stands there and the text from `start` on is read further without it: past the word or sign at
-/// `place`, so that no unknown word behind a docstring is laid to the docstring.
+/// Whether a docstring stands there and the text from `start` on is read further without it: past
+/// the word or sign at `place`, so that no unknown word behind a docstring is laid to the
+/// docstring.
 fn is_misplaced(
     alloc: Global,
     raw: &str,

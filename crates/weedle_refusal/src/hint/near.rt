@@ -2,7 +2,8 @@
 
 ghost use Rattle.std.specs.Prelude.{◌≤◌, length};
 
-/// Whether two words differ by one letter that is missing, added or changed, or by two neighbours exchanged.
+/// Whether two words differ by one letter that is missing, added or changed, or by two neighbours
+/// exchanged.
 pub(crate) fn differ_by_one(word: &[u8], other: &[u8]) -> bool {
     let same = common(word, other);
     let (word, other) = (&word[same..], &other[same..]);
