@@ -30,8 +30,8 @@ pub struct Refusal {
     /// What would have been read at that place, each word once. Blanks and comments, which may stand
     /// nearly everywhere, aren't among it.
     pub expected: Vec<Expected>,
-    /// What would mend the definition, or what it lacks, where something was found: it may stand well before the
-    /// furthest place.
+    /// What would mend the definition, or what it lacks, where something was found. It may stand
+    /// well before the furthest place.
     pub hint: Option<Hint>,
 }
 
