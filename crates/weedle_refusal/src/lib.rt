@@ -15,10 +15,12 @@
 //! It prints ``a.webidl:3:1: expected `;` ``.
 #![tactic(auto)]
 
+mod display;
 mod excerpt;
 mod expected;
 mod furthest;
 mod hint;
+pub mod laws;
 mod message;
 mod position;
 mod refusal;

@@ -8,12 +8,7 @@ use crate::expected::Expected;
 use crate::furthest::furthest_in;
 use crate::hint::{Hint, hint_of};
 use std::alloc::{AllocError, Global};
-use std::error;
-use std::fmt::{self, Display, Formatter, Write};
 use weedle_syntax::{Node, syntax_of_front};
-
-/// How many words are shown at most.
-const SHOWN: usize = 6;
 
 /// Where and why a text is refused. Places are in bytes from the front of the text.
 ///
@@ -34,30 +29,6 @@ pub struct Refusal {
     /// well before the furthest place.
     pub hint: Option<Hint>,
 }
-
-/// Says what was expected, as ``expected `}` or `,` ``: six words at most, and then how many more there are.
-impl Display for Refusal {
-    fn fmt<W: Write>(&self, f: &mut Formatter<W>) -> fmt::Result {
-        let more = self.expected.len().saturating_sub(SHOWN);
-        f.write_str("expected ")?;
-        for (at, word) in self.expected.iter().take(SHOWN).enumerate() {
-            f.write_str(if at == 0 {
-                ""
-            } else if more == 0 && at + 1 == self.expected.len() {
-                " or "
-            } else {
-                ", "
-            })?;
-            write!(f, "{word}")?;
-        }
-        if more > 0 {
-            write!(f, " or {more} more")?;
-        }
-        Ok(())
-    }
-}
-
-impl error::Error for Refusal {}
 
 /// Why a text is refused, or None where it is read whole.
 ///
