@@ -6,7 +6,7 @@ ghost use Rattle.weedle_explain.specs.Refusal.{Explains, IsUnreadRest};
 use std::alloc::{AllocError, Global};
 use weedle_base::Err;
 use weedle_front::parse_quick;
-use weedle_refusal::{Refusal, furthest_in};
+use weedle_refusal::{Refusal, furthest_in, hint_of};
 
 /// Why a text is refused, or None where it is read whole.
 ///
@@ -16,7 +16,8 @@ use weedle_refusal::{Refusal, furthest_in};
 ///
 /// It reads the text by [`parse_quick`], and costs what that costs. Where that leaves a rest, it
 /// goes on as [`furthest_in`] does: mostly in some 200 to 300 nanoseconds for each byte of the
-/// definition that isn't read. Where memory is refused, the answer is an error.
+/// definition that isn't read, and up to eight times more in the search for a hint. Where memory is
+/// refused, the answer is an error.
 pub fn explain(alloc: Global, raw: &str) -> Result<Option<Refusal>, AllocError>
     ensures explains { IfOk result (Explains raw.now) }
 
@@ -28,10 +29,13 @@ pub fn explain(alloc: Global, raw: &str) -> Result<Option<Refusal>, AllocError>
     };
     let start = raw.len() - rest.len();
     let (furthest, expected) = furthest_in(alloc, rest)?;
+    let place = start + furthest;
+    let hint = hint_of(alloc, raw, start, place)?;
     Ok(Some(Refusal {
         start,
-        place: start + furthest,
+        place,
         expected,
+        hint,
     }))
 }
 
