@@ -59,8 +59,8 @@ class Run:
         if not KEYS.issuperset(keys):
             raise ValueError(f"a run has the keys {sorted(set(keys) - KEYS)}")
         self.keys = keys
-        # What the environment has more.
-        self.env = {}
+        # What the environment has more, and what a program with checks is told more.
+        self.env, self.checks = {}, ""
         self.what, self.program, self.memory = keys["what"], keys["program"], keys.get("memory")
         # Whether it isn't for a build with checks.
         self.is_for_built = keys.get("built", False)
@@ -130,7 +130,7 @@ class Run:
         """How a program is run that has little memory, or an output with little room."""
         found, how = [], {}
         if self.memory and has_checks(program):
-            most = f"allocator_may_return_null=1:max_allocation_size_mb={self.memory >> 20}:log_path={room}/.checks"
+            most = f"allocator_may_return_null=1:max_allocation_size_mb={self.memory >> 20}:log_path={room}/.checks{self.checks}"
             how["env"] = os.environ | self.env | {"ASAN_OPTIONS": most}
         elif self.memory:
             found.append((resource.RLIMIT_AS, self.memory))

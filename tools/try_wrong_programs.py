@@ -13,14 +13,14 @@ more above its `file:`, and a third where it has to be proved:
 
 First it looks whether each edit applies: whether each old text stands in its file exactly once. With --check that is
 all. Else it copies the repository to a temporary folder, without .git but with what `rt check` kept of the crates that
-are proved, and builds each program there, with one edit at a time. It runs it by the runs of tests/runs.toml and
-tests/memory.toml. A program with checks is given the shorter texts of these. Where none of the runs fails, weedle_check
-reads the texts of the folder `tests`, too.
+are proved, and builds each program there, with one edit at a time. It runs it by the runs of tests/runs.toml; where none
+fails, by those of tests/memory.toml, of which a program with checks is given the shorter texts; and where none of these
+fails, weedle_check reads the texts of the folder `tests`.
 
 It prints a line for each edit:
 
-    NAME: found by N of M runs
-    NAME: LET THROUGH           by all runs of the program
+    NAME: found by N of M       runs of the file that found it, or texts
+    NAME: LET THROUGH           by all of them
     NAME: doesn't apply         with the reason
     NAME: NOT TRIED             with the reason
 
@@ -59,18 +59,18 @@ class NotBuilt(Exception):
 class Wrong:
     """A program with a wrong body: the edit, and what is built with it."""
 
-    def __init__(self, file):
+    def __init__(self, file: Path) -> None:
         rows = file.read_text(encoding="utf-8").splitlines()
         heads = dict(row.split(": ", 1) for row in rows if row.partition(":")[0] in HEADS)
         self.name, self.crate, self.program = file.stem, heads["crate"], heads["program"]
         self.is_proved = heads.get("build") == "run"
         self.edit = "\n".join(row for row in rows if row.partition(":")[0] not in HEADS)
 
-    def texts(self, root):
+    def texts(self, root: Path) -> dict[str, str]:
         """The texts that it makes of the files of its crate."""
         return edited(self.edit, root / "crates" / self.crate)
 
-    def misfit(self, root):
+    def misfit(self, root: Path) -> str:
         """Why it doesn't apply, or nothing."""
         if self.crate not in read_lines(root) or self.program not in read_lines(root):
             return "its crate or its program isn't in crates.txt"
@@ -81,7 +81,7 @@ class Wrong:
         return ""
 
 
-def wrong_programs(root, names):
+def wrong_programs(root: Path, names: list[str]) -> list[Wrong]:
     """Those of these names, or all."""
     found = {file.stem: Wrong(file) for file in sorted((root / WRONG).glob("*.edit"))}
     for name in names:
@@ -90,7 +90,7 @@ def wrong_programs(root, names):
     return [wrong for name, wrong in found.items() if not names or name in names]
 
 
-def copy_repository(root, to, wrongs):
+def copy_repository(root: Path, to: Path, wrongs: list[Wrong]) -> None:
     """Copies the repository, with what was kept of the crates below the programs that are proved."""
     kept = set(closure(read_lines(root), [wrong.program for wrong in wrongs if wrong.is_proved]))
 
@@ -101,7 +101,7 @@ def copy_repository(root, to, wrongs):
     shutil.copytree(root, to, symlinks=True, ignore=left_out)
 
 
-def built_by_try(crate, room):
+def built_by_try(crate: Path, room: Path) -> Path:
     """The program that `rt try` builds of a crate: it keeps none, so it is taken from its folder while it is there."""
     program = room / crate.name
     program.unlink(missing_ok=True)
@@ -120,7 +120,7 @@ def built_by_try(crate, room):
     return program
 
 
-def keep_newest(folder, program):
+def keep_newest(folder: Path, program: Path) -> None:
     """Keeps the program that was built below a folder, if one is there: the same file by a second name."""
     for file in folder.rglob("program"):
         try:
@@ -132,7 +132,7 @@ def keep_newest(folder, program):
             continue
 
 
-def built_by_run(crate):
+def built_by_run(crate: Path) -> Path:
     """The program that `rt run` proves and builds of a crate."""
     program = crate / "out" / crate.name
     program.unlink(missing_ok=True)
@@ -143,19 +143,39 @@ def built_by_run(crate):
     return program
 
 
-def failures_in(program, name, library):
-    """How many runs of a program fail, and how many there are."""
-    found = [bool(compared(run.what, run.wanted(), run.came(program))) for run in runs()
-             if run.program == name and not (asked_memory.has_checks(program) and run.is_for_built)]
-    found += [bool(asked_memory.failure_of(run, program, library)[1]) for run in runs(asked_memory.RUNS) if run.program == name]
-    if name == "weedle_check" and not any(found):
-        cases = [case for case in cases_of("tests") if len(case.text) <= TRIED_TEXT]
-        failures, count = check_texts(Built(program), cases)
-        found += [True] * len(failures) + [False] * (count - len(failures))
-    return sum(found), len(found)
+def failing_runs(program: str, name: str) -> list[bool]:
+    """Of each run of tests/runs.toml whether it fails."""
+    left_out = asked_memory.has_checks(program)
+    return [bool(compared(run.what, run.wanted(), run.came(program))) for run in runs()
+            if run.program == name and not (left_out and run.is_for_built)]
 
 
-def outcome_of(wrong, copy, room, library):
+def failing_memory(program: str, name: str, library: str) -> list[bool]:
+    """Of each run of tests/memory.toml."""
+    return [bool(asked_memory.failure_of(run, program, library)[1]) for run in runs(asked_memory.RUNS) if run.program == name]
+
+
+def failing_texts(program: str, name: str) -> list[bool]:
+    """Of each of the shorter texts of tests/tests, where it is weedle_check."""
+    if name != "weedle_check":
+        return []
+    failures, count = check_texts(Built(program), [case for case in cases_of("tests") if len(case.text) <= TRIED_TEXT])
+    return [True] * len(failures) + [False] * (count - len(failures))
+
+
+def failures_in(program: str, name: str, library: str) -> tuple[int, int]:
+    """How many fail of what finds something first, and how many there are; or none of all."""
+    count = 0
+    for failing in (lambda: failing_runs(program, name), lambda: failing_memory(program, name, library),
+                    lambda: failing_texts(program, name)):
+        found = failing()
+        if any(found):
+            return sum(found), len(found)
+        count += len(found)
+    return 0, count
+
+
+def outcome_of(wrong: Wrong, copy: Path, room: Path, library: str) -> tuple[str, bool | None]:
     """What came of a wrong body in a copy of the repository, which is left as it was; and whether it was found."""
     folder = copy / "crates" / wrong.crate
     texts = wrong.texts(copy)
@@ -172,11 +192,11 @@ def outcome_of(wrong, copy, room, library):
         for path, text in before.items():
             (folder / path).write_text(text, encoding="utf-8")
     if not failed:
-        return f"LET THROUGH by all {count} runs", False
-    return f"found by {failed} of {count} runs", True
+        return f"LET THROUGH by all {count}", False
+    return f"found by {failed} of {count}", True
 
 
-def try_all(root, wrongs):
+def try_all(root: Path, wrongs: list[Wrong]) -> dict[bool | None, int]:
     """Tries each, prints a line of it, and says how many were found, let through and not tried."""
     counts = {True: 0, False: 0, None: 0}
     with tempfile.TemporaryDirectory(prefix="try-wrong-") as room:
@@ -190,7 +210,7 @@ def try_all(root, wrongs):
     return counts
 
 
-def check(root, wrongs):
+def check(root: Path, wrongs: list[Wrong]) -> bool:
     """Says which don't apply, and how many do. Returns whether all do."""
     misfits = {wrong.name: why for wrong in wrongs if (why := wrong.misfit(root))}
     for name, why in misfits.items():
@@ -199,7 +219,7 @@ def check(root, wrongs):
     return not misfits
 
 
-def main(words=None, root=TOP):
+def main(words: list[str] | None = None, root: Path = TOP) -> int:
     parser = parser_of(__doc__)
     parser.add_argument("--check", action="store_true", help="only look whether each applies")
     parser.add_argument("names", metavar="NAME", nargs="*", help="which; else all")
