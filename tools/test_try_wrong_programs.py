@@ -31,7 +31,7 @@ said="$(cat ../low/src/lib.rt)$(test -f ../low/out/kept && echo ", kept")"
 build() { printf '#!/bin/sh\\necho "%s"\\n' "$said" > "$1"; chmod +x "$1"; }
 case $1 in
 try) [ "$said" = broken ] && exit 1
-     mkdir -p "$TMPDIR/a/b"; build "$TMPDIR/a/b/program"; sleep 0.3; rm -r "$TMPDIR/a"; echo run=ended >&2 ;;
+     mkdir -p "$TMPDIR/a/b"; build "$TMPDIR/a/b/program"; sleep 0.3; rm -r "$TMPDIR/a"; echo "cases=$(ls "$3" | wc -l) ended" >&2 ;;
 run) mkdir -p out; build out/weedle_list ;;
 esac
 """

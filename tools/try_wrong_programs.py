@@ -34,6 +34,8 @@ import shutil
 import subprocess
 import sys
 import tempfile
+import threading
+import time
 from pathlib import Path
 
 import asked_memory
@@ -50,6 +52,8 @@ WRONG = Path("tests", "wrong_programs")
 HEADS = ("crate", "program", "build")
 # How often it is looked whether a program is built, and for how many seconds one is built at most.
 MOMENT, PATIENCE = 0.05, 3_600
+# Over how many texts a program is run by `rt try`.
+CASES = 40
 
 
 class NotBuilt(Exception):
@@ -105,19 +109,30 @@ def built_by_try(crate: Path, room: Path) -> Path:
     """The program that `rt try` builds of a crate: it keeps none, so it is taken from its folder while it is there."""
     program = room / crate.name
     program.unlink(missing_ok=True)
+    arguments = (crate / "args").read_text().split() if (crate / "args").is_file() else []
     with tempfile.TemporaryDirectory(dir=room) as folder:
-        words = {"cwd": crate, "env": os.environ | {"TMPDIR": folder}, "stdin": subprocess.DEVNULL}
-        with subprocess.Popen(["rt", "try"], stdout=subprocess.DEVNULL, stderr=subprocess.PIPE, text=True, **words) as tried:
+        words = ["rt", "try", "--cases", cases_in(Path(folder)), "--", *arguments]
+        how = {"cwd": crate, "env": os.environ | {"TMPDIR": folder}, "stdin": subprocess.DEVNULL, "text": True}
+        with subprocess.Popen(words, stdout=subprocess.DEVNULL, stderr=subprocess.PIPE, **how) as tried:
+            reader = threading.Thread(target=lambda: said.append(tried.stderr.read()))
+            said: list[str] = []
+            reader.start()
             while tried.poll() is None:
                 keep_newest(Path(folder), program)
-                try:
-                    tried.wait(MOMENT)
-                except subprocess.TimeoutExpired:
-                    continue
-            said = tried.stderr.read()
-    if "run=ended" not in said or not program.is_file():
-        raise NotBuilt(f"rt try gave no program: {said[-400:]}")
+                time.sleep(MOMENT)
+            reader.join()
+    if f"cases={CASES}" not in said[0] or not program.is_file():
+        raise NotBuilt(f"rt try gave no program: {said[0][-400:]}")
     return program
+
+
+def cases_in(folder: Path) -> str:
+    """A folder of texts, over each of which a program runs, so that it is there for a while."""
+    texts = folder / "cases"
+    texts.mkdir()
+    for number in range(CASES):
+        (texts / f"{number:02}").write_text("A includes B;\n")
+    return str(texts)
 
 
 def keep_newest(folder: Path, program: Path) -> None:
