@@ -3,7 +3,7 @@ to come of them.
 
 A run has the keys
     what        what it shows
-    program     weedle_check, weedle_list or weedle_table
+    program     weedle_check or weedle_list; in tests/memory.toml weedle_table or weedle_format too
     arguments   the arguments; none where it is left out
     files       the texts of files, by their names
     bytes       the bytes of files in hexadecimal, by their names

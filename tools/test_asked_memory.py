@@ -133,7 +133,7 @@ class Checks(unittest.TestCase):
 class Runs(unittest.TestCase):
     def test_those_of_this_repository(self):
         runs = case_runs.runs(asked_memory.RUNS)
-        self.assertEqual({run.program for run in runs}, {"weedle_check", "weedle_list", "weedle_table"})
+        self.assertEqual({run.program for run in runs}, {"weedle_check", "weedle_format", "weedle_list", "weedle_table"})
         self.assertTrue(all({"above", "sizes", "held"} <= set(run.keys["asks"]) for run in runs))
         self.assertTrue(all(asked_memory.places_of(run) > 300_000 for run in runs))
         self.assertEqual(len(runs), len({(run.program, run.what) for run in runs}))
