@@ -29,6 +29,7 @@ The last line is `N found, M let through`, and behind it how many weren't tried,
 arguments are wrong.
 """
 
+import contextlib
 import os
 import shutil
 import subprocess
@@ -137,14 +138,14 @@ def cases_in(folder: Path) -> str:
 
 def keep_newest(folder: Path, program: Path) -> None:
     """Keeps the program that was built below a folder, if one is there: the same file by a second name."""
-    for file in folder.rglob("program"):
-        try:
-            if not program.is_file() or not program.samefile(file):
-                program.unlink(missing_ok=True)
-                os.link(file, program)
-        except OSError:
-            # It went away, or isn't whole yet: it is looked for again.
-            continue
+    for below, _, files in os.walk(folder):
+        if "program" in files:
+            # It may go away meanwhile, or not be whole yet: then it is looked for again.
+            with contextlib.suppress(OSError):
+                file = Path(below, "program")
+                if not program.is_file() or not program.samefile(file):
+                    program.unlink(missing_ok=True)
+                    os.link(file, program)
 
 
 def built_by_run(crate: Path) -> Path:
