@@ -1,5 +1,5 @@
-//! Tests of syntax trees: nodes of worked texts, both ways alike, hostile texts, walks from node to node, and memory
-//! that is refused.
+//! Tests of syntax trees: nodes of worked texts, both ways alike, hostile texts, walks from node to
+//! node, and memory that is refused.
 #![tactic(auto)]
 
 #[cfg(test)]
