@@ -1,5 +1,9 @@
+pub mod OnceFacts
 pub mod TableFacts
 pub mod WordFacts
+pub mod TextFacts
+pub mod StartFacts
+pub mod EmptyFacts
 pub mod FurthestFacts
 pub mod RefusalFacts
 pub mod FrontFacts

@@ -1,4 +1,6 @@
 pub mod Position
 pub mod Words
+pub mod Texts
+pub mod Starts
 pub mod Furthest
 pub mod Refusal
