@@ -16,7 +16,8 @@ whether each wrong body that is tried by hand, or that tests have to find, still
 each link of the pages leads somewhere (tools/links.py), whether what they name of the repository is
 there (tools/pages.py), and whether the cases of tests/ are those that are listed, of the texts that
 are made now (tools/make_cases.py --check), and whether the tables of docs/GATE.md are those of the
-times that were measured last (tools/gate_page.py --check).
+times that were measured last (tools/gate_page.py --check), and whether docs/SLIPS.md says what the
+rows say of the slips of tests/ (tools/run_slips.py --page --check).
 
 It prints a line for each file that is stale, for each that no script writes though it says so, and
 for whatever else was found. It changes nothing. It needs the toolchain's command `rt` on PATH, and
@@ -47,6 +48,7 @@ LOOKS = (
     ["pages.py"],
     ["make_cases.py", "--check"],
     ["gate_page.py", "--check"],
+    ["run_slips.py", "--page", "--check"],
 )
 
 

@@ -3,4 +3,5 @@ pub mod Words
 pub mod Texts
 pub mod Starts
 pub mod Furthest
+pub mod Hint
 pub mod Refusal
