@@ -1,4 +1,5 @@
 pub mod TableFacts
+pub mod LineFacts
 pub mod WordFacts
 pub mod FurthestFacts
 pub mod RefusalFacts

@@ -17,6 +17,7 @@
 mod excerpt;
 mod expected;
 mod furthest;
+mod lines;
 mod message;
 mod position;
 mod refusal;
@@ -26,6 +27,7 @@ mod words;
 pub use excerpt::write_excerpt;
 pub use expected::Expected;
 pub use furthest::furthest_in;
+pub use lines::Lines;
 pub use message::write_message;
 pub use position::{Position, position_of};
 pub use refusal::{Refusal, refusal_from, refusal_of, rest_of};
