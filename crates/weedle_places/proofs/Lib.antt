@@ -4,3 +4,7 @@ pub mod KindFacts
 pub mod MemberFacts
 pub mod WithinFacts
 pub mod PlaceFacts
+pub mod NumberFacts
+pub mod RowFacts
+pub mod NameFacts
+pub mod AboveFacts

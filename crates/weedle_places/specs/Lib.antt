@@ -1,3 +1,6 @@
 pub mod Items
 pub mod Members
 pub mod Places
+pub mod Roles
+pub mod Names
+pub mod Above
