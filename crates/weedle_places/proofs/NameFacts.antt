@@ -1,14 +1,15 @@
 -- Names: the parts of their nodes, and the names that are found one after another.
-use Rattle.std.proofs.Common.{◌≡◌, inl, inr, ℕ, zero, suc, ◌==◌, ◌+◌, ◌-◌, ◌<◌, ◌≤◌, Bool, true, false, List, [], ◌∷◌, ◌++◌, length, map, refl, sym, subst, ◌∙◌, ap, arith, eq-eqb, eqb-true, append-nil, Option, Some}
+use Rattle.std.proofs.Common.{◌≡◌, inl, inr, ℕ, zero, suc, ◌==◌, ◌+◌, ◌-◌, ◌<◌, ◌≤◌, Bool, true, false, List, [], ◌∷◌, ◌++◌, length, map, refl, sym, subst, ◌∙◌, ap, arith, eq-eqb, eqb-true, append-nil, Option, Some, get_or}
+use Rattle.std.proofs.lemmas.List.{get_or_default}
 use Rattle.std.specs.Prelude.{cond}
-use Rattle.weedle_grammar.specs.Rows.{Seq}
+use Rattle.weedle_grammar.specs.Meaning.{between}
 use Rattle.weedle_grammar.specs.written.Table.{row_of}
 use Rattle.weedle_grammar.specs.written.Table.Trivia.{TRIVIA}
 use Rattle.weedle_grammar.specs.written.Table.Leaves.{OPT_BYTES_UNDERSCORE, IDENTIFIER_TEXT, IDENTIFIER}
 use Rattle.weedle_rules.specs.Outcomes.{EndsAt}
 use Rattle.weedle_syntax.specs.declared.node.Node.{Node}
 use Rattle.weedle_syntax.specs.Parts.{AreInTurn, AreParts, HasParts}
-use Rattle.weedle_syntax.specs.Syntax.{IsFront}
+use Rattle.weedle_syntax.specs.Syntax.{IsFront, root_to}
 use Rattle.weedle_syntax.specs.Tree.{node_at, below_of, numbers_where, children_of, IsChild}
 use Rattle.weedle_syntax.proofs.BelowFacts.{depth_at, below_within}
 use Rattle.weedle_syntax.proofs.ChildFacts.{Each}
@@ -16,7 +17,8 @@ use Rattle.weedle_syntax.proofs.InnerFacts.{children_are_parts}
 use Rattle.weedle_syntax.proofs.StepFacts.{joined}
 use Rattle.weedle_places.specs.declared.name.Name.{Name}
 use Rattle.weedle_places.specs.declared.role.Role.{Role}
-use Rattle.weedle_places.specs.Names.{is_name, IsName, AreSaid}
+use Rattle.weedle_places.specs.declared.span.Span.{Span}
+use Rattle.weedle_places.specs.Names.{is_name, IsNamed, IsName, AreSaid}
 use Rattle.weedle_places.specs.Roles.{role_of}
 use Rattle.weedle_places.proofs.NumberFacts.{AreBelow, numbers_more, numbers_below, at_number}
 use Rattle.weedle_places.proofs.RowFacts.{among, names_of, a_role, parts_named}
@@ -81,6 +83,58 @@ module _ (text : List ℕ) (ns : List Node) (front : IsFront text ns) (i : ℕ) 
       by (c ∷ u ∷ w ∷ []) e t b = absurd t.1.1.1
       by (c ∷ u ∷ w ∷ v ∷ []) e t b = record { before = c; underscore = u; letters = w; behind = v; are = e; turn = t; underscore_within = b.1.0; letters_within = b.1.1.0 }
       by (c ∷ u ∷ w ∷ v ∷ x ∷ more) e t b = absurd (let z = t.1.1.1.1.0 in let n : ⊥ = cc in n)
+
+  -- the second and the third of its children, in which a name's span lies
+  pub record Within (b d : ℕ) : Type 0 where
+    pub parts : NameParts
+    pub second : b ≡ parts.underscore
+    pub third : d ≡ parts.letters
+    pub second_within : b < length ns
+    pub third_within : d < length ns
+
+  pub no_first : (cs : List ℕ) → is_name ns i ≡ true → cs ≡ children_of ns i → cs ≡ [] → ⊥
+  no_first cs h e none = let p = name_parts h in let are = p.are in (let n : ⊥ = cc in n)
+
+  pub no_second : (cs xs : List ℕ) (a : ℕ) → is_name ns i ≡ true → cs ≡ children_of ns i → cs ≡ a ∷ xs → xs ≡ [] → ⊥
+  no_second cs xs a h e first none = let p = name_parts h in let are = p.are in (let n : ⊥ = cc in n)
+
+  pub no_third : (cs xs ys : List ℕ) (a b : ℕ) → is_name ns i ≡ true → cs ≡ children_of ns i → cs ≡ a ∷ xs → xs ≡ b ∷ ys → ys ≡ [] → ⊥
+  no_third cs xs ys a b h e first second none = let p = name_parts h in let are = p.are in (let n : ⊥ = cc in n)
+
+  pub two_parts : (cs xs ys zs : List ℕ) (a b d : ℕ) → is_name ns i ≡ true → cs ≡ children_of ns i → cs ≡ a ∷ xs → xs ≡ b ∷ ys → ys ≡ d ∷ zs → Within b d
+  two_parts cs xs ys zs a b d h e first second third =
+      let p = name_parts h in
+      let are = p.are in
+      let same : b ≡ p.underscore = cc in
+      let also : d ≡ p.letters = cc in
+      record {
+        parts = p;
+        second = same;
+        third = also;
+        second_within = subst (λ z. z < length ns) (sym same) p.underscore_within;
+        third_within = subst (λ z. z < length ns) (sym also) p.letters_within;
+      }
+
+  module _ (p : NameParts) (span : Span) (letters : List ℕ) where
+    pub is_named : span.start ≡ (node_at ns p.underscore).start → span.end ≡ (node_at ns p.letters).end → letters ≡ between text (node_at ns p.letters).start (node_at ns p.letters).end
+        → IsNamed text (node_at ns i).start (node_at ns i).end span letters
+    is_named s e t =
+        let first = p.turn.0 in
+        let second = p.turn.1.0 in
+        let third = p.turn.1.1.0 in
+        let fourth = p.turn.1.1.1.0 in
+        record {
+          word = (node_at ns p.letters).start;
+          before = subst (EndsAt text TRIVIA (node_at ns i).start) (sym (s ∙ second.start_is)) first.reads;
+          underscore = subst (λ z. EndsAt text OPT_BYTES_UNDERSCORE z (node_at ns p.letters).start) (sym (s ∙ second.start_is)) (subst (EndsAt text OPT_BYTES_UNDERSCORE (node_at ns p.before).end) (sym third.start_is) second.reads);
+          reads = subst (EndsAt text IDENTIFIER_TEXT (node_at ns p.letters).start) (sym e) (subst (λ z. EndsAt text IDENTIFIER_TEXT z (node_at ns p.letters).end) (sym third.start_is) third.reads);
+          are = t ∙ ap (between text (node_at ns p.letters).start) (sym e);
+          behind = subst (λ z. EndsAt text TRIVIA z (node_at ns i).end) (sym e) (subst (EndsAt text TRIVIA (node_at ns p.letters).end) (sym p.turn.1.1.1.1.1) fourth.reads);
+        }
+
+-- a node that is looked at is the one of its number
+pub node_found : (nodes ns : List Node) (k : ℕ) (n : Node) → nodes ≡ ns → k < length ns → get_or nodes k n ≡ node_at ns k
+node_found nodes ns k n e l = ap (λ s. get_or s k n) e ∙ get_or_default ns k n (root_to 0) l
 
 -- names that are found one after another
 module _ (text : List ℕ) (ns : List Node) where
