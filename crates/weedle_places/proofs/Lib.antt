@@ -1,10 +1,10 @@
 pub mod OutcomeFacts
-pub mod ItemFacts
 pub mod KindFacts
 pub mod MemberFacts
 pub mod WithinFacts
-pub mod PlaceFacts
 pub mod NumberFacts
+pub mod PartFacts
+pub mod PlaceFacts
 pub mod RowFacts
 pub mod NameFacts
 pub mod AboveFacts

@@ -1,3 +1,4 @@
+pub mod Spans
 pub mod Items
 pub mod Members
 pub mod Places

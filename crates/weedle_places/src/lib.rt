@@ -14,13 +14,13 @@
 #![tactic(auto)]
 
 mod above;
-mod items;
 mod members;
 mod name;
 mod place;
 mod role;
 mod span;
 
+pub use members::MemberPlace;
 pub use name::{Name, names, names_of};
 pub use place::{Place, places, places_of};
 pub use role::Role;
