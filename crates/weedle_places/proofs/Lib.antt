@@ -5,6 +5,8 @@ pub mod WithinFacts
 pub mod NumberFacts
 pub mod PartFacts
 pub mod PlaceFacts
+pub mod ValueFacts
 pub mod RowFacts
 pub mod NameFacts
+pub mod OwnFacts
 pub mod AboveFacts

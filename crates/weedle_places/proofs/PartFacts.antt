@@ -1,6 +1,7 @@
 -- Definitions and members along the nodes of a syntax tree.
 use Rattle.std.proofs.Common.{◌≡◌, ◌⊎◌, inl, inr, ℕ, ◌+◌, ◌<◌, ◌≤◌, Bool, true, false, ◌&&◌, List, [], ◌∷◌, ◌++◌, length, map, Option, Some, None, refl, sym, subst, ◌∙◌, ap, arith, append_assoc, append-nil}
-use Rattle.std.specs.Prelude.{MatchOption, Result, Ok, Err, IfOk}
+use Rattle.std.specs.Prelude.{All, MatchOption, Result, Ok, Err, IfOk}
+use Rattle.std.proofs.lemmas.List.Elements.{All-nil, All-cons, All-append}
 use Rattle.weedle_grammar.specs.Rows.{Row, Bytes, OneOf, NotNext, Run, Past, Seq, First, Opt, Many, ListOf, List1, Tail, If}
 use Rattle.weedle_grammar.specs.written.Table.{row_of}
 use Rattle.weedle_grammar.specs.written.Table.Symbols.{OPEN_BRACE, CLOSE_BRACE}
@@ -18,6 +19,7 @@ use Rattle.weedle_places.specs.declared.span.Span.{Span}
 use Rattle.weedle_places.specs.Items.{AreItems}
 use Rattle.weedle_places.specs.Members.{member_of, AreMembers, FitsFirst, HasMembers, IsBehindBrace, choices_in, parts_in, spans_of}
 use Rattle.weedle_places.specs.Spans.{span_at}
+use Rattle.weedle_places.specs.Standing.{IsMemberAt, IsMember}
 use Rattle.weedle_places.proofs.MemberFacts.{braced}
 use Rattle.weedle_places.proofs.NameFacts.{children_within}
 use Rattle.weedle_places.proofs.NumberFacts.{AreBelow}
@@ -34,15 +36,17 @@ module _ (text : List ℕ) (ns : List Node) (y d start e : ℕ) where
     pub nodes : AreItemNodes text y d at e (map (node_at ns) left)
     pub below : AreBelow (length ns) left
     pub onward : (rest : List Span) → AreItems text y at rest → AreItems text y start (spans_of members ++ rest)
+    pub each : All (IsMember text ns) members
 
   pub list_starts : (members : List MemberPlace) (left : List ℕ) → members ≡ [] → AreItemNodes text y d start e (map (node_at ns) left) → AreBelow (length ns) left → Listing members left
-  list_starts members left none n b = record { at = start; nodes = n; below = b; onward = λ rest a. subst (λ s. AreItems text y start (spans_of s ++ rest)) (sym none) a }
+  list_starts members left none n b = record { at = start; nodes = n; below = b; onward = λ rest a. subst (λ s. AreItems text y start (spans_of s ++ rest)) (sym none) a; each = subst (All (IsMember text ns)) (sym none) (All-nil (IsMember text ns)) }
 
   pub list_within : (members : List MemberPlace) (left more : List ℕ) (i : ℕ) → left ≡ i ∷ more → Listing members left → i < length ns
   list_within members left more i is h = (subst (AreBelow (length ns)) is h.below).0
 
-  pub list_more : (members new : List MemberPlace) (left more : List ℕ) (i : ℕ) (m : MemberPlace) → left ≡ i ∷ more → new ≡ members ++ m ∷ [] → m.span ≡ span_at ns i → Listing members left → Listing new more
-  list_more members new left more i m is e' s h =
+  pub list_more : (members new : List MemberPlace) (left more : List ℕ) (i : ℕ) (m : MemberPlace) → left ≡ i ∷ more → new ≡ members ++ m ∷ [] → IsMemberAt text ns i m → Listing members left → Listing new more
+  list_more members new left more i m is e' k h =
+      let s = k.span_is in
       let n = subst (λ z. AreItemNodes text y d h.at e (map (node_at ns) z)) is h.nodes in
       let b = subst (AreBelow (length ns)) is h.below in
       record {
@@ -51,6 +55,7 @@ module _ (text : List ℕ) (ns : List Node) (y d start e : ℕ) where
         below = b.1;
         onward = λ rest a. subst (λ z. AreItems text y start (spans_of z ++ rest)) (sym e') (subst (AreItems text y start) (sym (spans_more members m rest))
             (h.onward (m.span ∷ rest) (subst (λ z. AreItems text y h.at (z ∷ rest)) (sym s) (n.0.start_is, n.0.reads, a))));
+        each = subst (All (IsMember text ns)) (sym e') (All-append (IsMember text ns) members (m ∷ []) h.each (All-cons (IsMember text ns) m [] (i, k) (All-nil (IsMember text ns))));
       }
 
   pub list_ends : (members : List MemberPlace) (left : List ℕ) → left ≡ [] → Listing members left → AreItems text y start (spans_of members)

@@ -1,6 +1,7 @@
 -- Definitions that are found one after another.
 use Rattle.std.proofs.Common.{◌≡◌, ℕ, ◌<◌, ◌≤◌, List, [], ◌∷◌, ◌++◌, length, map, refl, sym, subst, ◌∙◌, ap, append_assoc, append-nil}
-use Rattle.weedle_grammar.specs.written.Table.Definitions.{DEFINITION, DEFINITIONS}
+use Rattle.std.specs.Prelude.{All}
+use Rattle.weedle_grammar.specs.written.Table.Definitions.{DEFINITION}
 use Rattle.weedle_rules.specs.Outcomes.{EndsAt}
 use Rattle.weedle_syntax.specs.declared.node.Node.{Node}
 use Rattle.weedle_syntax.specs.Parts.{AreItems as AreItemNodes}
@@ -12,7 +13,7 @@ use Rattle.weedle_syntax.proofs.StepFacts.{joined}
 use Rattle.weedle_places.specs.declared.place.Place.{Place}
 use Rattle.weedle_places.specs.Members.{HasMembers, spans_of}
 use Rattle.weedle_places.specs.Places.{IsPlace, ArePlaces}
-use Rattle.weedle_places.specs.Spans.{span_at}
+use Rattle.weedle_places.specs.Standing.{IsStanding, IsMember, AreValues}
 use Rattle.weedle_places.proofs.NameFacts.{children_within}
 use Rattle.weedle_places.proofs.NumberFacts.{AreBelow}
 use Rattle.weedle_places.proofs.WithinFacts.{members_within}
@@ -34,9 +35,10 @@ module _ (text : List ℕ) (ns : List Node) (depth end : ℕ) where
   pub place_rule : (found : List Place) (left more : List ℕ) (i : ℕ) → left ≡ i ∷ more → Placing found left → (node_at ns i).rule ≡ DEFINITION
   place_rule found left more i is h = (subst (λ z. AreItemNodes text DEFINITION depth h.at end (map (node_at ns) z)) is h.nodes).0.rule_is
 
-  pub place_more : (found new : List Place) (left more : List ℕ) (i : ℕ) (d : Place) → left ≡ i ∷ more → new ≡ found ++ d ∷ [] → d.span ≡ span_at ns i
-      → HasMembers text (node_at ns i).start (spans_of d.members.items) → Placing found left → Placing new more
-  place_more found new left more i d is e s m h =
+  pub place_more : (found new : List Place) (left more : List ℕ) (i : ℕ) (d : Place) → IsSyntax text ns → left ≡ i ∷ more → new ≡ found ++ d ∷ [] → IsStanding text ns i d.span d.core d.front d.name
+      → HasMembers text (node_at ns i).start (spans_of d.members.items) → All (IsMember text ns) d.members.items → AreValues text ns i d.values.items → Placing found left → Placing new more
+  place_more found new left more i d tree is e k m all values h =
+      let s = k.span_is in
       let n = subst (λ z. AreItemNodes text DEFINITION depth h.at end (map (node_at ns) z)) is h.nodes in
       let b = subst (AreBelow (length ns)) is h.below in
       let reads : EndsAt text DEFINITION (node_at ns i).start (node_at ns i).end = subst (λ p. EndsAt text DEFINITION p (node_at ns i).end) (sym n.0.start_is) n.0.reads in
@@ -44,6 +46,12 @@ module _ (text : List ℕ) (ns : List Node) (depth end : ℕ) where
         reads = subst (λ z. EndsAt text DEFINITION z.start z.end) (sym s) reads;
         members = subst (λ z. HasMembers text z.start (spans_of d.members.items)) (sym s) m;
         within = members_within text d.span.start d.span.end (spans_of d.members.items) (subst (λ z. HasMembers text z.start (spans_of d.members.items)) (sym s) m) (subst (λ z. EndsAt text DEFINITION z.start z.end) (sym s) reads);
+        nodes = ns;
+        are = tree;
+        node = i;
+        stands = k;
+        each = all;
+        values = values;
       } in
       record {
         at = (node_at ns i).end;

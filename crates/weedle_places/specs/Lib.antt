@@ -5,3 +5,5 @@ pub mod Places
 pub mod Roles
 pub mod Names
 pub mod Above
+pub mod Around
+pub mod Standing

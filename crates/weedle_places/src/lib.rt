@@ -14,8 +14,10 @@
 #![tactic(auto)]
 
 mod above;
+mod around;
 mod members;
 mod name;
+mod own;
 mod place;
 mod role;
 mod span;

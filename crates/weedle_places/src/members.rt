@@ -1,6 +1,6 @@
 //! The members of a definition.
 
-ghost use Rattle.std.specs.Prelude.{◌≡◌, ◌<◌, ℕ, List, Some, length, IfOk};
+ghost use Rattle.std.specs.Prelude.{◌≡◌, ◌<◌, ℕ, List, Some, All, length, IfOk};
 ghost use Rattle.weedle_grammar.specs.Rows.{Seq, Many};
 ghost use Rattle.weedle_grammar.specs.written.Table.{row_of};
 ghost use Rattle.weedle_grammar.specs.written.Table.Definitions.{DEFINITION};
@@ -12,8 +12,11 @@ ghost use Rattle.weedle_places.specs.Members.{
   IsBehindBrace,
   spans_of,
 };
+ghost use Rattle.weedle_places.specs.Standing.{IsMember, IsMemberAt, AreValues};
 ghost use Rattle.weedle_syntax.specs.Tree.{node_at};
 
+use crate::around::around;
+use crate::own::name_span;
 use crate::span::{Span, span_of};
 use std::alloc::{AllocError, Global};
 use weedle_grammar::Rule;
@@ -23,13 +26,55 @@ use weedle_grammar::grammar::other_members::{
 };
 use weedle_syntax::Syntax;
 
-/// Where a member of a definition stands.
+/// Where a member of a definition stands, or a value of an enum.
 ///
-/// In `interface A { attribute long x; };` the one member has the span from 14 to 32.
+/// In `interface A { /* x */ attribute long x; };` the one member has the span from 22 to 40 and the core from 22 to
+/// 39; in front of it, from 13 to 22, stand two blanks and a comment, and its name stands from 37 to 38.
 #[derive(Clone, Copy, Debug, PartialEq, Eq)]
 pub struct MemberPlace {
-    /// The member, with the blanks and comments behind it.
+    /// The member, as the grammar has it: with the blanks and comments behind it.
     pub span: Span,
+    /// The same without blanks and comments at either end.
+    pub core: Span,
+    /// The blanks and comments in front of the core, up to what stands before them.
+    pub front: Span,
+    /// Where its name stands, with an underscore in front. A value has none, as `iterable<long>;`.
+    pub name: Option<Span>,
+}
+
+/// What is said of a node.
+pub(crate) fn member_at(syntax: &Syntax<'_>, i: usize) -> MemberPlace
+    requires { i < length syntax.now.nodes }
+    ensures { IsMemberAt syntax.now.text syntax.now.nodes i result }
+{
+    let nodes = syntax.nodes();
+    let (core, front) = around(syntax, i);
+    MemberPlace {
+        span: span_of(nodes, i),
+        core,
+        front,
+        name: name_span(syntax, i),
+    }
+}
+
+/// The values of a definition that is an enum.
+pub(crate) fn values_at(
+    alloc: Global,
+    syntax: &Syntax<'_>,
+    definition: usize,
+) -> Result<Vec<MemberPlace>, AllocError>
+    requires { definition < length syntax.now.nodes }
+    ensures { IfOk result (λ values. AreValues syntax.now.text syntax.now.nodes definition values.items) }
+{
+    let nodes = syntax.nodes();
+    let start = definition + 1;
+    let mut values = Vec::new(alloc);
+    for i in start..start + syntax.below(definition) {
+        if nodes[i].rule == Rule::ENUM_VARIANT {
+            values.push(member_at(syntax, i))?;
+        }
+    }
+    Ok(values)
 }
 
 /// The rule of the members that a list in braces holds.
@@ -53,8 +98,9 @@ pub(crate) fn members_at(
 ) -> Result<Vec<MemberPlace>, AllocError>
     requires within { definition < length syntax.now.nodes }
     requires rule { (node_at syntax.now.nodes definition).rule ≡ DEFINITION }
-    ensures { IfOk result (λ members. HasMembers syntax.now.text
+    ensures are { IfOk result (λ members. HasMembers syntax.now.text
         (node_at syntax.now.nodes definition).start (spans_of members.items)) }
+    ensures each { IfOk result (λ members. All (IsMember syntax.now.text syntax.now.nodes) members.items) }
 {
     let _ = syntax.nodes();
     let mut kinds = syntax.children(definition);
@@ -72,9 +118,10 @@ fn members_of(
 ) -> Result<Vec<MemberPlace>, AllocError>
     requires within { kind < length syntax.now.nodes }
     requires seq { (parts : List ℕ) × (row_of (node_at syntax.now.nodes kind).rule ≡ Seq parts) }
-    ensures { IfOk result (λ members. (parts : List ℕ)
+    ensures are { IfOk result (λ members. (parts : List ℕ)
         → row_of (node_at syntax.now.nodes kind).rule ≡ Seq parts
         → AreMembers syntax.now.text parts (node_at syntax.now.nodes kind).start (spans_of members.items)) }
+    ensures each { IfOk result (λ members. All (IsMember syntax.now.text syntax.now.nodes) members.items) }
 {
     let nodes = syntax.nodes();
     for part in syntax.children(kind) {
@@ -93,9 +140,10 @@ fn members_in(
 ) -> Result<Vec<MemberPlace>, AllocError>
     requires within { braced < length syntax.now.nodes }
     requires list { (y : ℕ) × (the_member_of (node_at syntax.now.nodes braced).rule ≡ Some y) }
-    ensures { IfOk result (λ members. (y : ℕ)
+    ensures are { IfOk result (λ members. (y : ℕ)
         → the_member_of (node_at syntax.now.nodes braced).rule ≡ Some y
         → IsBehindBrace syntax.now.text y (node_at syntax.now.nodes braced).start (spans_of members.items)) }
+    ensures each { IfOk result (λ members. All (IsMember syntax.now.text syntax.now.nodes) members.items) }
 {
     // What is known of a tree comes with its nodes.
     let _ = syntax.nodes();
@@ -117,16 +165,15 @@ fn listed(
 ) -> Result<Vec<MemberPlace>, AllocError>
     requires within { list < length syntax.now.nodes }
     requires many { (y : ℕ) × (row_of (node_at syntax.now.nodes list).rule ≡ Many y) }
-    ensures { IfOk result (λ members. (y : ℕ)
+    ensures are { IfOk result (λ members. (y : ℕ)
         → row_of (node_at syntax.now.nodes list).rule ≡ Many y
         → AreItems syntax.now.text y (node_at syntax.now.nodes list).start (spans_of members.items)) }
+    ensures each { IfOk result (λ members. All (IsMember syntax.now.text syntax.now.nodes) members.items) }
 {
-    let nodes = syntax.nodes();
+    let _ = syntax.nodes();
     let mut members = Vec::new(alloc);
     for item in syntax.children(list) {
-        members.push(MemberPlace {
-            span: span_of(nodes, item),
-        })?;
+        members.push(member_at(syntax, item))?;
     }
     Ok(members)
 }

@@ -1,8 +1,9 @@
 //! The names of a text.
 
 ghost use Rattle.std.specs.Prelude.{◌≡◌, ◌↔◌, ◌<◌, true, length, IsSome, IfOk, IfSome};
-ghost use Rattle.weedle_places.specs.Names.{AreNames, HasNames, HasRole, IsName, is_name};
+ghost use Rattle.weedle_places.specs.Names.{AreNames, HasNames, HasRole, IsName, IsNamed, is_name};
 ghost use Rattle.weedle_places.specs.Places.{IsWhole};
+ghost use Rattle.weedle_syntax.specs.Tree.{node_at};
 
 use crate::above::role_at;
 use crate::role::Role;
@@ -23,12 +24,12 @@ pub struct Name<'a> {
     pub role: Role,
 }
 
-/// What is said of a node of the rule of names.
-fn name_at<'a>(syntax: &Syntax<'a>, i: usize, role: Role) -> Name<'a>
+/// Where a node of the rule of names has its name, and the letters.
+pub(crate) fn word_at<'a>(syntax: &Syntax<'a>, i: usize) -> (Span, &'a str)
     requires within { i < length syntax.now.nodes }
     requires name { is_name syntax.now.nodes i ≡ true }
-    requires role { HasRole syntax.now.nodes i role }
-    ensures { IsName syntax.now.text syntax.now.nodes i result }
+    ensures { IsNamed syntax.now.text (node_at syntax.now.nodes i).start (node_at syntax.now.nodes i).end
+        result.0 result.1.now }
 {
     let nodes = syntax.nodes();
     let mut parts = syntax.children(i);
@@ -41,14 +42,22 @@ fn name_at<'a>(syntax: &Syntax<'a>, i: usize, role: Role) -> Name<'a>
     let Some(letters) = parts.next() else {
         unreachable!();
     };
-    Name {
-        text: syntax.text_of(letters),
-        span: Span {
-            start: nodes[underscore].start,
-            end: nodes[letters].end,
-        },
-        role,
-    }
+    let span = Span {
+        start: nodes[underscore].start,
+        end: nodes[letters].end,
+    };
+    (span, syntax.text_of(letters))
+}
+
+/// What is said of a node of the rule of names.
+fn name_at<'a>(syntax: &Syntax<'a>, i: usize, role: Role) -> Name<'a>
+    requires within { i < length syntax.now.nodes }
+    requires name { is_name syntax.now.nodes i ≡ true }
+    requires role { HasRole syntax.now.nodes i role }
+    ensures { IsName syntax.now.text syntax.now.nodes i result }
+{
+    let (span, text) = word_at(syntax, i);
+    Name { text, span, role }
 }
 
 /// The names of a syntax tree, in their order: of the definitions at the front of its text, where it is a front's.

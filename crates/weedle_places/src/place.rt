@@ -4,8 +4,8 @@ ghost use Rattle.std.specs.Prelude.{◌↔◌, IsSome, IfOk, IfSome};
 ghost use Rattle.weedle_places.specs.Places.{IsWhole, ArePlaces};
 ghost use Rattle.weedle_syntax.specs.Syntax.{IsSyntax};
 
-use crate::members::{MemberPlace, members_at};
-use crate::span::{Span, span_of};
+use crate::members::{MemberPlace, member_at, members_at, values_at};
+use crate::span::Span;
 use std::alloc::{AllocError, Global};
 use weedle_rules::Ends;
 use weedle_syntax::Syntax;
@@ -16,11 +16,20 @@ use weedle_syntax::Syntax;
 /// member that from 14 to 32.
 #[derive(Debug, Drop)]
 pub struct Place {
-    /// The definition.
+    /// The definition, as the grammar has it: with the blanks and comments behind it. The first definition has those
+    /// in front of it too.
     pub span: Span,
+    /// The same without blanks and comments at either end.
+    pub core: Span,
+    /// The blanks and comments in front of the core, up to what stands before them.
+    pub front: Span,
+    /// Where its name stands, with an underscore in front: of `A includes B;` that of `A`.
+    pub name: Option<Span>,
     /// The members between its braces, in their order. A definition without members has none; the
     /// values of an enum aren't members.
     pub members: Vec<MemberPlace>,
+    /// The values of an enum, in their order. They have no name.
+    pub values: Vec<MemberPlace>,
 }
 
 /// The places of the definitions of a text that is read whole.
@@ -28,13 +37,19 @@ fn definitions(alloc: Global, syntax: &Syntax<'_>) -> Result<Vec<Place>, AllocEr
     requires { IsSyntax syntax.now.text syntax.now.nodes }
     ensures { IfOk result (λ found. ArePlaces syntax.now.text 0 found.items) }
 {
-    let nodes = syntax.nodes();
+    let _ = syntax.nodes();
     let mut found = Vec::new(alloc);
     for definition in syntax.children(syntax.root()) {
         let members = members_at(alloc, syntax, definition)?;
+        let values = values_at(alloc, syntax, definition)?;
+        let own = member_at(syntax, definition);
         found.push(Place {
-            span: span_of(nodes, definition),
+            span: own.span,
+            core: own.core,
+            front: own.front,
+            name: own.name,
             members,
+            values,
         })?;
     }
     Ok(found)

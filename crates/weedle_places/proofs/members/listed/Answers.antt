@@ -3,32 +3,33 @@ use Rattle.weedle_syntax.specs.Syntax.{IsFront}
 use Rattle.weedle_syntax.specs.Tree.{node_at}
 use Rattle.weedle_places.specs.Items.{AreItems}
 use Rattle.weedle_places.specs.Members.{spans_of}
-use Rattle.weedle_places.specs.Spans.{span_at}
 use Rattle.weedle_places.proofs.PartFacts.{listing_starts, list_within, list_more, list_ends}
 use Rattle.weedle_places.proofs.members.listed.Goals as goal
 
 pub loop-item-init : goal.loop-item-init
 loop-item-init c =
     let ns = c.args.syntax.now.nodes in
-    let front = subst (IsFront c.args.syntax.now.text) c.nodes-nodes.ensures.are c.nodes-nodes.ensures.front in
+    let front = subst (IsFront c.args.syntax.now.text) c.nodes.ensures.are c.nodes.ensures.front in
     listing_starts c.args.syntax.now.text ns front c.args.list c.requires.within c.requires.many.0 c.new-members.result.items _ c.requires.many.1 c.new-members.ensures.items (c.into_iter-item-iterator.ensures.into_iter_gives ∙ c.children-item-items.ensures)
 
-pub span_of-requires : goal.span_of-requires
-span_of-requires c =
-    let ns = c.args.syntax.now.nodes in
+pub member_at-requires : goal.member_at-requires
+member_at-requires c =
     let i = c.loop-item.invariant in
-    subst (λ s. c.in-Some.item < length s) (sym c.nodes-nodes.ensures.are) (list_within c.args.syntax.now.text ns i.0 _ _ _ _ _ _ _ c.in-Some.ensures.steps i.2)
+    list_within c.args.syntax.now.text c.args.syntax.now.nodes i.0 _ _ _ _ _ _ _ c.in-Some.ensures.steps i.2
 
 pub loop-item-preserved : goal.loop-item-preserved
 loop-item-preserved c =
     let ns = c.args.syntax.now.nodes in
     let i = c.loop-item.invariant in
-    (i.0, i.1, list_more c.args.syntax.now.text ns i.0 _ _ _ _ _ _ _ _ _ c.in-Some.ensures.steps c.in_ok-push.ensures.items (c.span_of.ensures ∙ ap (λ s. span_at s c.in-Some.item) c.nodes-nodes.ensures.are) i.2)
+    (i.0, i.1, list_more c.args.syntax.now.text ns i.0 _ _ _ _ _ _ _ _ _ c.in-Some.ensures.steps c.in_ok-push.ensures.items c.member_at.ensures i.2)
 
-pub returns : goal.returns
-returns c =
+pub returns-clause-are : goal.returns-clause-are
+returns-clause-are c =
     let ns = c.args.syntax.now.nodes in
     let i = c.loop-item.invariant in
     λ y is. (
         let same : i.0 ≡ y = cc in
         subst (λ z. AreItems c.args.syntax.now.text z (node_at ns c.args.list).start (spans_of c.loop-item.members.items)) same (list_ends c.args.syntax.now.text ns i.0 _ _ _ _ _ c.in-None.ensures.steps.0 i.2))
+
+pub returns-clause-each : goal.returns-clause-each
+returns-clause-each c = c.loop-item.invariant.2.each

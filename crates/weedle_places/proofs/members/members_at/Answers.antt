@@ -31,8 +31,8 @@ members_of-requires-clause-seq c =
     let same = one_is _ _ _ _ k.kind c.children-kinds.ensures k.are c.in-Some.ensures.steps in
     (k.seq.0, subst (λ z. row_of (node_at ns z).rule ≡ Seq k.seq.0) same k.seq.1)
 
-pub returns : goal.returns
-returns c =
+pub returns-clause-are : goal.returns-clause-are
+returns-clause-are c =
     let ns = c.args.syntax.now.nodes in
     let text = c.args.syntax.now.text in
     let front = subst (IsFront text) c.nodes.ensures.are c.nodes.ensures.front in
@@ -43,4 +43,4 @@ returns c =
     (λ ms. HasMembers text (node_at ns c.args.definition).start (spans_of ms.items))
     (λ ms h. has_members text ns ((node_at ns c.args.definition).depth + 1) (node_at ns c.args.definition).start (node_at ns c.args.definition).end _ (spans_of ms.items) k
         (subst (λ z. AreMembers text k.seq.0 (node_at ns z).start (spans_of ms.items)) (sym same) (h k.seq.0 (subst (λ z. row_of (node_at ns z).rule ≡ Seq k.seq.0) same k.seq.1))))
-    c.members_of.ensures
+    c.members_of.ensures.are

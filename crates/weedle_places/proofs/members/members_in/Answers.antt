@@ -44,8 +44,8 @@ listed-requires-clause-many c =
     let same = second_is _ _ _ _ _ _ w.brace w.list w.close c.children-parts.ensures w.are c.in-Some.ensures.steps c.in-Some-next.ensures.steps in
     (c.requires.list.0, subst (λ z. row_of (node_at ns z).rule ≡ Many c.requires.list.0) same w.many)
 
-pub returns : goal.returns
-returns c =
+pub returns-clause-are : goal.returns-clause-are
+returns-clause-are c =
     let ns = c.args.syntax.now.nodes in
     let text = c.args.syntax.now.text in
     let front = subst (IsFront text) c.nodes.ensures.are c.nodes.ensures.front in
@@ -60,4 +60,4 @@ returns c =
           subst (λ z. EndsAt text OPEN_BRACE (node_at ns c.args.braced).start (node_at ns z).start) same w.behind,
           h y (subst (λ z. row_of (node_at ns z).rule ≡ Many y) same w.many),
         )))
-    c.listed.ensures
+    c.listed.ensures.are

@@ -13,8 +13,8 @@ loop-part-init c =
     let front = subst (IsFront c.args.syntax.now.text) c.nodes-nodes.ensures.are c.nodes-nodes.ensures.front in
     passing_starts c.args.syntax.now.text c.args.syntax.now.nodes front c.args.kind c.requires.within c.requires.seq.0 _ c.requires.seq.1 (c.into_iter-part-iterator.ensures.into_iter_gives ∙ c.children-part-items.ensures)
 
-pub returns-in-Some-member_of : goal.returns-in-Some-member_of
-returns-in-Some-member_of c =
+pub returns-in-Some-member_of-clause-are : goal.returns-in-Some-member_of-clause-are
+returns-in-Some-member_of-clause-are c =
     let ns = c.args.syntax.now.nodes in
     let text = c.args.syntax.now.text in
     let i = c.loop-part.invariant in
@@ -27,7 +27,7 @@ returns-in-Some-member_of c =
         let same : i.0 ≡ parts = cc in
         subst (λ z. AreMembers text z (node_at ns c.args.kind).start (spans_of ms.items)) same
         (pass_in text ns i.0 _ _ _ _ _ c.in-Some.part c.in-Some.ensures.steps i.2 c.in-Some-member_of.field-0 (spans_of ms.items) some (h c.in-Some-member_of.field-0 some))))
-    c.members_in.ensures
+    c.members_in.ensures.are
 
 pub loop-part-preserved : goal.loop-part-preserved
 loop-part-preserved c =
@@ -39,8 +39,8 @@ loop-part-preserved c =
     let none = sym (ap (λ n. member_of n.rule) node) ∙ sym c.member_of.ensures ∙ c.in_default.is in
     (i.0, i.1, pass_on text ns i.0 _ _ _ _ _ c.in-Some.part c.in-Some.ensures.steps i.2 none)
 
-pub returns : goal.returns
-returns c =
+pub returns-clause-are : goal.returns-clause-are
+returns-clause-are c =
     let ns = c.args.syntax.now.nodes in
     let text = c.args.syntax.now.text in
     let i = c.loop-part.invariant in

@@ -3,7 +3,7 @@ use Rattle.weedle_grammar.specs.Meaning.{between}
 use Rattle.weedle_syntax.specs.Syntax.{IsFront}
 use Rattle.weedle_syntax.specs.Tree.{node_at}
 use Rattle.weedle_places.proofs.NameFacts.{no_first, no_second, no_third, two_parts, is_named, node_found}
-use Rattle.weedle_places.proofs.name.name_at.Goals as goal
+use Rattle.weedle_places.proofs.name.word_at.Goals as goal
 
 pub unreachable-requires : goal.unreachable-requires
 unreachable-requires c =
@@ -76,7 +76,4 @@ returns c =
     let text = c.args.syntax.now.text in
     let second = node_found c.nodes-nodes.result.now ns _ c.index-nodes-underscore.result c.nodes-nodes.ensures.are w.second_within ∙ ap (node_at ns) w.second in
     let third = node_found c.nodes-nodes.result.now ns _ c.index-nodes-letters.result c.nodes-nodes.ensures.are w.third_within ∙ ap (node_at ns) w.third in
-    record {
-      named = is_named text ns front c.args.i c.requires.within w.parts _ _ (ap (λ n. n.start) second) (ap (λ n. n.end) third) (c.text_of.ensures ∙ ap (λ k. between text (node_at ns k).start (node_at ns k).end) w.third);
-      role = c.requires.role;
-    }
+    is_named text ns front c.args.i c.requires.within w.parts _ _ (ap (λ n. n.start) second) (ap (λ n. n.end) third) (c.text_of.ensures ∙ ap (λ k. between text (node_at ns k).start (node_at ns k).end) w.third)
