@@ -56,7 +56,7 @@ module _ (text : List ℕ) (ns : List Node) (front : IsFront text ns) (i : ℕ) 
       let behind = h.behind in
       let below = h.below in
       let here = at_number (λ j. (node_at ns j).depth == (node_at ns i).depth + 1) (λ m. among (names_of (row_of (node_at ns i).rule)) m.rule ≡ true) (node_at ns)
-          (i + 1 + below_of ns i - (i + 1)) (i + 1) c named (omega arith) (omega arith) (eq-eqb _ _ h.depth) in
+      (i + 1 + below_of ns i - (i + 1)) (i + 1) c named (omega arith) (omega arith) (eq-eqb _ _ h.depth) in
       a_role text (node_at ns i) later (subst (λ r. among (names_of (row_of (node_at ns i).rule)) r ≡ true) (eqb-true _ _ is) here)
 
   -- the parts of a name: blanks and comments, an underscore or none, the letters, blanks and comments

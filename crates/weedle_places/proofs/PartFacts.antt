@@ -72,9 +72,12 @@ pub listing_starts : (text : List ℕ) (ns : List Node) (front : IsFront text ns
     → row_of (node_at ns list).rule ≡ Many y → members ≡ [] → left ≡ children_of ns list → IsListing text ns list members left
 listing_starts text ns front list l y members left is none e =
     let parts = children_are_parts text ns list front l in
-    let items = subst (λ row. AreParts text row ((node_at ns list).depth + 1) (node_at ns list).start (node_at ns list).end (map (node_at ns) (children_of ns list))) is parts in
-    (y, is, subst (Listing text ns y ((node_at ns list).depth + 1) (node_at ns list).start (node_at ns list).end members) (sym e)
-    (list_starts text ns y ((node_at ns list).depth + 1) (node_at ns list).start (node_at ns list).end members (children_of ns list) none items (children_within text ns front list l)))
+    let items = subst (λ row. AreParts text row ((node_at ns list).depth + 1) (node_at ns list).start (node_at ns list).end (map (node_at ns) (children_of ns list))) is parts in (
+      y,
+      is,
+      subst (Listing text ns y ((node_at ns list).depth + 1) (node_at ns list).start (node_at ns list).end members) (sym e)
+          (list_starts text ns y ((node_at ns list).depth + 1) (node_at ns list).start (node_at ns list).end members (children_of ns list) none items (children_within text ns front list l)),
+    )
 
 -- the parts of a definition, and the nodes of those that are left
 module _ (text : List ℕ) (ns : List Node) (parts : List ℕ) (d start e : ℕ) where
@@ -148,9 +151,12 @@ pub passing_starts : (text : List ℕ) (ns : List Node) (front : IsFront text ns
     → row_of (node_at ns kind).rule ≡ Seq parts → left ≡ children_of ns kind → IsPassing text ns kind left
 passing_starts text ns front kind l parts left is e =
     let all = children_are_parts text ns kind front l in
-    let turn = subst (λ row. AreParts text row ((node_at ns kind).depth + 1) (node_at ns kind).start (node_at ns kind).end (map (node_at ns) (children_of ns kind))) is all in
-    (parts, is, subst (Passing text ns parts ((node_at ns kind).depth + 1) (node_at ns kind).start (node_at ns kind).end) (sym e)
-    (pass_starts text ns parts ((node_at ns kind).depth + 1) (node_at ns kind).start (node_at ns kind).end (children_of ns kind) turn (children_within text ns front kind l)))
+    let turn = subst (λ row. AreParts text row ((node_at ns kind).depth + 1) (node_at ns kind).start (node_at ns kind).end (map (node_at ns) (children_of ns kind))) is all in (
+      parts,
+      is,
+      subst (Passing text ns parts ((node_at ns kind).depth + 1) (node_at ns kind).start (node_at ns kind).end) (sym e)
+          (pass_starts text ns parts ((node_at ns kind).depth + 1) (node_at ns kind).start (node_at ns kind).end (children_of ns kind) turn (children_within text ns front kind l)),
+    )
 
 -- members in braces: the brace, and the list behind it
 module _ (text : List ℕ) (ns : List Node) (r y d start e : ℕ) (is : member_of r ≡ Some y) where

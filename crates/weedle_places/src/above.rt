@@ -45,11 +45,7 @@ pub(crate) fn role_at(
 }
 
 /// The role of a name right below the last of these nodes, which has then read a name.
-fn name_below(
-    above: &mut Vec<Above>,
-    syntax: &Syntax<'_>,
-    i: usize,
-) -> Result<Role, AllocError>
+fn name_below(above: &mut Vec<Above>, syntax: &Syntax<'_>, i: usize) -> Result<Role, AllocError>
     requires within { i < length syntax.now.nodes }
     requires name { is_name syntax.now.nodes i ≡ true }
     requires above { AreAbove syntax.now.nodes i 0 above.old.items }

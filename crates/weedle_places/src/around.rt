@@ -21,9 +21,7 @@ fn is_solid(syntax: &Syntax<'_>, i: usize) -> bool
     ensures { result ≡ the_is_solid syntax.now.nodes i }
 {
     let node = syntax.nodes()[i];
-    syntax.below(i) == 0
-        && node.start < node.end
-        && node.rule.number() > Rule::TRIVIA.number()
+    syntax.below(i) == 0 && node.start < node.end && node.rule.number() > Rule::TRIVIA.number()
 }
 
 /// The first such leaf from a number on and below another.

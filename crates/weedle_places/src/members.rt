@@ -158,11 +158,7 @@ fn members_in(
 }
 
 /// The members of a node of a list.
-fn listed(
-    alloc: Global,
-    syntax: &Syntax<'_>,
-    list: usize,
-) -> Result<Vec<MemberPlace>, AllocError>
+fn listed(alloc: Global, syntax: &Syntax<'_>, list: usize) -> Result<Vec<MemberPlace>, AllocError>
     requires within { list < length syntax.now.nodes }
     requires many { (y : ℕ) × (row_of (node_at syntax.now.nodes list).rule ≡ Many y) }
     ensures are { IfOk result (λ members. (y : ℕ)

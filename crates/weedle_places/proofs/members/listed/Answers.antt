@@ -28,8 +28,8 @@ returns-clause-are c =
     let ns = c.args.syntax.now.nodes in
     let i = c.loop-item.invariant in
     λ y is. (
-        let same : i.0 ≡ y = cc in
-        subst (λ z. AreItems c.args.syntax.now.text z (node_at ns c.args.list).start (spans_of c.loop-item.members.items)) same (list_ends c.args.syntax.now.text ns i.0 _ _ _ _ _ c.in-None.ensures.steps.0 i.2))
+    let same : i.0 ≡ y = cc in
+    subst (λ z. AreItems c.args.syntax.now.text z (node_at ns c.args.list).start (spans_of c.loop-item.members.items)) same (list_ends c.args.syntax.now.text ns i.0 _ _ _ _ _ c.in-None.ensures.steps.0 i.2))
 
 pub returns-clause-each : goal.returns-clause-each
 returns-clause-each c = c.loop-item.invariant.2.each

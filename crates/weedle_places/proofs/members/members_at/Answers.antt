@@ -42,5 +42,5 @@ returns-clause-are c =
     if_ok_so c.members_of.result (λ ms. (parts : List ℕ) → row_of (node_at ns kind).rule ≡ Seq parts → AreMembers text parts (node_at ns kind).start (spans_of ms.items))
     (λ ms. HasMembers text (node_at ns c.args.definition).start (spans_of ms.items))
     (λ ms h. has_members text ns ((node_at ns c.args.definition).depth + 1) (node_at ns c.args.definition).start (node_at ns c.args.definition).end _ (spans_of ms.items) k
-        (subst (λ z. AreMembers text k.seq.0 (node_at ns z).start (spans_of ms.items)) (sym same) (h k.seq.0 (subst (λ z. row_of (node_at ns z).rule ≡ Seq k.seq.0) same k.seq.1))))
+    (subst (λ z. AreMembers text k.seq.0 (node_at ns z).start (spans_of ms.items)) (sym same) (h k.seq.0 (subst (λ z. row_of (node_at ns z).rule ≡ Seq k.seq.0) same k.seq.1))))
     c.members_of.ensures.are

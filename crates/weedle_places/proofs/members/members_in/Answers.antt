@@ -53,11 +53,10 @@ returns-clause-are c =
     if_ok_so c.listed.result (λ ms. (y : ℕ) → row_of (node_at ns list).rule ≡ Many y → AreItems text y (node_at ns list).start (spans_of ms.items))
     (λ ms. (y : ℕ) → member_of (node_at ns c.args.braced).rule ≡ Some y → IsBehindBrace text y (node_at ns c.args.braced).start (spans_of ms.items))
     (λ ms h y is. (
-        let w = braces_of text ns front c.args.braced c.requires.within y is in
-        let same = second_is _ _ _ _ _ _ w.brace w.list w.close c.children-parts.ensures w.are c.in-Some.ensures.steps c.in-Some-next.ensures.steps in
-        (
-          (node_at ns list).start,
-          subst (λ z. EndsAt text OPEN_BRACE (node_at ns c.args.braced).start (node_at ns z).start) same w.behind,
-          h y (subst (λ z. row_of (node_at ns z).rule ≡ Many y) same w.many),
-        )))
+    let w = braces_of text ns front c.args.braced c.requires.within y is in
+    let same = second_is _ _ _ _ _ _ w.brace w.list w.close c.children-parts.ensures w.are c.in-Some.ensures.steps c.in-Some-next.ensures.steps in (
+      (node_at ns list).start,
+      subst (λ z. EndsAt text OPEN_BRACE (node_at ns c.args.braced).start (node_at ns z).start) same w.behind,
+      h y (subst (λ z. row_of (node_at ns z).rule ≡ Many y) same w.many),
+    )))
     c.listed.ensures.are

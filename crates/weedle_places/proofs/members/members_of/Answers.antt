@@ -24,9 +24,9 @@ returns-in-Some-member_of-clause-are c =
     if_ok_so c.members_in.result (λ ms. (y : ℕ) → member_of (node_at ns c.in-Some.part).rule ≡ Some y → IsBehindBrace text y (node_at ns c.in-Some.part).start (spans_of ms.items))
     (λ ms. (parts : List ℕ) → row_of (node_at ns c.args.kind).rule ≡ Seq parts → AreMembers text parts (node_at ns c.args.kind).start (spans_of ms.items))
     (λ ms h parts is. (
-        let same : i.0 ≡ parts = cc in
-        subst (λ z. AreMembers text z (node_at ns c.args.kind).start (spans_of ms.items)) same
-        (pass_in text ns i.0 _ _ _ _ _ c.in-Some.part c.in-Some.ensures.steps i.2 c.in-Some-member_of.field-0 (spans_of ms.items) some (h c.in-Some-member_of.field-0 some))))
+    let same : i.0 ≡ parts = cc in
+    subst (λ z. AreMembers text z (node_at ns c.args.kind).start (spans_of ms.items)) same
+    (pass_in text ns i.0 _ _ _ _ _ c.in-Some.part c.in-Some.ensures.steps i.2 c.in-Some-member_of.field-0 (spans_of ms.items) some (h c.in-Some-member_of.field-0 some))))
     c.members_in.ensures.are
 
 pub loop-part-preserved : goal.loop-part-preserved
@@ -45,7 +45,7 @@ returns-clause-are c =
     let text = c.args.syntax.now.text in
     let i = c.loop-part.invariant in
     λ parts is. (
-        let same : i.0 ≡ parts = cc in
-        let none = pass_ends text ns i.0 _ _ _ _ c.in-None.ensures.steps.0 i.2 in
-        subst (λ z. AreMembers text z (node_at ns c.args.kind).start (spans_of c.new.result.items)) same
-        (subst (λ s. AreMembers text i.0 (node_at ns c.args.kind).start (spans_of s)) (sym c.new.ensures.items) none))
+    let same : i.0 ≡ parts = cc in
+    let none = pass_ends text ns i.0 _ _ _ _ c.in-None.ensures.steps.0 i.2 in
+    subst (λ z. AreMembers text z (node_at ns c.args.kind).start (spans_of c.new.result.items)) same
+    (subst (λ s. AreMembers text i.0 (node_at ns c.args.kind).start (spans_of s)) (sym c.new.ensures.items) none))

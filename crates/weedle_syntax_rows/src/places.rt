@@ -5,7 +5,7 @@
 
 use std::alloc::{AllocError, Global};
 use std::test::Fail;
-use weedle_places::{Place, Span, places, places_of};
+use weedle_places::{MemberPlace, Place, Span, places, places_of};
 use weedle_rules::Ends;
 use weedle_testing::Wanted;
 
@@ -24,13 +24,13 @@ fn is_cut(text: &str, span: Span, wanted: &str) -> bool {
     }
 }
 
-/// Whether the spans of the text are these.
-fn are_cut(text: &str, spans: &[Span], wanted: &[&str]) -> bool {
-    if spans.len() != wanted.len() {
+/// Whether the spans of members of the text are these.
+fn are_cut(text: &str, members: &[MemberPlace], wanted: &[&str]) -> bool {
+    if members.len() != wanted.len() {
         return false;
     }
-    for (span, part) in spans.iter().zip(wanted) {
-        if !is_cut(text, *span, *part) {
+    for (member, part) in members.iter().zip(wanted) {
+        if !is_cut(text, member.span, *part) {
             return false;
         }
     }
@@ -76,7 +76,7 @@ fn one_definition_with_a_member(rt: HostRuntime) -> Result<(), Fail> {
         assert_eq!(rt; place.span, Span { start: 0, end: 34 });
         assert_eq!(rt; place.members.len(), 1);
         for member in &place.members {
-            assert_eq!(rt; *member, Span { start: 14, end: 32 });
+            assert_eq!(rt; member.span, Span { start: 14, end: 32 });
         }
     }
     Ok(())
@@ -219,6 +219,118 @@ fn a_dictionary_a_mixin_and_a_namespace_have_members(rt: HostRuntime) -> Result<
     Ok(())
 }
 
+/// What stands round a definition, a member or a value: of a name that isn't there the empty text.
+#[derive(Clone, Copy)]
+struct Around<'a> {
+    core: &'a str,
+    front: &'a str,
+    name: &'a str,
+}
+
+/// Whether this stands round a member or a value.
+fn is_around(text: &str, member: &MemberPlace, wanted: &Around<'_>) -> bool {
+    let named = match member.name {
+        Some(name) => is_cut(text, name, wanted.name),
+        None => wanted.name == "",
+    };
+    named && is_cut(text, member.core, wanted.core) && is_cut(text, member.front, wanted.front)
+}
+
+/// Whether these stand round members or values.
+fn are_around(text: &str, members: &[MemberPlace], wanted: &[Around<'_>]) -> bool {
+    members.len() == wanted.len()
+        && members
+            .iter()
+            .zip(wanted)
+            .all(|(member, around)| is_around(text, member, around))
+}
+
+/// The first definition of a text as a member would stand, with its members and its values.
+fn first_of(
+    alloc: Global,
+    text: &str,
+) -> Result<(MemberPlace, Vec<MemberPlace>, Vec<MemberPlace>), AllocError> {
+    let none = Span { start: 0, end: 0 };
+    let mut own = MemberPlace {
+        span: none,
+        core: none,
+        front: none,
+        name: None,
+    };
+    let mut members = Vec::new(alloc);
+    let mut values = Vec::new(alloc);
+    if let Some(found) = places(alloc, text)? {
+        for place in &found {
+            own = MemberPlace {
+                span: place.span,
+                core: place.core,
+                front: place.front,
+                name: place.name,
+            };
+            for member in &place.members {
+                members.push(*member)?;
+            }
+            for value in &place.values {
+                values.push(*value)?;
+            }
+        }
+    }
+    Ok((own, members, values))
+}
+
+#[test]
+fn what_stands_round_an_interface_and_its_members(rt: HostRuntime) -> Result<(), Fail> {
+    let text = " // a\n/* b */ [X] interface _A { /* c */ attribute long x; // d\n U f(); \
+                const T C = 1; iterable<long>; long(); stringifier;/*e*/} ; // f";
+    let (own, members, values) = first_of(rt.alloc(), text)?;
+    let core = "[X] interface _A { /* c */ attribute long x; // d\n U f(); \
+                const T C = 1; iterable<long>; long(); stringifier;/*e*/} ;";
+    let front = " // a\n/* b */ ";
+    assert!(rt; is_around(text, &own, &Around { core, front, name: "_A" }));
+    let wanted = [
+        Around { core: "attribute long x;", front: " /* c */ ", name: "x" },
+        Around { core: "U f();", front: " // d\n ", name: "f" },
+        Around { core: "const T C = 1;", front: " ", name: "C" },
+        Around { core: "iterable<long>;", front: " ", name: "" },
+        Around { core: "long();", front: " ", name: "" },
+        Around { core: "stringifier;", front: " ", name: "" },
+    ];
+    assert!(rt; are_around(text, &members, &wanted));
+    assert_eq!(rt; values.len(), 0);
+    Ok(())
+}
+
+#[test]
+fn what_stands_round_other_definitions(rt: HostRuntime) -> Result<(), Fail> {
+    let alloc = rt.alloc();
+    let text = "enum E { \"a\", /* v */ \"b\" , };";
+    let (own, members, values) = first_of(alloc, text)?;
+    assert!(rt; is_around(text, &own, &Around { core: text, front: "", name: "E" }));
+    assert_eq!(rt; members.len(), 0);
+    let wanted = [
+        Around { core: "\"a\"", front: " ", name: "" },
+        Around { core: "\"b\"", front: " /* v */ ", name: "" },
+    ];
+    assert!(rt; are_around(text, &values, &wanted));
+    let text = "/// D\ndictionary D {\n/// x\nrequired long _x;\n};\n";
+    let (own, members, _) = first_of(alloc, text)?;
+    let core = "/// D\ndictionary D {\n/// x\nrequired long _x;\n};";
+    assert!(rt; is_around(text, &own, &Around { core, front: "", name: "D" }));
+    let wanted = [Around { core: "/// x\nrequired long _x;", front: "\n", name: "_x" }];
+    assert!(rt; are_around(text, &members, &wanted));
+    for (text, name) in [
+        ("A includes M;", "A"),
+        ("[X=(Y,Z)] A implements B;", "A"),
+        ("callback F = V (W x);", "F"),
+        ("typedef [X] V T;", "T"),
+        ("partial interface mixin M {};", "M"),
+    ] {
+        let (own, _, _) = first_of(alloc, text)?;
+        assert!(rt; is_around(text, &own, &Around { core: text, front: "", name }));
+    }
+    Ok(())
+}
+
 #[test]
 fn a_text_without_definitions_is_whole_if_it_is_empty(rt: HostRuntime) -> Result<(), Fail> {
     let alloc = rt.alloc();
@@ -230,7 +342,8 @@ fn a_text_without_definitions_is_whole_if_it_is_empty(rt: HostRuntime) -> Result
     Ok(())
 }
 
-/// Places ask for a table of ends, for each list of members, and for the list of definitions.
+/// Places ask for nodes, by descent or over a table of ends, for each list of members and of values, and for the list of
+/// definitions.
 #[test]
 fn places_are_found_or_want_memory(rt: HostRuntime) -> Result<(), Fail> {
     let alloc = rt.alloc();
