@@ -1,5 +1,5 @@
 -- What a node reads directly are its children.
-use Rattle.std.proofs.Common.{◌≡◌, inl, inr, ℕ, zero, suc, ◌==◌, ◌+◌, ◌-◌, ◌<◌, ◌≤◌, Bool, true, false, List, [], ◌∷◌, ◌++◌, length, drop, map, refl, sym, subst, ◌∙◌, ap, arith, add-one, eq-eqb, ne_eqb}
+use Rattle.std.proofs.Common.{◌≡◌, inl, inr, ℕ, zero, suc, ◌==◌, ◌+◌, ◌-◌, ◌<◌, Bool, true, false, List, [], ◌∷◌, ◌++◌, length, drop, map, refl, sym, subst, ◌∙◌, ap, arith, add-one, eq-eqb, ne_eqb}
 use Rattle.std.specs.Prelude.{cond, nat_lt}
 use Rattle.std.specs.List.{prefix_len}
 use Rattle.std.proofs.lemmas.Bool.{cases_lt, lt-ltb, le-ltb}
@@ -10,7 +10,7 @@ use Rattle.weedle_syntax.specs.Parts.{HasParts}
 use Rattle.weedle_syntax.specs.Syntax.{IsFront, root_to}
 use Rattle.weedle_syntax.specs.Tree.{node_at, is_deeper, below_of, numbers_where, children_of}
 use Rattle.weedle_syntax.proofs.TreeFacts.{AreNodes, nodes_of}
-use Rattle.weedle_syntax.proofs.LeafFacts.{Level, Rise, Covers, row_covers, rise_append, rise_more}
+use Rattle.weedle_syntax.proofs.LeafFacts.{Level, Rise, row_covers, rise_append, rise_more}
 use Rattle.weedle_syntax.proofs.BelowFacts.{depth_at}
 
 -- of these nodes those that are one deeper than d, up to the first that isn't deeper
