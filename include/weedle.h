@@ -1,5 +1,5 @@
 /*
- * WebIDL, read into its syntax tree. Written by tools/c_header.py.
+ * WebIDL, read into its syntax tree. Written by tools/c_header.py, and not edited by hand.
  *
  *     struct weedle_answer answer;
  *     uint32_t status = weedle_syntax(text, length, nodes, room, &answer);
@@ -39,7 +39,7 @@ extern "C" {
 /* What a call comes to. */
 enum weedle_status {
     WEEDLE_STATUS_READ = 0, /* The grammar reads the whole text. */
-    WEEDLE_STATUS_REFUSED = 1, /* It doesn't. */
+    WEEDLE_STATUS_REFUSED = 1, /* The grammar doesn't read the whole text. */
     WEEDLE_STATUS_NOT_UTF8 = 2, /* The bytes aren't UTF-8. */
     WEEDLE_STATUS_NO_MEMORY = 3, /* Memory was refused. */
     WEEDLE_STATUS_NO_ROOM = 4, /* The grammar reads the whole text, and its nodes need more room. */
@@ -415,7 +415,7 @@ enum weedle_rule {
     WEEDLE_TAIL_IDENTIFIER_COMMA = 253,
     WEEDLE_IDENTIFIER_LIST = 254,
     WEEDLE_PARENTHESIZED_IDENTIFIER_LIST = 255,
-    /* Types that hold types, attributes and arguments, which read one another. */
+    /* Types that hold types, extended attributes and arguments, which read one another. */
     WEEDLE_GENERICS_TYPE = 256,
     WEEDLE_SEQUENCE_TYPE = 257,
     WEEDLE_FROZEN_ARRAY_TYPE = 258,

@@ -22,11 +22,12 @@ from building.functions import functions_in, plain_functions
 from building.group import BUILT, FILES, TOP, file_of, paths
 from building.held import held_functions, plain_builds
 from command_line import refuse_writer
+from description.docs import comment
 from description.uses import code_uses, ghost_uses, stated
 from written_places import in_logic, put
 
 CRATE = "weedle_build_types"
-HEAD = "//! {}\n//!\n//! Written by tools/build_types.py.\n"
+HEAD = "{}\n//!\n//! Written by tools/build_types.py, and not edited by hand.\n"
 OWN_STEPS = "#![tactic(auto, using(weedle_build_base::proofs::Finding::own_steps))]\n"
 HELD = """/// How a `T` is built. It is the `Build` of a type that stands in another crate.
 pub struct Held<T>(T);
@@ -61,7 +62,7 @@ def file_text(about, items, functions, more=""):
     outer = {name: path for path, names in OUTER.items() for name in names.split()}
     build = "\nBuild" if "::build(" in code else ""
     uses = code_uses(code + build, paths() | outer | functions)
-    return "\n".join([HEAD.format(about) + more, ghost_uses(code, NAMED), uses, code])
+    return "\n".join([HEAD.format(comment(about, "//! ")) + more, ghost_uses(code, NAMED), uses, code])
 
 
 def files():
@@ -70,7 +71,7 @@ def files():
         elsewhere = {it.name: f"super::{file_of(it)}" for it in BUILT if file_of(it) != file}
         yield f"types/{file}.rt", file_text(about, functions_in(file), elsewhere)
     yield "types/plain_types.rt", file_text(PLAIN_TYPES, plain_functions(), {"plain_type": None})
-    about = "Attributes that hold no arguments."
+    about = "Extended attributes that hold no arguments."
     yield "types/plain_attributes.rt", file_text(about, plain_builds(), {}, OWN_STEPS)
     about = "How the types that lead back to themselves are built as parts of others."
     functions = {it.name: f"crate::types::{file_of(it)}" for it in BUILT}

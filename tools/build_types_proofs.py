@@ -24,7 +24,7 @@ from written_places import in_logic, place, put
 TOP = Path(__file__).resolve().parent.parent
 CRATE = "weedle_build_types"
 GROUP = f"{CRATE}.proofs.types.+group"
-HEAD = "-- Written by tools/build_types_proofs.py."
+HEAD = "-- Written by tools/build_types_proofs.py, and not edited by hand."
 
 # A part is a field's name, how it is built, and by which rule or function: a Word by its rule, an Optional part
 # by its rule and its item's, a Call of a function of the group, and a Held one of a value that goes into a box.

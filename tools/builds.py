@@ -69,7 +69,7 @@ STEPS = "proofs::Finding::own_steps"
 TABLE = in_logic("weedle_grammar.specs.Table")
 HEAD = """//! {about}
 //!
-//! Written by tools/builds.py.
+//! Written by tools/builds.py, and not edited by hand.
 #![tactic(auto, using({steps}))]
 
 """

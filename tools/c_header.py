@@ -22,7 +22,7 @@ STATUS = re.compile(r"((?:/// .*\n)+)pub const (\w+): u32 = (\d+);")
 
 HEADER = """\
 /*
- * WebIDL, read into its syntax tree. Written by tools/c_header.py.
+ * WebIDL, read into its syntax tree. Written by tools/c_header.py, and not edited by hand.
  *
  *     struct weedle_answer answer;
  *     uint32_t status = weedle_syntax(text, length, nodes, room, &answer);

@@ -57,7 +57,7 @@ class Tried:
         self.crate = crate
 
     def run(self, words, names=(), room=None, given=b""):
-        """The same; what is on standard error is rt's."""
+        """How it ended with these arguments and files; what is on standard error is rt's."""
         data = [word for name in dict.fromkeys(names) for word in ("--data", f"{name}={room}/{name}")]
         words = ["rt", "try", "--seconds", str(TRIED_SECONDS), *data, "--", *words, *names]
         try:

@@ -1,7 +1,7 @@
 #!/usr/bin/env python3
 """Says how long a gate from nothing would take, and what a change would cost, from measured times.
 
-    python3 tools/gate_plan.py TIMES [--processors N].. [--memory GB] [--older] [--show]
+    python3 tools/gate_plan.py TIMES [--processors N].. [--memory GB] [--older | --own] [--show]
     python3 tools/gate_plan.py TIMES --costs CRATE..
 
 TIMES is a file of JSON that tools/gate_times.py wrote. The layout of the crates is read from
@@ -13,13 +13,14 @@ chain behind a task, in lines, goes first; wrong bodies are tried where nothing 
 proof gets the idle processors by the number of proofs and tests that are ready, four at most, and the
 tests of a crate that has none count as one. Times are those of one job; by two, three or four jobs a
 proof takes SPEED of them. Before and after a library's proof `rt` sums up what it is made from, once for
-each way down the lists, so a proof takes SECONDS_OF_A_WAY for each of them on top. With --memory no task begins beside others for which less is left of so many
-GB than `rt ci` expects it to take, from its lines and those below it; it uses 85 hundredths of what is
-free when it begins. It prints, for each N (4 and 2 where none is given), the minutes by the clock and
+each way down the lists, so a proof takes SECONDS_OF_A_WAY for each of them on top. With --memory no task
+begins beside others for which less is left of so many GB than `rt ci` expects it to take, from its lines
+and those below it; it uses 85 hundredths of what is free when it begins. It prints, for each N (4 and 2 where none is given), the minutes by the clock and
 of processor time; with --show when each task that takes a minute or more begins and ends.
 
 With --older the order is that of rattle-kit-13b: a crate's wrong bodies are one task, also where it
-has none, which is ready like any other; so where `weedle_types` begins it is never alone.
+has none, which is ready like any other; so where `weedle_types` begins it is never alone. With --own it
+is that of tools/gate.py over the same tasks; where more jobs run than there are processors, they share them.
 
 With --costs it prints a row for each CRATE: how many crates stand above it, the minutes of processor
 time of all of these and its own, and those of the longest chain among them.
@@ -31,6 +32,7 @@ import math
 import sys
 from pathlib import Path
 
+import gate
 from crates import closure, files_of, read_lines
 
 TOP = Path(__file__).resolve().parent.parent
@@ -191,6 +193,25 @@ def simulated(tasks, processors, memory=math.inf):
     return log
 
 
+def in_own_order(tasks, processors, memory=math.inf):
+    """The same by the order of tools/gate.py."""
+    rows = {key: (it.waits, it.lines, it.needs, None) for key, it in tasks.items()}
+    own = gate.known(rows, {key: it.seconds for key, it in tasks.items()})
+    order, given, running, left, log, now = gate.Order(own, processors, memory), set(), {}, {}, {}, 0.0
+    while len(given) < len(tasks):
+        for key, jobs in order.begin(set(tasks) - set(log), given, running):
+            left[key], log[key] = tasks[key].seconds, (now, math.inf, jobs)
+        share = min(1, processors / sum(running.values()))
+        speeds = {key: SPEED[jobs] * share for key, jobs in running.items()}
+        step = min(left[key] / speed for key, speed in speeds.items())
+        now += step
+        left = {key: left[key] - step * speed for key, speed in speeds.items()}
+        for key in [it for it in running if left[it] < 1e-6]:
+            log[key] = (log[key][0], now, running.pop(key))
+            given.add(key)
+    return log
+
+
 def minutes(seconds):
     return f"{seconds / 60:.0f}"
 
@@ -204,9 +225,9 @@ def costs(gate, names):
         yield f"| `{name}` | {len(above)} | {minutes(whole)} | {minutes(gate.longest_chain(name))} |"
 
 
-def plan(gate, processors, is_shown, older=False, memory=math.inf):
-    tasks = gate.tasks(older)
-    log = simulated(tasks, processors, memory)
+def plan(gate, processors, is_shown, older=False, memory=math.inf, own=False):
+    tasks = gate.tasks(older or own)
+    log = (in_own_order if own else simulated)(tasks, processors, memory)
     end, work = max(it[1] for it in log.values()), sum(it.seconds for it in tasks.values())
     yield f"{processors} processors: {minutes(end)} minutes, {minutes(work)} of processor time"
     for key, (begin, end, jobs) in log.items() if is_shown else ():
@@ -222,16 +243,18 @@ def main():
     parser.add_argument("times", type=Path)
     parser.add_argument("--processors", type=int, action="append")
     parser.add_argument("--memory", type=float, default=math.inf, metavar="GB")
-    parser.add_argument("--older", action="store_true")
+    order = parser.add_mutually_exclusive_group()
+    order.add_argument("--older", action="store_true")
+    order.add_argument("--own", action="store_true")
     parser.add_argument("--show", action="store_true")
     parser.add_argument("--costs", nargs="+")
     said = parser.parse_args()
-    gate = Gate(TOP, json.loads(said.times.read_text()))
+    crates = Gate(TOP, json.loads(said.times.read_text()))
     if said.costs:
-        print(*costs(gate, said.costs), sep="\n")
+        print(*costs(crates, said.costs), sep="\n")
         return
     for processors in said.processors or (4, 2):
-        print(*plan(gate, processors, said.show, said.older, said.memory), sep="\n")
+        print(*plan(crates, processors, said.show, said.older, said.memory, said.own), sep="\n")
 
 
 if __name__ == "__main__":

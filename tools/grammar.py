@@ -23,6 +23,7 @@ import sys
 from pathlib import Path
 
 from command_line import refuse_writer
+from description.docs import comment
 from description.names import upper
 from description.webidl import (
     CAPITALIZED, KEYWORDS, NUMBER, RULES, SCANNED, SECTIONS, SYMBOLS, parts_of,
@@ -34,7 +35,7 @@ GRAMMAR, ENDS = "weedle_grammar", "weedle_rules"
 TABLE, BOUND = in_logic(f"{GRAMMAR}.specs.Table"), in_logic(f"{GRAMMAR}.specs.Bound")
 NAMES = in_logic(f"{GRAMMAR}.specs.Names")
 FLAGS = in_logic(f"{GRAMMAR}.proofs.Takes")
-HEAD = "written by tools/grammar.py"
+HEAD = "Written by tools/grammar.py, and not edited by hand."
 
 
 # What the proofs want to know of the rules.
@@ -153,7 +154,7 @@ def spec_section(s):
                 home = next(t for t in SECTIONS if any(r.name == x for r in t.rules))
                 used.setdefault(home.name, set()).add(x)
     numerals = any(row[0] in ("Bytes", "Past") and "codes" in spec_bytes(row[1]) for row in rows)
-    out = [f"-- {s.about}", f"-- {HEAD[0].upper() + HEAD[1:]}: the number of each rule, and its row and shape, in the order of the numbers."]
+    out = [f"-- {s.about}", "-- The number of each rule, and its row and shape, in the order of the numbers.", f"-- {HEAD}"]
     out.append("use Rattle.std.specs.Prelude.{ℕ, List, [], ◌∷◌" + (", codes" if numerals else "") + "}")
     if classes:
         out.append("use Rattle.weedle_grammar.specs.declared.class.Class.TheVariants.{" + ", ".join(classes) + "}")
@@ -183,7 +184,7 @@ def joined_sections():
 
 
 def spec_table():
-    out = ["-- The grammar: the rows and shapes of all rules, section by section. " + HEAD[0].upper() + HEAD[1:] + "."]
+    out = ["-- The grammar: the rows and shapes of all rules, section by section. " + HEAD]
     out += ["use Rattle.std.specs.Prelude.{ℕ, zero, suc, List, [], ◌∷◌, ◌++◌}",
             "use Rattle.weedle_grammar.specs.Rows.{Row, First}",
             "use Rattle.weedle_grammar.specs.Trees.{Outcome}",
@@ -204,7 +205,7 @@ def spec_table():
 
 def spec_names():
     """The names of all rules, section by section."""
-    out = ["-- The names of the rules, as a syntax tree has them. " + HEAD[0].upper() + HEAD[1:] + ".",
+    out = ["-- The names of the rules, as a syntax tree has them. " + HEAD,
            "use Rattle.std.specs.Prelude.{ℕ, zero, suc, List, [], ◌∷◌, ◌++◌, codes}", ""]
     for s in SECTIONS:
         out += [f"-- {s.about}", f"abbrev pub {s.module} : List (List ℕ)", f"{s.module} ="]
@@ -262,7 +263,7 @@ def patterns(s):
 def code_section(s):
     low, high = NUMBER[s.rules[0].name], NUMBER[s.rules[-1].name] + 1
     text = "".join(code_row(r.row) for r in s.rules)
-    out = [f"//! {s.about}", "//!", f"//! {HEAD[0].upper() + HEAD[1:]}.", "",
+    out = [f"//! {s.about}", "//!", f"//! {HEAD}", "",
            "ghost use Rattle.std.specs.Prelude.{◌≡◌, ◌<◌, ◌≤◌};",
            f"ghost use {NAMES}.{{name_of}};",
            f"ghost use {TABLE}.{{row_of}};",
@@ -305,7 +306,7 @@ def by_section(call):
 def code_grammar():
     out = ["//! The rules of each section, by name: for the table of ends.", "//!",
            "//! A constant is a rule's number. The rows of a section stand beside its constants.", "//!",
-           f"//! {HEAD[0].upper() + HEAD[1:]}.", "",
+           f"//! {HEAD}", "",
            "ghost use Rattle.std.specs.Prelude.{◌≡◌};",
            f"ghost use {NAMES}.{{name_of as the_name_of}};",
            f"ghost use {TABLE}.{{row_of as the_row_of}};",
@@ -327,7 +328,7 @@ def set_number(crate, name, value):
 
 def spec_bound():
     put(TOP, f"{GRAMMAR}/specs/Bound.antt", "\n".join([
-        f"-- How many rules there are. {HEAD[0].upper() + HEAD[1:]}.",
+        f"-- How many rules there are. {HEAD}",
         "use Rattle.std.specs.Prelude.{ℕ}", "",
         "-- one more than the greatest number", "abbrev pub rule_count : ℕ", f"rule_count = {len(RULES)}"]) + "\n")
     set_number(GRAMMAR, "RULES", len(RULES))
@@ -335,7 +336,7 @@ def spec_bound():
 
 def spec_reads():
     put(TOP, f"{ENDS}/specs/Bound.antt", "\n".join([
-        f"-- How much is looked at for one cell. {HEAD[0].upper() + HEAD[1:]}.",
+        f"-- How much is looked at for one cell. {HEAD}",
         "use Rattle.std.specs.Prelude.{ℕ}", "",
         "-- how often a byte or a cell is looked at, at most, to work a rule out at a place", "abbrev pub most_reads : ℕ",
         f"most_reads = {MOST_READS}"]) + "\n")
@@ -356,7 +357,7 @@ def fill_head(visibility, name, low, high):
 def code_fill_section(s):
     names = [r.name for r in s.rules]
     low, high = NUMBER[names[0]], NUMBER[names[-1]] + 1
-    out = [f"//! Works out the cells of a place, section: {s.about}", "//!", f"//! {HEAD[0].upper() + HEAD[1:]}.", ""]
+    out = [comment(f"Works out the cells of a place, section: {s.about}", "//! "), "//!", f"//! {HEAD}", ""]
     out += FILL_GHOSTS
     out += ["use crate::cell::Cell;", "use crate::fill::fill_cell;", "use crate::reader::Reader;",
             f"use weedle_grammar::grammar::{s.module};", ""]
@@ -371,7 +372,7 @@ def code_fill_section(s):
 
 
 def code_fill_place():
-    out = ["//! Works out the cells of one place, section by section.", "//!", f"//! {HEAD[0].upper() + HEAD[1:]}.", "",
+    out = ["//! Works out the cells of one place, section by section.", "//!", f"//! {HEAD}", "",
            "ghost use Rattle.std.specs.Prelude.{◌≤◌, ◌+◌, ◌-◌, ◌*◌, length};",
            f"ghost use {BOUND}.{{rule_count}};",
            "ghost use Rattle.weedle_rules.specs.Filling.{IsFilled};", "",
@@ -391,14 +392,14 @@ def proof_takes():
     for s in SECTIONS:
         flags = [("true" if TAKES[r.name] else "false") for r in s.rules]
         used = ", ".join(flag for flag in ("true", "false") if flag in flags)
-        out = [f"-- Which rules of this section always take a byte. {HEAD[0].upper() + HEAD[1:]}.",
+        out = [f"-- Which rules of this section always take a byte. {HEAD}",
                f"use Rattle.std.proofs.Common.{{List, [], ◌∷◌, Bool, {used}}}", "",
                f"abbrev pub {s.module} : List Bool", f"{s.module} ="]
         for i in range(0, len(flags), 12):
             out.append("    " + " ∷ ".join(flags[i:i + 12]) + " ∷")
         out.append("    []")
         put(TOP, f"{GRAMMAR}/proofs/Takes/{s.name}.antt", "\n".join(out) + "\n")
-    out = [f"-- Which rules always take a byte. {HEAD[0].upper() + HEAD[1:]}.",
+    out = [f"-- Which rules always take a byte. {HEAD}",
            "use Rattle.std.proofs.Common.{ℕ, zero, suc, List, [], ◌∷◌, ◌++◌, Bool, false}"]
     out += [f"use {FLAGS}.{s.name}.{{{s.module}}}" for s in SECTIONS]
     out.append("")

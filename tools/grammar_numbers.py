@@ -97,14 +97,14 @@ def kinds_of(rule):
 
 
 def wrong_kinds_in(text):
-    """The same of how many kinds of definitions there are, in words."""
+    """The wrong counts of kinds of definitions, in words: as `wrong_in` gives those in digits."""
     for found in KINDS.finditer(text):
         if found[1] in WORDS and found[1] != kinds_of("DEFINITION"):
             yield text.count("\n", 0, found.start()) + 1, " ".join(found[0].split()), [kinds_of("DEFINITION")]
 
 
 def wrong_firsts_in(text):
-    """The same of an enum whose doc says among how many kinds it is a choice."""
+    """The wrong counts in enums whose docs say among how many kinds they are a choice, likewise."""
     for it in declared_in(text) if FIRST.search(doc_lines(text)) else ():
         said = FIRST.search(it.doc)
         if said and upper(it.name) in BY_NAME and said[1] != kinds_of(upper(it.name)):

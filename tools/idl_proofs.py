@@ -19,7 +19,7 @@ from description.readings import CRATES
 from proofs.idl_parts import DECLARED, TOP, files, tree_name
 from written_places import in_logic, put
 
-HEAD = "Written by tools/idl_proofs.py."
+HEAD = "Written by tools/idl_proofs.py, and not edited by hand."
 # Names of the standard library, and those that no `pub` states, in the order in which they are written.
 STANDARD = {
     "Rattle.std.proofs.Common": ["inl", "inr", "refl"],

@@ -43,8 +43,8 @@ FUNCTION = re.compile(r"^pub fn (\w+)", re.M)
 # The module of a folder `written`, of code and of the logic: how it begins, and its line for each file.
 HERE = "tools/modules.py"
 OF_FOLDERS = {
-    ".rt": (f"//! What scripts write.\n//!\n//! Written by {HERE}.\n\n", "pub mod {};\n"),
-    ".antt": (f"-- What scripts write. Written by {HERE}.\n", "pub mod {}\n"),
+    ".rt": (f"//! What scripts write.\n//!\n//! Written by {HERE}, and not edited by hand.\n\n", "pub mod {};\n"),
+    ".antt": (f"-- What scripts write. Written by {HERE}, and not edited by hand.\n", "pub mod {}\n"),
 }
 # What stands at the head of a module, before its lines `mod`.
 HEAD = re.compile(r"(?:(?://!.*|#!\[.*\]|ghost use [^;]*;|)\n)*")

@@ -23,6 +23,7 @@ from pathlib import Path
 from command_line import parser_of, refused
 from crates import Unfit
 from declared import FORMED, modules_of, quoted
+from description.docs import law as law_doc
 from description.flat import flat_variants
 from description.layout import COLUMNS, use_line
 from description.names import snake
@@ -39,7 +40,7 @@ CRATES = {
         "literals": ("literals and defaults", ["weedle_literal"]),
         "modifiers": ("words before a member, and of what is inherited from", ["weedle_modifier"]),
         "attributes": (
-            "attributes and arguments",
+            "extended attributes and arguments",
             ["weedle_types::argument", "weedle_types::attribute"],
         ),
         "types": ("types", ["weedle_types::formers", "weedle_types::types"]),
@@ -63,7 +64,7 @@ FLAT = flat_variants(Declared.of(TOP))
 FORMERS = "weedle_types"
 # The first of the types that lead back to themselves: the logic's views of all of them stand by it.
 RING = "Rattle.weedle_types.specs.declared.argument.Argument"
-HEAD = "Written by tools/orders.py."
+HEAD = "Written by tools/orders.py, and not edited by hand."
 TYPE_NAME = re.compile(r"\b[A-Z]\w*")
 PRELUDE = ("Box", "Option", "Ord", "String", "Vec")
 
@@ -164,7 +165,8 @@ def law(item, aliases):
     over = f"<{', '.join(over)}>" if over else ""
     clauses = law_of_enum(item, aliases) if item.is_enum else law_of_struct(item, aliases)
     how = "variants, and of one variant by what it holds" if item.is_enum else "fields, in order"
-    return f"/// `{item.name}` goes by its {how}.\npub fn {item.law}{over}()\n{clauses}{{}}\n"
+    doc = law_doc(f"`cmp` of `{item.name}` goes by its {how}.")
+    return f"{doc}\npub fn {item.law}{over}()\n{clauses}{{}}\n"
 
 
 def use_lines(items, aliases):

@@ -110,5 +110,5 @@ def module_text(about, classes, modules):
     lines += f"\nif TYPE_CHECKING:\n{checked}" if checked else ""
     rows = "".join(f'    "{it}",\n' for it in sorted(own) if "_" not in it.rstrip("_"))
     lines += f"\n__all__ = [\n{rows}]\n"
-    head = f'"""{about}\n\nWritten by tools/python_types.py.\n"""\n\n'
+    head = f'"""{about}\n\nWritten by tools/python_types.py, and not edited by hand.\n"""\n\n'
     return f"{head}from __future__ import annotations\n\n{lines}\n\n{body}"

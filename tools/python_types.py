@@ -273,7 +273,7 @@ class Makers:
 READERS = '''\
 """Which class each rule makes.
 
-Written by tools/python_types.py.
+Written by tools/python_types.py, and not edited by hand.
 """
 
 from weedle import (
@@ -296,7 +296,7 @@ _values.SEPARATORS.update((NUMBERS[name], it) for name, it in SEPARATORS.items()
 GRAMMAR = '''\
 """The rules of the grammar. What each reads stands in docs/GRAMMAR.md.
 
-Written by tools/python_types.py.
+Written by tools/python_types.py, and not edited by hand.
 """
 
 #: The version of the library that has these rules: a byte each for its three numbers.

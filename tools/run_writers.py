@@ -3,11 +3,12 @@
 
     python3 tools/run_writers.py --here
 
-tools/write.py and tools/check.py do so in a copy of the repository; without --here nothing is written.
-Each script of WRITERS runs its `main` as if it was run alone: what it brings in from tools/ is loaded anew, since some of it reads the crates
-when it is loaded. Only the modules of KEPT are loaded once. They read nothing then, and what they
-found in a text they look up by that text; so the declarations that many scripts want are read once.
-All scripts together take a third of the time that they take in a process each.
+tools/write.py and tools/check.py do so in a copy of the repository; without --here nothing is
+written. Each script of WRITERS runs its `main` as if it was run alone: what it brings in from
+tools/ is loaded anew, since some of it reads the crates when it is loaded. Only the modules of KEPT
+are loaded once. They read nothing then, and what they found in a text they look up by that text; so
+the declarations that many scripts want are read once. All scripts together take a third of the time
+that they take in a process each.
 
 It prints what a script said that failed, and ends there. The status is 1 then, and else 0; without --here it is 2.
 """

@@ -19,7 +19,7 @@ import sys
 
 from command_line import refuse_writer
 from description.declarations import type_of
-from description.docs import with_example
+from description.docs import law as law_doc, small, with_example
 from description.imports import STATED, Names
 from description.layout import filled
 from description.names import snake
@@ -29,7 +29,7 @@ from proofs.spelling_terms import WHOLE, Item, definition, proof
 from proofs.spelt import HELPERS, function, is_made, type_text
 from written_places import in_crate, in_logic, put
 
-HEAD = "Written by tools/spellings.py."
+HEAD = "Written by tools/spellings.py, and not edited by hand."
 COLUMNS = 110
 LEAVES, TYPES, IDL = "weedle_spell", "weedle_spell_types", "weedle_spell_idl"
 # The module of the types that are made over one, each under the name of a `type`.
@@ -60,15 +60,17 @@ class File:
 
 
 FILES = [
-    File(TYPES, "PlainAttributes", "attributes without arguments are spelt", "attributes without arguments",
+    File(TYPES, "PlainAttributes", "extended attributes without arguments are spelt",
+         "extended attributes without arguments",
          types="IdentifierOrString IdentifierList ExtendedAttributeIdent ExtendedAttributeIdentList"
                " ExtendedAttributeNoArgs"),
-    File(TYPES, "Arguments", "attributes and arguments are spelt",
-         "arguments, and of attributes that may have arguments", law_module="attributes",
+    File(TYPES, "Arguments", "extended attributes and arguments are spelt",
+         "arguments, and of extended attributes that may have arguments", law_module="attributes",
          types="Argument ArgumentList ParenthesizedArgumentList ExtendedAttribute ExtendedAttributeArgList"
                " ExtendedAttributeNamedArgList ExtendedAttributeList Option<ExtendedAttributeList>"
                " SingleArgument VariadicArgument"),
-    File(TYPES, "Types", "the types are spelt that are made of types, arguments and attributes", "types",
+    File(TYPES, "Types", "the types are spelt that are made of types, arguments and extended attributes",
+         "types",
          types="Type NonAnyType UnionMemberType SingleType ReturnType RecordKeyType RecordTypes Box<Type>"
                " Box<ReturnType> SequenceType FrozenArrayType PromiseType RecordType UnionType AttributedType"
                " AttributedNonAnyType", modules="weedle_types.types"),
@@ -153,8 +155,10 @@ def law(item, stated):
 
 
 def law_function(item, stated, module):
-    doc = filled(with_example(item.doc).split(), "", "/// ")
-    return (f"{doc}#[tactic(auto, using({in_crate(module)}::{item.base}_law))]\npub fn {item.fact}()\n"
+    said = small(with_example(item.doc).removesuffix("."))
+    comma = "," if ", as `" in said else ""
+    doc = law_doc(f"the text of {said}{comma} spells its value.")
+    return (f"{doc}\n#[tactic(auto, using({in_crate(module)}::{item.base}_law))]\npub fn {item.fact}()\n"
             f"    ensures {{ {contract(item, stated)} }}\n{{}}\n")
 
 
@@ -164,7 +168,7 @@ def imports(names, body, items=()):
 
 
 def ghost(line):
-    """The same in Rattle, one name a line where they don't fit."""
+    """A line `use` of the logic in Rattle, one name a line where they don't fit."""
     if len(f"ghost {line};") <= 100:
         return f"ghost {line};\n"
     module, names = re.fullmatch(r"(.*\.)\{(.*)\}", line).groups()

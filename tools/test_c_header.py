@@ -58,7 +58,7 @@ class Header(unittest.TestCase):
         self.assertEqual(len(names), len(set(names)))
 
     def test_it_names_its_writer(self):
-        self.assertIn("Written by tools/c_header.py.", self.header().partition("*/")[0])
+        self.assertIn("Written by tools/c_header.py, and not edited by hand.", self.header().partition("*/")[0])
 
 
 if __name__ == "__main__":

@@ -13,7 +13,7 @@ from unittest import mock
 import check
 from crates import Unfit
 
-HEAD = b"//! Terminals.\n//!\n//! Written by tools/terminals.py.\n"
+HEAD = b"//! Terminals.\n//!\n//! Written by tools/terminals.py, and not edited by hand.\n"
 
 
 class Stale(unittest.TestCase):

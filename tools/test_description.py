@@ -227,11 +227,11 @@ class Productions(unittest.TestCase):
 
     def test_one_that_is_shown_both_ways(self):
         doc = (
-            "`[attributes] type name` or `[attributes] optional type name = value`, the latter "
-            "also without `= value`."
+            "`[extended attributes] type name` or `[extended attributes] optional type name = value`, "
+            "the latter also without `= value`."
         )
-        self.assertEqual(list(unlike(doc, "SINGLE_ARGUMENT", "`[attributes]`")), [])
-        doc = "`[attributes] type name`, also without `[attributes]`."
+        self.assertEqual(list(unlike(doc, "SINGLE_ARGUMENT", "`[extended attributes]`")), [])
+        doc = "`[extended attributes] type name`, also without `[extended attributes]`."
         names = [text.split()[0] for text in unlike(doc, "SINGLE_ARGUMENT")]
         self.assertEqual(names, ["OPTIONAL", "DEFAULT"])
 

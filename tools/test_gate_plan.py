@@ -9,7 +9,7 @@ import unittest
 from pathlib import Path
 
 import gate_plan
-from gate_plan import Gate, costs, plan, simulated
+from gate_plan import Gate, costs, in_own_order, plan, simulated
 
 gate_plan.SECONDS_OF_A_WAY = 0
 
@@ -52,6 +52,20 @@ class Planned(unittest.TestCase):
         log = simulated(self.gate.tasks(older=True), 4)
         self.assertEqual(log["wide", "proof"][2], 1)
         self.assertEqual(log["low", "wrong bodies"][1] - log["low", "wrong bodies"][0], 100)
+
+    def test_by_the_own_order_the_longest_proof_gets_three_jobs_and_shares_the_processors(self):
+        log = in_own_order(self.gate.tasks(older=True), 4)
+        begin, end, jobs = log["wide", "proof"]
+        self.assertEqual((begin, jobs), (60, 3))
+        # Beside it the wrong bodies of `low` are tried by one job, and nothing lacks a processor.
+        self.assertAlmostEqual(end - begin, 1800 / 2.4)
+
+    def test_by_the_own_order_each_task_ends_behind_those_that_it_waits_for(self):
+        tasks = self.gate.tasks(older=True)
+        for processors in (1, 2, 4):
+            log = in_own_order(tasks, processors)
+            for key, task in tasks.items():
+                self.assertTrue(all(log[it][1] <= log[key][0] for it in task.waits), (processors, key))
 
     def test_crates_side_by_side_get_one_job_each(self):
         log = simulated(self.gate.tasks(), 2)

@@ -70,7 +70,7 @@ pub fn copy_attributes<'a>(
 }
 HEAD = """//! What follows from the declarations of the module above.
 //!
-//! Written by tools/impls.py.
+//! Written by tools/impls.py, and not edited by hand.
 
 ghost use Rattle.low.specs.Trees.{definition_tree, member_tree};
 ghost use Rattle.std.specs.Prelude.{◌↔◌, ◌≡◌};

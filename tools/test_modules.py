@@ -33,7 +33,7 @@ pub struct New<'a> {
 FILES = {
     "low/src/lib.rt": LOW,
     "low/src/old.rt": "//! Old ones.\n\nmod written;\n\npub struct Old {\n    pub word: Word,\n}\n",
-    "low/src/old/written.rt": "//! x\n//!\n//! Written by tools/impls.py.\n",
+    "low/src/old/written.rt": "//! x\n//!\n//! Written by tools/impls.py, and not edited by hand.\n",
     "low/src/open.rt": "//! Open ones.\n\npub struct Open {\n    pub word: Word,\n}\n",
     "high/src/lib.rt": "//! All.\n\npub mod words;\n\npub use low::{Other, open};\n",
     "high/src/words.rt": "//! Members.\n\npub use low::Old;\n",
@@ -89,14 +89,14 @@ class ModulesTest(MadeUp):
         self.assertEqual(modules.run(self.root), [])
 
 
-WRITTEN = "//! Keys.\n//!\n//! Written by tools/x.py.\n\npub struct Key;\n\npub fn law() {}\n"
+WRITTEN = "//! Keys.\n//!\n//! Written by tools/x.py, and not edited by hand.\n\npub struct Key;\n\npub fn law() {}\n"
 APART = {
     "low/src/written/keys.rt": WRITTEN,
     "low/src/old/written/from_old.rt": WRITTEN,
     "low/specs/Lib.antt": "pub mod Words\n",
-    "low/specs/written/Trees.antt": "-- Written by tools/x.py.\n",
+    "low/specs/written/Trees.antt": "-- Written by tools/x.py, and not edited by hand.\n",
     "low/proofs/Lib.antt": "pub mod Facts\n",
-    "low/proofs/written/Rules.antt": "-- Written by tools/x.py.\n",
+    "low/proofs/written/Rules.antt": "-- Written by tools/x.py, and not edited by hand.\n",
 }
 
 
@@ -112,7 +112,7 @@ class FoldersTest(MadeUp):
 
     def test_the_modules_of_folders_are_written(self):
         modules.run(self.root)
-        head = "Written by tools/modules.py."
+        head = "Written by tools/modules.py, and not edited by hand."
         self.assertTrue(self.read("low/src/written.rt").endswith(f"{head}\n\npub mod keys;\n"))
         self.assertTrue(self.read("low/specs/written.antt").endswith("\npub mod Trees\n"))
         self.assertTrue(self.read("low/proofs/written.antt").endswith("\npub mod Rules\n"))

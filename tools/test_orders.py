@@ -48,7 +48,7 @@ pub enum Kind<'a> {
 """
 LAWS = """//! Orders of members.
 //!
-//! Written by tools/orders.py.
+//! Written by tools/orders.py, and not edited by hand.
 
 ghost use Rattle.std.specs.Prelude.{◌≡◌, ◌<◌};
 ghost use Rattle.std.specs.Ordering.{ordering_then};
@@ -59,7 +59,7 @@ use low::member::{Held, Kind, Member};
 use low::other::Other;
 use std::cmp::Ordering;
 
-/// `Member` goes by its fields, in order.
+/// A law, which does nothing: `cmp` of `Member` goes by its fields, in order.
 pub fn member<'a>()
     ensures { (a b : Member)
         → ⟦<Member<'a> as Ord>⟧.cmp a b
@@ -68,14 +68,15 @@ pub fn member<'a>()
         (⟦<Other as Ord>⟧.cmp a.other b.other)) }
 {}
 
-/// `Held` goes by its fields, in order.
+/// A law, which does nothing: `cmp` of `Held` goes by its fields, in order.
 pub fn held<T: Ord>()
     ensures { (a b : Held T)
         → ⟦<Held<T> as Ord>⟧.cmp a b
         ≡ T.cmp a.0 b.0 }
 {}
 
-/// `Kind` goes by its variants, and of one variant by what it holds.
+/// A law, which does nothing: `cmp` of `Kind` goes by its variants, and of one variant by what it
+/// holds.
 pub fn kind<'a>()
     ensures earlier { (a b : Kind)
         → kind_place a < kind_place b

@@ -36,7 +36,8 @@ VALUES = """-- the values of an enum, with `,` between them
 abbrev pub enum_value_list_spelling : PunctuatedNonEmpty EnumVariant Comma → Form
 enum_value_list_spelling = punctuated_non_empty_spelling enum_variant_spelling (word (codes ","))
 """
-CALLBACK = """/// A callback, as `callback F = undefined (long x);`.
+CALLBACK = """/// A law, which does nothing: the text of a callback, as `callback F = undefined (long x);`, spells
+/// its value.
 #[tactic(auto, using(LAWS::callback_definition_law))]
 pub fn callback_definition()
     ensures { SpellsValues CALLBACK_DEFINITION callback_definition_tree callback_definition_spelling }

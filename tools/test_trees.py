@@ -16,7 +16,7 @@ TEXT = """
 /// A part of a list, as `part A = 5;`. No docstring may stand before it.
 #[derive(Debug)]
 pub struct PartOfList<'a> {
-    /// The attributes in brackets, as `[Exposed=Window]`, where they stand.
+    /// The extended attributes in brackets, as `[Exposed=Window]`, where they stand.
     pub attributes: Option<ExtendedAttributeList<'a>>,
     /// The word `getter` or `setter`, where one of them stands.
     pub special: Option<Special>,
@@ -54,8 +54,8 @@ pub enum Member<'a> {
     Operation(OperationInterfaceMember<'a>),
 }
 """
-PART = """-- a part of a list: its attributes where they stand, `getter` or `setter` where one of them stands, the name
--- of the list, `=`, its value
+PART = """-- a part of a list: its extended attributes where they stand, `getter` or `setter` where one of them stands,
+-- the name of the list, `=`, its value
 abbrev pub part_of_list_tree : PartOfList → Tree
 part_of_list_tree v = Node (trees (attributes_tree v.attributes ∷ option_tree special_tree v.special\
  ∷ identifier_tree v.identifier ∷ Mark ∷ const_value_tree v.value ∷ []))
@@ -119,7 +119,7 @@ class Files(unittest.TestCase):
         crate = "weedle_iterables"
         [definitions] = trees.Order(crate).texts.values()
         text = trees.file_text(names, crate, "Iterations.", definitions)
-        self.assertTrue(text.startswith("-- Iterations. Written by tools/trees.py.\nuse a.{b}\nuse "))
+        self.assertTrue(text.startswith("-- Iterations. Written by tools/trees.py, and not edited by hand.\nuse a.{b}\nuse "))
         self.assertIn("Single as IterableInterfaceMember-Single, Double as", text)
 
 

@@ -14,7 +14,7 @@ ALL = [it for crate in CRATES for it in declared_by(unmatched.TOP, crate)]
 CALLBACK = """/// A callback, as `callback F = undefined (long x);`.
 #[derive(Debug, PartialEq)]
 pub struct CallbackDefinition<'a> {
-    /// The attributes in brackets, where they stand.
+    /// The extended attributes in brackets, where they stand.
     pub attributes: Option<ExtendedAttributeList<'a>>,
     /// The word `callback`.
     pub callback: Callback,
@@ -30,11 +30,11 @@ pub struct CallbackDefinition<'a> {
     pub semi_colon: SemiColon,
 }
 """
-ITERABLE = """/// An iteration. Of what its variants read, `[attributes]` may be absent.
+ITERABLE = """/// An iteration. Of what its variants read, `[extended attributes]` may be absent.
 pub enum IterableInterfaceMember<'a> {
-    /// `[attributes] iterable<type>;`.
+    /// `[extended attributes] iterable<type>;`.
     Single(SingleTypedIterable<'a>),
-    /// `[attributes] iterable<type, type>;`.
+    /// `[extended attributes] iterable<type, type>;`.
     Double(DoubleTypedIterable<'a>),
 }
 """
@@ -129,11 +129,11 @@ class Variants(unittest.TestCase):
 
     def test_a_production_that_the_row_does_not_have(self):
         rows = self.one("iterable<type>;", "maplike<type>;")
-        why = "`[attributes] maplike<type>;` isn't what SINGLE_TYPED_ITERABLE reads"
+        why = "`[extended attributes] maplike<type>;` isn't what SINGLE_TYPED_ITERABLE reads"
         self.assertEqual(rows, [f"{ITERABLE_AT}.Single: {why}"])
 
     def test_what_may_be_absent_has_to_be_said(self):
-        rows = self.one(" Of what its variants read, `[attributes]` may be absent.", "")
+        rows = self.one(" Of what its variants read, `[extended attributes]` may be absent.", "")
         self.assertEqual(len(rows), 2)
         self.assertIn("EXTENDED_ATTRIBUTE_LIST may be absent, and the doc doesn't say so", rows[0])
 

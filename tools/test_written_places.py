@@ -1,5 +1,5 @@
 #!/usr/bin/env python3
-"""Tests written_places.py, in a second.
+"""Tests written_places.py, and the heads of the files that stand in its places, in a second.
 
     python3 tools/test_written_places.py
 """
@@ -8,8 +8,10 @@ import tempfile
 import unittest
 from pathlib import Path
 
-from written_places import apart, files_in, in_crate, in_logic, module_in, place, put
+from write import HEAD, sources, writers
+from written_places import FOLDER, apart, files_in, in_crate, in_logic, module_in, place, put
 
+TOP = Path(__file__).resolve().parent.parent
 TREES, TYPES = "weedle_members/specs/Trees.antt", "weedle_types/src/clones/types.rt"
 
 
@@ -45,6 +47,21 @@ class Files(unittest.TestCase):
             (specs / "Trees.antt").write_text("")
             found = [".".join(module_in(specs, it)) for it in files_in(specs, ".antt")]
         self.assertEqual(found, ["Trees", "written.Table", "written.Table.Types"])
+
+
+class Heads(unittest.TestCase):
+    """Of the repository itself."""
+
+    def test_each_written_file_names_its_script_and_is_not_edited_by_hand(self):
+        files = sources(TOP)
+        named = writers(files)
+        stand_apart = {it for it in files if FOLDER in (*Path(it).parts, Path(it).stem)}
+        self.assertEqual(stand_apart - named.keys(), set())
+        for path, script in named.items():
+            with self.subTest(path):
+                head = HEAD.match(files[path].decode())[0]
+                self.assertIn(f"Written by {script}, and not edited by hand.", head)
+                self.assertTrue((TOP / script).is_file())
 
 
 if __name__ == "__main__":

@@ -22,7 +22,7 @@ from description.readings import CRATES, IDL, lacking
 from proofs.idl_parts import DECLARED, SHARED, TOP, part_of, tree_name
 from written_places import in_logic, put
 
-HEAD = "Written by tools/trees.py."
+HEAD = "Written by tools/trees.py, and not edited by hand."
 COLUMNS = 110
 # The files, in their order, each with what its head says.
 FILES = {
@@ -66,12 +66,13 @@ OF_WHAT = re.compile(r" of an? \w+$")
 
 
 def field_about(field):
-    """What a field's doc calls it: its words, or `its` and its name, or the front of the doc."""
+    """What a field's doc calls it: its words, or `its` and what is before its name, or the front of the doc."""
     words, front, where = WORDS.match(field.doc), FRONT.match(field.doc)[1], WHERE.search(field.doc)
     if words:
         shown = words[1]
     elif field.name in front.split():
-        shown = f"its {field.name}"
+        before = front.split()[1:front.split().index(field.name)]
+        shown = " ".join(["its", *before, field.name])
     else:
         shown = small(front)
     return f"{shown} {where[1]}" if where else shown

@@ -22,6 +22,7 @@ from pathlib import Path
 
 from command_line import refuse_writer
 from description.declarations import Type, declared_by
+from description.docs import comment
 from description.functions import NUMBERED, functions_of
 from description.names import snake
 from description.readings import LEAVES, Declared
@@ -38,7 +39,7 @@ FILES = {
     "types": "Clones of types.",
     "generic_types": "Clones of types over types in angle brackets.",
     "unions": "Clones of unions.",
-    "attributes": "Clones of attributes.",
+    "attributes": "Clones of extended attributes.",
     "arguments": "Clones of arguments.",
 }
 # The modules that declare the types; those in `formers` have their public names in `types`.
@@ -47,12 +48,12 @@ MODULES = ("argument", "attribute", "types")
 # read it: its tree, and its words. And the lists, by their items: what the function's name says, the
 # words, and the lemma by which an item is smaller than its list, where items lead back to the list.
 OTHERS = {
-    "attributes": ("attributes_tree", "attributes in brackets, where they stand"),
+    "attributes": ("attributes_tree", "extended attributes in brackets, where they stand"),
     "nullable_union_type": ("may_be_null_tree union_type_tree", "a union that may be null"),
 }
 LISTS = {
     "Argument": ("argument_items", "arguments", "argument_smaller"),
-    "ExtendedAttribute": ("extended_attributes", "attributes", "attribute_smaller"),
+    "ExtendedAttribute": ("extended_attributes", "extended attributes", "attribute_smaller"),
     "Identifier": ("identifiers", "names", None),
     "UnionMemberType": ("union_members", "the members of a union", "member_smaller"),
 }
@@ -64,7 +65,7 @@ STEPS = "crate::proofs::TreeLaws::clone_steps"
 SMALLER = "crate::proofs::Smaller"
 ABOUT_TRY_CLONE = "`TryClone` for the types that hold boxes and lists: a clone has the tree of the original."
 ABOUT_PARSE = "`Parse` for the types of the recursive group: each has the reading of its rule."
-HEAD = "//! {}\n//!\n//! Written by tools/types_impls.py.\n"
+HEAD = "//! {}\n//!\n//! Written by tools/types_impls.py, and not edited by hand.\n"
 OUTER = {
     "AllocError": "std::alloc",
     "Global": "std::alloc",
@@ -294,7 +295,7 @@ def trees_alike(it):
 
 def function(it):
     """The text of a function that clones."""
-    lines = [f"/// Clones {it.words}."]
+    lines = [comment(f"Clones {it.words}.")]
     if is_in_cycle(it.name):
         lines.append("#[cycle(clones)]")
     if it.smaller:

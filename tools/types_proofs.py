@@ -51,7 +51,7 @@ def imports(text, more=()):
 
 def write(path, about, lines, more=()):
     text = "\n".join(lines).strip("\n") + "\n"
-    head = [f"-- {about}", "--", "-- Written by tools/types_proofs.py."]
+    head = [f"-- {about}", "--", "-- Written by tools/types_proofs.py, and not edited by hand."]
     put(TOP, f"weedle_types/proofs/{path}", "\n".join(head + imports(text, more)) + "\n\n" + text)
 
 

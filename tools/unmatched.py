@@ -12,9 +12,9 @@ has. A rule with a doc line has a type, but for parts of leaves. The name of a k
 symbol's field is that of the terminal, and each word in a variant's name is one of its rule's.
 
 Docs are held against the rows where they give productions: at the front of the doc of a variant or
-a field, as in "`[attributes] type name;`, also without `[attributes]`." A field's doc has to say
-where it stands if it may be absent; a struct's doc, whether a docstring may stand before it and
-whether it may lack a name.
+a field, as in "`[extended attributes] type name;`, also without `[extended attributes]`." A field's
+doc has to say where it stands if it may be absent; a struct's doc, whether a docstring may stand
+before it and whether it may lack a name.
 
 It prints a line `CRATE: TYPE.PART: ..` for each difference that EXCEPTIONS doesn't name, and one
 for each exception that there is no more. The status is 0 where it prints nothing, or else 1.

@@ -229,7 +229,7 @@ static void test_types_in_one_another(void) {
     }
 }
 
-/* Attributes in one another: the deepest that descent reads takes most stack. */
+/* Extended attributes in one another: the deepest that descent reads takes most stack. */
 static void test_attributes_in_one_another(void) {
     for (size_t depth = 1; depth < 60; depth++) {
         struct call call = nested("[A(", "[A(", "long x", ")] long x", depth - 1, ")] interface A {};");
@@ -239,7 +239,7 @@ static void test_attributes_in_one_another(void) {
     }
 }
 
-/* Brackets of a kind, and how many in one another descent reads: of attributes more only in a longer text. */
+/* Brackets of a kind, and how many in one another descent reads: of extended attributes more only in a longer text. */
 struct kind {
     const char *name, *front, *open, *inner, *close, *end;
     size_t levels;

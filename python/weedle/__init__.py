@@ -1,4 +1,4 @@
-"""A parser of WebIDL: the proved reader of this repository, with the typed tree of weedle2.
+"""A parser of WebIDL: the proved parser of this repository, with the typed tree of weedle2.
 
 >>> import weedle
 >>> for definition in weedle.parse("interface Window { readonly attribute long x; };"):

@@ -1,6 +1,6 @@
 """Arguments.
 
-Written by tools/python_types.py.
+Written by tools/python_types.py, and not edited by hand.
 """
 
 from __future__ import annotations
@@ -32,15 +32,15 @@ class Argument(Choice):
 
 
 class Argument_Single(Argument, variant="Single"):
-    """`[attributes] type name` or `[attributes] optional type name = value`, the latter also
-    without `= value`.
+    """`[extended attributes] type name` or `[extended attributes] optional type name =
+    value`, the latter also without `= value`.
     """
 
     value: SingleArgument
 
 
 class Argument_Variadic(Argument, variant="Variadic"):
-    """`[attributes] type... name`."""
+    """`[extended attributes] type... name`."""
 
     value: VariadicArgument
 
@@ -49,11 +49,12 @@ class Argument_Variadic(Argument, variant="Variadic"):
 class SingleArgument(Value):
     """An argument, as `optional long x = 5`."""
 
-    #: The attributes in brackets, as `[Exposed=Window]`, where they stand.
+    #: The extended attributes in brackets, as `[Exposed=Window]`, where they stand.
     attributes: Optional[ExtendedAttributeList] = part(0)
     #: The word `optional`, where it stands.
     optional: Optional[term.Optional] = part(1)
-    #: Its type, as `long`, with attributes of its own, as in `optional [Clamp] long x`.
+    #: Its type, as `long`, with extended attributes of its own, as in `optional [Clamp] long
+    #: x`.
     type_: AttributedType = part(2)
     #: Its name.
     identifier: Identifier = part(3)
@@ -65,9 +66,9 @@ class SingleArgument(Value):
 class VariadicArgument(Value):
     """Any number of arguments, as `long... xs`."""
 
-    #: The attributes in brackets, as `[Exposed=Window]`, where they stand.
+    #: The extended attributes in brackets, as `[Exposed=Window]`, where they stand.
     attributes: Optional[ExtendedAttributeList] = part(0)
-    #: Their type, as `long`, with no attributes of its own.
+    #: Their type, as `long`, with no extended attributes of its own.
     type_: Type = part(1)
     #: The `...`.
     ellipsis: term.Ellipsis = word(2)

@@ -1,6 +1,6 @@
 """Extended attributes.
 
-Written by tools/python_types.py.
+Written by tools/python_types.py, and not edited by hand.
 """
 
 from __future__ import annotations
@@ -30,7 +30,7 @@ __all__ = [
 
 
 class ExtendedAttribute(Choice):
-    """An attribute, as `Exposed=Window` or `Constructor(long x)`."""
+    """An extended attribute, as `Exposed=Window` or `Constructor(long x)`."""
 
     ArgList: ClassVar[type[ExtendedAttribute_ArgList]]
     NamedArgList: ClassVar[type[ExtendedAttribute_NamedArgList]]
@@ -71,7 +71,7 @@ class ExtendedAttribute_NoArgs(ExtendedAttribute, variant="NoArgs"):
 
 @value_class
 class ExtendedAttributeArgList(Value):
-    """An attribute with arguments, as `Constructor(long x)`."""
+    """An extended attribute with arguments, as `Constructor(long x)`."""
 
     #: Its name.
     identifier: Identifier = part(0)
@@ -81,7 +81,7 @@ class ExtendedAttributeArgList(Value):
 
 @value_class
 class ExtendedAttributeNamedArgList(Value):
-    """An attribute with a name and arguments, as `NamedConstructor=Image(long x)`."""
+    """An extended attribute with a name and arguments, as `NamedConstructor=Image(long x)`."""
 
     #: Its name, before the `=`.
     lhs_identifier: Identifier = part(0)
@@ -95,7 +95,7 @@ class ExtendedAttributeNamedArgList(Value):
 
 @value_class
 class ExtendedAttributeIdentList(Value):
-    """An attribute with names, as `Exposed=(Window, Worker)`."""
+    """An extended attribute with names, as `Exposed=(Window, Worker)`."""
 
     #: Its name.
     identifier: Identifier = part(0)
@@ -107,7 +107,7 @@ class ExtendedAttributeIdentList(Value):
 
 @value_class
 class ExtendedAttributeIdent(Value):
-    """An attribute with a name or a string, as `PutForwards=name`."""
+    """An extended attribute with a name or a string, as `PutForwards=name`."""
 
     #: Its name, before the `=`.
     lhs_identifier: Identifier = part(0)
@@ -119,7 +119,7 @@ class ExtendedAttributeIdent(Value):
 
 @value_class
 class ExtendedAttributeNoArgs(Wrapped):
-    """An attribute that is a name alone, as `Replaceable`."""
+    """An extended attribute that is a name alone, as `Replaceable`."""
 
     value: Identifier = part(0)
 
@@ -143,7 +143,7 @@ class IdentifierOrString_String(IdentifierOrString, variant="String"):
     value: StringLit
 
 
-#: Attributes in brackets, as `[Exposed=Window, SecureContext]`; `[]` too.
+#: Extended attributes in brackets, as `[Exposed=Window, SecureContext]`; `[]` too.
 ExtendedAttributeList = Bracketed["Punctuated[ExtendedAttribute, term.Comma]"]
 
 

@@ -1,6 +1,6 @@
 """Definitions.
 
-Written by tools/python_types.py.
+Written by tools/python_types.py, and not edited by hand.
 """
 
 from __future__ import annotations
@@ -50,7 +50,7 @@ class CallbackInterfaceDefinition(Value):
 
     #: The docstring in front, where one stands.
     docstring: Optional[Docstring] = part(0)
-    #: The attributes in brackets, as `[Exposed=Window]`, where they stand.
+    #: The extended attributes in brackets, as `[Exposed=Window]`, where they stand.
     attributes: Optional[ExtendedAttributeList] = part(1)
     #: The word `callback`.
     callback: term.Callback = word(2)
@@ -72,7 +72,7 @@ class InterfaceDefinition(Value):
 
     #: The docstring in front, where one stands.
     docstring: Optional[Docstring] = part(0)
-    #: The attributes in brackets, as `[Exposed=Window]`, where they stand.
+    #: The extended attributes in brackets, as `[Exposed=Window]`, where they stand.
     attributes: Optional[ExtendedAttributeList] = part(1)
     #: The word `interface`.
     interface: term.Interface = word(2)
@@ -90,7 +90,7 @@ class InterfaceDefinition(Value):
 class PartialInterfaceDefinition(Value):
     """A part of an interface, as `partial interface A {};`."""
 
-    #: The attributes in brackets, as `[Exposed=Window]`, where they stand.
+    #: The extended attributes in brackets, as `[Exposed=Window]`, where they stand.
     attributes: Optional[ExtendedAttributeList] = part(0)
     #: The word `partial`.
     partial: term.Partial = word(1)
@@ -108,7 +108,7 @@ class PartialInterfaceDefinition(Value):
 class InterfaceMixinDefinition(Value):
     """A mixin, as `interface mixin A {};`."""
 
-    #: The attributes in brackets, as `[Exposed=Window]`, where they stand.
+    #: The extended attributes in brackets, as `[Exposed=Window]`, where they stand.
     attributes: Optional[ExtendedAttributeList] = part(0)
     #: The word `interface`.
     interface: term.Interface = word(1)
@@ -126,7 +126,7 @@ class InterfaceMixinDefinition(Value):
 class PartialInterfaceMixinDefinition(Value):
     """A part of a mixin, as `partial interface mixin A {};`."""
 
-    #: The attributes in brackets, as `[Exposed=Window]`, where they stand.
+    #: The extended attributes in brackets, as `[Exposed=Window]`, where they stand.
     attributes: Optional[ExtendedAttributeList] = part(0)
     #: The word `partial`.
     partial: term.Partial = word(1)
@@ -148,7 +148,7 @@ class DictionaryDefinition(Value):
 
     #: The docstring in front, where one stands.
     docstring: Optional[Docstring] = part(0)
-    #: The attributes in brackets, as `[Exposed=Window]`, where they stand.
+    #: The extended attributes in brackets, as `[Exposed=Window]`, where they stand.
     attributes: Optional[ExtendedAttributeList] = part(1)
     #: The word `dictionary`.
     dictionary: term.Dictionary = word(2)
@@ -166,7 +166,7 @@ class DictionaryDefinition(Value):
 class PartialDictionaryDefinition(Value):
     """A part of a dictionary, as `partial dictionary A {};`."""
 
-    #: The attributes in brackets, as `[Exposed=Window]`, where they stand.
+    #: The extended attributes in brackets, as `[Exposed=Window]`, where they stand.
     attributes: Optional[ExtendedAttributeList] = part(0)
     #: The word `partial`.
     partial: term.Partial = word(1)
@@ -186,7 +186,7 @@ class NamespaceDefinition(Value):
 
     #: The docstring in front, where one stands.
     docstring: Optional[Docstring] = part(0)
-    #: The attributes in brackets, as `[Exposed=Window]`, where they stand.
+    #: The extended attributes in brackets, as `[Exposed=Window]`, where they stand.
     attributes: Optional[ExtendedAttributeList] = part(1)
     #: The word `namespace`.
     namespace: term.Namespace = word(2)
@@ -202,7 +202,7 @@ class NamespaceDefinition(Value):
 class PartialNamespaceDefinition(Value):
     """A part of a namespace, as `partial namespace A {};`."""
 
-    #: The attributes in brackets, as `[Exposed=Window]`, where they stand.
+    #: The extended attributes in brackets, as `[Exposed=Window]`, where they stand.
     attributes: Optional[ExtendedAttributeList] = part(0)
     #: The word `partial`.
     partial: term.Partial = word(1)
@@ -220,7 +220,7 @@ class PartialNamespaceDefinition(Value):
 class CallbackDefinition(Value):
     """A callback, as `callback F = undefined (long x);`."""
 
-    #: The attributes in brackets, as `[Exposed=Window]`, where they stand.
+    #: The extended attributes in brackets, as `[Exposed=Window]`, where they stand.
     attributes: Optional[ExtendedAttributeList] = part(0)
     #: The word `callback`.
     callback: term.Callback = word(1)
@@ -252,7 +252,7 @@ class EnumDefinition(Value):
 
     #: The docstring in front, where one stands.
     docstring: Optional[Docstring] = part(0)
-    #: The attributes in brackets, as `[Exposed=Window]`, where they stand.
+    #: The extended attributes in brackets, as `[Exposed=Window]`, where they stand.
     attributes: Optional[ExtendedAttributeList] = part(1)
     #: The word `enum`.
     enum_: term.Enum = word(2)
@@ -268,7 +268,7 @@ class EnumDefinition(Value):
 class IncludesStatementDefinition(Value):
     """The use of a mixin by an interface, as `A includes B;`."""
 
-    #: The attributes in brackets, as `[Exposed=Window]`, where they stand.
+    #: The extended attributes in brackets, as `[Exposed=Window]`, where they stand.
     attributes: Optional[ExtendedAttributeList] = part(0)
     #: The name of the interface, before `includes`.
     lhs_identifier: Identifier = part(1)
@@ -284,7 +284,7 @@ class IncludesStatementDefinition(Value):
 class ImplementsDefinition(Value):
     """The older form of a mixin's use, as `A implements B;`."""
 
-    #: The attributes in brackets, as `[Exposed=Window]`, where they stand.
+    #: The extended attributes in brackets, as `[Exposed=Window]`, where they stand.
     attributes: Optional[ExtendedAttributeList] = part(0)
     #: The name of the interface, before `implements`.
     lhs_identifier: Identifier = part(1)
@@ -300,11 +300,11 @@ class ImplementsDefinition(Value):
 class TypedefDefinition(Value):
     """A name for a type, as `typedef long A;`."""
 
-    #: The attributes in brackets, as `[Exposed=Window]`, where they stand.
+    #: The extended attributes in brackets, as `[Exposed=Window]`, where they stand.
     attributes: Optional[ExtendedAttributeList] = part(0)
     #: The word `typedef`.
     typedef: term.Typedef = word(1)
-    #: The type that is named, as `long`, with the attributes that stand before it.
+    #: The type that is named, as `long`, with the extended attributes that stand before it.
     type_: AttributedType = part(2)
     #: The name that the type gets.
     identifier: Identifier = part(3)
@@ -332,85 +332,85 @@ class Definition(Choice):
 
 
 class Definition_Callback(Definition, variant="Callback"):
-    """`[attributes] callback name = type (arguments);`."""
+    """`[extended attributes] callback name = type (arguments);`."""
 
     value: CallbackDefinition
 
 
 class Definition_CallbackInterface(Definition, variant="CallbackInterface"):
-    """`docstring [attributes] callback interface name : parent { members };`."""
+    """`docstring [extended attributes] callback interface name : parent { members };`."""
 
     value: CallbackInterfaceDefinition
 
 
 class Definition_Interface(Definition, variant="Interface"):
-    """`docstring [attributes] interface name : parent { members };`."""
+    """`docstring [extended attributes] interface name : parent { members };`."""
 
     value: InterfaceDefinition
 
 
 class Definition_InterfaceMixin(Definition, variant="InterfaceMixin"):
-    """`[attributes] interface mixin name { members };`."""
+    """`[extended attributes] interface mixin name { members };`."""
 
     value: InterfaceMixinDefinition
 
 
 class Definition_Namespace(Definition, variant="Namespace"):
-    """`docstring [attributes] namespace name { members };`."""
+    """`docstring [extended attributes] namespace name { members };`."""
 
     value: NamespaceDefinition
 
 
 class Definition_Dictionary(Definition, variant="Dictionary"):
-    """`docstring [attributes] dictionary name : parent { members };`."""
+    """`docstring [extended attributes] dictionary name : parent { members };`."""
 
     value: DictionaryDefinition
 
 
 class Definition_PartialInterface(Definition, variant="PartialInterface"):
-    """`[attributes] partial interface name { members };`."""
+    """`[extended attributes] partial interface name { members };`."""
 
     value: PartialInterfaceDefinition
 
 
 class Definition_PartialInterfaceMixin(Definition, variant="PartialInterfaceMixin"):
-    """`[attributes] partial interface mixin name { members };`."""
+    """`[extended attributes] partial interface mixin name { members };`."""
 
     value: PartialInterfaceMixinDefinition
 
 
 class Definition_PartialDictionary(Definition, variant="PartialDictionary"):
-    """`[attributes] partial dictionary name { members };`."""
+    """`[extended attributes] partial dictionary name { members };`."""
 
     value: PartialDictionaryDefinition
 
 
 class Definition_PartialNamespace(Definition, variant="PartialNamespace"):
-    """`[attributes] partial namespace name { members };`."""
+    """`[extended attributes] partial namespace name { members };`."""
 
     value: PartialNamespaceDefinition
 
 
 class Definition_Enum(Definition, variant="Enum"):
-    """`docstring [attributes] enum name { "value", "value" };`."""
+    """`docstring [extended attributes] enum name { "value", "value" };`."""
 
     value: EnumDefinition
 
 
 class Definition_Typedef(Definition, variant="Typedef"):
-    """`[attributes] typedef type name;`."""
+    """`[extended attributes] typedef type name;`."""
 
     value: TypedefDefinition
 
 
 class Definition_IncludesStatement(Definition, variant="IncludesStatement"):
-    """`[attributes] name includes name;`."""
+    """`[extended attributes] name includes name;`."""
 
     value: IncludesStatementDefinition
 
 
 class Definition_Implements(Definition, variant="Implements"):
-    """`[attributes] name implements name;`."""
+    """`[extended attributes] name implements name;`."""
 
     value: ImplementsDefinition
 

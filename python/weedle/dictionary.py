@@ -1,6 +1,6 @@
 """Members of dictionaries.
 
-Written by tools/python_types.py.
+Written by tools/python_types.py, and not edited by hand.
 """
 
 from __future__ import annotations
@@ -27,11 +27,11 @@ class DictionaryMember(Value):
 
     #: The docstring in front, where one stands.
     docstring: Optional[Docstring] = part(0)
-    #: The attributes in brackets, as `[Exposed=Window]`, where they stand.
+    #: The extended attributes in brackets, as `[Exposed=Window]`, where they stand.
     attributes: Optional[ExtendedAttributeList] = part(1)
     #: The word `required`, where it stands.
     required: Optional[term.Required] = part(2)
-    #: Its type, as `long`, with no attributes of its own.
+    #: Its type, as `long`, with no extended attributes of its own.
     type_: Type = part(3)
     #: Its name.
     identifier: Identifier = part(4)

@@ -1,6 +1,6 @@
 """Members of interfaces.
 
-Written by tools/python_types.py.
+Written by tools/python_types.py, and not edited by hand.
 """
 
 from __future__ import annotations
@@ -132,7 +132,7 @@ class StringifierOrStatic_Static(StringifierOrStatic, variant="Static"):
 class AttributeInterfaceMember(Value):
     """An attribute of an interface, as `static readonly attribute long x;`."""
 
-    #: The attributes in brackets, as `[Exposed=Window]`, where they stand.
+    #: The extended attributes in brackets, as `[Exposed=Window]`, where they stand.
     attributes: Optional[ExtendedAttributeList] = part(0)
     #: The word `stringifier`, `inherit` or `static`, where one of them stands.
     modifier: Optional[StringifierOrInheritOrStatic] = part(1)
@@ -140,7 +140,7 @@ class AttributeInterfaceMember(Value):
     readonly: Optional[term.ReadOnly] = part(2)
     #: The word `attribute`.
     attribute: term.Attribute = word(3)
-    #: Its type, as `long`, with the attributes that stand before it.
+    #: Its type, as `long`, with the extended attributes that stand before it.
     type_: AttributedType = part(4)
     #: Its name.
     identifier: Identifier = part(5)
@@ -152,7 +152,7 @@ class AttributeInterfaceMember(Value):
 class ConstMember(Value):
     """A constant, as `const long X = 5;`."""
 
-    #: The attributes in brackets, as `[Exposed=Window]`, where they stand.
+    #: The extended attributes in brackets, as `[Exposed=Window]`, where they stand.
     attributes: Optional[ExtendedAttributeList] = part(0)
     #: The word `const`.
     const_: term.Const = word(1)
@@ -174,7 +174,7 @@ class ConstructorInterfaceMember(Value):
 
     #: The docstring in front, where one stands.
     docstring: Optional[Docstring] = part(0)
-    #: The attributes in brackets, as `[Exposed=Window]`, where they stand.
+    #: The extended attributes in brackets, as `[Exposed=Window]`, where they stand.
     attributes: Optional[ExtendedAttributeList] = part(1)
     #: The word `constructor`.
     constructor: term.Constructor = word(2)
@@ -190,7 +190,7 @@ class OperationInterfaceMember(Value):
 
     #: The docstring in front, where one stands.
     docstring: Optional[Docstring] = part(0)
-    #: The attributes in brackets, as `[Exposed=Window]`, where they stand.
+    #: The extended attributes in brackets, as `[Exposed=Window]`, where they stand.
     attributes: Optional[ExtendedAttributeList] = part(1)
     #: The word `stringifier` or `static`, where one of them stands.
     modifier: Optional[StringifierOrStatic] = part(2)
@@ -210,7 +210,7 @@ class OperationInterfaceMember(Value):
 class StringifierMember(Value):
     """A stringifier with no body, as `stringifier;`."""
 
-    #: The attributes in brackets, as `[Exposed=Window]`, where they stand.
+    #: The extended attributes in brackets, as `[Exposed=Window]`, where they stand.
     attributes: Optional[ExtendedAttributeList] = part(0)
     #: The word `stringifier`.
     stringifier: term.Stringifier = word(1)
@@ -222,7 +222,7 @@ class StringifierMember(Value):
 class MaplikeInterfaceMember(Value):
     """A map, as `readonly maplike<DOMString, long>;`."""
 
-    #: The attributes in brackets, as `[Exposed=Window]`, where they stand.
+    #: The extended attributes in brackets, as `[Exposed=Window]`, where they stand.
     attributes: Optional[ExtendedAttributeList] = part(0)
     #: The word `readonly`, where it stands.
     readonly: Optional[term.ReadOnly] = part(1)
@@ -238,7 +238,7 @@ class MaplikeInterfaceMember(Value):
 class SetlikeInterfaceMember(Value):
     """A set, as `readonly setlike<long>;`."""
 
-    #: The attributes in brackets, as `[Exposed=Window]`, where they stand.
+    #: The extended attributes in brackets, as `[Exposed=Window]`, where they stand.
     attributes: Optional[ExtendedAttributeList] = part(0)
     #: The word `readonly`, where it stands.
     readonly: Optional[term.ReadOnly] = part(1)
@@ -254,7 +254,7 @@ class SetlikeInterfaceMember(Value):
 class SingleTypedIterable(Value):
     """An iteration over values, as `iterable<long>;`."""
 
-    #: The attributes in brackets, as `[Exposed=Window]`, where they stand.
+    #: The extended attributes in brackets, as `[Exposed=Window]`, where they stand.
     attributes: Optional[ExtendedAttributeList] = part(0)
     #: The word `iterable`.
     iterable: term.Iterable = word(1)
@@ -268,7 +268,7 @@ class SingleTypedIterable(Value):
 class DoubleTypedIterable(Value):
     """An iteration over pairs, as `iterable<DOMString, long>;`."""
 
-    #: The attributes in brackets, as `[Exposed=Window]`, where they stand.
+    #: The extended attributes in brackets, as `[Exposed=Window]`, where they stand.
     attributes: Optional[ExtendedAttributeList] = part(0)
     #: The word `iterable`.
     iterable: term.Iterable = word(1)
@@ -286,13 +286,13 @@ class IterableInterfaceMember(Choice):
 
 
 class IterableInterfaceMember_Single(IterableInterfaceMember, variant="Single"):
-    """`[attributes] iterable<type>;`."""
+    """`[extended attributes] iterable<type>;`."""
 
     value: SingleTypedIterable
 
 
 class IterableInterfaceMember_Double(IterableInterfaceMember, variant="Double"):
-    """`[attributes] iterable<type, type>;`."""
+    """`[extended attributes] iterable<type, type>;`."""
 
     value: DoubleTypedIterable
 
@@ -301,7 +301,7 @@ class IterableInterfaceMember_Double(IterableInterfaceMember, variant="Double"):
 class SingleTypedAsyncIterable(Value):
     """An asynchronous iteration over values, as `async iterable<long>;`."""
 
-    #: The attributes in brackets, as `[Exposed=Window]`, where they stand.
+    #: The extended attributes in brackets, as `[Exposed=Window]`, where they stand.
     attributes: Optional[ExtendedAttributeList] = part(0)
     #: The words `async` and `iterable`.
     async_iterable: Tuple[term.Async, term.Iterable] = word(1)
@@ -317,7 +317,7 @@ class SingleTypedAsyncIterable(Value):
 class DoubleTypedAsyncIterable(Value):
     """An asynchronous iteration over pairs, as `async iterable<DOMString, long>(long x);`."""
 
-    #: The attributes in brackets, as `[Exposed=Window]`, where they stand.
+    #: The extended attributes in brackets, as `[Exposed=Window]`, where they stand.
     attributes: Optional[ExtendedAttributeList] = part(0)
     #: The words `async` and `iterable`.
     async_iterable: Tuple[term.Async, term.Iterable] = word(1)
@@ -337,13 +337,15 @@ class AsyncIterableInterfaceMember(Choice):
 
 
 class AsyncIterableInterfaceMember_Single(AsyncIterableInterfaceMember, variant="Single"):
-    """`[attributes] async iterable<type>(arguments);`, also without `(arguments)`."""
+    """`[extended attributes] async iterable<type>(arguments);`, also without `(arguments)`."""
 
     value: SingleTypedAsyncIterable
 
 
 class AsyncIterableInterfaceMember_Double(AsyncIterableInterfaceMember, variant="Double"):
-    """`[attributes] async iterable<type, type>(arguments);`, also without `(arguments)`."""
+    """`[extended attributes] async iterable<type, type>(arguments);`, also without
+    `(arguments)`.
+    """
 
     value: DoubleTypedAsyncIterable
 
@@ -363,57 +365,59 @@ class InterfaceMember(Choice):
 
 
 class InterfaceMember_Const(InterfaceMember, variant="Const"):
-    """`[attributes] const type name = value;`."""
+    """`[extended attributes] const type name = value;`."""
 
     value: ConstMember
 
 
 class InterfaceMember_Attribute(InterfaceMember, variant="Attribute"):
-    """`[attributes] readonly attribute type name;`, also without `readonly`."""
+    """`[extended attributes] readonly attribute type name;`, also without `readonly`."""
 
     value: AttributeInterfaceMember
 
 
 class InterfaceMember_Constructor(InterfaceMember, variant="Constructor"):
-    """`docstring [attributes] constructor(arguments);`."""
+    """`docstring [extended attributes] constructor(arguments);`."""
 
     value: ConstructorInterfaceMember
 
 
 class InterfaceMember_Operation(InterfaceMember, variant="Operation"):
-    """`docstring [attributes] type name(arguments);`, also without the name."""
+    """`docstring [extended attributes] type name(arguments);`, also without the name."""
 
     value: OperationInterfaceMember
 
 
 class InterfaceMember_Iterable(InterfaceMember, variant="Iterable"):
-    """`[attributes] iterable<type>;` or `[attributes] iterable<type, type>;`."""
+    """`[extended attributes] iterable<type>;` or `[extended attributes] iterable<type,
+    type>;`.
+    """
 
     value: IterableInterfaceMember
 
 
 class InterfaceMember_AsyncIterable(InterfaceMember, variant="AsyncIterable"):
-    """`[attributes] async iterable<type>(arguments);`, also with two types, or without
-    `(arguments)`.
+    """`[extended attributes] async iterable<type>(arguments);`, also with two types, or
+    without `(arguments)`.
     """
 
     value: AsyncIterableInterfaceMember
 
 
 class InterfaceMember_Maplike(InterfaceMember, variant="Maplike"):
-    """`[attributes] readonly maplike<type, type>;`, also without `readonly`."""
+    """`[extended attributes] readonly maplike<type, type>;`, also without `readonly`."""
 
     value: MaplikeInterfaceMember
 
 
 class InterfaceMember_Setlike(InterfaceMember, variant="Setlike"):
-    """`[attributes] readonly setlike<type>;`, also without `readonly`."""
+    """`[extended attributes] readonly setlike<type>;`, also without `readonly`."""
 
     value: SetlikeInterfaceMember
 
 
 class InterfaceMember_Stringifier(InterfaceMember, variant="Stringifier"):
-    """`[attributes] stringifier;`."""
+    """`[extended attributes] stringifier;`."""
 
     value: StringifierMember
 

@@ -1,6 +1,6 @@
 """Members of mixins.
 
-Written by tools/python_types.py.
+Written by tools/python_types.py, and not edited by hand.
 """
 
 from __future__ import annotations
@@ -29,7 +29,7 @@ __all__ = [
 class OperationMixinMember(Value):
     """An operation of a mixin, as `stringifier long f(long x);`."""
 
-    #: The attributes in brackets, as `[Exposed=Window]`, where they stand.
+    #: The extended attributes in brackets, as `[Exposed=Window]`, where they stand.
     attributes: Optional[ExtendedAttributeList] = part(0)
     #: The word `stringifier`, where it stands.
     stringifier: Optional[term.Stringifier] = part(1)
@@ -47,7 +47,7 @@ class OperationMixinMember(Value):
 class AttributeMixinMember(Value):
     """An attribute of a mixin, as `readonly attribute long x;`."""
 
-    #: The attributes in brackets, as `[Exposed=Window]`, where they stand.
+    #: The extended attributes in brackets, as `[Exposed=Window]`, where they stand.
     attributes: Optional[ExtendedAttributeList] = part(0)
     #: The word `stringifier`, where it stands.
     stringifier: Optional[term.Stringifier] = part(1)
@@ -55,7 +55,7 @@ class AttributeMixinMember(Value):
     readonly: Optional[term.ReadOnly] = part(2)
     #: The word `attribute`.
     attribute: term.Attribute = word(3)
-    #: Its type, as `long`, with the attributes that stand before it.
+    #: Its type, as `long`, with the extended attributes that stand before it.
     type_: AttributedType = part(4)
     #: Its name.
     identifier: Identifier = part(5)
@@ -73,29 +73,29 @@ class MixinMember(Choice):
 
 
 class MixinMember_Const(MixinMember, variant="Const"):
-    """`[attributes] const type name = value;`."""
+    """`[extended attributes] const type name = value;`."""
 
     value: ConstMember
 
 
 class MixinMember_Operation(MixinMember, variant="Operation"):
-    """`[attributes] stringifier type name(arguments);`, also without `stringifier` or the
-    name.
+    """`[extended attributes] stringifier type name(arguments);`, also without `stringifier`
+    or the name.
     """
 
     value: OperationMixinMember
 
 
 class MixinMember_Attribute(MixinMember, variant="Attribute"):
-    """`[attributes] stringifier readonly attribute type name;`, also without `stringifier`
-    or `readonly`.
+    """`[extended attributes] stringifier readonly attribute type name;`, also without
+    `stringifier` or `readonly`.
     """
 
     value: AttributeMixinMember
 
 
 class MixinMember_Stringifier(MixinMember, variant="Stringifier"):
-    """`[attributes] stringifier;`."""
+    """`[extended attributes] stringifier;`."""
 
     value: StringifierMember
 

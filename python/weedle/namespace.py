@@ -1,6 +1,6 @@
 """Members of namespaces.
 
-Written by tools/python_types.py.
+Written by tools/python_types.py, and not edited by hand.
 """
 
 from __future__ import annotations
@@ -30,7 +30,7 @@ class OperationNamespaceMember(Value):
 
     #: The docstring in front, where one stands.
     docstring: Optional[Docstring] = part(0)
-    #: The attributes in brackets, as `[Exposed=Window]`, where they stand.
+    #: The extended attributes in brackets, as `[Exposed=Window]`, where they stand.
     attributes: Optional[ExtendedAttributeList] = part(1)
     #: The type of its result, as `undefined` or `long`.
     return_type: ReturnType = part(2)
@@ -48,13 +48,13 @@ class AttributeNamespaceMember(Value):
 
     #: The docstring in front, where one stands.
     docstring: Optional[Docstring] = part(0)
-    #: The attributes in brackets, as `[Exposed=Window]`, where they stand.
+    #: The extended attributes in brackets, as `[Exposed=Window]`, where they stand.
     attributes: Optional[ExtendedAttributeList] = part(1)
     #: The word `readonly`, which always stands here.
     readonly: term.ReadOnly = word(2)
     #: The word `attribute`.
     attribute: term.Attribute = word(3)
-    #: Its type, as `long`, with the attributes that stand before it.
+    #: Its type, as `long`, with the extended attributes that stand before it.
     type_: AttributedType = part(4)
     #: Its name.
     identifier: Identifier = part(5)
@@ -70,13 +70,13 @@ class NamespaceMember(Choice):
 
 
 class NamespaceMember_Operation(NamespaceMember, variant="Operation"):
-    """`docstring [attributes] type name(arguments);`, also without the name."""
+    """`docstring [extended attributes] type name(arguments);`, also without the name."""
 
     value: OperationNamespaceMember
 
 
 class NamespaceMember_Attribute(NamespaceMember, variant="Attribute"):
-    """`docstring [attributes] readonly attribute type name;`."""
+    """`docstring [extended attributes] readonly attribute type name;`."""
 
     value: AttributeNamespaceMember
 

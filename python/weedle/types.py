@@ -1,6 +1,6 @@
 """Types.
 
-Written by tools/python_types.py.
+Written by tools/python_types.py, and not edited by hand.
 """
 
 from __future__ import annotations
@@ -428,8 +428,8 @@ class UnionMemberType(Choice):
 
 
 class UnionMemberType_Single(UnionMemberType, variant="Single"):
-    """`[attributes] type`, also without `[attributes]`, where the type is neither `any` nor
-    a union.
+    """`[extended attributes] type`, also without `[extended attributes]`, where the type is
+    neither `any` nor a union.
     """
 
     value: AttributedNonAnyType
@@ -443,9 +443,9 @@ class UnionMemberType_Union(UnionMemberType, variant="Union"):
 
 @value_class
 class AttributedType(Value):
-    """A type with the attributes that stand before it, as `[Clamp] octet`."""
+    """A type with the extended attributes that stand before it, as `[Clamp] octet`."""
 
-    #: The attributes in brackets, as `[Clamp]`, where they stand.
+    #: The extended attributes in brackets, as `[Clamp]`, where they stand.
     attributes: Optional[ExtendedAttributeList] = part(0)
     #: The type, as `octet`.
     type_: Type = part(1)
@@ -453,9 +453,11 @@ class AttributedType(Value):
 
 @value_class
 class AttributedNonAnyType(Value):
-    """The same where the type is neither `any` nor a union."""
+    """A type that is neither `any` nor a union, with the extended attributes that stand
+    before it, as `[Clamp] octet`.
+    """
 
-    #: The attributes in brackets, as `[Clamp]`, where they stand.
+    #: The extended attributes in brackets, as `[Clamp]`, where they stand.
     attributes: Optional[ExtendedAttributeList] = part(0)
     #: The type, as `octet`.
     type_: NonAnyType = part(1)

@@ -4,12 +4,13 @@ from building.bodies import BODIES, WHERE, called, enum, leaf_arm
 from building.group import (
     ADDED, BUILT, DECLARED, READ, builder_of, file_of, plain_variants, row_of, tree_of, words_of,
 )
+from description.docs import comment
 from description.names import snake
 
 # Functions that stay calls, and why.
 CALLS = {
     "attributed_non_any_type":
-        "// It stays a call: within a member of a union its room would be held at each level of nested "
+        "It stays a call: within a member of a union its room would be held at each level of nested "
         "unions.",
 }
 ADDING = "// It hands on what it builds, so that no level of nested unions has room for a member."
@@ -40,9 +41,9 @@ def built(function):
         body = enum(function, function.type.name == SPLIT)
     else:
         body = BODIES[row_of(function)[0]](function)
-    stays = [CALLS[function.name], INLINE] if function.name in CALLS else []
+    stays = [comment(CALLS[function.name], "// "), INLINE] if function.name in CALLS else []
     return text([
-        f"/// Builds {words_of(function)}.",
+        comment(f"Builds {words_of(function)}."),
         *stays,
         CYCLE,
         f"pub(crate) fn {function.name}<'a>({PARAMETERS}, at: At) -> BuildResult<{function.text}>",
@@ -58,7 +59,7 @@ def keeping(function, number, variant, held):
     trees = f"{tree_of(part)} {tree_of(function)} {number}"
     about = words_of(function).partition(", as")[0]
     return text([
-        f"/// Puts {about}, as `{enum_}::{variant}`, behind those of a list.",
+        comment(f"Puts {about}, as `{enum_}::{variant}`, behind those of a list."),
         INLINE,
         f"fn keep_{snake(variant)}<'a>(list: &mut Vec<{function.text}>, built: BuildResult<{part.text}>)"
         " -> Result<At, AllocError>",
@@ -82,7 +83,7 @@ def adding(function):
     adds = f"Adds table.now.text {function.rule} {values} at.place at.visits here.place here.visits"
     yield from (keeping(function, number, *it) for number, it in variants)
     yield text([
-        f"/// Builds {words_of(function)}, behind those of a list, and gives where it is then.",
+        comment(f"Builds {words_of(function)}, behind those of a list, and gives where it is then."),
         ADDING,
         CYCLE,
         f"pub(crate) fn add_{function.name}<'a>({PARAMETERS}, list: &mut Vec<{function.text}>, at: At)"
@@ -110,7 +111,7 @@ def plain(function, variants):
     low, high = variants[0][0], variants[-1][0]
     arms = [line for it in variants for line in leaf_arm(SPLIT, *it, "rule")]
     return text([
-        f"/// Builds {words_of(function)}.",
+        comment(f"Builds {words_of(function)}."),
         f"fn {function.name}<'a>({PARAMETERS}, number: usize, at: At) -> BuildResult<{function.text}>",
         f"    requires chosen {{ IsChosen table.now.text {WHOLE.rule} at.place number }}",
         f"    requires range {{ ({low} ≤ number) × (number ≤ {high}) }}",
@@ -134,7 +135,7 @@ def plain_type():
         elif number not in built_here:
             arms += leaf_arm(SPLIT, number, variant, held, f"Rule::{WHOLE.rule}")
     return text([
-        f"/// {ABOUT_PLAIN}",
+        comment(ABOUT_PLAIN),
         f"pub(crate) fn plain_type<'a>({PARAMETERS}, number: usize, at: At) -> BuildResult<{WHOLE.text}>",
         f"    requires chosen {{ IsChosen table.now.text {WHOLE.rule} at.place number }}",
         f"    requires plain {{ {' × '.join(others)} }}",

@@ -19,7 +19,7 @@ FILES = {
     "types": ("kinds", "Types."),
     "generic_types": ("generic_types", "Types over types in angle brackets."),
     "unions": ("unions", "Unions."),
-    "attributes": ("attributes", "Attributes."),
+    "attributes": ("attributes", "Extended attributes."),
     "arguments": ("arguments", "Arguments."),
 }
 # The types whose values are put behind those of a list as soon as they are built. It spares room:

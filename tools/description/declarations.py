@@ -169,7 +169,7 @@ def declared_in(text):
 
 @cache
 def once_declared_in(text):
-    """The same, read once: many files are read again for each crate that stands on them."""
+    """The declarations of a file, read once: many files are read again for each crate that stands on them."""
     found = []
     for begin in BEGIN.finditer(text):
         kind, name, parameters, sign = begin.groups()

@@ -2,6 +2,13 @@
 
 import re
 
+from description.layout import filled
+
+# How the doc of a law begins: of a function whose contract says what always holds.
+LAW = "A law, which does nothing:"
+# A word, or more that stand in a piece of code.
+WORD = re.compile(r"(?:`[^`]*`|[^`\s])+")
+
 # Up to an example, or to the end of the first sentence.
 FRONT = re.compile(r"(.*?)(?:, as `|[:.;](?: |$))")
 EXAMPLE = re.compile(r"[^.:]*?, as `[^`]*`(?:(?:, or |, | or )`[^`]*`)*")
@@ -17,6 +24,16 @@ def about(doc):
 
 
 def with_example(doc):
-    """The same as a sentence, with the examples that the doc gives: "A callback, as `callback F = ..`."."""
+    """What a doc calls it as a sentence, with the examples that it gives: "A callback, as `callback F = ..`."."""
     found = EXAMPLE.match(doc)
     return f"{found[0] if found else FRONT.match(doc)[1]}."
+
+
+def comment(said, mark="/// "):
+    """A comment that says this, in lines; a piece of code stays in one."""
+    return filled(WORD.findall(said), "", mark).rstrip("\n")
+
+
+def law(said):
+    """The doc of a law that says this, in lines."""
+    return comment(f"{LAW} {said}")

@@ -14,7 +14,7 @@ def upper(name):
 
 
 def snake(name):
-    """The same in small letters: `const_member`."""
+    """The name of a type's rule in small letters: `const_member`."""
     return upper(name).lower()
 
 

@@ -1,7 +1,8 @@
 """What a doc line says that is read, held against the rule that reads it.
 
-A doc line gives productions at its front: "`[attributes] type name;`, also without `[attributes]`."
-or "The word `getter`." Where a rule has a word of its own below, that stands for what it reads.
+A doc line gives productions at its front: "`[extended attributes] type name;`, also without
+`[extended attributes]`." or "The word `getter`." Where a rule has a word of its own below, that
+stands for what it reads.
 """
 
 import re
@@ -12,7 +13,7 @@ from description.webidl import BY_NAME
 # Rules that have words of their own in docs.
 WORDS = {
     "docstring": "DOCSTRING",
-    "[attributes]": "EXTENDED_ATTRIBUTE_LIST",
+    "[extended attributes]": "EXTENDED_ATTRIBUTE_LIST",
     "name": "IDENTIFIER",
     "names": "IDENTIFIER_LIST",
     "arguments": "ARGUMENT_LIST",
@@ -32,7 +33,7 @@ QUOTED = re.compile(r"`([^`]+)`")
 FRONT = re.compile(r"(?:The (?:words? )?)?(?=`)")
 MORE = re.compile(r"(?:, or |, | or )(?=`)")
 AND = re.compile(r" and (?=`)")
-TOKEN = re.compile(r'\[attributes\]|"\w+"|\.\.\.|-?\w+|\S')
+TOKEN = re.compile(r'\[extended attributes\]|"\w+"|\.\.\.|-?\w+|\S')
 # What is said to be optional: by an enum's doc of all its variants, and by a variant's of itself.
 MAY_BE_ABSENT = re.compile(r"Of what its variants read, (.*?) may be absent")
 WITHOUT = re.compile(r"\bwithout (.*?)(?:, where|[.:]|$)")

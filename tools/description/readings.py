@@ -98,7 +98,7 @@ class Declared:
         return " ".join([logic(type_.name), *map(self.logic_type, type_.arguments)])
 
     def logic_type(self, type_):
-        """The same, in brackets where it has arguments."""
+        """A type in the words of the logic, in brackets where it has arguments."""
         text = self.logic_text(type_)
         return f"({text})" if " " in text else text
 

@@ -122,8 +122,8 @@ first("CONST_TYPE", *[may_be_null(x) for x in ("INTEGER_TYPE", "FLOATING_POINT_T
 punctuated("IDENTIFIER", "COMMA", "IDENTIFIER_LIST", "Names, as `Window, Worker`, none included.")
 bracketed("PARENTHESIZED", "IDENTIFIER_LIST")
 
-# Types that hold types, attributes and arguments read one another, so they are one section.
-section("Types", "Types that hold types, attributes and arguments, which read one another.")
+# Types that hold types, extended attributes and arguments read one another, so they are one section.
+section("Types", "Types that hold types, extended attributes and arguments, which read one another.")
 TERMINAL_TYPES = (
     "BOOLEAN BYTE OCTET BYTE_STRING DOM_STRING USV_STRING SEQUENCE_TYPE OBJECT SYMBOL ERROR ARRAY_BUFFER DATA_VIEW INT8_ARRAY "
     "INT16_ARRAY INT32_ARRAY UINT8_ARRAY UINT16_ARRAY UINT32_ARRAY UINT8_CLAMPED_ARRAY FLOAT32_ARRAY FLOAT64_ARRAY "
@@ -146,10 +146,11 @@ seq("RECORD_TYPES", "RECORD_KEY_TYPE", "COMMA", "TYPE", doc="A record's two type
 first("SINGLE_TYPE", "ANY", "NON_ANY_TYPE", doc="A type that is no union.")
 first("TYPE", "SINGLE_TYPE", "MAY_BE_NULL_UNION_TYPE", doc="A type.")
 first("RETURN_TYPE", "UNDEFINED", "TYPE", doc="What an operation returns: `undefined`, or a type.")
-bracketed("BRACKETED", "LIST_EXTENDED_ATTRIBUTE_COMMA", "EXTENDED_ATTRIBUTE_LIST", "Attributes, as `[Clamp, Exposed=Window]`.")
+bracketed("BRACKETED", "LIST_EXTENDED_ATTRIBUTE_COMMA", "EXTENDED_ATTRIBUTE_LIST", "Extended attributes, as `[Clamp, Exposed=Window]`.")
 opt("EXTENDED_ATTRIBUTE_LIST")
-seq("ATTRIBUTED_TYPE", "OPT_EXTENDED_ATTRIBUTE_LIST", "TYPE", doc="A type with attributes, as `[Clamp] long`.")
-seq("ATTRIBUTED_NON_ANY_TYPE", "OPT_EXTENDED_ATTRIBUTE_LIST", "NON_ANY_TYPE", doc="The same where the type is neither `any` nor a union.")
+seq("ATTRIBUTED_TYPE", "OPT_EXTENDED_ATTRIBUTE_LIST", "TYPE", doc="A type with extended attributes, as `[Clamp] long`.")
+seq("ATTRIBUTED_NON_ANY_TYPE", "OPT_EXTENDED_ATTRIBUTE_LIST", "NON_ANY_TYPE",
+    doc="A type that is neither `any` nor a union, with extended attributes, as `[Clamp] long`.")
 first("UNION_MEMBER_TYPE", "ATTRIBUTED_NON_ANY_TYPE", "MAY_BE_NULL_UNION_TYPE", doc="A member of a union.")
 punctuated("UNION_MEMBER_TYPE", "OR")
 opt("OPTIONAL")
@@ -160,16 +161,16 @@ seq("VARIADIC_ARGUMENT", "OPT_EXTENDED_ATTRIBUTE_LIST", "TYPE", "ELLIPSIS", "IDE
 first("ARGUMENT", "SINGLE_ARGUMENT", "VARIADIC_ARGUMENT", doc="An argument.")
 punctuated("ARGUMENT", "COMMA", "ARGUMENT_LIST", "Arguments, as `long x, long y`, none included.")
 bracketed("PARENTHESIZED", "ARGUMENT_LIST")
-seq("EXTENDED_ATTRIBUTE_ARG_LIST", "IDENTIFIER", "PARENTHESIZED_ARGUMENT_LIST", doc="An attribute with arguments, as `Constructor(long x)`.")
+seq("EXTENDED_ATTRIBUTE_ARG_LIST", "IDENTIFIER", "PARENTHESIZED_ARGUMENT_LIST", doc="An extended attribute with arguments, as `Constructor(long x)`.")
 seq("EXTENDED_ATTRIBUTE_NAMED_ARG_LIST", "IDENTIFIER", "ASSIGN", "IDENTIFIER", "PARENTHESIZED_ARGUMENT_LIST",
-    doc="An attribute with a name and arguments, as `NamedConstructor=Image(long x)`.")
+    doc="An extended attribute with a name and arguments, as `NamedConstructor=Image(long x)`.")
 seq("EXTENDED_ATTRIBUTE_IDENT_LIST", "IDENTIFIER", "ASSIGN", "PARENTHESIZED_IDENTIFIER_LIST",
-    doc="An attribute with names, as `Exposed=(Window, Worker)`.")
+    doc="An extended attribute with names, as `Exposed=(Window, Worker)`.")
 first("IDENTIFIER_OR_STRING", "IDENTIFIER", "STRING_LIT", doc="A name or a string.")
-seq("EXTENDED_ATTRIBUTE_IDENT", "IDENTIFIER", "ASSIGN", "IDENTIFIER_OR_STRING", doc="An attribute with a name or a string, as `PutForwards=name`.")
-seq("EXTENDED_ATTRIBUTE_NO_ARGS", "IDENTIFIER", doc="An attribute alone, as `Replaceable`.")
+seq("EXTENDED_ATTRIBUTE_IDENT", "IDENTIFIER", "ASSIGN", "IDENTIFIER_OR_STRING", doc="An extended attribute with a name or a string, as `PutForwards=name`.")
+seq("EXTENDED_ATTRIBUTE_NO_ARGS", "IDENTIFIER", doc="An extended attribute alone, as `Replaceable`.")
 first("EXTENDED_ATTRIBUTE", "EXTENDED_ATTRIBUTE_ARG_LIST", "EXTENDED_ATTRIBUTE_NAMED_ARG_LIST", "EXTENDED_ATTRIBUTE_IDENT_LIST",
-      "EXTENDED_ATTRIBUTE_IDENT", "EXTENDED_ATTRIBUTE_NO_ARGS", doc="An attribute.")
+      "EXTENDED_ATTRIBUTE_IDENT", "EXTENDED_ATTRIBUTE_NO_ARGS", doc="An extended attribute.")
 punctuated("EXTENDED_ATTRIBUTE", "COMMA")
 
 # Members.

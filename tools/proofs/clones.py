@@ -8,7 +8,7 @@ from description.imports import use
 ABOUT = (
     "-- What is cloned falls from call to call by the size of its tree, and each loop has cloned the items before."
 )
-HEAD = "-- Written by tools/types_impls.py."
+HEAD = "-- Written by tools/types_impls.py, and not edited by hand."
 CLONES = "weedle_types.proofs.clones"
 STANDARD = {
     "Rattle.std.proofs.Common": ["◌≡◌", "map", "take"],

@@ -26,7 +26,7 @@ NAMES = {
 }
 # What is spelt by a definition of its own, though it isn't declared, and what is said of it.
 HELPERS = {
-    "OPT_EXTENDED_ATTRIBUTE_LIST": "attributes, or none",
+    "OPT_EXTENDED_ATTRIBUTE_LIST": "extended attributes, or none",
     "KEY_AND_VALUE_TYPES": "the types of keys and values",
     "ASYNC_ITERABLE": "the words `async iterable`",
 }
@@ -119,7 +119,7 @@ def fact(type_, value, is_whole=False):
 
 
 def fact_of_any(type_):
-    """The same of all values of a type, as a term that another is applied to."""
+    """The fact of all values of a type, as a term that another is applied to."""
     return fact(type_, "") if is_named(type_) and not terminal(type_) else f"(λ w. {fact(type_, 'w')})"
 
 

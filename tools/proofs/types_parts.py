@@ -37,7 +37,7 @@ FAMILIES = {
     "generic_types": (
         "GenericType", "Types over types in angle brackets, and what follows from the answers of their parts."),
     "unions": ("Union", "Unions, and what follows from the answers of their parts."),
-    "attributes": ("Attribute", "Attributes, and what follows from the answers of their parts."),
+    "attributes": ("Attribute", "Extended attributes, and what follows from the answers of their parts."),
     "arguments": ("Argument", "Arguments, and what follows from the answers of their parts."),
 }
 # the functions of plain_types.rt that read variants of NonAnyType by others

@@ -22,7 +22,7 @@ ONLY = {"weedle_types": (conversions,)}
 MANY = 16
 HEAD = """//! {}
 //!
-//! Written by tools/impls.py.
+//! Written by tools/impls.py, and not edited by hand.
 """
 ABOUT = "What follows from the declarations of the module above."
 ABOUT_ONE = "What a value of `{}` is made from."

@@ -6,8 +6,8 @@ from description.declarations import type_of
 from written.pieces import Piece, bound
 
 OWN, LAWS = "Rattle.weedle_base.specs.Own", "Rattle.weedle_base.specs.OwnLaws"
-# What a docstring and attributes that may be absent are declared as: the functions of weedle_fields
-# are named by these, and by how many fields stand behind them.
+# What a docstring and extended attributes that may be absent are declared as: the functions of
+# weedle_fields are named by these, and by how many fields stand behind them.
 BEGIN = {"docstring": type_of("Option<Docstring>"), "attributes": type_of("Option<ExtendedAttributeList>")}
 NUMBERS = {3: "three", 4: "four", 5: "five", 6: "six"}
 # How many fields are read as pairs within pairs, and how many variants as choices within choices.

@@ -1,11 +1,11 @@
 //! A parser of WebIDL.
 //!
 //! [`parse`] reads a text as a list of definitions, or says from where on it is none;
-//! [`parse_counted`] counts what that takes. [`parse_by_descent`] answers the same with little memory, and
-//! [`parse_quick`] takes it where the text lets it; [`nesting`] says how deep a text nests. [`outline`]
-//! gives kinds, names and docstrings, and [`lend`] lends it a list that a function owns. [`run`] is the
-//! program: it reads a reader to its end, and writes what the text defines; [`run_outline`] writes an
-//! outline of it.
+//! [`parse_counted`] counts what that takes. [`parse_by_descent`] answers the same with little
+//! memory, and [`parse_quick`] takes it where the text lets it; [`nesting`] says how deep a text
+//! nests. [`outline`] gives kinds, names and docstrings, and [`lend`] lends it a list that a
+//! function owns. [`run`] is the program: it reads its input to the end, and writes what the text
+//! defines; [`run_outline`] writes an outline of it.
 //!
 //! ```rust
 //! use weedle::{name_of, parse};
@@ -16,9 +16,9 @@
 //! }
 //! ```
 //!
-//! The calls and the types stand in the crates below, and under one path each here. What the grammar reads of a
-//! text is said in the crate `weedle_grammar`, and in each crate's `specs/` which of its trees a
-//! value stands for.
+//! The calls and the types stand in the crates below, and under one path each here. What the
+//! grammar reads of a text is said in the crate `weedle_grammar`, and in each crate's `specs/`
+//! which of its trees a value stands for.
 #![tactic(auto)]
 
 pub mod common;

@@ -23,10 +23,11 @@ use weedle_types::attribute::ExtendedAttributeList;
 use weedle_types::parts::attributes;
 use weedle_types::types::AttributedType;
 
-/// An asynchronous iteration over values, as `async iterable<long>;`. Arguments may follow the types.
+/// An asynchronous iteration over values, as `async iterable<long>;`. Arguments may follow the
+/// types.
 #[derive(Debug, PartialEq, Eq, PartialOrd, Ord, Hash)]
 pub struct SingleTypedAsyncIterable<'a> {
-    /// The attributes in brackets, as `[Exposed=Window]`, where they stand.
+    /// The extended attributes in brackets, as `[Exposed=Window]`, where they stand.
     pub attributes: Option<ExtendedAttributeList<'a>>,
     /// The words `async` and `iterable`.
     pub async_iterable: (Async, Iterable),
@@ -75,11 +76,11 @@ impl<'a> Parse<'a> for SingleTypedAsyncIterable<'a> {
     ghost lawful = { own_lawful SINGLE_TYPED_ASYNC_ITERABLE single_typed_async_iterable_tree (Unit {0}) };
 }
 
-/// An asynchronous iteration over pairs, as `async iterable<DOMString, long>(long x);`. Arguments may
-/// follow the types.
+/// An asynchronous iteration over pairs, as `async iterable<DOMString, long>(long x);`. Arguments
+/// may follow the types.
 #[derive(Debug, PartialEq, Eq, PartialOrd, Ord, Hash)]
 pub struct DoubleTypedAsyncIterable<'a> {
-    /// The attributes in brackets, as `[Exposed=Window]`, where they stand.
+    /// The extended attributes in brackets, as `[Exposed=Window]`, where they stand.
     pub attributes: Option<ExtendedAttributeList<'a>>,
     /// The words `async` and `iterable`.
     pub async_iterable: (Async, Iterable),
@@ -130,12 +131,12 @@ impl<'a> Parse<'a> for DoubleTypedAsyncIterable<'a> {
 }
 
 /// An asynchronous iteration over values or pairs, as `async iterable<long>;`: the first of the
-/// two that fits. Of what its variants read, `[attributes]` may be absent.
+/// two that fits. Of what its variants read, `[extended attributes]` may be absent.
 #[derive(Debug, PartialEq, Eq, PartialOrd, Ord, Hash)]
 pub enum AsyncIterableInterfaceMember<'a> {
-    /// `[attributes] async iterable<type>(arguments);`, also without `(arguments)`.
+    /// `[extended attributes] async iterable<type>(arguments);`, also without `(arguments)`.
     Single(SingleTypedAsyncIterable<'a>),
-    /// `[attributes] async iterable<type, type>(arguments);`, also without `(arguments)`.
+    /// `[extended attributes] async iterable<type, type>(arguments);`, also without `(arguments)`.
     Double(DoubleTypedAsyncIterable<'a>),
 }
 

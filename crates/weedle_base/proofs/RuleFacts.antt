@@ -25,7 +25,7 @@ pub record Parts (s : List ℕ) (rs : List ℕ) (ts : List Tree) (k : ℕ) : Typ
   pub given : given_of pieces ≡ ts
   pub end : last_end 0 pieces ≡ k
 
--- the same of parts one after another
+-- the reading is that of parts one after another, with these trees of a value
 pub record IsSeq {V : Type 0} (R : Reading V) (rs : List ℕ) (ts : V → List Tree) (grows : Type 0) : Type 0 where
   pub gives : (s : List ℕ) (v : V) (k : ℕ) → R.gives s v k → Parts s rs (ts v) k
   pub refuses : (s : List ℕ) → R.refuses s → ReadsSeq webidl s rs 0 None

@@ -101,5 +101,5 @@ module _ {V : Type 0} (R : Reading V) {s rest : List ℕ} where
 -- what the search for the proof of a body with `?` uses: a part after another, and a fault of either
 pub ruleset part_steps = (fault_first, fault_second, got_pair)
 
--- the same, of a struct that is seen as its parts
+-- what that search uses of a struct that is seen as its parts
 pub ruleset seen_steps = (fault_first, fault_second, fault_seen, got_pair, got_seen)

@@ -28,6 +28,6 @@ option_tree tree (Some v) = Present (tree v)
 abbrev pub items_tree : {V : Type 0} → (V → Tree) → List V → Tree
 items_tree tree vs = Listed (trees (map tree vs))
 
--- the same, of a reading that asks for memory where it says so
+-- the reading is that of the rule, with this tree of a value; it asks for memory where it says so
 abbrev pub HasRule : {V : Type 0} → Reading V → ℕ → (V → Tree) → Type 0
 HasRule R r tree = IsRule R r tree R.grows

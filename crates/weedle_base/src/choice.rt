@@ -9,8 +9,8 @@ use crate::fault::IResult;
 use crate::parse::Parse;
 use std::alloc::Global;
 
-/// A value of the first of two types that fits a text: of the first, or of the second where the first
-/// refuses the text. `Choice<T, Choice<U, V>>` is one of three.
+/// A value of the first of two types that fits a text: of the first, or of the second where the
+/// first refuses the text. `Choice<T, Choice<U, V>>` is one of three.
 #[derive(Drop)]
 pub enum Choice<T, U> {
     /// A value of the first type.

@@ -24,8 +24,8 @@ fn doc_line(input: &str) -> Option<(&str, &str)>
     Some((&after[..end], &after[end + 1..]))
 }
 
-/// Puts an LF and the line at the end of the text, as a docstring's lines are put together: of `a` and
-/// ` b` it makes `a`, an LF and ` b`. Where memory is refused the text may have grown in part.
+/// Puts an LF and the line at the end of the text, as a docstring's lines are put together: of `a`
+/// and ` b` it makes `a`, an LF and ` b`. Where memory is refused the text may have grown in part.
 pub fn push_line(text: &mut String, line: &str) -> Result<(), AllocError>
     ensures { OnOk result (string_bytes text.new ≡ (string_bytes text.old ++ (10 ∷ [])) ++ line.now) }
 {
@@ -33,9 +33,9 @@ pub fn push_line(text: &mut String, line: &str) -> Result<(), AllocError>
     text.push_str(line)
 }
 
-/// Reads a docstring: one line or more, each of blanks, `///` and a text up to the end of the line. It gives the texts
-/// with an LF between two, so `///a` and `/// b` on two lines give `a`, an LF and ` b`. A CR before an LF belongs to the
-/// text. What follows the last line stays unread.
+/// Reads a docstring: one line or more, each of blanks, `///` and a text up to the end of the line.
+/// It gives the texts with an LF between two, so `///a` and `/// b` on two lines give `a`, an LF
+/// and ` b`. A CR before an LF belongs to the text. What follows the last line stays unread.
 ///
 /// Where the first line is no such line, or the text ends before its LF, it is a mismatch.
 pub fn docstring(alloc: Global, input: &str) -> IResult<&str, String>

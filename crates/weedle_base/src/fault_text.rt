@@ -86,7 +86,7 @@ fn first_line(text: &str) -> &str {
     text.lines().next().unwrap_or("").trim()
 }
 
-/// As much of the line as is shown, and the dots that stand for the rest of it.
+/// What is shown of a line, and the dots that stand for the rest of it.
 fn cut(line: &str) -> (&str, &'static str) {
     match line.char_indices().nth(SHOWN) {
         Some((end, _)) => (&line[..end], ".."),

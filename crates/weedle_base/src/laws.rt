@@ -8,31 +8,33 @@ ghost use Rattle.weedle_base.specs.RuleLaws.{OptionLaw, BoxLaw, VecLaw, PairLaw,
 
 use crate::parse::Parse;
 
-/// `Option<T>` reads what a rule reads that may be absent.
+/// A law, which does nothing: `Option<T>` reads what a rule reads that may be absent.
 #[tactic(auto, using(crate::proofs::RuleLawFacts::option_law))]
 pub fn option<'a, T: Parse<'a>>()
     ensures { OptionLaw T.reading ⟦<Option<T> as Parse<'a>>⟧.reading }
 {}
 
-/// `Box<T>` reads what T's rule reads.
+/// A law, which does nothing: `Box<T>` reads what T's rule reads.
 #[tactic(auto, using(crate::proofs::RuleLawFacts::box_law))]
 pub fn boxed<'a, T: Parse<'a>>()
     ensures { BoxLaw T.reading ⟦<Box<T> as Parse<'a>>⟧.reading }
 {}
 
-/// `Vec<T>` reads what a rule reads that repeats T's.
+/// A law, which does nothing: `Vec<T>` reads what a rule reads that repeats T's.
 #[tactic(auto, using(crate::proofs::RuleLawFacts::vec_law))]
 pub fn vec<'a, T: Parse<'a>>()
     ensures { VecLaw T.reading ⟦<Vec<T> as Parse<'a>>⟧.reading }
 {}
 
-/// `(T, U)` reads what a rule reads that is T's and U's, one after the other.
+/// A law, which does nothing: `(T, U)` reads what a rule reads that is T's and U's, one after the
+/// other.
 #[tactic(auto, using(crate::proofs::RuleLawFacts::pair_law))]
 pub fn pair<'a, T: Parse<'a>, U: Parse<'a>>()
     ensures { PairLaw T.reading U.reading ⟦<(T, U) as Parse<'a>>⟧.reading }
 {}
 
-/// `(T, U, V)` reads what a rule reads that is T's, U's and V's, one after the other.
+/// A law, which does nothing: `(T, U, V)` reads what a rule reads that is T's, U's and V's, one
+/// after the other.
 #[tactic(auto, using(crate::proofs::RuleLawFacts::triple_law))]
 pub fn triple<'a, T: Parse<'a>, U: Parse<'a>, V: Parse<'a>>()
     ensures { TripleLaw T.reading U.reading V.reading ⟦<(T, U, V) as Parse<'a>>⟧.reading }

@@ -1,4 +1,5 @@
-//! The ground of the parser: faults, the trait [`Parse`] with its meaning and laws, trivia and words.
+//! The ground of the parser: faults, the trait [`Parse`] with its meaning and laws, trivia and
+//! words.
 #![tactic(auto)]
 
 mod choice;

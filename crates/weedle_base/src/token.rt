@@ -11,7 +11,8 @@ use crate::names::ident_tag;
 use crate::trivia::skip_trivia;
 use weedle_grammar::Rule;
 
-/// Reads a symbol, with the trivia around it.
+/// Reads a symbol, with the trivia around it. Where it isn't next that is a mismatch; there is no
+/// failure.
 pub fn symbol<'a, T: Drop>(
     rule: Rule,
     tag: &'static str,
@@ -29,7 +30,8 @@ pub fn symbol<'a, T: Drop>(
     }
 }
 
-/// Reads a keyword that no name character follows, with the trivia around it.
+/// Reads a keyword that no name character follows, with the trivia around it. Where it isn't next
+/// that is a mismatch; there is no failure.
 pub fn keyword<'a, T: Drop>(
     rule: Rule,
     tag: &'static str,

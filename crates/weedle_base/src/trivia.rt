@@ -16,7 +16,8 @@ use crate::scan::{after_one, after_run, after_word, next_is, taken};
 use memchr::{memchr, memmem};
 use weedle_grammar::{Class, Rule};
 
-/// What follows the line at the front and its LF. Where there is no LF, the line ends with the text.
+/// What follows the line at the front and its LF. Where there is no LF, the line ends with the
+/// text.
 fn after_line(input: &str) -> &str
     ensures { (end : List ℕ) × Took RUN_NOT_LINE_FEED input.now [] end × Took LINE_END end [] result.now }
 {

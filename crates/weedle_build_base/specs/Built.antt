@@ -55,7 +55,8 @@ module _ {V E : Type 0} (text : List ℕ) (r : ℕ) (tree : V → Tree) (p v : �
   Answers (Ok x) = Builds text r (tree x.0) p v x.1.place x.1.visits
   Answers (Err e) = Unit {0}
 
--- the same of the fields of a sequence
+-- what a building of the fields of a sequence may answer, after v visits at place p: the fields and where it is then,
+-- or that memory was refused
 module _ {V E : Type 0} (text : List ℕ) (rs : List ℕ) (trees : V → List Tree) (p v : ℕ) where
   abbrev pub FieldAnswers : Result (V × At) E → Type 0
   FieldAnswers (Ok x) = Run text rs (trees x.0) p v x.1.place x.1.visits

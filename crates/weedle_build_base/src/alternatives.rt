@@ -60,8 +60,8 @@ pub fn alternative_rule(rule: Rule, i: usize) -> Rule
     }
 }
 
-/// Builds the value of the alternative that fits, and visits the node of the choice. It is refused
-/// where the value is.
+/// Builds the value of alternative `i` of the choice `rule`, the first that fits at the place `at`,
+/// and visits the node of the choice. It is refused where the value is.
 pub fn alternative<'a, T: Build<'a>>(
     alloc: Global,
     table: &Ends<'a>,

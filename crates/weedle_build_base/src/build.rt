@@ -15,9 +15,9 @@ pub type BuildResult<T> = Result<(T, At), AllocError>;
 
 /// How values are built where the table of ends says that a rule reads one.
 ///
-/// A type of the crates below has it for its own values, an `Option` or a list for those of its items.
-/// A crate above gives it to a type of its own and names the value's type as `Value`, since only this
-/// crate can give it to a type that stands elsewhere.
+/// A type of the crates below has it for its own values, an `Option` or a list for those of its
+/// items. A crate above gives it to a type of its own and names the value's type as `Value`, since
+/// only this crate can give it to a type that stands elsewhere.
 ///
 /// `fits` says which rules read such a value, `tree` which tree a value stands for.
 pub trait Build<'a> {
@@ -28,10 +28,10 @@ pub trait Build<'a> {
 
     ghost tree: { Self.Value → Tree };
 
-    /// Builds the value that the rule reads at a place, and goes on to its end. It looks at ends
-    /// alone, a few for each node of the tree and for each line of a docstring, and one for each
-    /// alternative that doesn't fit.
-    /// It takes the memory that the value holds, and is refused for want of it alone.
+    /// Builds the value that `rule` reads at the place `at`, and goes on to its end. It looks at
+    /// ends alone, a few for each node of the tree and for each line of a docstring, and one for
+    /// each alternative that doesn't fit. It takes the memory that the value holds, and is refused
+    /// for want of it alone.
     fn build(alloc: Global, table: &Ends<'a>, rule: Rule, at: At) -> BuildResult<Self::Value>
         requires fit { fits rule }
         requires due { Due table.now.text rule at.place }

@@ -11,8 +11,8 @@ use crate::build::{Build, BuildResult, visit};
 use std::alloc::Global;
 use weedle_rules::{Ends, Row, Rule, row_of};
 
-/// The rule that stands at a place of a sequence, counted from 0; None from the end on, and of other
-/// rows. It takes no memory.
+/// The rule that stands at a place of a sequence, counted from 0; None from the end on, and of
+/// other rows. It takes no memory.
 pub fn part(rule: Rule, i: usize) -> Option<Rule>
     ensures found { result ≡ slice_get (list_of (row_of_rule rule)) i }
     ensures counted { IsSome result → i + 1 < 2 ^ 64 }
@@ -23,9 +23,11 @@ pub fn part(rule: Rule, i: usize) -> Option<Rule>
     if i < parts.len() { parts.at(i) } else { None }
 }
 
-/// How fields are built one after another: a pair of a field and of those behind it, up to [`Last`].
+/// How fields are built one after another: a pair of a field and of those behind it, up to
+/// [`Last`].
 ///
-/// `fits` says of which rules the parts of a sequence are, `trees` which trees the values stand for.
+/// `fits` says of which rules the parts of a sequence are, `trees` which trees the values stand
+/// for.
 pub trait Fields<'a> {
     /// What is built: a pair of a value and of those behind it.
     type Values: Drop;
@@ -34,8 +36,9 @@ pub trait Fields<'a> {
 
     ghost trees: { Self.Values → List Tree };
 
-    /// Builds the fields from a part of a sequence on, counted from 0. It takes the memory that the
-    /// values hold, and is refused for want of it alone.
+    /// Builds the fields from the part `first` of the sequence `rule` on, counted from 0, which it
+    /// reads from `at` on. It takes the memory that the values hold, and is refused for want of it
+    /// alone.
     fn build_fields(
         alloc: Global,
         table: &Ends<'a>,
@@ -97,7 +100,9 @@ impl<'a, A: Build<'a>, P: Fields<'a>> Fields<'a> for (A, P) {
     }
 }
 
-/// Builds the fields of a sequence, and visits its node. It is refused where a field is.
+/// Builds the fields of a sequence, which `rule` reads one after another, and visits its node. `at`
+/// is a place where `rule` reads them, with the nodes that were visited before. It is refused where
+/// a field is.
 pub fn sequence<'a, P: Fields<'a>>(
     alloc: Global,
     table: &Ends<'a>,

@@ -11,8 +11,8 @@
 //! assert!(rt; number == DecLit("12") && end.place == 2 && end.visits == 1);
 //! ```
 //!
-//! [`Build`] says how the values of a type are built. It stands here for the types that hold no other
-//! type and for all that is made of them; the crates above have it for their own types.
+//! [`Build`] says how the values of a type are built. It stands here for the types that hold no
+//! other type and for all that is made of them; the crates above have it for their own types.
 #![tactic(auto)]
 
 mod alternatives;

@@ -19,8 +19,9 @@ use crate::fields::{Last, sequence};
 use std::alloc::Global;
 use weedle_rules::{Ends, Rule};
 
-/// Builds the two fields of a struct, which its rule reads one after another, and visits its
-/// node. It answers their values, and where the rule ends; it is refused where a field is.
+/// Builds the two fields of a struct, which `rule` reads one after another, and visits its node.
+/// `at` is a place where `rule` reads them, with the nodes that were visited before. It answers the
+/// values, and where the rule ends; it is refused where a field is.
 pub fn two_fields<'a, A: Build<'a>, B: Build<'a>>(
     alloc: Global,
     table: &Ends<'a>,
@@ -35,8 +36,9 @@ pub fn two_fields<'a, A: Build<'a>, B: Build<'a>>(
     Ok(((first, second), at))
 }
 
-/// Builds the three fields of a struct, which its rule reads one after another, and visits its
-/// node. It answers their values, and where the rule ends; it is refused where a field is.
+/// Builds the three fields of a struct, which `rule` reads one after another, and visits its node.
+/// `at` is a place where `rule` reads them, with the nodes that were visited before. It answers the
+/// values, and where the rule ends; it is refused where a field is.
 pub fn three_fields<'a, A: Build<'a>, B: Build<'a>, C: Build<'a>>(
     alloc: Global,
     table: &Ends<'a>,
@@ -53,8 +55,9 @@ pub fn three_fields<'a, A: Build<'a>, B: Build<'a>, C: Build<'a>>(
     Ok(((first, second, third), at))
 }
 
-/// Builds the four fields of a struct, which its rule reads one after another, and visits its
-/// node. It answers their values, and where the rule ends; it is refused where a field is.
+/// Builds the four fields of a struct, which `rule` reads one after another, and visits its node.
+/// `at` is a place where `rule` reads them, with the nodes that were visited before. It answers the
+/// values, and where the rule ends; it is refused where a field is.
 pub fn four_fields<'a, A: Build<'a>, B: Build<'a>, C: Build<'a>, D: Build<'a>>(
     alloc: Global,
     table: &Ends<'a>,
@@ -71,8 +74,9 @@ pub fn four_fields<'a, A: Build<'a>, B: Build<'a>, C: Build<'a>, D: Build<'a>>(
     Ok(((first, second, third, fourth), at))
 }
 
-/// Builds the five fields of a struct, which its rule reads one after another, and visits its
-/// node. It answers their values, and where the rule ends; it is refused where a field is.
+/// Builds the five fields of a struct, which `rule` reads one after another, and visits its node.
+/// `at` is a place where `rule` reads them, with the nodes that were visited before. It answers the
+/// values, and where the rule ends; it is refused where a field is.
 pub fn five_fields<'a, A: Build<'a>, B: Build<'a>, C: Build<'a>, D: Build<'a>, E: Build<'a>>(
     alloc: Global,
     table: &Ends<'a>,
@@ -89,8 +93,9 @@ pub fn five_fields<'a, A: Build<'a>, B: Build<'a>, C: Build<'a>, D: Build<'a>, E
     Ok(((first, second, third, fourth, fifth), at))
 }
 
-/// Builds the six fields of a struct, which its rule reads one after another, and visits its
-/// node. It answers their values, and where the rule ends; it is refused where a field is.
+/// Builds the six fields of a struct, which `rule` reads one after another, and visits its node.
+/// `at` is a place where `rule` reads them, with the nodes that were visited before. It answers the
+/// values, and where the rule ends; it is refused where a field is.
 pub fn six_fields<
     'a,
     A: Build<'a>,
@@ -115,8 +120,9 @@ pub fn six_fields<
     Ok(((first, second, third, fourth, fifth, sixth), at))
 }
 
-/// Builds the seven fields of a struct, which its rule reads one after another, and visits its
-/// node. It answers their values, and where the rule ends; it is refused where a field is.
+/// Builds the seven fields of a struct, which `rule` reads one after another, and visits its node.
+/// `at` is a place where `rule` reads them, with the nodes that were visited before. It answers the
+/// values, and where the rule ends; it is refused where a field is.
 pub fn seven_fields<
     'a,
     A: Build<'a>,
@@ -152,8 +158,9 @@ pub fn seven_fields<
     Ok(((first, second, third, fourth, fifth, sixth, seventh), at))
 }
 
-/// Builds the eight fields of a struct, which its rule reads one after another, and visits its
-/// node. It answers their values, and where the rule ends; it is refused where a field is.
+/// Builds the eight fields of a struct, which `rule` reads one after another, and visits its node.
+/// `at` is a place where `rule` reads them, with the nodes that were visited before. It answers the
+/// values, and where the rule ends; it is refused where a field is.
 pub fn eight_fields<
     'a,
     A: Build<'a>,

@@ -1,6 +1,6 @@
 //! What scripts write.
 //!
-//! Written by tools/modules.py.
+//! Written by tools/modules.py, and not edited by hand.
 
 pub mod iterables;
 pub mod members;

@@ -4,7 +4,8 @@ use weedle_parts::common::{Braced, PunctuatedNonEmpty};
 use weedle_statements::EnumVariant;
 use weedle_term::Comma;
 
-/// How a `T` is built: the `Build` of a definition without members, whose type stands in another crate.
+/// How a `T` is built: the `Build` of a definition without members, whose type stands in another
+/// crate.
 pub struct StatementPart<T>(T);
 
 /// The values of an enum in braces.

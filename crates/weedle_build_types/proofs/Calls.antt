@@ -36,7 +36,7 @@ option_of row shape = record { row = row; shape = shape }
 pub rest_of_if : {text rs : List ℕ} {r p k y : ℕ} → Due text r p → row_of r ≡ If rs k y → Rest text rs p
 rest_of_if {text} {rs} {r} {p} {k} {y} d row = row_rest d (If rs k y) row refl
 
--- the same tree in other words
+-- what builds a tree builds one that equals it
 pub builds_as : {text : List ℕ} {r p v q w : ℕ} {t u : Tree} → t ≡ u → Builds text r u p v q w → Builds text r t p v q w
 builds_as {text} {r} {p} {v} {q} {w} {t} {u} e g = subst (λ x. Builds text r x p v q w) (sym e) g
 

@@ -1,4 +1,5 @@
-//! The second pass over types, attributes and arguments, which hold one another with no limit on how deep.
+//! The second pass over types, extended attributes and arguments, which hold one another with no
+//! limit on how deep.
 //!
 //! [`Held`] stands for each of those that other types have as parts.
 #![tactic(auto)]

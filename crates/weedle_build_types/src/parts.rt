@@ -4,7 +4,7 @@ use crate::held::Held;
 use weedle_types::argument::ParenthesizedArgumentList;
 use weedle_types::attribute::ExtendedAttributeList;
 
-/// Attributes, or none.
+/// Extended attributes, or none.
 pub type Attributes<'a> = Option<Held<ExtendedAttributeList<'a>>>;
 
 /// Arguments in parentheses.

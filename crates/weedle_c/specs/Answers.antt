@@ -36,7 +36,8 @@ pub record IsUnread (text : List ℕ) (answer : WeedleAnswer) : Type 0 where
   pub left : RestBegins text answer.rest
   pub unread : answer.rest < length text
 
--- the same, with the furthest place, its line and its column
+-- the text isn't read whole, and the answer says where the unread rest begins, and the furthest place with its line
+-- and its column
 pub record IsExplained (text : List ℕ) (answer : WeedleRefusal) : Type 0 where
   pub refusal : Refusal
   pub is_refusal : IsRefusal text refusal

@@ -19,8 +19,8 @@ use weedle_syntax::Node;
 pub struct WeedleFormatted {
     /// How many bytes the text has once it is laid out, of one that is read whole.
     pub length: usize,
-    /// Where the unread rest begins, in bytes from the front of the text: at its end where it is read whole. Of what
-    /// isn't UTF-8 it is the first byte that isn't part of a character.
+    /// Where the unread rest begins, in bytes from the front of the text: at its end where it is
+    /// read whole. Of what isn't UTF-8 it is the first byte that isn't part of a character.
     pub rest: usize,
     /// 1 where the text was laid out, and 0 where it is as it stood.
     pub is_laid_out: usize,
@@ -81,8 +81,8 @@ fn format_text(alloc: Global, raw: &str, out: &mut [u8], answer: &mut WeedleForm
     }
 }
 
-/// The text of these nodes laid out, or None where that would say something else. What is laid out already isn't read
-/// again.
+/// The text of these nodes laid out, or None where that would say something else. What is laid out
+/// already isn't read again.
 fn laid_out(alloc: Global, raw: &str, nodes: &[Node]) -> Result<Option<String>, AllocError>
     requires are { IsFront raw.now nodes.now }
     requires whole { length raw.now ≤ the_rest_of nodes.now }

@@ -1,12 +1,13 @@
-//! The proved reader as a C library. `include/weedle.h` declares what it exports, and says what a caller has to keep.
+//! The proved parser as a C library. `include/weedle.h` declares what it exports, and says what a
+//! caller has to keep.
 //!
 //! ```c
 //! struct weedle_answer answer;
 //! unsigned status = weedle_syntax(text, length, nodes, room, &answer);
 //! ```
 //!
-//! Each function calls one that does what it says, and states its clauses again. A C compiler sees a slice as a pointer
-//! and a length, and no `alloc`.
+//! Each function calls one that does what it says, and states its clauses again. A C compiler sees
+//! a slice as a pointer and a length, and no `alloc`.
 #![tactic(auto)]
 
 mod format;
@@ -32,7 +33,8 @@ use weedle_grammar::RULES;
 /// The version: a byte each for the three numbers of 0.5.0.
 const VERSION: u32 = 0x000500;
 
-/// Reads a text, and writes the nodes of its syntax tree where there is room for all. The answer is the status.
+/// Reads a text, and writes the nodes of its syntax tree where there is room for all. The answer is
+/// the status.
 #[unsafe(no_mangle)]
 pub extern "C" fn weedle_syntax(
     alloc: Global,
@@ -51,8 +53,8 @@ pub extern "C" fn weedle_syntax(
     read(alloc, text, nodes, answer)
 }
 
-/// Says where and why a text is refused, and writes as much of the message as there is room for. The answer is the
-/// status.
+/// Says where and why a text is refused, and writes as much of the message as there is room for.
+/// The answer is the status.
 #[unsafe(no_mangle)]
 pub extern "C" fn weedle_explain(
     alloc: Global,

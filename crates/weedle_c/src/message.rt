@@ -18,8 +18,8 @@ use weedle_refusal::{Refusal, position_of, refusal_from, rest_of, write_message}
 pub struct WeedleRefusal {
     /// Where the unread rest begins, in bytes from the front of the text.
     pub start: usize,
-    /// The furthest place to which the reading of the rest comes. Of what isn't UTF-8 it is the first byte that isn't
-    /// part of a character.
+    /// The furthest place to which the reading of the rest comes. Of what isn't UTF-8 it is the
+    /// first byte that isn't part of a character.
     pub place: usize,
     /// The line of that place, from 1 on.
     pub line: usize,
@@ -38,8 +38,8 @@ const NOTHING: WeedleRefusal = WeedleRefusal {
     length: 0,
 };
 
-/// Says where and why a text is refused, and writes as much of the message as there is room for. The answer is the
-/// status.
+/// Says where and why a text is refused, and writes as much of the message as there is room for.
+/// The answer is the status.
 pub(crate) fn explain(
     alloc: Global,
     text: &[u8],
@@ -63,7 +63,8 @@ pub(crate) fn explain(
     }
 }
 
-/// The same of what is UTF-8.
+/// Says where and why a text that is UTF-8 is refused, and writes as much of the message as there
+/// is room for.
 fn explain_text(alloc: Global, raw: &str, message: &mut [u8], answer: &mut WeedleRefusal) -> u32
     ensures known { (result ≤ NO_MEMORY) × (result ≢ NOT_UTF8) }
     ensures read { result ≡ READ → IsWhole raw.now }
@@ -129,7 +130,8 @@ fn message_of(alloc: Global, raw: &str, refusal: &Refusal) -> io::Result<Vec<u8>
     Ok(message)
 }
 
-/// Writes as many whole characters as there is room for, and a zero behind them. With no room it writes nothing.
+/// Writes as many whole characters as there is room for, and a zero behind them. With no room it
+/// writes nothing.
 fn write_cut(said: &[u8], room: &mut [u8]) {
     if room.is_empty() {
         return;

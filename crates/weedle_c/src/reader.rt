@@ -19,15 +19,16 @@ use weedle_syntax::{Node, front_of, syntax_of_front};
 pub struct WeedleAnswer {
     /// How many nodes the tree has, of a text that is read whole.
     pub count: usize,
-    /// Where the unread rest begins, in bytes from the front of the text: at its end where it is read whole. Of what
-    /// isn't UTF-8 it is the first byte that isn't part of a character.
+    /// Where the unread rest begins, in bytes from the front of the text: at its end where it is
+    /// read whole. Of what isn't UTF-8 it is the first byte that isn't part of a character.
     pub rest: usize,
 }
 
 /// What is said where nothing is known.
 const NOTHING: WeedleAnswer = WeedleAnswer { count: 0, rest: 0 };
 
-/// How many levels a text may nest that descent reads: some 1.6 kB of stack for each, and so 100 kB at most.
+/// How many levels a text may nest that descent reads: some 1.6 kB of stack for each, and so 100 kB
+/// at most.
 const MOST_LEVELS: usize = 64;
 
 /// Reads a text, and writes its nodes where there is room for all. The answer is the status.
@@ -55,7 +56,7 @@ pub(crate) fn read(
     }
 }
 
-/// Reads what is UTF-8.
+/// Reads a text that is UTF-8, and writes its nodes where there is room for all.
 fn read_text(alloc: Global, raw: &str, nodes: &mut [WeedleNode], answer: &mut WeedleAnswer) -> u32
     ensures known { (result ≤ TOO_LONG) × (result ≢ NOT_UTF8) }
     ensures read { result ≡ READ → IsTree raw.now nodes.old nodes.new answer.new }
@@ -102,7 +103,8 @@ fn answer_of(raw: &str, found: &[Node], nodes: &mut [WeedleNode], answer: &mut W
 
 /// The nodes of the definitions at the front of a text.
 ///
-/// Descent reads what nests little, and else a table of ends does: so a little stack is enough for any text.
+/// Descent reads what nests little, and else a table of ends does: so a little stack is enough for
+/// any text.
 pub(crate) fn front(alloc: Global, raw: &str) -> Result<Vec<Node>, AllocError>
     ensures { IfOk result (λ nodes. IsFront raw.now nodes.items) }
 {
@@ -113,7 +115,8 @@ pub(crate) fn front(alloc: Global, raw: &str) -> Result<Vec<Node>, AllocError>
     front_of(alloc, &ends)
 }
 
-/// Whether descent needs little stack for a text. A `[` counts as two levels, since its arguments take more stack.
+/// Whether descent needs little stack for a text. A `[` counts as two levels, since its arguments
+/// take more stack.
 fn nests_little(raw: &str) -> bool {
     let depths = nesting(raw);
     depths

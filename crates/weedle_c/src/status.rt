@@ -3,7 +3,7 @@
 /// The grammar reads the whole text.
 pub const READ: u32 = 0;
 
-/// It doesn't.
+/// The grammar doesn't read the whole text.
 pub const REFUSED: u32 = 1;
 
 /// The bytes aren't UTF-8.

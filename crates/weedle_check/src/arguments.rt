@@ -24,13 +24,13 @@ Status: 0 all is read, 1 something is refused, 2 a file can't be read or isn't U
 /// What is done with each text.
 #[derive(Clone, Copy, Debug, PartialEq, Eq)]
 pub enum Task {
-    /// It is checked.
+    /// Each text is checked.
     Check,
-    /// It is checked, and its definitions are printed.
+    /// Each text is checked, and its definitions are printed.
     Tree,
-    /// It is checked, and its syntax tree is printed.
+    /// Each text is checked, and its syntax tree is printed.
     Syntax,
-    /// It is checked, and the readers are timed with it.
+    /// Each text is checked, and the readers are timed with it.
     Time,
 }
 
@@ -39,12 +39,13 @@ pub enum Task {
 pub enum Request {
     /// How the program is used.
     Help,
-    /// Something of each of these files, of the standard input where there is none.
+    /// This task for each of these files, for the standard input where there is none.
     Files(Task, Vec<String>),
 }
 
-/// What is asked for by the arguments, of which the first is the program's name: nothing that there is use for,
-/// where an argument begins with `-` and is no option and not `-` itself, or where two options are given.
+/// What is asked for by the arguments, of which the first is the program's name: nothing that there
+/// is use for, where an argument begins with `-` and is no option and not `-` itself, or where two
+/// options are given. It fails where memory for the names is refused.
 pub fn request_of(alloc: Global, words: Args) -> Result<Option<Request>, AllocError> {
     let mut asked = Asked {
         task: None,

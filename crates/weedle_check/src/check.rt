@@ -22,7 +22,9 @@ pub struct Source<'a, R: Drop> {
     pub opened: io::Result<R>,
 }
 
-/// Reads a source to its end, checks the text and prints what is asked for.
+/// Reads a source to its end, checks the text and prints what is asked for. A text that is refused
+/// is an answer; it fails where the source can't be read or isn't UTF-8, where memory is refused,
+/// and where the output can't be written.
 pub fn check_source<C: Clock + AllocGlobal, R: Read + Drop, W: Write>(
     rt: &C,
     task: Task,
@@ -37,7 +39,7 @@ pub fn check_source<C: Clock + AllocGlobal, R: Read + Drop, W: Write>(
     check_text(rt, task, name, text, out)
 }
 
-/// What a reader gives up to its end.
+/// What an input gives up to its end.
 fn bytes_of<R: Read + Drop>(alloc: Global, opened: io::Result<R>) -> Result<Vec<u8>, Fault> {
     let mut bytes = Vec::new(alloc);
     match opened {
@@ -49,7 +51,8 @@ fn bytes_of<R: Read + Drop>(alloc: Global, opened: io::Result<R>) -> Result<Vec<
     }
 }
 
-/// Checks a text, and prints what is asked for. Of a text that isn't read whole it writes where and why.
+/// Checks a text, and prints what is asked for. Of a text that isn't read whole it writes where and
+/// why.
 fn check_text<C: Clock + AllocGlobal, W: Write>(
     rt: &C,
     task: Task,
@@ -78,7 +81,8 @@ fn check_text<C: Clock + AllocGlobal, W: Write>(
     Ok(outcome)
 }
 
-/// Writes what is asked for of a text that is read whole, where it takes no check before, and says whether it did.
+/// Writes what is asked for of a text that is read whole, where it takes no check before, and says
+/// whether it did.
 fn is_written_at_once<W: Write>(
     alloc: Global,
     task: Task,

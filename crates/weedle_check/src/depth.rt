@@ -11,9 +11,10 @@ const MOST_PRINTED: usize = 2_000;
 
 /// How many levels deep a text nests, where that is more than 8 MB of stack hold for the task.
 ///
-/// A `(` or a `<` that is open is one level, and a `[` two: so much more stack do its arguments take. How deep
-/// the readers come was measured, as docs/PROVED.md tells, and the first limit leaves a quarter of that. What it
-/// takes to print a text wasn't: the second limit is a cautious guess.
+/// A `(` or a `<` that is open is one level, and a `[` two: so much more stack do its arguments
+/// take. How deep the readers come was measured, as docs/PROVED.md tells, and the first limit
+/// leaves a quarter of that. What it takes to print a text wasn't: the second limit is a cautious
+/// guess.
 pub fn too_many_levels(task: Task, text: &str) -> Option<usize> {
     let depths = nesting(text);
     let levels = depths

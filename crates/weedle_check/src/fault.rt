@@ -28,7 +28,7 @@ impl Fault {
         }
     }
 
-    /// What it comes to.
+    /// What a check with this fault comes to.
     pub fn outcome(&self) -> Outcome {
         match self {
             Fault::Input(_) | Fault::NotUtf8 => Outcome::Unreadable,
@@ -44,8 +44,8 @@ impl From<AllocError> for Fault {
     }
 }
 
-/// What fails with it is a write, or the making of the room for one: all other calls say by themselves what their
-/// errors are.
+/// What fails with it is a write, or the making of the room for one: all other calls say by
+/// themselves what their errors are.
 impl From<io::Error> for Fault {
     fn from(error: io::Error) -> Fault {
         if error.kind() == ErrorKind::OutOfMemory {

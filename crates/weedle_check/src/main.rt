@@ -4,9 +4,10 @@
 //! weedle_check [--tree | --syntax | --time] [FILE..]
 //! ```
 //!
-//! It reads the files that are named, or else the standard input, which `-` names too. Of each that isn't read
-//! whole it prints the line and the column of the slip, what would have been read there, the line of the text and
-//! a mark below the place; then how many files were read, and how many of them were refused:
+//! It reads the files that are named, or else the standard input, which `-` names too. Of each that
+//! isn't read whole it prints the line and the column of the slip, what would have been read there,
+//! the line of the text and a mark below the place; then how many files were read, and how many of
+//! them were refused:
 //!
 //! ```text
 //! a.webidl:3:1: expected `;`
@@ -15,15 +16,16 @@
 //! 1 file, 1 refused
 //! ```
 //!
-//! With `--tree` it prints the definitions of what it reads, each on a line behind its line and column; with
-//! `--syntax` its syntax tree, a node on a line; with `--time` how long each reader takes, and what the table of
-//! ends needs.
+//! With `--tree` it prints the definitions of what it reads, each on a line behind its line and
+//! column; with `--syntax` its syntax tree, a node on a line; with `--time` how long each reader
+//! takes, and what the table of ends needs.
 //!
-//! The status is 0 where all is read, 1 where something is refused, 2 where a file can't be read or isn't
-//! UTF-8, 3 where memory ran out, 4 where the output can't be written, and 5 where the arguments ask for
-//! nothing that it does: the greatest of those that fit.
+//! The status is 0 where all is read, 1 where something is refused, 2 where a file can't be read or
+//! isn't UTF-8, 3 where memory ran out, 4 where the output can't be written, and 5 where the
+//! arguments ask for nothing that it does: the greatest of those that fit.
 //!
-//! It is proved that each function is safe and returns, and no more: what is written is only tested.
+//! It is proved that each function is safe and returns, and no more: what is written is only
+//! tested.
 #![tactic(auto)]
 
 mod arguments;

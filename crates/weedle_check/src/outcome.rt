@@ -3,11 +3,11 @@
 /// What the check of a file comes to, or that of all files: the greatest of theirs.
 #[derive(Clone, Copy, Debug, PartialEq, Eq)]
 pub enum Outcome {
-    /// It is read whole.
+    /// The grammar reads the file whole.
     Read,
-    /// It isn't.
+    /// The grammar doesn't read it whole.
     Refused,
-    /// It can't be read, or isn't UTF-8.
+    /// The file can't be read, or isn't UTF-8.
     Unreadable,
     /// Memory ran out.
     NoMemory,
@@ -30,7 +30,7 @@ impl Outcome {
         }
     }
 
-    /// The worse of two.
+    /// The worse of two outcomes.
     pub fn or_worse(self, other: Outcome) -> Outcome {
         if other.status() > self.status() {
             other

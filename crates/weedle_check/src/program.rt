@@ -15,8 +15,8 @@ const STANDARD_INPUT: &str = "<stdin>";
 
 /// Does what the arguments ask for, and says what it came to.
 ///
-/// A file that can't be checked gets a line on standard error, and the others are checked all the same. Only
-/// where the output can't be written the run ends at once.
+/// A file that can't be checked gets a line on standard error, and the others are checked all the
+/// same. Only where the output can't be written the run ends at once.
 pub fn run<R: Runtime + AllocGlobal>(rt: &R) -> Outcome {
     let Ok(words) = env::args(rt) else {
         return end(rt, Fault::Memory);
@@ -90,8 +90,8 @@ fn check_input<R: Runtime + AllocGlobal, W: Write>(
     settle(rt, STANDARD_INPUT, checked, tally)
 }
 
-/// Counts what a check came to, and says on standard error why there was none. Where the output can't be
-/// written, it ends all.
+/// Counts what a check came to, and says on standard error why there was none. Where the output
+/// can't be written, it ends all.
 fn settle(
     rt: &impl Eprint,
     name: &str,

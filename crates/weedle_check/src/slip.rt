@@ -12,12 +12,13 @@ use weedle_refusal::write_message;
 pub struct Slip {
     /// The byte of the text at which it is.
     pub place: usize,
-    /// What would have been read there, or None where memory ran out for more than the place, which then is where
-    /// the unread rest begins.
+    /// What would have been read there, or None where memory ran out for more than the place, which
+    /// then is where the unread rest begins.
     pub words: Option<String>,
 }
 
-/// Where a text is refused, or None where it is read whole.
+/// Where a text is refused, or None where it is read whole. It fails where there is no memory even
+/// to find that place.
 pub fn slip_in(alloc: Global, text: &str) -> Result<Option<Slip>, AllocError> {
     match explain(alloc, text) {
         Ok(None) => Ok(None),
@@ -52,7 +53,8 @@ fn unexplained(alloc: Global, text: &str) -> Result<Option<Slip>, AllocError> {
     }
 }
 
-/// Writes where the text of this name is refused and why, and below it the line of the text with a mark.
+/// Writes where the text of this name is refused and why, and below it the line of the text with a
+/// mark. It fails where a write does.
 pub fn write_slip<W: Write>(name: &str, text: &str, slip: &Slip, out: &mut W) -> io::Result<()> {
     let said = match &slip.words {
         Some(words) => words.as_str(),

@@ -8,14 +8,17 @@ use weedle_syntax::{Node, syntax_quick};
 /// What stands in front of a node for each node that it stands in.
 const INDENT: &str = "  ";
 
-/// Writes the nodes of a text that is read whole, one on a line: the name of its rule and its bytes, and of a leaf its
-/// text in quotes. A node stands two blanks behind the one that it stands in. It says whether the text is read whole.
+/// Writes the nodes of a text that is read whole, one on a line: the name of its rule and its
+/// bytes, and of a leaf its text in quotes. A node stands two blanks behind the one that it stands
+/// in. It says whether the text is read whole.
 ///
 /// ```text
 /// definitions 0..21
 ///   definition 0..21
 ///     includes_statement_definition 0..21
 /// ```
+///
+/// It fails where memory is refused, and where the output can't be written.
 pub fn write_syntax<W: Write>(alloc: Global, text: &str, out: &mut W) -> Result<bool, Fault> {
     let Some(nodes) = syntax_quick(alloc, text)? else {
         return Ok(false);

@@ -23,7 +23,8 @@ pub struct TableTimes {
     pub cells: u128,
 }
 
-/// Times the parts of a reading over the table, once. The time of no part has the letting go of what it made.
+/// Times the parts of a reading over the table, once. The time of no part has the letting go of
+/// what it made. It fails where memory is refused, and where the clock can't be read.
 pub fn time_table<C: Clock + AllocGlobal>(rt: &C, text: &str) -> Result<TableTimes, Fault> {
     let laying = time_laying(rt, text)?;
     let start = Instant::now(rt).map_err(Fault::of_input)?;

@@ -3,8 +3,8 @@
 use crate::outcome::Outcome;
 use std::fmt::{self, Display, Formatter, Write};
 
-/// How many files were read, how many of them were refused, how many others there were that couldn't be read, and
-/// what it comes to.
+/// How many files were read, how many of them were refused, how many others there were that
+/// couldn't be read, and what it comes to.
 #[derive(Clone, Copy)]
 pub struct Tally {
     read: usize,
@@ -14,7 +14,7 @@ pub struct Tally {
 }
 
 impl Tally {
-    /// Of no file.
+    /// The tally of no file.
     pub fn new() -> Tally {
         Tally {
             read: 0,
@@ -43,7 +43,8 @@ impl Tally {
     }
 }
 
-/// Says how many there were, as `3 files, 1 refused`, and where some couldn't be read, `1 file, 0 refused, 2 not read`.
+/// Says how many there were, as `3 files, 1 refused`, and where some couldn't be read,
+/// `1 file, 0 refused, 2 not read`.
 impl Display for Tally {
     fn fmt<W: Write>(&self, f: &mut Formatter<W>) -> fmt::Result {
         let files = if self.read == 1 { "file" } else { "files" };

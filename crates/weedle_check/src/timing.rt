@@ -25,8 +25,12 @@ enum Reader {
 
 /// Times a text that is read whole, and writes the times, of five each the median.
 ///
-/// Descent is left out for a text that nests so that it takes it long. The table takes 1,544 bytes for each byte
-/// of the text: where that isn't to be had, the times of the other readers stand all the same.
+/// Descent is left out for a text that nests so that it takes it long. The table takes 1,544 bytes
+/// for each byte of the text: where that isn't to be had, the times of the other readers stand all
+/// the same.
+///
+/// It fails where memory for the list is refused, where the clock can't be read, and where the
+/// output can't be written.
 pub fn write_times<C: Clock + AllocGlobal, W: Write>(
     rt: &C,
     name: &str,
@@ -119,7 +123,7 @@ fn answered<T: Drop>(answer: Result<T, Err<Error<&str>>>) -> Result<(), AllocErr
     }
 }
 
-/// How many nanoseconds have gone by since then.
+/// How many nanoseconds have gone by since then. It fails where the clock can't be read.
 pub fn since<C: Clock>(rt: &C, start: Instant) -> Result<u128, Fault> {
     match start.elapsed(rt) {
         Ok(time) => Ok(time.as_nanos()),
@@ -133,7 +137,7 @@ fn median(mut times: [u128; ROUNDS]) -> u128 {
     times[ROUNDS / 2]
 }
 
-/// How often the second goes into the first. It is printed with two digits behind the point.
+/// The ratio of the first to the second. It is printed with two digits behind the point.
 #[derive(Clone, Copy)]
 struct Ratio(u128, u128);
 

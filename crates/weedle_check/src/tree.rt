@@ -16,14 +16,17 @@ use weedle_rules::Ends;
 /// Writes each definition of a text on a line, behind the line and the column at which it begins:
 /// `3:1 Interface(InterfaceDefinition { .. })`. The text is read whole, and suits descent.
 ///
-/// Each definition is read, written and let go of by itself, and no memory is taken but what it holds.
+/// Each definition is read, written and let go of by itself, and no memory is taken but what it
+/// holds. It fails where memory is refused, and where the output can't be written.
 pub fn write_tree<W: Write>(alloc: Global, text: &str, out: &mut W) -> Result<(), Fault> {
     write_by_descent::<Definition<'_>, W>(alloc, text, out)
 }
 
-/// The same of any text, where it is read whole: says whether it is.
+/// Writes each definition of any text as [`write_tree`] does, where the text is read whole: says
+/// whether it is.
 ///
-/// It fills one table of ends, 1,544 bytes for each byte of the text.
+/// It fills one table of ends, 1,544 bytes for each byte of the text. It fails where memory is
+/// refused, and where the output can't be written.
 pub fn write_tree_over_table<W: Write>(
     alloc: Global,
     text: &str,
@@ -98,7 +101,7 @@ struct Cursor<'a> {
 }
 
 impl<'a> Cursor<'a> {
-    /// At the front of a text.
+    /// The cursor at the front of a text.
     fn new(text: &'a str) -> Cursor<'a> {
         Cursor {
             rest: text,
@@ -106,8 +109,8 @@ impl<'a> Cursor<'a> {
         }
     }
 
-    /// Goes on to where this rest of the text begins, and says where that is. It looks twice at most at each byte in
-    /// between.
+    /// Goes on to where this rest of the text begins, and says where that is. It looks twice at
+    /// most at each byte in between.
     fn go_to(&mut self, rest: &'a str) -> Position {
         let passed = self.rest.len().saturating_sub(rest.len());
         let moved = position_of(self.rest, passed);

@@ -1,4 +1,4 @@
--- Attributes with a list of names are compared by their own names, and then by the texts of the listed names.
+-- Extended attributes with a list of names are compared by their own names, and then by the texts of the listed names.
 use Rattle.std.proofs.Common.{◌≡◌, ℕ, Bool, true, ◌&&◌, IsTrue, ◌↔◌, List, [], ◌∷◌, nat_eq, refl, ap, sym, ◌∙◌, map}
 use Rattle.std.proofs.lemmas.Bool.Decides.{Decides-and}
 use Rattle.std.specs.Cmp.Lexicographic.{pointwise, bytes_decides}
@@ -57,20 +57,20 @@ texts_in_names : (xs : List Identifier) → texts_in (trees (map identifier_tree
 texts_in_names [] = refl
 texts_in_names (x ∷ xs) = ap (x.0.now ∷◌) (texts_in_names xs)
 
--- the name of an attribute in its tree
+-- the name of an extended attribute in its tree
 abbrev name_in : Tree → List ℕ
 name_in t = text_in (first_of_trees (parts_of t))
 
--- the listed names of an attribute in its tree
+-- the listed names of an extended attribute in its tree
 abbrev listed_in : Tree → List (List ℕ)
 listed_in t = texts_in (parts_of (first_of_trees (later (parts_of (first_of_trees (later (later (parts_of t))))))))
 
--- attributes of the same tree have the same name
+-- extended attributes of the same tree have the same name
 pub alike_names : (a b : ExtendedAttributeIdentList) → extended_attribute_ident_list_tree a ≡ extended_attribute_ident_list_tree b
     → a.identifier.0.now ≡ b.identifier.0.now
 alike_names a b e = ap name_in e
 
--- attributes of the same tree list the same names
+-- extended attributes of the same tree list the same names
 pub alike_listed : (a b : ExtendedAttributeIdentList) → extended_attribute_ident_list_tree a ≡ extended_attribute_ident_list_tree b
     → texts_of a.list.body.list.items ≡ texts_of b.list.body.list.items
 alike_listed a b e = sym (texts_in_names a.list.body.list.items) ∙ ap listed_in e ∙ texts_in_names b.list.body.list.items

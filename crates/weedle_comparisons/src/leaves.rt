@@ -56,7 +56,8 @@ pub fn equal_kinds(a: ErrorKind, b: ErrorKind) -> bool
     a == b
 }
 
-/// Two faults are equal where they have the same text and kind: not a mismatch at `a` and one at `b`.
+/// Two faults are equal where they have the same text and kind: not a mismatch at `a` and one at
+/// `b`.
 pub fn equal_errors(a: Error<&str>, b: Error<&str>) -> bool
     ensures { IsTrue result
         ↔ ((a.entry.input.now ≡ b.entry.input.now) × (a.entry.code ≡ b.entry.code)) }
@@ -134,7 +135,8 @@ pub fn nullable_names_hash_alike(a: MayBeNull<Identifier<'_>>, b: MayBeNull<Iden
     hash_alike(&a, &b)
 }
 
-/// A clone of a name that may be null, and whether it equals that: `Ok((name, true))`.
+/// A clone of a name that may be null, which takes no memory and never fails, and whether it equals
+/// that: `Ok((name, true))`.
 pub fn clone_nullable_name<'a>(
     name: &MayBeNull<Identifier<'a>>,
 ) -> Result<(MayBeNull<Identifier<'a>>, bool), AllocError>
@@ -162,7 +164,8 @@ pub fn integer_types_hash_alike(a: IntegerType, b: IntegerType) -> bool
     hash_alike(&a, &b)
 }
 
-/// A clone of a type of integers, and whether it equals the type: `Ok((type, true))`.
+/// A clone of a type of integers, which takes no memory and never fails, and whether it equals the
+/// type: `Ok((type, true))`.
 pub fn clone_integer_type(integer: &IntegerType) -> Result<(IntegerType, bool), AllocError>
     ensures { IsOkAnd result (λ made. (made.0 ≡ integer.now) × IsTrue made.1) }
 {

@@ -1,12 +1,12 @@
-//! What the derived comparisons, hashes, copies and defaults of the parser's types tell a caller, as
-//! contracts.
+//! What the derived comparisons, hashes, copies and defaults of the parser's types tell a caller,
+//! as contracts.
 //!
 //! Orders go by the declaration, from one field to the next and from one variant to the next. `==`,
 //! `cmp` and the hash agree: two values are equal exactly where their order is `Equal`, and equal
 //! values hash alike. A copy equals its original. [`laws`] says what holds at any type, [`orders`]
 //! how each type is ordered and [`terminals`] what holds of each word and symbol; the other modules
-//! say what the answers are at a struct, an enum and a type that owns memory of each crate, as far as
-//! the crate has one.
+//! say what the answers are at a struct, an enum and a type that owns memory of each crate, as far
+//! as the crate has one.
 //!
 //! ```rust
 //! use std::cmp::Ordering;

@@ -31,7 +31,8 @@ pub fn decimals_hash_alike(a: DecLit<'_>, b: DecLit<'_>) -> bool
     hash_alike(&a, &b)
 }
 
-/// A clone of a decimal number, and whether it equals the number: `Ok((number, true))`.
+/// A clone of a decimal number, which takes no memory and never fails, and whether it equals the
+/// number: `Ok((number, true))`.
 pub fn clone_decimal<'a>(number: &DecLit<'a>) -> Result<(DecLit<'a>, bool), AllocError>
     ensures { IsOkAnd result (λ made. (made.0 ≡ number.now) × IsTrue made.1) }
 {
@@ -58,7 +59,8 @@ pub fn integers_hash_alike(a: IntegerLit<'_>, b: IntegerLit<'_>) -> bool
     hash_alike(&a, &b)
 }
 
-/// A clone of a whole number, and whether it equals the number: `Ok((number, true))`.
+/// A clone of a whole number, which takes no memory and never fails, and whether it equals the
+/// number: `Ok((number, true))`.
 pub fn clone_integer<'a>(number: &IntegerLit<'a>) -> Result<(IntegerLit<'a>, bool), AllocError>
     ensures { IsOkAnd result (λ made. (made.0 ≡ number.now) × IsTrue made.1) }
 {
@@ -86,7 +88,8 @@ pub fn const_values_hash_alike(a: ConstValue<'_>, b: ConstValue<'_>) -> bool
     hash_alike(&a, &b)
 }
 
-/// A clone of the value of a constant, and whether it equals the value: `Ok((value, true))`.
+/// A clone of the value of a constant, which takes no memory and never fails, and whether it equals
+/// the value: `Ok((value, true))`.
 pub fn clone_const_value<'a>(value: &ConstValue<'a>) -> Result<(ConstValue<'a>, bool), AllocError>
     ensures { IsOkAnd result (λ made. (made.0 ≡ value.now) × IsTrue made.1) }
 {
@@ -116,7 +119,8 @@ pub fn defaults_hash_alike(a: Default<'_>, b: Default<'_>) -> bool
     hash_alike(&a, &b)
 }
 
-/// A clone of a default, and whether it equals the default: `Ok((default, true))`.
+/// A clone of a default, which takes no memory and never fails, and whether it equals the default:
+/// `Ok((default, true))`.
 pub fn clone_default<'a>(default: &Default<'a>) -> Result<(Default<'a>, bool), AllocError>
     ensures { IsOkAnd result (λ made. (made.0 ≡ default.now) × IsTrue made.1) }
 {

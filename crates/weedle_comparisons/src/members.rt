@@ -4,7 +4,7 @@ ghost use Rattle.std.specs.Prelude.{◌≡◌, None};
 
 use weedle_members::StringifierMember;
 
-/// The default of a stringifier has no attributes: `attributes` is `None`.
+/// The default of a stringifier has no extended attributes: `attributes` is `None`.
 pub fn default_stringifier() -> StringifierMember<'static>
     ensures { result ≡ record { attributes = None; stringifier = record {}; semi_colon = record {} } }
 {

@@ -33,7 +33,8 @@ pub fn inheritances_hash_alike(a: Inheritance<'_>, b: Inheritance<'_>) -> bool
     hash_alike(&a, &b)
 }
 
-/// A clone of what is inherited from, and whether it equals that: `Ok((inheritance, true))`.
+/// A clone of what is inherited from, which takes no memory and never fails, and whether it equals
+/// that: `Ok((inheritance, true))`.
 pub fn clone_inheritance<'a>(
     inheritance: &Inheritance<'a>,
 ) -> Result<(Inheritance<'a>, bool), AllocError>
@@ -61,7 +62,8 @@ pub fn specials_hash_alike(a: Special, b: Special) -> bool
     hash_alike(&a, &b)
 }
 
-/// A clone of the word of a special operation, and whether it equals the word: `Ok((word, true))`.
+/// A clone of the word of a special operation, which takes no memory and never fails, and whether
+/// it equals the word: `Ok((word, true))`.
 pub fn clone_special(special: &Special) -> Result<(Special, bool), AllocError>
     ensures { IsOkAnd result (λ made. (made.0 ≡ special.now) × IsTrue made.1) }
 {

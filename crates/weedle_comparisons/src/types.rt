@@ -1,5 +1,5 @@
-//! Attributes: a name or a string, a name with one of these, and a name with a list of names. Tests
-//! show the same of types that lead back to themselves, as `Type`.
+//! Extended attributes: a name or a string, a name with one of these, and a name with a list of
+//! names. Tests show the same of types that lead back to themselves, as `Type`.
 
 ghost use Rattle.std.specs.Prelude.{◌≡◌, ◌↔◌, IsTrue, IfOk, IsOkAnd};
 ghost use Rattle.std.specs.Cmp.Lexicographic.{slice_cmp};
@@ -41,7 +41,8 @@ pub fn names_or_strings_hash_alike(a: IdentifierOrString<'_>, b: IdentifierOrStr
     hash_alike(&a, &b)
 }
 
-/// A clone of a name or a string, and whether it equals that: `Ok((value, true))`.
+/// A clone of a name or a string, which takes no memory and never fails, and whether it equals
+/// that: `Ok((value, true))`.
 pub fn clone_name_or_string<'a>(
     value: &IdentifierOrString<'a>,
 ) -> Result<(IdentifierOrString<'a>, bool), AllocError>
@@ -51,8 +52,8 @@ pub fn clone_name_or_string<'a>(
     Ok((copy, copy == *value))
 }
 
-/// Attributes with a value are compared by their names first, and then by their values: `A=b`, then
-/// `A="a"`, then `B=a`.
+/// Extended attributes with a value are compared by their names first, and then by their values:
+/// `A=b`, then `A="a"`, then `B=a`.
 pub fn compare_valued_attributes(
     a: ExtendedAttributeIdent<'_>,
     b: ExtendedAttributeIdent<'_>,
@@ -70,7 +71,7 @@ pub fn compare_valued_attributes(
     compare(&a, &b)
 }
 
-/// Attributes of the same name and value hash alike: true of `A=b` and `A=b`.
+/// Extended attributes of the same name and value hash alike: true of `A=b` and `A=b`.
 pub fn valued_attributes_hash_alike(
     a: ExtendedAttributeIdent<'_>,
     b: ExtendedAttributeIdent<'_>,
@@ -84,7 +85,8 @@ pub fn valued_attributes_hash_alike(
     hash_alike(&a, &b)
 }
 
-/// A clone of an attribute with a value, and whether it equals that: `Ok((attribute, true))`.
+/// A clone of an extended attribute with a value, which takes no memory and never fails, and
+/// whether it equals that: `Ok((attribute, true))`.
 pub fn clone_valued_attribute<'a>(
     attribute: &ExtendedAttributeIdent<'a>,
 ) -> Result<(ExtendedAttributeIdent<'a>, bool), AllocError>
@@ -94,8 +96,8 @@ pub fn clone_valued_attribute<'a>(
     Ok((copy, copy == *attribute))
 }
 
-/// Attributes with a list of names are compared by their own names first, and then name by name:
-/// `A=(a)`, then `A=(a, b)`, then `A=(b)`, then `B=()`.
+/// Extended attributes with a list of names are compared by their own names first, and then name by
+/// name: `A=(a)`, then `A=(a, b)`, then `A=(b)`, then `B=()`.
 #[tactic(auto, using(crate::proofs::NameLists::names_order))]
 pub fn compare_listing_attributes(
     a: &ExtendedAttributeIdentList<'_>,
@@ -113,7 +115,8 @@ pub fn compare_listing_attributes(
     compare(a, b)
 }
 
-/// Attributes of the same name and list of names hash alike: true of `A=(a, b)` and `A=(a, b)`.
+/// Extended attributes of the same name and list of names hash alike: true of `A=(a, b)` and
+/// `A=(a, b)`.
 pub fn listing_attributes_hash_alike(
     a: &ExtendedAttributeIdentList<'_>,
     b: &ExtendedAttributeIdentList<'_>,
@@ -127,8 +130,8 @@ pub fn listing_attributes_hash_alike(
     hash_alike(a, b)
 }
 
-/// A copy of an attribute with a list of names, and whether it equals that, unless memory is
-/// refused: `Ok((copy, true))`.
+/// A copy of an extended attribute with a list of names, and whether it equals that, unless memory
+/// is refused: `Ok((copy, true))`.
 pub fn copy_listing_attribute<'a>(
     attribute: &ExtendedAttributeIdentList<'a>,
     alloc: Global,

@@ -10,12 +10,13 @@ use weedle_refusal::{Refusal, furthest_in};
 
 /// Why a text is refused, or None where it is read whole.
 ///
-/// `interface A {}; enum E { "a" "b" };` is refused from 16 on, and at 29 a `,` or a `}` is expected. Where
-/// a text has several slips, it is the first definition that isn't read that is explained.
+/// `interface A {}; enum E { "a" "b" };` is refused from 16 on, and at 29 a `,` or a `}` is
+/// expected. Where a text has several slips, it is the first definition that isn't read that is
+/// explained.
 ///
-/// It reads the text by [`parse_quick`], and costs what that costs. Where that leaves a rest, it fills a
-/// table of ends of the rest alone, and marks what is tried: together some 1,600 bytes of memory for each
-/// byte of the rest. Where memory is refused, the answer is an error.
+/// It reads the text by [`parse_quick`], and costs what that costs. Where that leaves a rest, it
+/// fills a table of ends of the rest alone, and marks what is tried: together some 1,600 bytes of
+/// memory for each byte of the rest. Where memory is refused, the answer is an error.
 pub fn explain(alloc: Global, raw: &str) -> Result<Option<Refusal>, AllocError>
     ensures explains { IfOk result (Explains raw.now) }
 

@@ -13,7 +13,7 @@ use Rattle.weedle_parts.specs.declared.common.docstring.Docstring.{Docstring}
 use Rattle.weedle_types.specs.PartTrees.{Attributes}
 use Rattle.weedle_types.specs.Trees.{attributes_tree}
 
--- attributes where they stand, and then what R reads
+-- extended attributes where they stand, and then what R reads
 abbrev pub attributes_then : {V : Type 0} → Reading V → Reading (Attributes × V)
 attributes_then R = pair_reading (own OPT_EXTENDED_ATTRIBUTE_LIST attributes_tree (Unit {0})) R
 

@@ -25,11 +25,11 @@ UTF-8, 3 out of memory, 4 a file or the output can't be written, 5 other argumen
 /// What is done with what was laid out.
 #[derive(Clone, Copy, Debug, PartialEq, Eq)]
 pub enum Task {
-    /// It is printed.
+    /// The layout is printed.
     Print,
-    /// It is compared.
+    /// The layout is compared with the text.
     Check,
-    /// It replaces the file.
+    /// The layout replaces the file.
     Write,
 }
 
@@ -38,13 +38,14 @@ pub enum Task {
 pub enum Request {
     /// How the program is used.
     Help,
-    /// Something of each of these files, of the standard input where there is none.
+    /// This task for each of these files, for the standard input where there is none.
     Files(Task, Vec<String>),
 }
 
 /// What is asked for by the arguments, of which the first is the program's name: nothing that there
 /// is use for, where an argument begins with `-` and is no option and not `-` itself, where two
-/// options are given, or where the standard input is to be replaced.
+/// options are given, or where the standard input is to be replaced. It fails where memory for
+/// the names is refused.
 pub fn request_of(alloc: Global, words: Args) -> Result<Option<Request>, AllocError> {
     let mut asked = Asked {
         task: None,

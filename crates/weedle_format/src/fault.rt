@@ -8,11 +8,11 @@ use std::io::{self, ErrorKind};
 /// Why a file isn't laid out, though it may well be one that is read whole.
 #[derive(Debug, Drop)]
 pub enum Fault {
-    /// It can't be opened or read.
+    /// The file can't be opened or read.
     Input(io::Error),
     /// What was read is no text.
     NotUtf8,
-    /// It can't be replaced.
+    /// The file can't be replaced.
     Replace(io::Error),
     /// Memory was refused.
     Memory,
@@ -39,7 +39,7 @@ impl Fault {
         }
     }
 
-    /// What it comes to.
+    /// What a run with this fault comes to.
     pub fn outcome(&self) -> Outcome {
         match self {
             Fault::Input(_) | Fault::NotUtf8 => Outcome::Unreadable,

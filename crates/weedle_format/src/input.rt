@@ -4,7 +4,8 @@ use crate::fault::Fault;
 use std::alloc::Global;
 use std::io::{self, Read};
 
-/// What a reader gives up to its end, as a text.
+/// What an input gives up to its end, as a text. It fails where the input can't be opened or read
+/// or isn't UTF-8, and where memory is refused.
 pub fn text_of<R: Read + Drop>(alloc: Global, opened: io::Result<R>) -> Result<String, Fault> {
     let mut bytes = Vec::new(alloc);
     match opened {

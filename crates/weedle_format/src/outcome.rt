@@ -3,19 +3,19 @@
 /// What the work on a file comes to, or that on all files: the greatest of theirs.
 #[derive(Clone, Copy, Debug, PartialEq, Eq)]
 pub enum Outcome {
-    /// It was laid out already, or is now.
+    /// The file was laid out already, or is now.
     Well,
-    /// It would change.
+    /// The file would change.
     Changing,
-    /// Its layout would say something else. No text is known of which that is so.
+    /// The file's layout would say something else. No text is known of which that is so.
     LeftAsItIs,
-    /// It isn't read whole.
+    /// The grammar doesn't read the file whole.
     Refused,
-    /// It can't be read, or isn't UTF-8.
+    /// The file can't be read, or isn't UTF-8.
     Unreadable,
     /// Memory ran out.
     NoMemory,
-    /// It can't be replaced, or the output can't be written.
+    /// The file can't be replaced, or the output can't be written.
     Unwritten,
     /// The arguments ask for nothing that the program does.
     Misused,
@@ -34,7 +34,7 @@ impl Outcome {
         }
     }
 
-    /// The worse of two.
+    /// The worse of two outcomes.
     pub fn or_worse(self, other: Outcome) -> Outcome {
         if other.status() > self.status() {
             other

@@ -10,8 +10,8 @@ const MOST_NAMES: usize = 100;
 
 /// Replaces a file by a text: writes a new file beside it, and gives that its name.
 ///
-/// A link is followed, and the mode stays. Where something fails, the file is as it was, and the
-/// new one is gone.
+/// A link is followed, and the mode stays. It fails where memory is refused, and where the system
+/// refuses one of the steps: then the file is as it was, and the new one is gone.
 pub fn replace<R: Runtime + AllocGlobal>(rt: &R, name: &str, text: &str) -> Result<(), Fault> {
     let path = fs::canonicalize(rt, name).map_err(Fault::of_file)?;
     let path = path.as_path().as_str();

@@ -15,7 +15,8 @@ pub struct Slip {
     pub words: Option<String>,
 }
 
-/// Where a text is refused that isn't read whole.
+/// Where a text is refused that isn't read whole. It fails where there is no memory even to find
+/// that place.
 pub fn slip_in(alloc: Global, text: &str) -> Result<Slip, AllocError> {
     if let Ok(Some(refusal)) = refusal_of(alloc, text) {
         if let Ok(words) = format!(in alloc; "{refusal}") {
@@ -33,7 +34,7 @@ pub fn slip_in(alloc: Global, text: &str) -> Result<Slip, AllocError> {
 }
 
 /// Writes where the text of this name is refused and why, and below it the line of the text with a
-/// mark.
+/// mark. It fails where a write does.
 pub fn write_slip<W: Write>(name: &str, text: &str, slip: &Slip, out: &mut W) -> io::Result<()> {
     let said = match &slip.words {
         Some(words) => words.as_str(),

@@ -5,20 +5,20 @@ use crate::outcome::Outcome;
 /// How many files there were of each kind, and what all comes to.
 #[derive(Clone, Copy)]
 pub struct Tally {
-    /// Those that were read.
+    /// How many files were read.
     pub read: usize,
-    /// Those of them that changed, or would.
+    /// How many of these changed, or would.
     pub changed: usize,
-    /// Those of them that aren't read whole.
+    /// How many of these the grammar doesn't read whole.
     pub refused: usize,
-    /// The others, on which there was a fault.
+    /// How many others there were, on which there was a fault.
     pub failed: usize,
-    /// The worst of all.
+    /// What the worst of all files came to.
     pub outcome: Outcome,
 }
 
 impl Tally {
-    /// Of no file.
+    /// The tally of no file.
     pub fn new() -> Tally {
         Tally {
             read: 0,

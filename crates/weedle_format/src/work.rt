@@ -20,7 +20,8 @@ pub struct Done {
 }
 
 /// Lays out a text, and does with it what is asked for. What is said of a text that isn't read
-/// whole is written to `said`, all else to `out`.
+/// whole is written to `said`, all else to `out`. It fails where memory is refused, and where the
+/// file can't be replaced or an output can't be written.
 pub fn work_on<R: Runtime + AllocGlobal, W: Write, S: Write>(
     rt: &R,
     task: Task,

@@ -23,7 +23,7 @@ pub record IsTold (text : List ℕ) (n : Node) (b : Told) : Type 0 where
   pub reads : Reads text n.rule n.start (Gives b.given n.end)
   pub bytes_are : is_pure n.rule ≡ true → b.bytes ≡ between text n.start n.end
 
--- the same of nodes, of which those of trivia are left out
+-- each node gives what is told, in order; those of trivia are left out
 pub data AreTold (text : List ℕ) : List Node → List Told → Type 0 where
   none_told : {bs : List Told} → bs ≡ [] → AreTold text [] bs
   a_told : {n : Node} {ns : List Node} {b : Told} {bs cs : List Told} → is_solid n.rule ≡ true → IsTold text n b → AreTold text ns bs → cs ≡ b ∷ bs

@@ -33,9 +33,9 @@ pub struct Formatted {
 /// Blanks are moved, and nothing else changes. What was laid out is read again and compared: so a
 /// slip in the layout never comes out.
 ///
-/// It reads as [`syntax_quick`] does, and costs a quarter more than that; where the layout isn't the
-/// text itself, it is read too and compared, and all costs two and a half times as much. It asks
-/// for memory for the nodes of both texts, for what stands between their blanks, and for the
+/// It reads as [`syntax_quick`] does, and costs a quarter more than that; where the layout isn't
+/// the text itself, it is read too and compared, and all costs two and a half times as much. It
+/// asks for memory for the nodes of both texts, for what stands between their blanks, and for the
 /// answer.
 #[tactic(auto, using(crate::proofs::ReadingFacts::same_reading))]
 pub fn format(alloc: Global, raw: &str) -> Result<Option<Formatted>, AllocError>

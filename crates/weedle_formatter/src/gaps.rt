@@ -4,8 +4,8 @@ use crate::joint::{is_tight_behind, is_tight_in_front};
 use crate::piece::{Gap, Joint, Kind, Piece, Role};
 use weedle_grammar::grammar::symbols::OPEN_BRACE;
 
-/// How many characters attributes have at most that stand in front of what they belong to, on its
-/// line.
+/// How many characters extended attributes have at most that stand in front of what they belong to,
+/// on its line.
 const MOST_IN_FRONT: usize = 40;
 
 /// A token, and the comments between it and the token before it.
@@ -20,7 +20,7 @@ struct Run {
     token: Piece,
     /// A line ends in the text before one of them.
     has_lines: bool,
-    /// The token stands behind attributes that take a line of their own.
+    /// The token stands behind extended attributes that take a line of their own.
     is_behind_line: bool,
 }
 
@@ -120,7 +120,7 @@ fn run_of(pieces: &[Piece], first: usize, last: usize) -> Option<Run> {
     })
 }
 
-/// Whether the attributes that end before a piece take a line of their own.
+/// Whether the extended attributes that end before a piece take a line of their own.
 fn are_long(pieces: &[Piece], behind: usize) -> bool {
     let mut width: usize = 0;
     let mut depth: usize = 0;

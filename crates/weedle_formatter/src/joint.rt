@@ -89,7 +89,7 @@ pub(crate) fn is_tight_behind(rule: u16) -> bool {
     }
 }
 
-/// Whether a token is the `=` of an attribute, as in `Exposed=Window`.
+/// Whether a token is the `=` of an extended attribute, as in `Exposed=Window`.
 fn is_assign_of_attribute(token: Token) -> bool {
     match token.parent {
         EXTENDED_ATTRIBUTE_IDENT

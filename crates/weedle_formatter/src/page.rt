@@ -19,13 +19,13 @@ struct Page {
     out: Vec<u8>,
     /// Lines end in CR and LF.
     in_two: bool,
-    /// At which column the last line ends.
+    /// The column at which the last line ends.
     column: usize,
     /// How many braces with members are open.
     level: usize,
-    /// Of each list that is open whether it is broken.
+    /// Whether each list that is open is broken, the innermost last.
     lists: Vec<bool>,
-    /// How many of them are.
+    /// How many open lists are broken.
     broken: usize,
     /// What was written last is a line comment, which an LF ends.
     is_behind_comment: bool,
@@ -33,8 +33,8 @@ struct Page {
     is_line_begun: bool,
 }
 
-/// The text of these nodes laid out. What it says isn't known before it is read again: so [`format`](crate::format) reads
-/// it. It is for callers who read in a way of their own.
+/// The text of these nodes laid out. What it says isn't known before it is read again: so
+/// [`format`](crate::format) reads it. It is for callers who read in a way of their own.
 ///
 /// It asks for memory for what stands between the blanks of the text, and for the answer.
 pub fn lay_out(alloc: Global, raw: &str, nodes: &[Node]) -> Result<String, AllocError> {

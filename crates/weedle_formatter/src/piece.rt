@@ -17,15 +17,15 @@ pub(crate) enum Kind {
 /// line counts as a token.
 #[derive(Clone, Copy, Debug, PartialEq, Eq)]
 pub(crate) enum Joint {
-    /// With nothing in between, as `;`.
+    /// It stands with nothing in between, as `;`.
     Tight,
-    /// With a space in between.
+    /// It stands with a space in between.
     Space,
-    /// On the next line: it begins a member, or is a docstring's line.
+    /// It stands on the next line: it begins a member, or is a docstring's line.
     Member,
-    /// On the next line, as `}` behind members.
+    /// It stands on the next line, as `}` behind members.
     EndOfBody,
-    /// Behind the attributes of a definition or of a member.
+    /// It stands behind the extended attributes of a definition or of a member.
     BehindAttributes,
     /// It begins a definition.
     Definition,
@@ -38,11 +38,12 @@ pub(crate) enum Role {
     Plain,
     /// It opens the braces of members, which stand a level deeper.
     OpensBody,
-    /// It closes them.
+    /// It closes the braces of members.
     ClosesBody,
-    /// It opens a list, which may be broken: of arguments, of attributes, or of an enum's values.
+    /// It opens a list, which may be broken: of arguments, of extended attributes, or of an enum's
+    /// values.
     OpensList,
-    /// It closes one.
+    /// It closes a list that may be broken.
     ClosesList,
 }
 

@@ -152,7 +152,7 @@ impl<'a> Walk<'a> {
         piece
     }
 
-    /// Keeps that attributes ended, where they are those of a definition or a member.
+    /// Keeps that extended attributes ended, where they are those of a definition or a member.
     fn end_attributes(&mut self) {
         match self.above(4) {
             SINGLE_ARGUMENT | VARIADIC_ARGUMENT | ATTRIBUTED_TYPE | ATTRIBUTED_NON_ANY_TYPE => {}

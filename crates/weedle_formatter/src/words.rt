@@ -124,10 +124,11 @@ fn same_word(raw: &[u8], nodes: &[Node], i: usize, out: &[u8], others: &[Node], 
     bytes_at(raw, nodes, i) == bytes_at(out, others, j)
 }
 
-/// Whether two texts of these nodes have the same words: all that was read but blanks and the ends of line comments.
+/// Whether two texts of these nodes have the same words: all that was read but blanks and the ends
+/// of line comments.
 ///
-/// `A includes B;` and `A  includes B ;` have, `A includes B;` and `A includes C;` don't. It takes no memory, and a step
-/// for each node of both.
+/// `A includes B;` and `A  includes B ;` have, `A includes B;` and `A includes C;` don't. It takes
+/// no memory, and a step for each node of both.
 pub fn same_words(raw: &[u8], nodes: &[Node], out: &[u8], others: &[Node]) -> bool
     ensures { IsTrue result ↔ (words_of raw.now nodes.now ≡ words_of out.now others.now) }
 {

@@ -4,7 +4,7 @@ use std::test::Fail;
 use weedle_formatter::format;
 use weedle_testing::{nested_attributes, repeated};
 
-/// Descent would read what stands within 30 attributes 3 to the power of 30 times.
+/// Descent would read what stands within 30 extended attributes 3 to the power of 30 times.
 #[test]
 fn nested_attributes_are_laid_out(rt: HostRuntime) -> Result<(), Fail> {
     let alloc = rt.alloc();

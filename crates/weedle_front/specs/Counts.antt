@@ -20,7 +20,7 @@ MemoryRanOut (Ok definitions) = ⊥
 MemoryRanOut (Failed (Stopped e)) = ⊥
 MemoryRanOut (Failed (Failure e)) = Unit {0}
 
--- at each place each rule was worked out at most once, by as many reads at least as workings and by so many at most, and for each place at most 10,000 nodes were visited
+-- at each place each rule was worked out at most once, by as many looks at least as workings and by so many at most, and for each place at most 10,000 nodes were visited
 pub record IsBounded (raw : List ℕ) (counted : Counted) : Type 0 where
   pub workings : counted.workings ≤ rule_count * (length raw + 1)
   pub looked : counted.workings ≤ counted.reads

@@ -19,15 +19,15 @@ module _ (written : List Definition → List ℕ) (text report : List ℕ) where
       ((definitions : List Definition) → ¬ IsWhole text definitions)
       × ((rest : List ℕ) × IsLeft text rest × (report ≡ unread_report text rest))
 
--- a reader gave these bytes, all that it had left
+-- an input gave these bytes, all that it had left
 abbrev pub ReadsAll : Option (List ℕ) → Option (List ℕ) → List ℕ → Type 0
 ReadsAll old new bytes = Consumes old new bytes × IsAtEnd new
 
--- a writer took the beginning of these bytes, and not all of them
+-- an output took the beginning of these bytes, and not all of them
 abbrev pub AppendsPart : Option (List ℕ) → Option (List ℕ) → List ℕ → Type 0
 AppendsPart old new bytes = (n : ℕ) × (n < length bytes) × Appends old new (take n bytes)
 
--- what a run does, by what is written of definitions, and by what the reader and the writer have before it and after it
+-- what a run does, by what is written of definitions, and by what the input and the output have before it and after it
 module _ (written : List Definition → List ℕ) (old_reader new_reader old_writer new_writer : Option (List ℕ)) where
   -- all that was read is a text, and its report is written
   pub record Reports (status : Status) : Type 0 where

@@ -12,10 +12,11 @@ use weedle_nesting::suits_descent;
 
 /// Reads a whole text as [`parse`](crate::parse) does, from the text on and with no table.
 ///
-/// It takes no memory but for the list of definitions and for what each holds. Its steps have no bound
-/// that is proved: what stands in the arguments of an extended attribute is read up to three times, and so
-/// `n` of them in one another up to 3ⁿ times; what stands in front of a definition is read by each of the
-/// fourteen kinds that is tried. [`parse_quick`] takes it where they nest little.
+/// It takes no memory but for the list of definitions and for what each holds. Its steps have no
+/// bound that is proved: what stands in the arguments of an extended attribute is read up to three
+/// times, and so `n` of them in one another up to 3ⁿ times; what stands in front of a definition is
+/// read by each of the fourteen kinds that is tried. [`parse_quick`] takes it where they nest
+/// little.
 pub fn parse_by_descent(alloc: Global, raw: &str) -> Result<Definitions<'_>, Err<Error<&str>>>
     // The list of the whole text, or what the grammar leaves of it.
     ensures answers { ParseAnswers raw.now result }
@@ -40,11 +41,11 @@ pub fn parse_by_descent(alloc: Global, raw: &str) -> Result<Definitions<'_>, Err
 
 /// Reads a whole text as [`parse`](crate::parse) does, by descent or over the table.
 ///
-/// It looks once at the text, past strings and comments. Where extended attributes nest so little that a byte
-/// is read less than four times on the average for their arguments, and no more than 1,000 of `(` and `<` are
-/// open at once, it takes [`parse_by_descent`], and else [`parse`](crate::parse). So for what people write it
-/// needs little time, and no memory but the list's; for a hostile text it needs what [`parse`](crate::parse)
-/// needs.
+/// It looks once at the text, past strings and comments. Where extended attributes nest so little
+/// that a byte is read less than four times on the average for their arguments, and no more than
+/// 1,000 of `(` and `<` are open at once, it takes [`parse_by_descent`], and else
+/// [`parse`](crate::parse). So for what people write it needs little time, and no memory but the
+/// list's; for a hostile text it needs what [`parse`](crate::parse) needs.
 pub fn parse_quick(alloc: Global, raw: &str) -> Result<Definitions<'_>, Err<Error<&str>>>
     // The list of the whole text, or what the grammar leaves of it.
     ensures answers { ParseAnswers raw.now result }

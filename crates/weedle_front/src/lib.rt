@@ -2,7 +2,8 @@
 //!
 //! [`parse`] reads a text as a list of definitions, or says from where on it is none.
 //! [`parse_by_descent`] and [`parse_quick`] answer the same, and need less time and memory for what
-//! people write. [`run`] is the program: it reads a reader to its end, and writes what the text defines.
+//! people write. [`run`] is the program: it reads its input to the end, and writes what the text
+//! defines.
 //!
 //! ```rust
 //! use weedle_front::{name_of, parse};

@@ -30,9 +30,9 @@ pub enum RunFault {
     NotUtf8,
     /// Memory was refused.
     Memory,
-    /// The reader failed.
+    /// The input failed.
     Input,
-    /// The writer failed, or took no byte.
+    /// The output failed, or took no byte.
     Output,
 }
 
@@ -44,13 +44,15 @@ impl From<AllocError> for RunFault {
     }
 }
 
-/// Reads the reader to its end, and writes the report of the text that it gave.
+/// Reads the input to its end, and writes the report of the text that it gave.
 ///
 /// For `interface A {}; // end` the lines are `interface A` and `definitions 1`. For
 /// `interface A {}; ///d`, which isn't read whole, the one line is `unread at byte 16`.
 ///
-/// The report stands in memory, beside the text and its definitions, before the first write. A write
-/// that fails or takes no byte ends the run, and no write is tried again. The writer is not flushed.
+/// It fails where the input can't be read or isn't UTF-8, and where memory is refused, with nothing
+/// written: the report stands in memory, beside the text and its definitions, before the first
+/// write. And it fails at a write that fails or takes no byte, and no write is tried again. The
+/// output is not flushed.
 pub fn run<R: Read, W: Write>(
     alloc: Global,
     reader: &mut R,
@@ -77,11 +79,11 @@ pub fn run<R: Read, W: Write>(
     run_with::<Titles, R, W>(alloc, reader, writer)
 }
 
-/// Reads the reader to its end, and writes the outline of the text that it gave: below the line of each
-/// definition those of its docstring, each behind two blanks.
+/// Reads the input to its end, and writes the outline of the text that it gave: below the line of
+/// each definition those of its docstring, each behind two blanks.
 ///
-/// For the lines `/// Shows pages.` and `interface Window {};` it writes `interface Window`, `   Shows pages.` and
-/// `definitions 1`. All else is as with [`run`].
+/// For the lines `/// Shows pages.` and `interface Window {};` it writes `interface Window`,
+/// `   Shows pages.` and `definitions 1`. All else, and where it fails, is as with [`run`].
 pub fn run_outline<R: Read, W: Write>(
     alloc: Global,
     reader: &mut R,
@@ -108,7 +110,7 @@ pub fn run_outline<R: Read, W: Write>(
     run_with::<Outlines, R, W>(alloc, reader, writer)
 }
 
-/// Reads the reader to its end, and writes such a report of the text that it gave.
+/// Reads the input to its end, and writes such a report of the text that it gave.
 fn run_with<P: Report, R: Read, W: Write>(
     alloc: Global,
     reader: &mut R,
@@ -133,7 +135,7 @@ fn run_with<P: Report, R: Read, W: Write>(
     Ok(status)
 }
 
-/// Tells a refused growth apart from a reader that fails.
+/// Tells a refused growth apart from an input that fails.
 fn input_fault(error: io::Error) -> RunFault
     ensures memory { error_kind error ≡ ErrorKind.OutOfMemory → result ≡ RunFault.Memory }
     ensures input { error_kind error ≢ ErrorKind.OutOfMemory → result ≡ RunFault.Input }

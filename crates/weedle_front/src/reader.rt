@@ -37,10 +37,10 @@ pub struct Counted<'a> {
 /// last definition that can be read: `interface B {}` for `interface A {};interface B {}`.
 ///
 /// The steps that it takes grow with the length of the text alone, as [`parse_counted`] says. First
-/// it takes memory for a table of ends: a cell of 4 bytes for each rule at each place of the text, of
-/// 16 bytes where the text is longer than 4,294,967,294 bytes. Then it takes memory for the list of
-/// definitions and for what each holds. Where that is refused it ends with [`Err::Failure`]. Names
-/// aren't copied: each is a part of the text.
+/// it takes memory for a table of ends: a cell of 4 bytes for each rule at each place of the text,
+/// of 16 bytes where the text is longer than 4,294,967,294 bytes. Then it takes memory for the list
+/// of definitions and for what each holds. Where that is refused it ends with [`Err::Failure`].
+/// Names aren't copied: each is a part of the text.
 pub fn parse(alloc: Global, raw: &str) -> Result<Definitions<'_>, Err<Error<&str>>>
     // The list of the whole text, or what the grammar leaves of it.
     ensures answers { ParseAnswers raw.now result }
@@ -59,12 +59,12 @@ pub fn parse(alloc: Global, raw: &str) -> Result<Definitions<'_>, Err<Error<&str
 
 /// Reads a whole text as [`parse`] does, and counts what that takes.
 ///
-/// Of `enum E {"a"};`, 13 bytes, each of the 386 rules is worked out once at each of the 14 places, and
-/// the 15 nodes of its tree are visited. Where something follows the last definition that can be read,
-/// the nodes are those of the definitions before it.
+/// Of `enum E {"a"};`, 13 bytes, each of the 386 rules is worked out once at each of the 14 places,
+/// and the 15 nodes of its tree are visited. Where something follows the last definition that can
+/// be read, the nodes are those of the definitions before it.
 ///
-/// It takes the memory that [`parse`] takes. Where the table of ends is refused nothing is counted, and
-/// where the list is refused no visits are.
+/// It takes the memory that [`parse`] takes. Where the table of ends is refused nothing is counted,
+/// and where the list is refused no visits are.
 pub fn parse_counted(alloc: Global, raw: &str) -> Counted<'_>
     // The list of the whole text, or what the grammar leaves of it.
     ensures answers { ParseAnswers raw.now result.answer }

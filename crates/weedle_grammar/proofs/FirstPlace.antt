@@ -86,7 +86,7 @@ pub nowhere_past : (b s : List ℕ) → FindsNeedle s b 0 None → take_past b s
 nowhere_past b s h =
     past_nowhere b s (λ j l. not_true (begins b (drop j s)) (λ e. h j (omega arith) (omega (arith, l)) (begins_occurs s b j l e)))
 
--- the same of one byte
+-- where a byte passes at a place, the text begins with it from there
 byte_begins : (c : ℕ) (s : List ℕ) (k : ℕ) → k < length s → Passes (is_byte c) s k → begins (c ∷ []) (drop k s) ≡ true
 byte_begins c s k l h = same_front (c ∷ []) (drop k s) (omega (arith, length-drop k s, l)) (only (eqb-true (get_or s k 0) c h))
   where

@@ -22,12 +22,12 @@ abbrev pub OutLands : Step → ℕ → Outcome → Type 0
 OutLands P p Fails = Unit {0}
 OutLands P p (Gives ts q) = P p q
 
--- the same of what a row yields
+-- what a row yields at p is a failure, or its end is a step from p
 abbrev pub RawLands : Step → ℕ → Raw → Type 0
 RawLands P p Breaks = Unit {0}
 RawLands P p (Yields ts ends q) = P p q
 
--- the same of the pieces of a sequence
+-- a sequence at p fails, or the end of its pieces is a step from p
 abbrev pub SeqLands : Step → ℕ → Option (List Piece) → Type 0
 SeqLands P p None = Unit {0}
 SeqLands P p (Some pieces) = P p (last_end p pieces)

@@ -15,7 +15,7 @@ abbrev pub pieces_moved : ℕ → List Piece → List Piece
 pieces_moved s [] = []
 pieces_moved s (x ∷ xs) = piece x.given (s + x.end) ∷ pieces_moved s xs
 
--- the same of a sequence that may fail
+-- the pieces of a sequence that may fail, their ends moved by s
 abbrev pub seq_moved : ℕ → Option (List Piece) → Option (List Piece)
 seq_moved s None = None
 seq_moved s (Some pieces) = Some (pieces_moved s pieces)

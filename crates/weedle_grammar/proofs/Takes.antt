@@ -1,4 +1,4 @@
--- Which rules always take a byte. Written by tools/grammar.py.
+-- Which rules always take a byte. Written by tools/grammar.py, and not edited by hand.
 use Rattle.std.proofs.Common.{ℕ, zero, suc, List, [], ◌∷◌, ◌++◌, Bool, false}
 use Rattle.weedle_grammar.proofs.Takes.Trivia.{trivia}
 use Rattle.weedle_grammar.proofs.Takes.Symbols.{symbols}

@@ -184,7 +184,7 @@ mutual
     list_none : {x t p : ℕ} {w : Raw} → ReadsBy G text x p Fails → w ≡ Yields [] [] p → ReadsRow G text (ListOf x t) p w
     list_more : {x t p q : ℕ} {ts : List Tree} {o : Outcome} {w : Raw} → ReadsBy G text x p (Gives ts q) → ReadsBy G text t q o
         → w ≡ before ts (raw_of o) → ReadsRow G text (ListOf x t) p w
-    -- the same, but the first item is needed
+    -- no item: a failure; else an item, and what follows it
     list1_fails : {x t p : ℕ} {w : Raw} → ReadsBy G text x p Fails → w ≡ Breaks → ReadsRow G text (List1 x t) p w
     list1_more : {x t p q : ℕ} {ts : List Tree} {o : Outcome} {w : Raw} → ReadsBy G text x p (Gives ts q) → ReadsBy G text t q o
         → w ≡ before ts (raw_of o) → ReadsRow G text (List1 x t) p w

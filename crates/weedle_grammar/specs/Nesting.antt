@@ -18,7 +18,7 @@ pub record Part (G : Grammar) (text : List ℕ) : Type 0 where
 abbrev pub part : {G : Grammar} {text : List ℕ} {r p e : ℕ} {ts : List Tree} → ReadsBy G text r p (Gives ts e) → Part G text
 part {r = r} {p = p} {e = e} {ts = ts} d = record { rule = r; start = p; end = e; given = ts; derived = d }
 
--- the same, or none where the rule fails
+-- the part that is derived so, or none where the rule fails
 abbrev pub part_unless_fails : {G : Grammar} {text : List ℕ} {r p : ℕ} {o : Outcome} → ReadsBy G text r p o → List (Part G text)
 part_unless_fails {o = Fails} d = []
 part_unless_fails {o = Gives ts e} d = part d ∷ []

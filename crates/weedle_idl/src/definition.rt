@@ -35,36 +35,36 @@ use weedle_statements::{
 pub type Definitions<'a> = Vec<Definition<'a>>;
 
 /// A definition, as `interface A {};`: the first of the fourteen kinds that fits. Of what its
-/// variants read, `docstring`, `[attributes]` and `: parent` may be absent.
+/// variants read, `docstring`, `[extended attributes]` and `: parent` may be absent.
 #[derive(Debug, PartialEq, Eq, PartialOrd, Ord, Hash)]
 pub enum Definition<'a> {
-    /// `[attributes] callback name = type (arguments);`.
+    /// `[extended attributes] callback name = type (arguments);`.
     Callback(CallbackDefinition<'a>),
-    /// `docstring [attributes] callback interface name : parent { members };`.
+    /// `docstring [extended attributes] callback interface name : parent { members };`.
     CallbackInterface(CallbackInterfaceDefinition<'a>),
-    /// `docstring [attributes] interface name : parent { members };`.
+    /// `docstring [extended attributes] interface name : parent { members };`.
     Interface(InterfaceDefinition<'a>),
-    /// `[attributes] interface mixin name { members };`.
+    /// `[extended attributes] interface mixin name { members };`.
     InterfaceMixin(InterfaceMixinDefinition<'a>),
-    /// `docstring [attributes] namespace name { members };`.
+    /// `docstring [extended attributes] namespace name { members };`.
     Namespace(NamespaceDefinition<'a>),
-    /// `docstring [attributes] dictionary name : parent { members };`.
+    /// `docstring [extended attributes] dictionary name : parent { members };`.
     Dictionary(DictionaryDefinition<'a>),
-    /// `[attributes] partial interface name { members };`.
+    /// `[extended attributes] partial interface name { members };`.
     PartialInterface(PartialInterfaceDefinition<'a>),
-    /// `[attributes] partial interface mixin name { members };`.
+    /// `[extended attributes] partial interface mixin name { members };`.
     PartialInterfaceMixin(PartialInterfaceMixinDefinition<'a>),
-    /// `[attributes] partial dictionary name { members };`.
+    /// `[extended attributes] partial dictionary name { members };`.
     PartialDictionary(PartialDictionaryDefinition<'a>),
-    /// `[attributes] partial namespace name { members };`.
+    /// `[extended attributes] partial namespace name { members };`.
     PartialNamespace(PartialNamespaceDefinition<'a>),
-    /// `docstring [attributes] enum name { "value", "value" };`.
+    /// `docstring [extended attributes] enum name { "value", "value" };`.
     Enum(EnumDefinition<'a>),
-    /// `[attributes] typedef type name;`.
+    /// `[extended attributes] typedef type name;`.
     Typedef(TypedefDefinition<'a>),
-    /// `[attributes] name includes name;`.
+    /// `[extended attributes] name includes name;`.
     IncludesStatement(IncludesStatementDefinition<'a>),
-    /// `[attributes] name implements name;`.
+    /// `[extended attributes] name implements name;`.
     Implements(ImplementsDefinition<'a>),
 }
 

@@ -1,16 +1,17 @@
-//! Members and definitions: what stands in a file of WebIDL, from the members of interfaces, mixins,
-//! namespaces and dictionaries to the list of all definitions.
+//! Members and definitions: what stands in a file of WebIDL, from the members of interfaces,
+//! mixins, namespaces and dictionaries to the list of all definitions.
 //!
-//! A definition is the first of the fourteen kinds that fits; where none does it is a mismatch. Memory
-//! is taken for attributes, types, arguments, docstrings and lists; where it is refused that is a
-//! failure, and no other alternative is tried. What each type reads stands in words in
-//! docs/GRAMMAR.md.
+//! A definition is the first of the fourteen kinds that fits; where none does it is a mismatch.
+//! Memory is taken for extended attributes, types, arguments, docstrings and lists; where it is
+//! refused that is a failure, and no other alternative is tried. What each type reads stands in
+//! words in docs/GRAMMAR.md.
 //!
 //! ```rust
 //! use weedle_base::Parse;
 //! use weedle_idl::{Definition, Definitions};
 //!
-//! let text = "interface Window { readonly attribute Storage sessionStorage; }; Window includes Timers;";
+//! let text =
+//!     "interface Window { readonly attribute Storage sessionStorage; }; Window includes Timers;";
 //! let (rest, definitions) = Definitions::parse(rt.alloc(), text).expect(rt, "definitions");
 //! assert!(rt; rest == "" && definitions.len() == 2);
 //! ```

@@ -13,7 +13,7 @@ use weedle_types::attribute::ExtendedAttributeList;
 pub struct CallbackInterfaceDefinition<'a> {
     /// The docstring in front, where one stands.
     pub docstring: Option<Docstring>,
-    /// The attributes in brackets, as `[Exposed=Window]`, where they stand.
+    /// The extended attributes in brackets, as `[Exposed=Window]`, where they stand.
     pub attributes: Option<ExtendedAttributeList<'a>>,
     /// The word `callback`.
     pub callback: Callback,
@@ -49,7 +49,7 @@ impl Drop for CallbackInterfaceDefinition<'_> {
 pub struct InterfaceDefinition<'a> {
     /// The docstring in front, where one stands.
     pub docstring: Option<Docstring>,
-    /// The attributes in brackets, as `[Exposed=Window]`, where they stand.
+    /// The extended attributes in brackets, as `[Exposed=Window]`, where they stand.
     pub attributes: Option<ExtendedAttributeList<'a>>,
     /// The word `interface`.
     pub interface: Interface,
@@ -80,7 +80,7 @@ impl Drop for InterfaceDefinition<'_> {
 /// A part of an interface, as `partial interface A {};`. No docstring may stand before it.
 #[derive(Debug, PartialEq, Eq, PartialOrd, Ord, Hash)]
 pub struct PartialInterfaceDefinition<'a> {
-    /// The attributes in brackets, as `[Exposed=Window]`, where they stand.
+    /// The extended attributes in brackets, as `[Exposed=Window]`, where they stand.
     pub attributes: Option<ExtendedAttributeList<'a>>,
     /// The word `partial`.
     pub partial: Partial,

@@ -25,30 +25,31 @@ use weedle_members::{
 };
 
 /// A member of an interface, as `attribute long length;`: the first of the nine kinds that fits, so
-/// `stringifier();`, which begins an operation without a name but has no second list of arguments, is
-/// none of them. Of what its variants read, `docstring` and `[attributes]` may be absent.
+/// `stringifier();`, which begins an operation without a name but has no second list of arguments,
+/// is none of them. Of what its variants read, `docstring` and `[extended attributes]` may be
+/// absent.
 #[derive(Debug, PartialEq, Eq, PartialOrd, Ord, Hash)]
 pub enum InterfaceMember<'a> {
-    /// `[attributes] const type name = value;`.
+    /// `[extended attributes] const type name = value;`.
     Const(ConstMember<'a>),
-    /// `[attributes] readonly attribute type name;`, also without `readonly`. Before these words
-    /// may stand `stringifier`, `inherit` or `static`.
+    /// `[extended attributes] readonly attribute type name;`, also without `readonly`. Before these
+    /// words may stand `stringifier`, `inherit` or `static`.
     Attribute(AttributeInterfaceMember<'a>),
-    /// `docstring [attributes] constructor(arguments);`.
+    /// `docstring [extended attributes] constructor(arguments);`.
     Constructor(ConstructorInterfaceMember<'a>),
-    /// `docstring [attributes] type name(arguments);`, also without the name. Before the type may
-    /// stand `stringifier` or `static`, then `getter` or the like.
+    /// `docstring [extended attributes] type name(arguments);`, also without the name. Before the
+    /// type may stand `stringifier` or `static`, then `getter` or the like.
     Operation(OperationInterfaceMember<'a>),
-    /// `[attributes] iterable<type>;` or `[attributes] iterable<type, type>;`.
+    /// `[extended attributes] iterable<type>;` or `[extended attributes] iterable<type, type>;`.
     Iterable(IterableInterfaceMember<'a>),
-    /// `[attributes] async iterable<type>(arguments);`, also with two types, or without
+    /// `[extended attributes] async iterable<type>(arguments);`, also with two types, or without
     /// `(arguments)`.
     AsyncIterable(AsyncIterableInterfaceMember<'a>),
-    /// `[attributes] readonly maplike<type, type>;`, also without `readonly`.
+    /// `[extended attributes] readonly maplike<type, type>;`, also without `readonly`.
     Maplike(MaplikeInterfaceMember<'a>),
-    /// `[attributes] readonly setlike<type>;`, also without `readonly`.
+    /// `[extended attributes] readonly setlike<type>;`, also without `readonly`.
     Setlike(SetlikeInterfaceMember<'a>),
-    /// `[attributes] stringifier;`.
+    /// `[extended attributes] stringifier;`.
     Stringifier(StringifierMember<'a>),
 }
 

@@ -1,3 +1,3 @@
--- What scripts write. Written by tools/modules.py.
+-- What scripts write. Written by tools/modules.py, and not edited by hand.
 pub mod CollectionRules
 pub mod IterableRules

@@ -10,7 +10,7 @@ use weedle_types::types::AttributedType;
 /// A map, as `readonly maplike<DOMString, long>;`.
 #[derive(Debug, PartialEq, Eq, PartialOrd, Ord, Hash)]
 pub struct MaplikeInterfaceMember<'a> {
-    /// The attributes in brackets, as `[Exposed=Window]`, where they stand.
+    /// The extended attributes in brackets, as `[Exposed=Window]`, where they stand.
     pub attributes: Option<ExtendedAttributeList<'a>>,
     /// The word `readonly`, where it stands.
     pub readonly: Option<ReadOnly>,
@@ -38,7 +38,7 @@ impl Drop for MaplikeInterfaceMember<'_> {
 /// A set, as `readonly setlike<long>;`.
 #[derive(Debug, PartialEq, Eq, PartialOrd, Ord, Hash)]
 pub struct SetlikeInterfaceMember<'a> {
-    /// The attributes in brackets, as `[Exposed=Window]`, where they stand.
+    /// The extended attributes in brackets, as `[Exposed=Window]`, where they stand.
     pub attributes: Option<ExtendedAttributeList<'a>>,
     /// The word `readonly`, where it stands.
     pub readonly: Option<ReadOnly>,

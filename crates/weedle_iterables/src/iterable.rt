@@ -10,7 +10,7 @@ use weedle_types::types::AttributedType;
 /// An iteration over values, as `iterable<long>;`.
 #[derive(Debug, PartialEq, Eq, PartialOrd, Ord, Hash)]
 pub struct SingleTypedIterable<'a> {
-    /// The attributes in brackets, as `[Exposed=Window]`, where they stand.
+    /// The extended attributes in brackets, as `[Exposed=Window]`, where they stand.
     pub attributes: Option<ExtendedAttributeList<'a>>,
     /// The word `iterable`.
     pub iterable: Iterable,
@@ -34,7 +34,7 @@ impl Drop for SingleTypedIterable<'_> {
 /// An iteration over pairs, as `iterable<DOMString, long>;`.
 #[derive(Debug, PartialEq, Eq, PartialOrd, Ord, Hash)]
 pub struct DoubleTypedIterable<'a> {
-    /// The attributes in brackets, as `[Exposed=Window]`, where they stand.
+    /// The extended attributes in brackets, as `[Exposed=Window]`, where they stand.
     pub attributes: Option<ExtendedAttributeList<'a>>,
     /// The word `iterable`.
     pub iterable: Iterable,
@@ -57,12 +57,12 @@ impl Drop for DoubleTypedIterable<'_> {
 }
 
 /// An iteration over values or pairs, as `iterable<long>;`: the first of the two that fits. Of
-/// what its variants read, `[attributes]` may be absent.
+/// what its variants read, `[extended attributes]` may be absent.
 #[derive(Debug, PartialEq, Eq, PartialOrd, Ord, Hash)]
 pub enum IterableInterfaceMember<'a> {
-    /// `[attributes] iterable<type>;`.
+    /// `[extended attributes] iterable<type>;`.
     Single(SingleTypedIterable<'a>),
-    /// `[attributes] iterable<type, type>;`.
+    /// `[extended attributes] iterable<type, type>;`.
     Double(DoubleTypedIterable<'a>),
 }
 

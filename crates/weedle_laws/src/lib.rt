@@ -1,6 +1,6 @@
 //! Laws of members and definitions on which no other crate stands: how they are ordered, and what
-//! brackets read round lists of theirs. Each of these functions does nothing when it runs: its contract
-//! is the law.
+//! brackets read round lists of theirs. Each of these functions does nothing when it runs: its
+//! contract is the law.
 //!
 //! ```rust
 //! use std::cmp::Ordering;

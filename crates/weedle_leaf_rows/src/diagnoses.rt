@@ -1,8 +1,8 @@
 //! Diagnoses: where and why a text is refused.
 //!
-//! The places, and what is named there, come from outside: from an independent reader over the grammar's
-//! rows that notes its failing leaves. Rules of blanks and comments, which are tried nearly everywhere, are
-//! named only where the text breaks off within them.
+//! The places, and what is named there, come from outside: from an independent program over the
+//! grammar's rows that notes its failing leaves. Rules of blanks and comments, which are tried
+//! nearly everywhere, are named only where the text breaks off within them.
 
 ghost use Rattle.std.specs.Prelude.{◌≤◌, length};
 
@@ -13,7 +13,8 @@ use weedle_grammar::{Row, Rule, row_of};
 use weedle_rules::Ends;
 use weedle_testing::Wanted;
 
-/// What is said of a text whose definitions are read from this place on, which is at most its length.
+/// What is said of a text whose definitions are read from this place on, which is at most its
+/// length.
 fn diagnosis_of(alloc: Global, text: &str, start: usize) -> Result<Diagnosis, AllocError>
     requires { start ≤ length text.now }
 {

@@ -1,7 +1,7 @@
 //! Names, numbers, strings, docstrings and values.
 //!
-//! The values are those that weedle2 prints, in the port's names. Names that begin with a digit and `0x`,
-//! which it reads, are refused here, by hand from the grammar.
+//! The values are those that weedle2 prints, in the port's names. Names that begin with a digit and
+//! `0x`, which it reads, are refused here, by hand from the grammar.
 
 use std::test::Fail;
 use weedle_literal::{

@@ -1,4 +1,5 @@
-//! Each request for memory refused in turn, and calls that make none: standard types, generic parts and leaves.
+//! Each request for memory refused in turn, and calls that make none: standard types, generic parts
+//! and leaves.
 
 use std::alloc::{AllocError, Global};
 use std::test::Fail;

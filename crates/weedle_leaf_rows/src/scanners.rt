@@ -1,6 +1,7 @@
 //! The scanners, and terminals that stand beside others.
 //!
-//! Of terminals the values are those that weedle2 prints; of the scanners they are by hand, from the grammar.
+//! Of terminals the values are those that weedle2 prints; of the scanners they are by hand, from
+//! the grammar.
 
 use std::alloc::Global;
 use std::test::Fail;

@@ -1,6 +1,7 @@
 //! `Parse` and `TryClone` for the standard library's types.
 //!
-//! Of weedle2's types the values are those that it prints; of the others they are by hand, from the contracts.
+//! Of weedle2's types the values are those that it prints; of the others they are by hand, from the
+//! contracts.
 
 use crate::users::{Fuse, Nothing};
 use std::alloc::{AllocError, Global};

@@ -6,7 +6,7 @@ ghost use Rattle.weedle_leaf_rows.specs.UserLaws.{nothing_lawful, fuse_lawful};
 use std::alloc::Global;
 use weedle_base::{Err, Error, ErrorKind, IResult, Parse, mismatch};
 
-/// It is read from every text, and takes nothing.
+/// A type that is read from every text, and takes nothing.
 #[derive(Clone, Copy, Debug, Default, PartialEq, Eq)]
 pub struct Nothing;
 
@@ -20,7 +20,7 @@ impl<'a> Parse<'a> for Nothing {
     ghost lawful = { nothing_lawful };
 }
 
-/// It ends the call where a `!` stands, and is a mismatch on every other text.
+/// A type that ends the call where a `!` stands, and is a mismatch on every other text.
 #[derive(Clone, Copy, Debug, Default, PartialEq, Eq)]
 pub struct Fuse;
 

@@ -14,8 +14,8 @@ pub enum Task {
     Outline,
 }
 
-/// What the arguments ask for, of which the first is the program's name: `outline` for an outline, nothing for
-/// a list; None where they ask for neither.
+/// What the arguments ask for, of which the first is the program's name: `outline` for an outline,
+/// nothing for a list; None where they ask for neither.
 pub fn task_of(mut arguments: Args) -> Option<Task> {
     let Some(word) = arguments.nth(1) else {
         return Some(Task::List);

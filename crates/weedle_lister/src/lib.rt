@@ -1,5 +1,5 @@
-//! What `weedle_list` does: it lists the definitions of the text on standard input, each by its kind and its
-//! name, or writes an outline of them, and says how that ended.
+//! What `weedle_list` does: it lists the definitions of the text on standard input, each by its
+//! kind and its name, or writes an outline of them, and says how that ended.
 //!
 //! ```rust
 //! use std::process::ExitCode;

@@ -9,8 +9,8 @@ use weedle_front::{RunFault, Status, run, run_outline};
 /// The status where the arguments ask for neither list.
 pub const USAGE_STATUS: u8 = 5;
 
-/// Lists what stands on standard input, as the arguments ask, and gives the exit status. What went wrong it says
-/// in a line on standard error.
+/// Lists what stands on standard input, as the arguments ask, and gives the exit status. What went
+/// wrong it says in a line on standard error.
 pub fn list<R: Runtime + AllocGlobal>(rt: &R) -> u8 {
     let Ok(words) = env::args(rt) else {
         return end(rt, &Err(RunFault::Memory));
@@ -40,8 +40,8 @@ fn complain<D: Display + Drop>(rt: &impl Eprint, line: D) {
     let _ = rt.eprintln(line);
 }
 
-/// The exit status of a run: 0 where the whole text is read, 1 where a part of it is left, and 2 to 4 where it
-/// ended in a fault.
+/// The exit status of a run: 0 where the whole text is read, 1 where a part of it is left, and 2 to
+/// 4 where it ended in a fault.
 pub fn status_of(outcome: &Result<Status, RunFault>) -> u8 {
     match outcome {
         Ok(Status::Read) => 0,

@@ -10,8 +10,8 @@ use std::alloc::Global;
 use weedle_base::{IResult, Parse};
 use weedle_term::Assign;
 
-/// A default, as `= 5` behind an argument's name. Without the `=`, or where no value follows it, it is
-/// a mismatch. It takes no memory and never gives a failure.
+/// A default, as `= 5` behind an argument's name. Without the `=`, or where no value follows it, it
+/// is a mismatch. It takes no memory and never gives a failure.
 #[derive(Clone, Copy, Debug, PartialEq, Eq, PartialOrd, Ord, Hash)]
 pub struct Default<'a> {
     /// The `=`.

@@ -21,8 +21,8 @@ use weedle_base::scan::{after_one, after_run, after_word, skip_trivia, taken};
 use weedle_base::{IResult, Parse, mismatch};
 use weedle_grammar::{Class, Rule};
 
-/// A decimal number, as `-12`: a digit other than `0` and any digits, perhaps behind a `-`. Anything
-/// else is a mismatch, as `012` is.
+/// A decimal number, as `-12`: a digit other than `0` and any digits, perhaps behind a `-`.
+/// Anything else is a mismatch, as `012` is.
 #[derive(Clone, Copy, Debug, PartialEq, Eq, PartialOrd, Ord, Hash)]
 pub struct DecLit<'a>(pub &'a str);
 

@@ -1,6 +1,6 @@
-//! Literals and defaults, with the trivia around them. None of them takes memory, and none ever gives a failure:
-//! what a literal keeps of the text it borrows. Where a type has several forms they are tried in
-//! turn, and each of them reads the trivia before the literal again.
+//! Literals and defaults, with the trivia around them. None of them takes memory, and none ever
+//! gives a failure: what a literal keeps of the text it borrows. Where a type has several forms
+//! they are tried in turn, and each of them reads the trivia before the literal again.
 //!
 //! ```rust
 //! use weedle_base::Parse;

@@ -15,8 +15,8 @@ use std::alloc::Global;
 use weedle_base::{IResult, Parse};
 use weedle_term::Null;
 
-/// The value of a default, as `"blob"` or `[]`: the first of the seven forms that fits. Anything else
-/// is a mismatch, as `undefined` is. Up to thirteen literals and words are tried.
+/// The value of a default, as `"blob"` or `[]`: the first of the seven forms that fits. Anything
+/// else is a mismatch, as `undefined` is. Up to thirteen literals and words are tried.
 #[derive(Clone, Copy, Debug, PartialEq, Eq, PartialOrd, Ord, Hash)]
 pub enum DefaultValue<'a> {
     /// A boolean, as `true`.
@@ -135,8 +135,8 @@ impl<'a> From<StringLit<'a>> for DefaultValue<'a> {
     }
 }
 
-/// The value of a constant, as `1.5` or `null`: the first of the four forms that fits. Anything else
-/// is a mismatch, as a text in quotes is. Up to ten literals and words are tried.
+/// The value of a constant, as `1.5` or `null`: the first of the four forms that fits. Anything
+/// else is a mismatch, as a text in quotes is. Up to ten literals and words are tried.
 #[derive(Clone, Copy, Debug, PartialEq, Eq, PartialOrd, Ord, Hash)]
 pub enum ConstValue<'a> {
     /// A boolean, as `true`.

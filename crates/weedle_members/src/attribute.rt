@@ -8,11 +8,11 @@ use weedle_term::{Attribute, ReadOnly, SemiColon};
 use weedle_types::attribute::ExtendedAttributeList;
 use weedle_types::types::AttributedType;
 
-/// An attribute of an interface, as `static readonly attribute long x;`. No docstring may stand before
-/// it.
+/// An attribute of an interface, as `static readonly attribute long x;`. No docstring may stand
+/// before it.
 #[derive(Debug, PartialEq, Eq, PartialOrd, Ord, Hash)]
 pub struct AttributeInterfaceMember<'a> {
-    /// The attributes in brackets, as `[Exposed=Window]`, where they stand.
+    /// The extended attributes in brackets, as `[Exposed=Window]`, where they stand.
     pub attributes: Option<ExtendedAttributeList<'a>>,
     /// The word `stringifier`, `inherit` or `static`, where one of them stands.
     pub modifier: Option<StringifierOrInheritOrStatic>,
@@ -20,7 +20,7 @@ pub struct AttributeInterfaceMember<'a> {
     pub readonly: Option<ReadOnly>,
     /// The word `attribute`.
     pub attribute: Attribute,
-    /// Its type, as `long`, with the attributes that stand before it.
+    /// Its type, as `long`, with the extended attributes that stand before it.
     pub type_: AttributedType<'a>,
     /// Its name.
     pub identifier: Identifier<'a>,

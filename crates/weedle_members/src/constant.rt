@@ -11,7 +11,7 @@ use weedle_types::attribute::ExtendedAttributeList;
 /// A constant, as `const long X = 5;`. No docstring may stand before it.
 #[derive(Debug, PartialEq, Eq, PartialOrd, Ord, Hash)]
 pub struct ConstMember<'a> {
-    /// The attributes in brackets, as `[Exposed=Window]`, where they stand.
+    /// The extended attributes in brackets, as `[Exposed=Window]`, where they stand.
     pub attributes: Option<ExtendedAttributeList<'a>>,
     /// The word `const`.
     pub const_: Const,

@@ -22,7 +22,7 @@ use weedle_types::types::ReturnType;
 pub struct ConstructorInterfaceMember<'a> {
     /// The docstring in front, where one stands.
     pub docstring: Option<Docstring>,
-    /// The attributes in brackets, as `[Exposed=Window]`, where they stand.
+    /// The extended attributes in brackets, as `[Exposed=Window]`, where they stand.
     pub attributes: Option<ExtendedAttributeList<'a>>,
     /// The word `constructor`.
     pub constructor: Constructor,
@@ -73,7 +73,7 @@ impl<'a> Parse<'a> for ConstructorInterfaceMember<'a> {
 pub struct OperationInterfaceMember<'a> {
     /// The docstring in front, where one stands.
     pub docstring: Option<Docstring>,
-    /// The attributes in brackets, as `[Exposed=Window]`, where they stand.
+    /// The extended attributes in brackets, as `[Exposed=Window]`, where they stand.
     pub attributes: Option<ExtendedAttributeList<'a>>,
     /// The word `stringifier` or `static`, where one of them stands.
     pub modifier: Option<StringifierOrStatic>,

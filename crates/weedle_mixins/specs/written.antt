@@ -1,2 +1,2 @@
--- What scripts write. Written by tools/modules.py.
+-- What scripts write. Written by tools/modules.py, and not edited by hand.
 pub mod Trees

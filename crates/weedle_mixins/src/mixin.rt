@@ -12,11 +12,11 @@ use weedle_types::types::{AttributedType, ReturnType};
 /// The members of a mixin, one after another, as `long f(); long g();`; none included.
 pub type MixinMembers<'a> = Vec<MixinMember<'a>>;
 
-/// An operation of a mixin, as `stringifier long f(long x);`. It may lack a name, and no docstring may
-/// stand before it.
+/// An operation of a mixin, as `stringifier long f(long x);`. It may lack a name, and no docstring
+/// may stand before it.
 #[derive(Debug, PartialEq, Eq, PartialOrd, Ord, Hash)]
 pub struct OperationMixinMember<'a> {
-    /// The attributes in brackets, as `[Exposed=Window]`, where they stand.
+    /// The extended attributes in brackets, as `[Exposed=Window]`, where they stand.
     pub attributes: Option<ExtendedAttributeList<'a>>,
     /// The word `stringifier`, where it stands.
     pub stringifier: Option<Stringifier>,
@@ -46,7 +46,7 @@ impl Drop for OperationMixinMember<'_> {
 /// An attribute of a mixin, as `readonly attribute long x;`.
 #[derive(Debug, PartialEq, Eq, PartialOrd, Ord, Hash)]
 pub struct AttributeMixinMember<'a> {
-    /// The attributes in brackets, as `[Exposed=Window]`, where they stand.
+    /// The extended attributes in brackets, as `[Exposed=Window]`, where they stand.
     pub attributes: Option<ExtendedAttributeList<'a>>,
     /// The word `stringifier`, where it stands.
     pub stringifier: Option<Stringifier>,
@@ -54,7 +54,7 @@ pub struct AttributeMixinMember<'a> {
     pub readonly: Option<ReadOnly>,
     /// The word `attribute`.
     pub attribute: Attribute,
-    /// Its type, as `long`, with the attributes that stand before it.
+    /// Its type, as `long`, with the extended attributes that stand before it.
     pub type_: AttributedType<'a>,
     /// Its name.
     pub identifier: Identifier<'a>,
@@ -77,17 +77,18 @@ impl Drop for AttributeMixinMember<'_> {
 }
 
 /// A member of a mixin, as `readonly attribute long x;`: the first of the four kinds that fits. Of
-/// what its variants read, `[attributes]` may be absent.
+/// what its variants read, `[extended attributes]` may be absent.
 #[derive(Debug, PartialEq, Eq, PartialOrd, Ord, Hash)]
 pub enum MixinMember<'a> {
-    /// `[attributes] const type name = value;`.
+    /// `[extended attributes] const type name = value;`.
     Const(ConstMember<'a>),
-    /// `[attributes] stringifier type name(arguments);`, also without `stringifier` or the name.
+    /// `[extended attributes] stringifier type name(arguments);`, also without `stringifier` or the
+    /// name.
     Operation(OperationMixinMember<'a>),
-    /// `[attributes] stringifier readonly attribute type name;`, also without `stringifier` or
-    /// `readonly`.
+    /// `[extended attributes] stringifier readonly attribute type name;`, also without
+    /// `stringifier` or `readonly`.
     Attribute(AttributeMixinMember<'a>),
-    /// `[attributes] stringifier;`.
+    /// `[extended attributes] stringifier;`.
     Stringifier(StringifierMember<'a>),
 }
 

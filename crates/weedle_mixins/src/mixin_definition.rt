@@ -10,7 +10,7 @@ use weedle_types::attribute::ExtendedAttributeList;
 /// A mixin, as `interface mixin A {};`. No docstring may stand before it.
 #[derive(Debug, PartialEq, Eq, PartialOrd, Ord, Hash)]
 pub struct InterfaceMixinDefinition<'a> {
-    /// The attributes in brackets, as `[Exposed=Window]`, where they stand.
+    /// The extended attributes in brackets, as `[Exposed=Window]`, where they stand.
     pub attributes: Option<ExtendedAttributeList<'a>>,
     /// The word `interface`.
     pub interface: Interface,
@@ -40,7 +40,7 @@ impl Drop for InterfaceMixinDefinition<'_> {
 /// A part of a mixin, as `partial interface mixin A {};`. No docstring may stand before it.
 #[derive(Debug, PartialEq, Eq, PartialOrd, Ord, Hash)]
 pub struct PartialInterfaceMixinDefinition<'a> {
-    /// The attributes in brackets, as `[Exposed=Window]`, where they stand.
+    /// The extended attributes in brackets, as `[Exposed=Window]`, where they stand.
     pub attributes: Option<ExtendedAttributeList<'a>>,
     /// The word `partial`.
     pub partial: Partial,

@@ -5,8 +5,8 @@ mod written;
 use weedle_parts::common::Identifier;
 use weedle_term::Colon;
 
-/// What an interface or a dictionary inherits from, as `: Node`. It takes no memory and never gives a
-/// failure.
+/// What an interface or a dictionary inherits from, as `: Node`. It takes no memory and never gives
+/// a failure.
 #[derive(Clone, Copy, Debug, PartialEq, Eq, PartialOrd, Ord, Hash)]
 pub struct Inheritance<'a> {
     /// The `:`.

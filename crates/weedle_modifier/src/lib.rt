@@ -1,5 +1,5 @@
-//! What stands before or behind the name of a member or an interface: what is inherited from, and the
-//! words before an attribute or an operation.
+//! What stands before or behind the name of a member or an interface: what is inherited from, and
+//! the words before an attribute or an operation.
 //!
 //! None of them takes memory, so none ever gives a failure. What each type reads stands in words
 //! in docs/GRAMMAR.md.

@@ -13,7 +13,7 @@ use weedle_types::attribute::ExtendedAttributeList;
 pub struct DictionaryDefinition<'a> {
     /// The docstring in front, where one stands.
     pub docstring: Option<Docstring>,
-    /// The attributes in brackets, as `[Exposed=Window]`, where they stand.
+    /// The extended attributes in brackets, as `[Exposed=Window]`, where they stand.
     pub attributes: Option<ExtendedAttributeList<'a>>,
     /// The word `dictionary`.
     pub dictionary: Dictionary,
@@ -44,7 +44,7 @@ impl Drop for DictionaryDefinition<'_> {
 /// A part of a dictionary, as `partial dictionary A {};`. No docstring may stand before it.
 #[derive(Debug, PartialEq, Eq, PartialOrd, Ord, Hash)]
 pub struct PartialDictionaryDefinition<'a> {
-    /// The attributes in brackets, as `[Exposed=Window]`, where they stand.
+    /// The extended attributes in brackets, as `[Exposed=Window]`, where they stand.
     pub attributes: Option<ExtendedAttributeList<'a>>,
     /// The word `partial`.
     pub partial: Partial,

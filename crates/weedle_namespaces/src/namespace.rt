@@ -17,7 +17,7 @@ pub type NamespaceMembers<'a> = Vec<NamespaceMember<'a>>;
 pub struct OperationNamespaceMember<'a> {
     /// The docstring in front, where one stands.
     pub docstring: Option<Docstring>,
-    /// The attributes in brackets, as `[Exposed=Window]`, where they stand.
+    /// The extended attributes in brackets, as `[Exposed=Window]`, where they stand.
     pub attributes: Option<ExtendedAttributeList<'a>>,
     /// The type of its result, as `undefined` or `long`.
     pub return_type: ReturnType<'a>,
@@ -48,13 +48,13 @@ impl Drop for OperationNamespaceMember<'_> {
 pub struct AttributeNamespaceMember<'a> {
     /// The docstring in front, where one stands.
     pub docstring: Option<Docstring>,
-    /// The attributes in brackets, as `[Exposed=Window]`, where they stand.
+    /// The extended attributes in brackets, as `[Exposed=Window]`, where they stand.
     pub attributes: Option<ExtendedAttributeList<'a>>,
     /// The word `readonly`, which always stands here.
     pub readonly: ReadOnly,
     /// The word `attribute`.
     pub attribute: Attribute,
-    /// Its type, as `long`, with the attributes that stand before it.
+    /// Its type, as `long`, with the extended attributes that stand before it.
     pub type_: AttributedType<'a>,
     /// Its name.
     pub identifier: Identifier<'a>,
@@ -77,12 +77,12 @@ impl Drop for AttributeNamespaceMember<'_> {
 }
 
 /// A member of a namespace, as `long f(long x);`: the first of the two kinds that fits. Of what
-/// its variants read, `docstring` and `[attributes]` may be absent.
+/// its variants read, `docstring` and `[extended attributes]` may be absent.
 #[derive(Debug, PartialEq, Eq, PartialOrd, Ord, Hash)]
 pub enum NamespaceMember<'a> {
-    /// `docstring [attributes] type name(arguments);`, also without the name.
+    /// `docstring [extended attributes] type name(arguments);`, also without the name.
     Operation(OperationNamespaceMember<'a>),
-    /// `docstring [attributes] readonly attribute type name;`.
+    /// `docstring [extended attributes] readonly attribute type name;`.
     Attribute(AttributeNamespaceMember<'a>),
 }
 

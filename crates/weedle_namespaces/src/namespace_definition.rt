@@ -12,7 +12,7 @@ use weedle_types::attribute::ExtendedAttributeList;
 pub struct NamespaceDefinition<'a> {
     /// The docstring in front, where one stands.
     pub docstring: Option<Docstring>,
-    /// The attributes in brackets, as `[Exposed=Window]`, where they stand.
+    /// The extended attributes in brackets, as `[Exposed=Window]`, where they stand.
     pub attributes: Option<ExtendedAttributeList<'a>>,
     /// The word `namespace`.
     pub namespace: Namespace,
@@ -40,7 +40,7 @@ impl Drop for NamespaceDefinition<'_> {
 /// A part of a namespace, as `partial namespace A {};`. No docstring may stand before it.
 #[derive(Debug, PartialEq, Eq, PartialOrd, Ord, Hash)]
 pub struct PartialNamespaceDefinition<'a> {
-    /// The attributes in brackets, as `[Exposed=Window]`, where they stand.
+    /// The extended attributes in brackets, as `[Exposed=Window]`, where they stand.
     pub attributes: Option<ExtendedAttributeList<'a>>,
     /// The word `partial`.
     pub partial: Partial,

@@ -5,13 +5,13 @@ use Rattle.std.specs.Prelude.{ℕ, List, [], ◌∷◌, Bool, true, false, ◌==
 pub data Inside : Type 0 where
   -- words, signs and blanks
   Words : Inside
-  -- the same, right behind a slash
+  -- words, signs and blanks, right behind a slash
   Slash : Inside
   -- a comment or a line of a docstring, up to the line feed
   Line : Inside
   -- a comment, up to an asterisk and a slash
   Block : Inside
-  -- the same, right behind an asterisk
+  -- a comment, up to an asterisk and a slash, right behind an asterisk
   Asterisk : Inside
   -- a string, up to the second quote
   Quotes : Inside

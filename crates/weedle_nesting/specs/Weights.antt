@@ -16,7 +16,7 @@ weights_from inside depth (b ∷ text) =
     let next = behind inside b in
     3 ^ depth + weights_from next (open_after inside next depth b) text
 
--- the same of a whole text
+-- the sum over all bytes of a whole text of 3 to the power of the `[` that are open in front of each
 abbrev pub weights : List ℕ → ℕ
 weights text = weights_from Words 0 text
 

@@ -28,9 +28,9 @@ pub struct Depths {
 ///
 /// It looks once at each byte, and takes no memory.
 ///
-/// Who reads texts of strangers can ask it first: with 8 MB of stack, as a main thread has, each reader of whole
-/// texts reads what has up to 8,000 of `(` and `<` open at once, and `parse` and `parse_quick` what has up to
-/// 3,000 of `[`. So it was measured; nothing promises it.
+/// Who reads texts of strangers can ask it first: with 8 MB of stack, as a main thread has, each
+/// reader of whole texts reads what has up to 8,000 of `(` and `<` open at once, and `parse` and
+/// `parse_quick` what has up to 3,000 of `[`. So it was measured; nothing promises it.
 pub fn nesting(raw: &str) -> Depths
     ensures attributes { result.attributes ≡ most_attributes (bare raw.now) }
     ensures brackets { result.brackets ≡ most_brackets (bare raw.now) }
@@ -98,7 +98,7 @@ impl Look {
 }
 
 impl Level {
-    /// One more is open.
+    /// Counts one more bracket that is open.
     pub(crate) fn enter(&mut self)
         requires { self.old.depth + 1 < 2 ^ 64 }
         ensures depth { self.new.depth ≡ self.old.depth + 1 }
@@ -108,7 +108,7 @@ impl Level {
         self.most = self.most.max(self.depth);
     }
 
-    /// One is closed, where one is open.
+    /// Counts one bracket as closed, where one is open.
     pub(crate) fn leave(&mut self)
         ensures depth { self.new.depth ≡ self.old.depth - 1 }
         ensures most { self.new.most ≡ self.old.most }

@@ -17,7 +17,8 @@ fn is_mark(byte: u8) -> bool
     byte <= b']' && matches!(byte, b'"' | b'/' | b'[' | b']' | b'(' | b')' | b'<' | b'>')
 }
 
-/// The first mark, and what follows it. It is never inlined: alone its loop is as short as it can be.
+/// The first mark, and what follows it. It is never inlined: alone its loop is as short as it can
+/// be.
 #[inline(never)]
 pub(crate) fn next_mark(bytes: &[u8]) -> Option<(u8, &[u8])>
     ensures first { option_map (λ found. (found.0, found.1.now)) result ≡ first_mark bytes.now }

@@ -15,13 +15,14 @@ const MOST_BRACKETS: usize = 1_000;
 
 /// Whether recursive descent reads a text in little time and on little stack.
 ///
-/// Descent reads what stands in the arguments of an extended attribute up to three times. So it looks at a
-/// byte up to 3 to the power of the `[` that are open there. This says whether the sum of that over all bytes
-/// is less than 4 times one more than the bytes are, and at most 1,000 of `(` and `<` are open at once.
+/// Descent reads what stands in the arguments of an extended attribute up to three times. So it
+/// looks at a byte up to 3 to the power of the `[` that are open there. This says whether the sum
+/// of that over all bytes is less than 4 times one more than the bytes are, and at most 1,000 of
+/// `(` and `<` are open at once.
 ///
-/// That isn't all: each of the fourteen kinds of definitions that is tried reads anew what stands in front of
-/// a definition. With extended attributes of 3 to 12 kB there, `callback` was read in 8 to 21 times the time
-/// of `interface`. No bound on the steps of descent is proved.
+/// That isn't all: each of the fourteen kinds of definitions that is tried reads anew what stands
+/// in front of a definition. With extended attributes of 3 to 12 kB there, `callback` was read in 8
+/// to 21 times the time of `interface`. No bound on the steps of descent is proved.
 ///
 /// It looks at most once at each byte, and takes no memory.
 pub fn suits_descent(raw: &str) -> bool

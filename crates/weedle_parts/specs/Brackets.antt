@@ -24,7 +24,7 @@ module _ {O C T B : Type 0} (left right : ℕ) (view : B → O × (T × C)) (R :
   abbrev pub bracket_parts : Reading (O × (T × C))
   bracket_parts = pair_reading (own left (λ v. Mark) ⊥) (pair_reading R (own right (λ v. Mark) ⊥))
 
-  -- the same, seen as one value
+  -- the three parts, one after another, seen as one value
   abbrev pub bracket_reading : Reading B
   bracket_reading = seen_reading view bracket_parts
 

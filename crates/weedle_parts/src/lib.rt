@@ -8,7 +8,8 @@
 //! use weedle_term::Comma;
 //!
 //! let text = "(a, b) c";
-//! let (rest, names) = Parenthesized::<Punctuated<Identifier, Comma>>::parse(rt.alloc(), text).expect(rt, "names");
+//! let names = Parenthesized::<Punctuated<Identifier, Comma>>::parse(rt.alloc(), text);
+//! let (rest, names) = names.expect(rt, "names");
 //! assert!(rt; rest == "c" && names.body.list.len() == 2);
 //! ```
 #![tactic(auto)]

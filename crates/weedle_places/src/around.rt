@@ -74,7 +74,8 @@ fn end_or(nodes: &[Node], found: Option<usize>, place: usize) -> usize
     }
 }
 
-/// The bytes of a node without blanks and comments at either end, and those of the blanks and comments in front of it.
+/// The bytes of a node without blanks and comments at either end, and those of the blanks and
+/// comments in front of it.
 pub(crate) fn around(syntax: &Syntax<'_>, i: usize) -> (Span, Span)
     requires { i < length syntax.now.nodes }
     ensures { IsAround syntax.now.nodes i result.0 result.1 }

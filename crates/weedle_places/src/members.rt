@@ -28,8 +28,9 @@ use weedle_syntax::Syntax;
 
 /// Where a member of a definition stands, or a value of an enum.
 ///
-/// In `interface A { /* x */ attribute long x; };` the one member has the span from 22 to 40 and the core from 22 to
-/// 39; in front of it, from 13 to 22, stand two blanks and a comment, and its name stands from 37 to 38.
+/// In `interface A { /* x */ attribute long x; };` the one member has the span from 22 to 40 and
+/// the core from 22 to 39; in front of it, from 13 to 22, stand two blanks and a comment, and its
+/// name stands from 37 to 38.
 #[derive(Clone, Copy, Debug, PartialEq, Eq)]
 pub struct MemberPlace {
     /// The member, as the grammar has it: with the blanks and comments behind it.
@@ -64,7 +65,8 @@ pub(crate) fn values_at(
     definition: usize,
 ) -> Result<Vec<MemberPlace>, AllocError>
     requires { definition < length syntax.now.nodes }
-    ensures { IfOk result (λ values. AreValues syntax.now.text syntax.now.nodes definition values.items) }
+    ensures { IfOk result
+        (λ values. AreValues syntax.now.text syntax.now.nodes definition values.items) }
 {
     let nodes = syntax.nodes();
     let start = definition + 1;
@@ -100,7 +102,8 @@ pub(crate) fn members_at(
     requires rule { (node_at syntax.now.nodes definition).rule ≡ DEFINITION }
     ensures are { IfOk result (λ members. HasMembers syntax.now.text
         (node_at syntax.now.nodes definition).start (spans_of members.items)) }
-    ensures each { IfOk result (λ members. All (IsMember syntax.now.text syntax.now.nodes) members.items) }
+    ensures each { IfOk result
+        (λ members. All (IsMember syntax.now.text syntax.now.nodes) members.items) }
 {
     let _ = syntax.nodes();
     let mut kinds = syntax.children(definition);
@@ -120,8 +123,10 @@ fn members_of(
     requires seq { (parts : List ℕ) × (row_of (node_at syntax.now.nodes kind).rule ≡ Seq parts) }
     ensures are { IfOk result (λ members. (parts : List ℕ)
         → row_of (node_at syntax.now.nodes kind).rule ≡ Seq parts
-        → AreMembers syntax.now.text parts (node_at syntax.now.nodes kind).start (spans_of members.items)) }
-    ensures each { IfOk result (λ members. All (IsMember syntax.now.text syntax.now.nodes) members.items) }
+        → AreMembers syntax.now.text parts (node_at syntax.now.nodes kind).start
+        (spans_of members.items)) }
+    ensures each { IfOk result
+        (λ members. All (IsMember syntax.now.text syntax.now.nodes) members.items) }
 {
     let nodes = syntax.nodes();
     for part in syntax.children(kind) {
@@ -142,8 +147,10 @@ fn members_in(
     requires list { (y : ℕ) × (the_member_of (node_at syntax.now.nodes braced).rule ≡ Some y) }
     ensures are { IfOk result (λ members. (y : ℕ)
         → the_member_of (node_at syntax.now.nodes braced).rule ≡ Some y
-        → IsBehindBrace syntax.now.text y (node_at syntax.now.nodes braced).start (spans_of members.items)) }
-    ensures each { IfOk result (λ members. All (IsMember syntax.now.text syntax.now.nodes) members.items) }
+        → IsBehindBrace syntax.now.text y (node_at syntax.now.nodes braced).start
+        (spans_of members.items)) }
+    ensures each { IfOk result
+        (λ members. All (IsMember syntax.now.text syntax.now.nodes) members.items) }
 {
     // What is known of a tree comes with its nodes.
     let _ = syntax.nodes();
@@ -163,8 +170,10 @@ fn listed(alloc: Global, syntax: &Syntax<'_>, list: usize) -> Result<Vec<MemberP
     requires many { (y : ℕ) × (row_of (node_at syntax.now.nodes list).rule ≡ Many y) }
     ensures are { IfOk result (λ members. (y : ℕ)
         → row_of (node_at syntax.now.nodes list).rule ≡ Many y
-        → AreItems syntax.now.text y (node_at syntax.now.nodes list).start (spans_of members.items)) }
-    ensures each { IfOk result (λ members. All (IsMember syntax.now.text syntax.now.nodes) members.items) }
+        → AreItems syntax.now.text y (node_at syntax.now.nodes list).start
+        (spans_of members.items)) }
+    ensures each { IfOk result
+        (λ members. All (IsMember syntax.now.text syntax.now.nodes) members.items) }
 {
     let _ = syntax.nodes();
     let mut members = Vec::new(alloc);

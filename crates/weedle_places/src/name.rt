@@ -13,7 +13,8 @@ use weedle_syntax::Syntax;
 
 /// A name that stands in a text, and what it stands for.
 ///
-/// In `interface _A {};` the name is `A`, an interface; its span from 10 to 12 has the underscore in it.
+/// In `interface _A {};` the name is `A`, an interface; its span from 10 to 12 has the underscore
+/// in it.
 #[derive(Clone, Copy, Debug, PartialEq, Eq)]
 pub struct Name<'a> {
     /// Its letters, without an underscore in front: what the typed tree has.
@@ -28,8 +29,8 @@ pub struct Name<'a> {
 pub(crate) fn word_at<'a>(syntax: &Syntax<'a>, i: usize) -> (Span, &'a str)
     requires within { i < length syntax.now.nodes }
     requires name { is_name syntax.now.nodes i ≡ true }
-    ensures { IsNamed syntax.now.text (node_at syntax.now.nodes i).start (node_at syntax.now.nodes i).end
-        result.0 result.1.now }
+    ensures { IsNamed syntax.now.text (node_at syntax.now.nodes i).start
+        (node_at syntax.now.nodes i).end result.0 result.1.now }
 {
     let nodes = syntax.nodes();
     let mut parts = syntax.children(i);
@@ -60,9 +61,11 @@ fn name_at<'a>(syntax: &Syntax<'a>, i: usize, role: Role) -> Name<'a>
     Name { text, span, role }
 }
 
-/// The names of a syntax tree, in their order: of the definitions at the front of its text, where it is a front's.
+/// The names of a syntax tree, in their order: of the definitions at the front of its text, where
+/// it is a front's.
 ///
-/// It goes through the nodes once, and asks for memory for the answer, and for 16 bytes for each level of the tree.
+/// It goes through the nodes once, and asks for memory for the answer, and for 16 bytes for each
+/// level of the tree.
 pub fn names_of<'a>(alloc: Global, syntax: &Syntax<'a>) -> Result<Vec<Name<'a>>, AllocError>
     ensures { IfOk result (λ names. AreNames syntax.now.text syntax.now.nodes names.items) }
 {
@@ -76,15 +79,18 @@ pub fn names_of<'a>(alloc: Global, syntax: &Syntax<'a>) -> Result<Vec<Name<'a>>,
     Ok(names)
 }
 
-/// Every name of a text and what it stands for, in the order of the text; None where the text isn't read whole.
+/// Every name of a text and what it stands for, in the order of the text; None where the text isn't
+/// read whole.
 ///
-/// In `interface A : B { attribute C x; };` these are `A`, an interface, `B`, which is inherited from, `C`, a type, and
-/// `x`, an attribute. Keywords are no names, nor are strings.
+/// In `interface A : B { attribute C x; };` these are `A`, an interface, `B`, which is inherited
+/// from, `C`, a type, and `x`, an attribute. Keywords are no names, nor are strings.
 ///
-/// It reads as [`Syntax::new`] does, and costs the same; beside that it goes once through the nodes.
+/// It reads as [`Syntax::new`] does, and costs the same; beside that it goes once through the
+/// nodes.
 pub fn names<'a>(alloc: Global, raw: &'a str) -> Result<Option<Vec<Name<'a>>>, AllocError>
     ensures whole { IfOk result (λ found. IsSome found ↔ IsWhole raw.entry.now) }
-    ensures are { IfOk result (λ found. IfSome found (λ names. HasNames raw.entry.now names.items)) }
+    ensures are { IfOk result
+        (λ found. IfSome found (λ names. HasNames raw.entry.now names.items)) }
 {
     match Syntax::new(alloc, raw)? {
         Some(syntax) => {

@@ -16,8 +16,8 @@ use weedle_syntax::Syntax;
 /// member that from 14 to 32.
 #[derive(Debug, Drop)]
 pub struct Place {
-    /// The definition, as the grammar has it: with the blanks and comments behind it. The first definition has those
-    /// in front of it too.
+    /// The definition, as the grammar has it: with the blanks and comments behind it. The first
+    /// definition has those in front of it too.
     pub span: Span,
     /// The same without blanks and comments at either end.
     pub core: Span,
@@ -79,8 +79,9 @@ pub fn places_of(alloc: Global, ends: &Ends<'_>) -> Result<Option<Vec<Place>>, A
 /// the blank between them belongs to what stands before it. The empty text has none; of
 /// `interface A {` the answer is None.
 ///
-/// It reads as [`Syntax::new`] does: by descent where that suits the text, and else over a table of ends. It asks for
-/// memory for that and for the answer, and where it is refused, the answer is an error.
+/// It reads as [`Syntax::new`] does: by descent where that suits the text, and else over a table of
+/// ends. It asks for memory for that and for the answer, and where it is refused, the answer is an
+/// error.
 pub fn places(alloc: Global, raw: &str) -> Result<Option<Vec<Place>>, AllocError>
     ensures whole { IfOk result (λ found. IsSome found ↔ IsWhole raw.now) }
     ensures are { IfOk result

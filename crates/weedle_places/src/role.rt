@@ -83,8 +83,8 @@ pub enum Role {
     Inherited,
     /// An extended attribute, as `Exposed` in `[Exposed=Window]`.
     ExtendedAttribute,
-    /// What stands behind the `=` of an extended attribute, as `Window` in `[Exposed=Window]` and in
-    /// `[Exposed=(Window,Worker)]`, and `Image` in `[NamedConstructor=Image(long x)]`.
+    /// What stands behind the `=` of an extended attribute, as `Window` in `[Exposed=Window]` and
+    /// in `[Exposed=(Window,Worker)]`, and `Image` in `[NamedConstructor=Image(long x)]`.
     ExtendedAttributeValue,
 }
 
@@ -126,7 +126,8 @@ fn of_member(rule: u16) -> Option<Role>
     }
 }
 
-/// The role of the first name that a part of a definition or of a member reads; None of another rule.
+/// The role of the first name that a part of a definition or of a member reads; None of another
+/// rule.
 fn of_part(rule: u16) -> Option<Role>
     ensures { result ≡ the_of_part rule }
 {
@@ -147,8 +148,8 @@ fn of_part(rule: u16) -> Option<Role>
     }
 }
 
-/// The role of a name before which another stands that the same rule reads; None of a rule of which that has the role
-/// of the first.
+/// The role of a name before which another stands that the same rule reads; None of a rule of which
+/// that has the role of the first.
 fn of_later(rule: u16) -> Option<Role>
     ensures { result ≡ the_of_later rule }
 {
@@ -160,8 +161,8 @@ fn of_later(rule: u16) -> Option<Role>
     }
 }
 
-/// The role of a name by the rule that reads it, and by whether that has read a name before; None of a rule that reads
-/// none.
+/// The role of a name by the rule that reads it, and by whether that has read a name before; None
+/// of a rule that reads none.
 pub(crate) fn role_of(rule: Rule, later: bool) -> Option<Role>
     ensures { result ≡ the_role_of rule later }
 {

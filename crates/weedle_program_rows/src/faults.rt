@@ -17,7 +17,8 @@ fn count_in(alloc: Global, text: &str) -> anyhow::Result<usize> {
     Ok(length(parse_quick(alloc, text).map_err(|fault| at_byte(text, fault))?))
 }
 
-/// The same of a text that lives as long as the program. The error shows what is left of it.
+/// How many definitions a text has that lives as long as the program. The error shows what is left
+/// of the text.
 fn count_or_show(alloc: Global, text: &'static str) -> anyhow::Result<usize> {
     Ok(length(parse_quick(alloc, text)?))
 }

@@ -1,5 +1,6 @@
-//! Texts that nest deep or seem to: which reader a run takes, and what it writes. A run that took descent for one that
-//! it isn't for would not end. `tools/hostile.py` times the program with these texts and longer ones.
+//! Texts that nest deep or seem to: which reader a run takes, and what it writes. A run that took
+//! descent for one that it isn't for would not end. `tools/hostile.py` times the program with these
+//! texts and longer ones.
 
 use std::alloc::Global;
 use std::process::Abort;
@@ -10,7 +11,7 @@ use weedle_testing::{nested_attributes, repeated, short_reader, short_writer};
 
 const UNREAD: &str = "unread at byte 0\n";
 
-/// How many bytes a reader gives and a writer takes at once.
+/// How many bytes an input gives and an output takes at once.
 const MANY: usize = 1_000_000;
 
 /// Asserts that the text nests so, that descent isn't for it, and what a run says of it.

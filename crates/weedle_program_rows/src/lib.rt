@@ -1,5 +1,5 @@
-//! Tests of runs of the program, of what errors and refusals say, and of the examples in README.md and docs/USING.md:
-//! of what can't be seen from outside the built programs.
+//! Tests of runs of the program, of what errors and refusals say, and of the examples in README.md
+//! and docs/USING.md: of what can't be seen from outside the built programs.
 #![tactic(auto)]
 
 #[cfg(test)]

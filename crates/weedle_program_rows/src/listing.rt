@@ -1,4 +1,5 @@
-//! The arguments and statuses of the program that lists definitions. They are those that USING.md promises.
+//! The arguments and statuses of the program that lists definitions. They are those that USING.md
+//! promises.
 
 use std::alloc::{AllocError, Global};
 use std::env::Args;

@@ -1,4 +1,5 @@
-//! What is said of texts that are refused, as values. What is printed of them is tested over the built program.
+//! What is said of texts that are refused, as values. What is printed of them is tested over the
+//! built program.
 //!
 //! The expected words are those of the grammar's rows that are unmet there.
 

@@ -1,6 +1,10 @@
+pub mod OnceFacts
 pub mod TableFacts
 pub mod LineFacts
 pub mod WordFacts
+pub mod TextFacts
+pub mod StartFacts
+pub mod EmptyFacts
 pub mod FurthestFacts
 pub mod RefusalFacts
 pub mod FrontFacts

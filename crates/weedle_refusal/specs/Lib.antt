@@ -1,5 +1,7 @@
 pub mod Position
 pub mod Lines
 pub mod Words
+pub mod Texts
+pub mod Starts
 pub mod Furthest
 pub mod Refusal

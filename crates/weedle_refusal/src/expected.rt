@@ -1,5 +1,8 @@
 //! Words for what would have been read.
 
+ghost use Rattle.std.specs.Prelude.{◌≡◌, Some};
+ghost use Rattle.weedle_refusal.specs.Texts.{class_text, word_text};
+
 use std::fmt::{self, Display, Formatter, Write};
 use weedle_grammar::Class;
 
@@ -31,6 +34,8 @@ pub enum Expected {
 
 /// Says it in words, as `a name` or ``the end of the word``; a text stands in backticks.
 impl Display for Expected {
+    ghost output = { λ word. Some (word_text word) };
+
     fn fmt<W: Write>(&self, f: &mut Formatter<W>) -> fmt::Result {
         match self {
             Expected::Text(text) => write!(f, "`{text}`"),
@@ -48,7 +53,9 @@ impl Display for Expected {
 }
 
 /// What a byte of the class is called.
-fn member_of(class: Class) -> &'static str {
+fn member_of(class: Class) -> &'static str
+    ensures { result.now ≡ class_text class }
+{
     match class {
         Class::Blank => "a blank",
         Class::Digit => "a digit",

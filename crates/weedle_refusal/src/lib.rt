@@ -14,9 +14,11 @@
 //! It prints ``a.webidl:3:1: expected `;` ``.
 #![tactic(auto)]
 
+mod display;
 mod excerpt;
 mod expected;
 mod furthest;
+pub mod laws;
 mod lines;
 mod message;
 mod position;

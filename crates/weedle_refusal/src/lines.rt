@@ -10,7 +10,8 @@ use std::marker::Model;
 
 /// A text with the places at which its lines begin, to say the positions of many places.
 ///
-/// [`position_of`](crate::position_of) answers the same, and goes through the text up to the place each time.
+/// [`position_of`](crate::position_of) answers the same, and goes through the text up to the place
+/// each time.
 #[derive(Drop)]
 pub struct Lines<'a> {
     text: &'a str,
@@ -31,8 +32,8 @@ impl<'a> Model for Lines<'a> {
 }
 
 impl<'a> Lines<'a> {
-    /// Goes through the text once, and asks for memory for the answer: 8 bytes for each line, and no more than
-    /// twice as much.
+    /// Goes through the text once, and asks for memory for the answer: 8 bytes for each line, and
+    /// no more than twice as much.
     pub fn new(alloc: Global, text: &'a str) -> Result<Lines<'a>, AllocError>
         ensures { IfOk result (λ lines. lines ≡ text.entry.now) }
     {
@@ -51,8 +52,8 @@ impl<'a> Lines<'a> {
     ///
     /// In `interface A {\n  é ?` the `?` has the place 19; it stands in line 2, at column 5.
     ///
-    /// It halves the lines: of a million it looks at 20. Then it looks at the bytes of the place's own line before
-    /// it. It takes no memory.
+    /// It halves the lines: of a million it looks at 20. Then it looks at the bytes of the place's
+    /// own line before it. It takes no memory.
     pub fn position(&self, place: usize) -> Position
         requires { place ≤ length self.now }
         ensures { IsPositionOf self.now place result }

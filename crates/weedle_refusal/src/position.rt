@@ -1,7 +1,8 @@
 //! Lines and columns.
 
-ghost use Rattle.std.specs.Prelude.{◌≡◌, ◌==◌, ◌≤◌, length, count_by};
+ghost use Rattle.std.specs.Prelude.{◌≡◌, ◌==◌, ◌≤◌, Some, length, count_by};
 ghost use Rattle.weedle_refusal.specs.Position.{IsPositionOf, begins_character, last_line};
+ghost use Rattle.weedle_refusal.specs.Texts.{position_text};
 
 use std::fmt::{self, Display, Formatter, Write};
 
@@ -16,6 +17,8 @@ pub struct Position {
 
 /// Says the line and the column, as `3:14`.
 impl Display for Position {
+    ghost output = { λ position. Some (position_text position) };
+
     fn fmt<W: Write>(&self, f: &mut Formatter<W>) -> fmt::Result {
         let Position { line, column } = *self;
         write!(f, "{line}:{column}")

@@ -7,12 +7,7 @@ ghost use Rattle.weedle_syntax.specs.Syntax.{RestBegins, rest_of as the_rest_of}
 use crate::expected::Expected;
 use crate::furthest::furthest_in;
 use std::alloc::{AllocError, Global};
-use std::error;
-use std::fmt::{self, Display, Formatter, Write};
 use weedle_syntax::{Node, syntax_of_front};
-
-/// How many words are shown at most.
-const SHOWN: usize = 6;
 
 /// Where and why a text is refused. Places are in bytes from the front of the text.
 ///
@@ -30,30 +25,6 @@ pub struct Refusal {
     /// nearly everywhere, aren't among it.
     pub expected: Vec<Expected>,
 }
-
-/// Says what was expected, as ``expected `}` or `,` ``: six words at most, and then how many more there are.
-impl Display for Refusal {
-    fn fmt<W: Write>(&self, f: &mut Formatter<W>) -> fmt::Result {
-        let more = self.expected.len().saturating_sub(SHOWN);
-        f.write_str("expected ")?;
-        for (at, word) in self.expected.iter().take(SHOWN).enumerate() {
-            f.write_str(if at == 0 {
-                ""
-            } else if more == 0 && at + 1 == self.expected.len() {
-                " or "
-            } else {
-                ", "
-            })?;
-            write!(f, "{word}")?;
-        }
-        if more > 0 {
-            write!(f, " or {more} more")?;
-        }
-        Ok(())
-    }
-}
-
-impl error::Error for Refusal {}
 
 /// Why a text is refused, or None where it is read whole.
 ///

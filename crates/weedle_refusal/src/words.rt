@@ -1,17 +1,20 @@
 //! The words for the rules that are unmet at a place.
 
-ghost use Rattle.std.specs.Prelude.{◌≡◌, ◌↔◌, ℕ, true, false, IsTrue, OnOk, IfOk, IfSome, IfNone};
-ghost use Rattle.std.specs.List.{Contains, list_all};
+ghost use Rattle.std.specs.Prelude.{◌≡◌, ◌++◌, ◌∷◌, [], List, IfOk, OnOk, map, option_map};
+ghost use Rattle.std.specs.List.{filter_map, list_all};
 ghost use Rattle.weedle_refusal.specs.Words.{
-  AreSound,
   AreWords,
-  IsSaid,
-  Says,
+  IsEachOnce,
+  Word,
   has as among,
-  has_word,
   is_left_out as left_out,
-  is_named,
   is_start as starts_with,
+  is_type_start,
+  is_value_start,
+  named_word,
+  own_word,
+  word_for,
+  word_view,
 };
 
 use crate::expected::Expected;
@@ -26,7 +29,7 @@ use weedle_grammar::grammar::trivia::{
 };
 use weedle_grammar::{Row, Rule, row_of};
 
-/// The words for these rules, each once.
+/// The words for these rules in their order, each once.
 pub(crate) fn words_of(alloc: Global, rules: &[Rule]) -> Result<Vec<Expected>, AllocError>
     ensures { IfOk result (λ words. AreWords rules.now words.items) }
 {
@@ -39,11 +42,8 @@ pub(crate) fn words_of(alloc: Global, rules: &[Rule]) -> Result<Vec<Expected>, A
 
 /// Adds the word for one of the rules, if it has one that isn't there yet.
 fn add_word(words: &mut Vec<Expected>, rules: &[Rule], rule: Rule) -> Result<(), AllocError>
-    requires among { Contains rules.now rule }
-    requires sound { AreSound rules.now words.old.items }
-    ensures sound { AreSound rules.now words.new.items }
-    ensures said { OnOk result (has_word rule ≡ true → IsSaid rules.now words.new.items rule) }
-    ensures kept { (r : ℕ) → IsSaid rules.now words.old.items r → IsSaid rules.now words.new.items r }
+    ensures { OnOk result ((before : List Word) → IsEachOnce before (map word_view words.old.items)
+        → IsEachOnce (before ++ filter_map (word_for rules.now) (rule ∷ [])) (map word_view words.new.items)) }
 {
     let Some(word) = word_among(rules, rule) else {
         return Ok(());
@@ -57,8 +57,7 @@ fn add_word(words: &mut Vec<Expected>, rules: &[Rule], rule: Rule) -> Result<(),
 /// The word for a rule among these: that of its kind where all starts of the kind are there, and else its
 /// own.
 fn word_among(rules: &[Rule], rule: Rule) -> Option<Expected>
-    ensures some { IfSome result (λ word. Says rules.now word rule) }
-    ensures none { IfNone result (has_word rule ≡ false) }
+    ensures { option_map word_view result ≡ word_for rules.now rule }
 {
     if is_type(rules, rule) {
         Some(Expected::Type)
@@ -67,13 +66,13 @@ fn word_among(rules: &[Rule], rule: Rule) -> Option<Expected>
     } else if is_start(rules, NAMES, rule) {
         Some(Expected::Name)
     } else {
-        word_of(rules, rule)
+        word_of(rule)
     }
 }
 
 /// Whether the rule is a start of a type, and all of those are there.
 fn is_type(rules: &[Rule], rule: Rule) -> bool
-    ensures { IsTrue result → Says rules.now Expected.Type rule }
+    ensures { result ≡ is_type_start rules.now rule }
 {
     is_start(rules, TYPES, rule)
         || is_start(rules, TYPES_BUT_ANY, rule)
@@ -82,7 +81,7 @@ fn is_type(rules: &[Rule], rule: Rule) -> bool
 
 /// Whether the rule is a start of a value, and all of those are there.
 fn is_value(rules: &[Rule], rule: Rule) -> bool
-    ensures { IsTrue result → Says rules.now Expected.Value rule }
+    ensures { result ≡ is_value_start rules.now rule }
 {
     is_start(rules, DEFAULT_VALUES, rule) || is_start(rules, CONST_VALUES, rule)
 }
@@ -116,15 +115,14 @@ fn has(rules: &[Rule], number: u16) -> bool
 }
 
 /// The word for a rule by itself.
-fn word_of(rules: &[Rule], rule: Rule) -> Option<Expected>
-    ensures some { IfSome result (λ word. Says rules.now word rule) }
-    ensures none { IfNone result (has_word rule ≡ false) }
+fn word_of(rule: Rule) -> Option<Expected>
+    ensures { option_map word_view result ≡ own_word rule }
 {
     let number = rule.number();
     if is_left_out(number) {
         return None;
     }
-    if let Some(word) = named(rules, number) {
+    if let Some(word) = named(number) {
         return Some(word);
     }
     match row_of(rule) {
@@ -148,9 +146,8 @@ fn is_left_out(number: u16) -> bool
 }
 
 /// The word for what must not follow and for what ends, or None where the rule is none of those.
-fn named(rules: &[Rule], number: u16) -> Option<Expected>
-    ensures some { IfSome result (λ word. Says rules.now word number) }
-    ensures none { IfNone result (is_named number ≡ false) }
+fn named(number: u16) -> Option<Expected>
+    ensures { option_map word_view result ≡ named_word number }
 {
     match number {
         NOT_NEXT_NAME => Some(Expected::EndOfWord),

@@ -46,7 +46,7 @@ indented_line text = line (codes "  " ++ text)
 abbrev pub indented : List ℕ → List ℕ
 indented text = flat_map indented_line (slice_split (λ byte. byte == 10) text)
 
--- the same where there is a text
+-- such a line for each part of a text, where there is one
 abbrev pub indented_if_given : Option (List ℕ) → List ℕ
 indented_if_given None = []
 indented_if_given (Some text) = indented text

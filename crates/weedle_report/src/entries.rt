@@ -30,11 +30,11 @@ pub struct Entry<'d, 'a> {
 /// What is said of each definition, in order.
 ///
 /// For the definitions of a text of the lines `/// Shows pages.`, `interface Window {};` and
-/// `Window includes Timers;` it is an `interface` named `Window` with the docstring ` Shows pages.`, and an
-/// `includes` named `Window` without one.
+/// `Window includes Timers;` it is an `interface` named `Window` with the docstring
+/// ` Shows pages.`, and an `includes` named `Window` without one.
 ///
-/// It takes memory for the list of entries, and fails where that is refused. Texts aren't copied: docstrings
-/// are parts of the definitions, and names are parts of the text that was read.
+/// It takes memory for the list of entries, and fails where that is refused. Texts aren't copied:
+/// docstrings are parts of the definitions, and names are parts of the text that was read.
 pub fn outline<'d, 'a>(
     alloc: Global,
     definitions: &'d Definitions<'a>,

@@ -11,8 +11,8 @@ ghost use Rattle.std.specs.Fn.{FnOnceReturnsAt};
 /// let entries = outline(alloc, &definitions)?;
 /// ```
 ///
-/// which this prover doesn't take: a call that borrows from a local list of definitions is more than it can
-/// compute. Lent, it does:
+/// which this prover doesn't take: a call that borrows from a local list of definitions is more
+/// than it can compute. Lent, it does:
 ///
 /// ```rust
 /// let count = lend(parse(alloc, text)?, move |definitions: &Definitions<'_>| {
@@ -20,9 +20,9 @@ ghost use Rattle.std.specs.Fn.{FnOnceReturnsAt};
 /// })?;
 /// ```
 ///
-/// The type of the closure's argument has to be written, and `move` where the closure uses something beside
-/// it, as `alloc` here. A closure that holds a reference is again more than the prover can compute: what it
-/// refers to is lent too, as a pair.
+/// The type of the closure's argument has to be written, and `move` where the closure uses
+/// something beside it, as `alloc` here. A closure that holds a reference is again more than the
+/// prover can compute: what it refers to is lent too, as a pair.
 ///
 /// ```rust
 /// let is_there = lend((definitions, name), |(definitions, name): &(Definitions<'_>, &str)| {
@@ -30,8 +30,8 @@ ghost use Rattle.std.specs.Fn.{FnOnceReturnsAt};
 /// });
 /// ```
 ///
-/// What the closure answers can't borrow from what is lent, so what is done with the entries is done in the
-/// closure.
+/// What the closure answers can't borrow from what is lent, so what is done with the entries is
+/// done in the closure.
 pub fn lend<T: Drop, R, F: FnOnce(&T) -> R>(owned: T, f: F) -> R
     requires { F.IsAlwaysCallable f }
 

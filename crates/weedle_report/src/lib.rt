@@ -1,12 +1,13 @@
-//! What is said of definitions: their kinds and names, outlines with their docstrings, and reports of
-//! lines; and [`lend`], by which a function lends the list that it owns.
+//! What is said of definitions: their kinds and names, outlines with their docstrings, and reports
+//! of lines; and [`lend`], by which a function lends the list that it owns.
 //!
 //! ```rust
 //! use weedle_base::Parse;
 //! use weedle_idl::Definitions;
 //! use weedle_report::{kind_of, name_of};
 //!
-//! let (_, definitions) = Definitions::parse(rt.alloc(), "interface Window {};").expect(rt, "text");
+//! let text = "interface Window {};";
+//! let (_, definitions) = Definitions::parse(rt.alloc(), text).expect(rt, "definitions");
 //! for definition in definitions {
 //!     assert!(rt; kind_of(&definition) == "interface" && name_of(&definition) == "Window");
 //! }

@@ -14,12 +14,13 @@ use weedle_idl::Definition;
 pub trait Report {
     ghost lines: { Definition → List ℕ };
 
-    /// Adds the lines of a definition.
+    /// Adds the lines of a definition. Where memory is refused the report may have grown in
+    /// part.
     fn push(definition: &Definition<'_>, report: &mut String) -> Result<(), AllocError>
         ensures { OnOk result (string_bytes report.new ≡ string_bytes report.old ++ lines definition.now) };
 }
 
-/// Of each definition its kind and its name.
+/// The report of titles: of each definition its kind and its name.
 pub struct Titles;
 
 impl Report for Titles {
@@ -32,7 +33,7 @@ impl Report for Titles {
     }
 }
 
-/// Of each definition its kind and its name, and below them its docstring.
+/// The report of outlines: of each definition its kind and its name, and below them its docstring.
 pub struct Outlines;
 
 impl Report for Outlines {
@@ -44,7 +45,8 @@ impl Report for Outlines {
     }
 }
 
-/// The lines of each definition in order, and then how many definitions they are.
+/// The lines of each definition in order, and then how many definitions they are. It fails where
+/// memory for them is refused.
 pub fn lines_of<P: Report>(
     alloc: Global,
     definitions: &[Definition<'_>],

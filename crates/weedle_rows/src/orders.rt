@@ -10,8 +10,8 @@ use weedle_idl::Definitions;
 /// Checks that what is read of each text is less than what is read of those behind it, and that a
 /// copy of all equals them.
 ///
-/// It reads any type: a function that holds a list of definitions and lends it is more than the prover
-/// can compute, and one that holds a list of any type isn't.
+/// It reads any type: a function that holds a list of definitions and lends it is more than the
+/// prover can compute, and one that holds a list of any type isn't.
 fn rise<'a, T: Parse<'a> + Ord + TryClone>(
     rt: &impl Abort,
     alloc: Global,
@@ -38,7 +38,9 @@ fn all_rise<T: Ord>(rt: &impl Abort, values: &[T]) {
     }
 }
 
-/// The same of lists of definitions. It takes the prover a minute at each place where the type is named.
+/// Checks that the list of definitions of each text is less than those of the texts behind it, and
+/// that a copy of all equals them. It takes the prover a minute at each place where the type is
+/// named.
 fn definitions_rise(rt: &impl Abort, alloc: Global, texts: &[&str]) -> Result<(), Fail> {
     rise::<Definitions<'_>>(rt, alloc, texts)
 }

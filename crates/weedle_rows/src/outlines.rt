@@ -23,7 +23,7 @@ fn is_outline(alloc: Global, list: &Definitions<'_>, said: &[Said]) -> Result<bo
     Ok(are_said(&outline(alloc, list)?, said))
 }
 
-/// The same of a list that it lends.
+/// Whether this is the outline of the list, which it owns and lends.
 fn is_outline_of(alloc: Global, list: Definitions<'_>, said: &[Said]) -> Result<bool, AllocError> {
     lend(
         (list, said),

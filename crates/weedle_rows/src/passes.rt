@@ -54,7 +54,8 @@ fn assert_passes_agree<T: PartialEq>(
     assert_eq!(rt; (a.1, a.2), (b.1, b.2), "of {text:?}");
 }
 
-/// Asserts that the passes over both tables agree, and direct descent with them where it is to be tried.
+/// Asserts that the passes over both tables agree, and direct descent with them where it is to be
+/// tried.
 fn assert_all_agree<'a, T: Parse<'a> + PartialEq>(
     rt: &impl Abort,
     alloc: Global,

@@ -7,7 +7,7 @@ use Rattle.weedle_rules.specs.Filling.{Filling, Open, IsBegun, IsWorked}
 use Rattle.weedle_grammar.specs.written.Table.{webidl, row_of}
 use Rattle.weedle_rules.proofs.RowEnds.{is_before, RowEnds, rule_ends, ends_after, ends_inside}
 
--- v is w after some looks, k reads in all
+-- v is w after some looks, k in all
 pub record Looked (w v : Open) (k : ℕ) : Type 0 where
   pub is : v ≡ record w { count = k }
 

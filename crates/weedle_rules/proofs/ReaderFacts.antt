@@ -1,4 +1,4 @@
--- What a reader's steps keep.
+-- What the counting view's steps keep.
 use Rattle.std.proofs.Common.{◌≡◌, inl, inr, ℕ, ◌+◌, ◌-◌, ◌*◌, ◌<◌, ◌≤◌, List, [], ◌∷◌, ◌++◌, length, map, take, get_or, set, Bool, true, false, Option, None, refl, ap, sym, subst, ◌∙◌, arith, max}
 use Rattle.std.specs.Prelude.{IfSome}
 use Rattle.std.proofs.lemmas.List.{get_or-map, get_or-take, map-append, length-append, length-map, length-set, length-take-le, take-append-le, take_more_set}

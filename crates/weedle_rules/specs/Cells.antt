@@ -17,7 +17,7 @@ pub record EndsBy (G : Grammar) (text : List ℕ) (r p : ℕ) (e : Option ℕ) :
   pub reads : ReadsBy G text r p outcome
   pub is : e ≡ end_of outcome
 
--- the same of the grammar of the crate
+-- rule r of the grammar of WebIDL has this end at place p, or fails there
 abbrev pub HasEnd : List ℕ → ℕ → ℕ → Option ℕ → Type 0
 HasEnd text r p e = EndsBy webidl text r p e
 

@@ -1,4 +1,4 @@
--- A reader's fields as contracts see them, and what always holds of them.
+-- The counting view's fields as contracts see them, and what always holds of them.
 use Rattle.std.specs.Prelude.{◌≡◌, ◌≤◌, ◌<◌, ◌+◌, ◌-◌, ◌*◌, ℕ, Bool, true, List, length, map, take, Option}
 use Rattle.std.proofs.Common.{get_or}
 use Rattle.std.specs.List.{flat_map}
@@ -19,7 +19,7 @@ known_of stands workings rows = map stands (take workings (cells_of rows))
 abbrev pub AreRows : {C : Type 0} → List (List C) → Type 0
 AreRows {C} rows = (i : ℕ) (d : List C) → i < length rows → length (get_or rows i d) ≡ rule_count
 
--- what always holds of a reader whose cells stand for outcomes by `stands`, up to the greatest end
+-- what always holds of a counting view whose cells stand for outcomes by `stands`, up to the greatest end
 pub record IsReader {C : Type 0} (stands : C → Option ℕ) (greatest : ℕ) (text : List ℕ) (rows : List (List C)) (capacity before workings reads most : ℕ) (is_open : Bool) : Type 0 where
   -- every end in the text can be held
   pub fits : length text ≤ greatest
@@ -32,7 +32,7 @@ pub record IsReader {C : Type 0} (stands : C → Option ℕ) (greatest : ℕ) (t
   pub few : length rows ≤ length text + 1
   -- each known cell is its rule's end, or its failure, at its place
   pub right : AllRight text (known_of stands workings rows)
-  -- how many reads each closed working-out took
+  -- how many looks each closed working-out took
   pub counts : List ℕ
   pub counted : AreCounts most_reads counts workings reads most
   -- while a working-out is open, its cell is laid out

@@ -11,7 +11,7 @@ pub record TableOfEnds : Type 0 where
   pub known : List (Option ℕ)
   -- how many cells were worked out
   pub workings : ℕ
-  -- how many reads that took, and how many the one that took most
+  -- how many looks that took, and how many the one that took most
   pub reads : ℕ
   pub most : ℕ
   -- whether its cells are narrow
@@ -21,21 +21,21 @@ pub record TableOfEnds : Type 0 where
 abbrev pub greatest : List ℕ → ℕ
 greatest ns = fold max 0 ns
 
--- so many reads one working-out may take, where k are allowed
+-- so many looks one working-out may take, where k are allowed
 abbrev pub IsAmount : ℕ → ℕ → Type 0
 IsAmount k n = (1 ≤ n) × (n ≤ k)
 
--- of workings-out that took so many reads each, in this order: how many they are, the sum of the reads, and the greatest
+-- of workings-out that took so many looks each, in this order: how many they are, the sum of the looks, and the greatest
 pub record AreCounts (k : ℕ) (counts : List ℕ) (workings reads most : ℕ) : Type 0 where
   pub each : All (IsAmount k) counts
   pub workings_are : workings ≡ length counts
   pub reads_are : reads ≡ sum counts
   pub most_is : most ≡ greatest counts
 
--- what always holds of the counts, where a working-out may take k reads
+-- what always holds of the counts, where a working-out may take k looks
 pub record IsCounted (k : ℕ) (known : List (Option ℕ)) (workings reads most : ℕ) : Type 0 where
   pub each : workings ≡ length known
-  -- how many reads the working-out of each known cell took
+  -- how many looks the working-out of each known cell took
   pub counts : List ℕ
   pub counted : AreCounts k counts workings reads most
 

@@ -1,7 +1,7 @@
 //! Filling a table: from the last place to the first, at each place in the order of the rules.
 //!
-//! All of it is inlined into the function that makes the table: so the compiler knows the row of each
-//! rule, and keeps the reader's fields in registers.
+//! All of it is inlined into the function that makes the table: so the compiler knows the row of
+//! each rule, and keeps the counting view's fields in registers.
 
 ghost use Rattle.std.specs.Prelude.{◌≡◌, ◌<◌, ◌≤◌, ◌+◌, ◌-◌, ◌*◌, length};
 ghost use Rattle.weedle_grammar.specs.written.Bound.{rule_count};

@@ -1,4 +1,4 @@
-//! The counting reader: the one way to the text and to the cells of a table that is being filled.
+//! The counting view: the one way to the text and to the cells of a table that is being filled.
 //!
 //! Its fields are private to this module. While a cell is worked out, bytes and cells are looked at
 //! by `byte` and `cell` alone, each of which counts; the text is never handed out.
@@ -72,8 +72,8 @@ impl<'a, C: Cell> Model for Reader<'a, C> {
     ghost invariant = { λ r. IsReader C.stands_for C.greatest r.text.now r.rows.items (vec_capacity r.rows) r.before (r.before + r.filled) r.reads r.most r.is_open };
 }
 
-/// The working-out of one cell: its rule and place, and how many reads it took so far. It can't
-/// be let go: the reader that began it closes it.
+/// The working-out of one cell: its rule and place, and how many looks it took so far. It can't be
+/// let go: the counting view that began it closes it.
 pub(crate) struct Working {
     rule: Rule,
     place: usize,
@@ -101,7 +101,7 @@ fn in_row<C: Cell>(row: &[C; RULES], rule: Rule) -> C
 }
 
 impl<'a, C: Cell> Reader<'a, C> {
-    /// A reader over the text with room for all cells, none of them known.
+    /// A counting view of the text, with room for all cells, none of them known.
     #[inline(always)]
     pub(crate) fn new(alloc: Global, text: &'a [u8]) -> Result<Reader<'a, C>, AllocError>
         requires { length text.now ≤ C.greatest }
@@ -118,7 +118,8 @@ impl<'a, C: Cell> Reader<'a, C> {
         })
     }
 
-    /// Lays the cells of one more place out, where all those before are known. None of them is known.
+    /// Lays the cells of one more place out, where all those before are known. None of them is
+    /// known.
     #[inline(always)]
     pub(crate) fn lay(&mut self)
         requires room { self.old.laid + rule_count ≤ (length self.old.text + 1) * rule_count }
@@ -137,7 +138,7 @@ impl<'a, C: Cell> Reader<'a, C> {
         self.before + self.filled as u128
     }
 
-    /// How many reads the closed workings-out took.
+    /// How many looks the closed workings-out took.
     pub(crate) fn reads(&self) -> u128
         ensures { result ≡ self.now.reads }
     {
@@ -212,7 +213,8 @@ impl<'a, C: Cell> Reader<'a, C> {
         self.known(rule, place)
     }
 
-    /// What the cell of the rule at the place says, while none is being worked out. It counts nothing.
+    /// What the cell of the rule at the place says, while none is being worked out. It counts
+    /// nothing.
     #[inline(always)]
     pub(crate) fn asked(&self, rule: Rule, place: usize) -> Option<usize>
         requires closed { self.now.is_open ≡ false }

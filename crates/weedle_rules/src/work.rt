@@ -1,6 +1,6 @@
 //! Working a cell out from its rule's row: a function for each kind of row.
 //!
-//! These functions have no text: they look at bytes and cells through the reader, which counts.
+//! These functions have no text: they look at bytes and cells through the counting view.
 
 ghost use Rattle.weedle_rules.specs.Filling.{IsBegun, IsWorked};
 

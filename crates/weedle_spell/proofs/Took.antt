@@ -17,11 +17,11 @@ Unfinished A s = (s ≢ []) × A (s ++ 10 ∷ [])
 abbrev pub Taken : Type 0 → List ℕ → ℕ → ℕ → Form → Type 0
 Taken L text p e A = Took text p e A ⊎ (L × (drop e text ≡ []) × Took text p e (Unfinished A))
 
--- the same bytes, of another form
+-- bytes that are of a form are of each that follows from it
 pub took_as : {text : List ℕ} {p e : ℕ} {A B : Form} → ((s : List ℕ) → A s → B s) → Took text p e A → Took text p e B
 took_as f t = record { bytes = t.bytes; is = t.is; size = t.size; has = f t.bytes t.has }
 
--- the same of what may want an LF
+-- bytes that are of a form, or want an LF, are or do so of each that follows from it
 pub taken_as : {L : Type 0} {text : List ℕ} {p e : ℕ} {A B : Form} → ((s : List ℕ) → A s → B s) → Taken L text p e A → Taken L text p e B
 taken_as f (inl t) = inl (took_as f t)
 taken_as f (inr t) = inr (t.0, t.1, took_as (λ s h. (h.0, f (s ++ 10 ∷ []) h.1)) t.2)

@@ -84,7 +84,7 @@ module _ {V : Type 0} (spelling : V → Form) where
   separated_by separator [] = empty
   separated_by separator (v ∷ vs) = spelling v then each_behind separator vs
 
-  -- the same, but one at least, and with one separator more allowed at the end
+  -- values with a separator between each two, one value at least, and perhaps one more separator at the end
   abbrev pub separated_non_empty : Form → List V → Form
   separated_non_empty separator [] = never
   separated_non_empty separator (v ∷ vs) = separated_by separator (v ∷ vs) then perhaps separator

@@ -19,7 +19,8 @@ pub record SpellsValues {V : Type 0} (rule : ℕ) (tree : V → Tree) (spelling 
   pub spells : (v : V) (text : List ℕ) (p e : ℕ) → Reads text rule p (Gives (tree v ∷ []) e) → Spells spelling v (between text p e)
   pub in_pieces : (v : V) (text : List ℕ) (p e : ℕ) → Reads text rule p (Gives (tree v ∷ []) e) → IsInPieces (tree v) (between text p e)
 
--- the same, with no LF that may be absent
+-- where the rule gives the tree of a value, the text taken spells the value as it stands, with no LF that may be
+-- absent, and has its texts in their order
 pub record SpellsExactly {V : Type 0} (rule : ℕ) (tree : V → Tree) (spelling : V → Form) : Type 0 where
   pub spells : (v : V) (text : List ℕ) (p e : ℕ) → Reads text rule p (Gives (tree v ∷ []) e) → spelling v (between text p e)
   pub in_pieces : (v : V) (text : List ℕ) (p e : ℕ) → Reads text rule p (Gives (tree v ∷ []) e) → IsInPieces (tree v) (between text p e)

@@ -4,8 +4,8 @@
 //! It says of one type: where the type's rule gives the tree of a value, the text that the rule
 //! took spells the value, and the texts that the value keeps stand in it in their order.
 //!
-//! - A spelling is a set of texts, by cases on the value (`specs/`). It knows of no places, rules or
-//!   order of choices; only the classes of bytes are the grammar's.
+//! - A spelling is a set of texts, by cases on the value (`specs/`). It knows of no places, rules
+//!   or order of choices; only the classes of bytes are the grammar's.
 //! - `Spells` holds of a text also where it would hold with an LF behind it: a line comment at the
 //!   end of a text needs no LF. Inside a value nothing is so widened, and a docstring never is.
 //! - A value has many spellings: nothing is said of which of them are read.

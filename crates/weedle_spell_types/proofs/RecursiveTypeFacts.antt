@@ -1,4 +1,4 @@
--- What types, arguments and attributes take, which hold one another: by cases on the value, as their trees and spellings are.
+-- What types, arguments and extended attributes take, which hold one another: by cases on the value, as their trees and spellings are.
 use Rattle.std.proofs.Common.{◌≡◌, ℕ, List, [], ◌∷◌, map, codes, Option, Some, None, true, false, refl, ap}
 use Rattle.weedle_base.specs.Rules.{mark_tree, option_tree}
 use Rattle.weedle_term.specs.declared.written.symbols.QMark.{QMark}
@@ -34,7 +34,7 @@ use Rattle.weedle_spell.proofs.Spelt.{Spelt, IsSpelt, part, last, node, alternat
 use Rattle.weedle_spell.proofs.SpeltLists.{AllSpelt, all_none, all_more, list_spelt}
 use Rattle.weedle_spell.proofs.TriviaFacts.{symbol, symbol_always, keyword, keyword_always}
 
--- attributes, as a list
+-- extended attributes, as a list
 attribute_row_is : {m : _} (r : Row_of-ExtendedAttribute m) → attribute_row r ≡ trees (map extended_attribute_tree (items-the_row-ExtendedAttribute _ r))
 attribute_row_is end_of-ExtendedAttribute = refl
 attribute_row_is (more_of-ExtendedAttribute v r) = ap (λ (x : Trees). Then (extended_attribute_tree v) x) (attribute_row_is r)

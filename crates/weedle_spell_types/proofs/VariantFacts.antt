@@ -54,7 +54,7 @@ arguments_of v = argument_row_spelling_is (hidden-the_row-Argument-1 v) ∙ ap (
 members_of : (v : Vec UnionMemberType Global) → union_row_spelling (hidden-the_row-UnionMemberType-2 v) ≡ separated_by union_member_type_spelling (word (codes "or")) v.items
 members_of v = union_row_spelling_is (hidden-the_row-UnionMemberType-2 v) ∙ ap (separated_by union_member_type_spelling (word (codes "or"))) (items_hidden-the_row-UnionMemberType-2 v)
 
--- attributes, or none
+-- extended attributes, or none
 held_attributes_of : (o : Option (Bracketed (Punctuated ExtendedAttribute Comma))) → held_attributes_spelling (back-SingleArgument-attributes o) ≡ attributes_spelling o
 held_attributes_of None = refl
 held_attributes_of (Some x) = ap (λ (X : Form). word (codes "[") then X then word (codes "]")) (attributes_of x.body.list)
@@ -104,7 +104,7 @@ argument_single v =
 argument_variadic : (v : VariadicArgument) → argument_spelling (Argument-Variadic v) ≡ variadic_argument_spelling v
 argument_variadic v = ap (λ (X : Form). X then type_spelling v.type_ then word (codes "...") then identifier_spelling v.identifier) (held_attributes_of v.attributes)
 
--- attributes with arguments
+-- extended attributes with arguments
 arg_list : (v : ExtendedAttributeArgList) → extended_attribute_spelling (ArgList v) ≡ extended_attribute_arg_list_spelling v
 arg_list v = ap (λ (X : Form). identifier_spelling v.identifier then word (codes "(") then X then word (codes ")")) (arguments_of v.args.body.list)
 

@@ -1,4 +1,4 @@
--- How types, arguments and attributes are spelt, which hold one another: by cases on the value, as the logic holds it, in which each value stands flat with the parts of what it holds.
+-- How types, arguments and extended attributes are spelt, which hold one another: by cases on the value, as the logic holds it, in which each value stands flat with the parts of what it holds.
 use Rattle.std.specs.Prelude.{Option, Some, None, codes}
 use Rattle.weedle_term.specs.declared.written.type_keywords.Optional.{Optional}
 use Rattle.weedle_literal.specs.declared.default.Default.{Default}
@@ -100,12 +100,12 @@ abbrev mutual
   held_single_spelling (Any' v) = terminal (codes "any") v
   held_single_spelling (Type-Single-0-NonAny' v) = non_any_type_spelling v
 
-  -- attributes in brackets, or none
+  -- extended attributes in brackets, or none
   pub held_attributes_spelling : Held-SingleArgument-attributes → Form
   held_attributes_spelling None' = empty
   held_attributes_spelling (Some' o m r s c) = terminal (codes "[") o then attribute_row_spelling r then terminal (codes "]") c
 
-  -- an attribute
+  -- an extended attribute
   pub extended_attribute_spelling : ExtendedAttribute → Form
   extended_attribute_spelling (ArgList' i o m r s c) = identifier_spelling i then (terminal (codes "(") o then argument_row_spelling r then terminal (codes ")") c)
   extended_attribute_spelling (NamedArgList' i e j o m r s c) =
@@ -114,12 +114,12 @@ abbrev mutual
   extended_attribute_spelling (Ident v) = extended_attribute_ident_spelling v
   extended_attribute_spelling (NoArgs v) = extended_attribute_no_args_spelling v
 
-  -- attributes with commas between them
+  -- extended attributes with commas between them
   pub attribute_row_spelling : {m : _} → Row_of-ExtendedAttribute m → Form
   attribute_row_spelling end_of-ExtendedAttribute = empty
   attribute_row_spelling (more_of-ExtendedAttribute v r) = extended_attribute_spelling v then more_attributes_spelling r
 
-  -- attributes, each behind a comma
+  -- extended attributes, each behind a comma
   pub more_attributes_spelling : {m : _} → Row_of-ExtendedAttribute m → Form
   more_attributes_spelling end_of-ExtendedAttribute = empty
   more_attributes_spelling (more_of-ExtendedAttribute v r) = word (codes ",") then extended_attribute_spelling v then more_attributes_spelling r

@@ -28,7 +28,7 @@ use Rattle.weedle_types.specs.declared.types.«Type».TheVariants.{Single as Typ
 use Rattle.weedle_types.specs.declared.types.«Type».{«Type»}
 use Rattle.weedle_types.specs.Trees.{type_tree, non_any_type_tree, union_member_type_tree, argument_tree, extended_attribute_tree, single_type_tree, union_type_tree, promise_type_tree, sequence_type_tree, frozen_array_type_tree, record_type_tree, attributed_non_any_type_tree, single_argument_tree, variadic_argument_tree, extended_attribute_arg_list_tree, extended_attribute_named_arg_list_tree}
 
--- the tree of each variant that holds a type, an argument or an attribute, by the tree of that
+-- the tree of each variant that holds a type, an argument or an extended attribute, by the tree of that
 pub record VariantsHaveTrees : Type 0 where
   pub type_single : (v : SingleType NonAnyType) → type_tree (Type-Single v) ≡ Alt 0 (single_type_tree v)
   pub type_union : (v : MayBeNull (Parenthesized (Punctuated UnionMemberType Or))) → type_tree (Type-Union v) ≡ Alt 1 (may_be_null_tree union_type_tree v)

@@ -34,7 +34,7 @@ use Rattle.weedle_spell_types.specs.written.Types.{single_type_spelling, union_t
 abbrev pub IsSame : Form → Form → Type 0
 IsSame A B = (s : List ℕ) → A s ↔ B s
 
--- each variant that holds a type, an argument or an attribute is spelt as that is
+-- each variant that holds a type, an argument or an extended attribute is spelt as that is
 pub record VariantsAreSpelt : Type 0 where
   pub type_single : (v : SingleType NonAnyType) → IsSame (type_spelling (Type-Single v)) (single_type_spelling v)
   pub type_union : (v : MayBeNull (Parenthesized (Punctuated UnionMemberType Or))) → IsSame (type_spelling (Type-Union v)) (may_be_null_spelling union_type_spelling v)

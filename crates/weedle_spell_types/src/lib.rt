@@ -1,9 +1,9 @@
-//! The laws of spelling of types, attributes and arguments, as `weedle_spell` has them of what holds
-//! no other type. They hold one another, so their laws are proved together.
+//! The laws of spelling of types, extended attributes and arguments, as `weedle_spell` has them of
+//! what holds no other type. They hold one another, so their laws are proved together.
 //!
-//! The logic holds a value of such a type flat, with the parts of what stands in it, and its spelling
-//! is written so. [`laws::variants`] says that it is the spelling of what stands in it all the same, and
-//! [`laws::variant_trees`] that its tree is.
+//! The logic holds a value of such a type flat, with the parts of what stands in it, and its
+//! spelling is written so. [`laws::variants`] says that it is the spelling of what stands in it all
+//! the same, and [`laws::variant_trees`] that its tree is.
 //!
 //! ```rust
 //! use weedle_base::Parse;

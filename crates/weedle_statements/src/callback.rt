@@ -11,7 +11,7 @@ use weedle_types::types::ReturnType;
 /// A callback, as `callback F = undefined (long x);`. No docstring may stand before it.
 #[derive(Debug, PartialEq, Eq, PartialOrd, Ord, Hash)]
 pub struct CallbackDefinition<'a> {
-    /// The attributes in brackets, as `[Exposed=Window]`, where they stand.
+    /// The extended attributes in brackets, as `[Exposed=Window]`, where they stand.
     pub attributes: Option<ExtendedAttributeList<'a>>,
     /// The word `callback`.
     pub callback: Callback,

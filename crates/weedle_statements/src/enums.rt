@@ -17,7 +17,8 @@ use weedle_term::{Comma, Enum, SemiColon};
 use weedle_types::attribute::ExtendedAttributeList;
 use weedle_types::parts::attributes;
 
-/// The values of an enum, one at least, and a comma behind the last where it stands, as `"a", "b",`.
+/// The values of an enum, one at least, and a comma behind the last where it stands, as
+/// `"a", "b",`.
 pub type EnumValueList<'a> = PunctuatedNonEmpty<EnumVariant<'a>, Comma>;
 
 /// A value of an enum, as `"blob"`. A docstring may stand before it.
@@ -43,7 +44,7 @@ impl Drop for EnumVariant<'_> {
 pub struct EnumDefinition<'a> {
     /// The docstring in front, where one stands.
     pub docstring: Option<Docstring>,
-    /// The attributes in brackets, as `[Exposed=Window]`, where they stand.
+    /// The extended attributes in brackets, as `[Exposed=Window]`, where they stand.
     pub attributes: Option<ExtendedAttributeList<'a>>,
     /// The word `enum`.
     pub enum_: Enum,

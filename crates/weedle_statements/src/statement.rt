@@ -17,7 +17,7 @@ use weedle_types::attribute::ExtendedAttributeList;
 /// The use of a mixin by an interface, as `A includes B;`. No docstring may stand before it.
 #[derive(Debug, PartialEq, Eq, PartialOrd, Ord, Hash)]
 pub struct IncludesStatementDefinition<'a> {
-    /// The attributes in brackets, as `[Exposed=Window]`, where they stand.
+    /// The extended attributes in brackets, as `[Exposed=Window]`, where they stand.
     pub attributes: Option<ExtendedAttributeList<'a>>,
     /// The name of the interface, before `includes`.
     pub lhs_identifier: Identifier<'a>,
@@ -44,7 +44,7 @@ impl Drop for IncludesStatementDefinition<'_> {
 /// The older form of a mixin's use, as `A implements B;`. No docstring may stand before it.
 #[derive(Debug, PartialEq, Eq, PartialOrd, Ord, Hash)]
 pub struct ImplementsDefinition<'a> {
-    /// The attributes in brackets, as `[Exposed=Window]`, where they stand.
+    /// The extended attributes in brackets, as `[Exposed=Window]`, where they stand.
     pub attributes: Option<ExtendedAttributeList<'a>>,
     /// The name of the interface, before `implements`.
     pub lhs_identifier: Identifier<'a>,

@@ -1,4 +1,4 @@
--- The same of options, lists, repetitions, and sequences with a condition.
+-- Options, lists and repetitions that are being read.
 use Rattle.std.proofs.Common.{◌≡◌, ◌≢◌, inl, inr, ℕ, ◌<◌, ◌≤◌, List, [], ◌∷◌, ◌++◌, length, take, true, Option, Some, None, refl, sym, subst, ◌∙◌, ap, arith, append_assoc, append-nil}
 use Rattle.std.proofs.lemmas.List.{take_at}
 use Rattle.weedle_grammar.specs.Rows.{Row, Opt, Many, ListOf, List1, Tail}

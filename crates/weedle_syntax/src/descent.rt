@@ -1,7 +1,7 @@
 //! The nodes of a text by descent, without a table.
 //!
-//! A node is laid down before its row is read. Where an attempt fails, what it laid down is taken back.
-//! What can't begin with the byte that stands there isn't tried.
+//! A node is laid down before its row is read. Where an attempt fails, what it laid down is taken
+//! back. What can't begin with the byte that stands there isn't tried.
 
 ghost use Rattle.std.specs.Prelude.{◌≡◌, ◌≤◌, ◌<◌, ◌+◌, [], length, IfOk, IfSome, if◌then◌else◌, option_map};
 ghost use Rattle.weedle_grammar.specs.Rows.{Seq, First, Opt, Many, ListOf, List1, Tail, If};
@@ -92,7 +92,7 @@ fn read_row(
     }
 }
 
-/// Parts one behind another.
+/// Lays down the parts of a row `Seq`, one behind another.
 #[cycle(descent)]
 fn read_parts(
     nodes: &mut Vec<Node>,
@@ -119,7 +119,7 @@ fn read_parts(
     Ok(Some(at))
 }
 
-/// The first that fits.
+/// Lays down the first part that fits of a row `First`.
 #[cycle(descent)]
 fn read_choice(
     nodes: &mut Vec<Node>,
@@ -145,7 +145,7 @@ fn read_choice(
     Ok(None)
 }
 
-/// The rule, or nothing.
+/// Lays down the rule of a row `Opt`, or nothing.
 #[cycle(descent)]
 fn read_optional(
     nodes: &mut Vec<Node>,
@@ -168,7 +168,7 @@ fn read_optional(
     }
 }
 
-/// The rule from end to end.
+/// Lays down the rule of a row `Many`, from end to end.
 #[cycle(descent)]
 fn read_items(
     nodes: &mut Vec<Node>,
@@ -198,7 +198,7 @@ fn read_items(
     }
 }
 
-/// An item and what follows it, or nothing.
+/// Lays down an item of a row `List` and what follows it, or nothing.
 #[cycle(descent)]
 fn read_list(
     nodes: &mut Vec<Node>,
@@ -225,7 +225,7 @@ fn read_list(
     }
 }
 
-/// An item and what follows it.
+/// Lays down an item of a row `List1` and what follows it.
 #[cycle(descent)]
 fn read_list1(
     nodes: &mut Vec<Node>,
@@ -252,7 +252,7 @@ fn read_list1(
     }
 }
 
-/// Items, each behind a separator.
+/// Lays down the items of a row `Tail`, each behind a separator.
 #[cycle(descent)]
 fn read_tail(
     nodes: &mut Vec<Node>,
@@ -289,7 +289,8 @@ fn read_tail(
     }
 }
 
-/// Parts, and the last behind them where the part of this number took something.
+/// Lays down the parts of a row `If`, and the last behind them where the part of this number took
+/// something.
 #[cycle(descent)]
 fn read_conditional(
     nodes: &mut Vec<Node>,
@@ -326,7 +327,7 @@ fn read_conditional(
     Ok(Some(at))
 }
 
-/// The first where the test holds, else the second.
+/// The first of two booleans where the test holds, else the second.
 fn choose(test: bool, first: bool, second: bool) -> bool
     ensures { result ≡ (if test then first else second) }
 {

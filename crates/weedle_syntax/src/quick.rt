@@ -12,7 +12,7 @@ use weedle_rules::Ends;
 
 /// The same as [`syntax`], by descent or over the table.
 ///
-/// It looks once at the text, past strings and comments. Where attributes nest so little that descent
+/// It looks once at the text, past strings and comments. Where extended attributes nest so little that descent
 /// looks at a byte four times on the average, and no more than 1,000 of `(` and `<` are open at once,
 /// it takes [`syntax_by_descent`], and else [`syntax`]. So for what people write it needs little time,
 /// and no memory but the nodes'; for a hostile text it needs what [`syntax`] needs.

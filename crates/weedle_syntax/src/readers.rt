@@ -62,7 +62,7 @@ pub fn syntax_of(alloc: Global, ends: &Ends<'_>) -> Result<Option<Vec<Node>>, Al
 /// The same as [`syntax`], by descent from the front of the text, without a table.
 ///
 /// It asks for memory for the nodes alone. Where an attempt fails, its nodes are taken back, and what
-/// is tried again is read again: so a text that nests attributes may take a time that grows
+/// is tried again is read again: so a text that nests extended attributes may take a time that grows
 /// exponentially, and one that nests deeply ends the stack. [`syntax_quick`](crate::syntax_quick)
 /// takes it where neither can be.
 pub fn syntax_by_descent(alloc: Global, raw: &str) -> Result<Option<Vec<Node>>, AllocError>

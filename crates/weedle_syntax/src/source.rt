@@ -45,8 +45,8 @@ impl<'t> Source<'t> {
         Source { text, starts }
     }
 
-    /// Whether a rule can't be read at a place, by the byte that stands there. It may fail where this
-    /// says no.
+    /// Whether a rule can't be read at a place, by the byte that stands there. It may fail where
+    /// this says no.
     #[inline(always)]
     pub(crate) fn refuses(&self, rule: Rule, place: usize) -> bool
         requires within { place ≤ length self.now }

@@ -1,7 +1,7 @@
 //! Which bytes a rule can begin with.
 //!
-//! Before it takes a byte, a rule reads only rules of smaller numbers. So one look at each row, in the
-//! order of the numbers, says which bytes each rule can begin with.
+//! Before it takes a byte, a rule reads only rules of smaller numbers. So one look at each row, in
+//! the order of the numbers, says which bytes each rule can begin with.
 
 ghost use Rattle.std.specs.Prelude.{◌≡◌, if◌then◌else◌};
 ghost use Rattle.std.specs.List.{list_any, list_all};
@@ -127,7 +127,8 @@ fn all_take(takes: &Takes, parts: Parts) -> bool
     true
 }
 
-/// Whether a rule takes a byte wherever it doesn't fail, by what is known of those that its row names.
+/// Whether a rule takes a byte wherever it doesn't fail, by what is known of those that its row
+/// names.
 fn rule_takes(takes: &Takes, rule: Rule) -> bool
     ensures { result ≡ always_takes takes.now (the_row_of rule) }
 {

@@ -41,11 +41,11 @@ use weedle_rules::Ends;
 
 /// A text with its nodes, to go from node to node.
 ///
-/// A node is named by its number in preorder, from 0 on. So a node's number is greater than those of
-/// the nodes that it stands in, and what is below a node has the numbers behind its own.
+/// A node is named by its number in preorder, from 0 on. So a node's number is greater than those
+/// of the nodes that it stands in, and what is below a node has the numbers behind its own.
 ///
-/// In `enum E { "a" };` node 0 is the root, of the rule `DEFINITIONS`, and node 1 its child, of the rule
-/// `DEFINITION`.
+/// In `enum E { "a" };` node 0 is the root, of the rule `DEFINITIONS`, and node 1 its child, of the
+/// rule `DEFINITION`.
 #[derive(Drop)]
 pub struct Syntax<'a> {
     text: &'a str,
@@ -69,8 +69,9 @@ impl<'a> Model for Syntax<'a> {
 impl<'a> Syntax<'a> {
     /// The nodes of a text that is read whole; None of one that isn't, as `interface A {`.
     ///
-    /// It reads as [`syntax_quick`](crate::syntax_quick) does, and costs the same; beside that it asks
-    /// for memory once, 8 bytes for each node.
+    /// It reads as [`syntax_quick`](crate::syntax_quick) does, and costs the same; beside that it
+    /// asks for memory once, 8 bytes for each node. Where memory is refused, the answer is an
+    /// error.
     pub fn new(alloc: Global, text: &'a str) -> Result<Option<Syntax<'a>>, AllocError>
         ensures whole { IfOk result (λ found. IsSome found ↔ IsWhole text.entry.now) }
         ensures text { IfOk result (λ found. IfSome found (λ s. s.text ≡ text.entry.now)) }
@@ -85,8 +86,9 @@ impl<'a> Syntax<'a> {
 
     /// The nodes of the definitions at the front of a text, whatever stands behind them.
     ///
-    /// [`rest`](Syntax::rest) says where the rest begins, which no definition reads: so a tool has a
-    /// tree while a text is written. It costs what [`new`](Syntax::new) costs.
+    /// [`rest`](Syntax::rest) says where the rest begins, which no definition reads: so a tool has
+    /// a tree while a text is written. It costs what [`new`](Syntax::new) costs. Where memory is
+    /// refused, the answer is an error.
     pub fn of_front(alloc: Global, text: &'a str) -> Result<Syntax<'a>, AllocError>
         ensures text { IfOk result (λ s. s.text ≡ text.entry.now) }
         ensures are { IfOk result (λ s. IsFront s.text s.nodes) }

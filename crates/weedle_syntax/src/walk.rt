@@ -1,7 +1,7 @@
 //! The nodes of a text along its table of ends.
 //!
-//! There is no recursion: nodes wait on a pile, the top goes to the answer, and what it reads directly
-//! takes its place.
+//! There is no recursion: nodes wait on a pile, the top goes to the answer, and what it reads
+//! directly takes its place.
 
 ghost use Rattle.std.specs.Prelude.{◌≡◌, ◌≤◌, ◌<◌, ◌∷◌, [], ◌++◌, length, reverse, IfOk, OnOk};
 ghost use Rattle.weedle_grammar.specs.written.Bound.{rule_count};

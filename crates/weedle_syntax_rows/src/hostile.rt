@@ -4,7 +4,7 @@ use std::test::Fail;
 use weedle_syntax::{syntax_of_front, syntax_quick};
 use weedle_testing::{nested_attributes, repeated};
 
-/// Descent would read what stands within 30 attributes 3 to the power of 30 times.
+/// Descent would read what stands within 30 extended attributes 3 to the power of 30 times.
 #[test]
 fn nested_attributes_take_no_long_time(rt: HostRuntime) -> Result<(), Fail> {
     let alloc = rt.alloc();
@@ -35,7 +35,8 @@ fn open_brackets_are_left(rt: HostRuntime) -> Result<(), Fail> {
     Ok(())
 }
 
-/// Long runs of one byte, of comments and of names are read in a time that follows from their length.
+/// Long runs of one byte, of comments and of names are read in a time that follows from their
+/// length.
 #[test]
 fn long_runs(rt: HostRuntime) -> Result<(), Fail> {
     let alloc = rt.alloc();

@@ -1,5 +1,6 @@
-//! Tests of syntax trees: nodes of worked texts, both ways alike, hostile texts, walks from node to node, and memory
-//! that is refused; where names, definitions and members stand; lines and columns of many places.
+//! Tests of syntax trees: nodes of worked texts, both ways alike, hostile texts, walks from node to
+//! node, and memory that is refused; where names, definitions and members stand; lines and columns of
+//! many places.
 #![tactic(auto)]
 
 #[cfg(test)]

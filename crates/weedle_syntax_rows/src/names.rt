@@ -1,4 +1,5 @@
-//! Names of worked texts, with their roles, by hand from the grammar's rows: each role at least once.
+//! Names of worked texts, with their roles, by hand from the grammar's rows: each role at least
+//! once.
 
 use std::alloc::{AllocError, Global};
 use std::process::Abort;
@@ -62,7 +63,12 @@ fn of_interfaces_and_their_members(rt: HostRuntime) -> Result<(), Fail> {
     ];
     assert_names(&rt, alloc, text, &wanted)?;
     let text = "callback interface C : D {}; interface mixin M { stringifier; long g(); };";
-    let wanted = [("C", CallbackInterface), ("D", Inherited), ("M", Mixin), ("g", Operation)];
+    let wanted = [
+        ("C", CallbackInterface),
+        ("D", Inherited),
+        ("M", Mixin),
+        ("g", Operation),
+    ];
     assert_names(&rt, alloc, text, &wanted)?;
     Ok(())
 }
@@ -70,7 +76,8 @@ fn of_interfaces_and_their_members(rt: HostRuntime) -> Result<(), Fail> {
 #[test]
 fn of_other_definitions(rt: HostRuntime) -> Result<(), Fail> {
     let alloc = rt.alloc();
-    let text = "namespace N { readonly attribute (A or B) x; }; dictionary D : E { required F _y; };";
+    let text = "namespace N { readonly attribute (A or B) x; }; \
+                dictionary D : E { required F _y; };";
     let wanted = [
         ("N", Namespace),
         ("A", Type),
@@ -82,7 +89,8 @@ fn of_other_definitions(rt: HostRuntime) -> Result<(), Fail> {
         ("_y", DictionaryMember),
     ];
     assert_names(&rt, alloc, text, &wanted)?;
-    let text = "enum E { \"a\" }; typedef record<K, V> T; callback F = R (A x); A includes M; B implements C;";
+    let text = "enum E { \"a\" }; typedef record<K, V> T; callback F = R (A x); \
+                A includes M; B implements C;";
     let wanted = [
         ("E", Enum),
         ("K", Type),
@@ -98,7 +106,8 @@ fn of_other_definitions(rt: HostRuntime) -> Result<(), Fail> {
         ("C", Implemented),
     ];
     assert_names(&rt, alloc, text, &wanted)?;
-    let text = "partial interface A {}; partial interface mixin M {}; partial dictionary D {}; partial namespace N {};";
+    let text = "partial interface A {}; partial interface mixin M {}; \
+                partial dictionary D {}; partial namespace N {};";
     let wanted = [
         ("A", PartialInterface),
         ("M", PartialMixin),

@@ -286,14 +286,48 @@ fn what_stands_round_an_interface_and_its_members(rt: HostRuntime) -> Result<(),
     let core = "[X] interface _A { /* c */ attribute long x; // d\n U f(); \
                 const T C = 1; iterable<long>; long(); stringifier;/*e*/} ;";
     let front = " // a\n/* b */ ";
-    assert!(rt; is_around(text, &own, &Around { core, front, name: "_A" }));
+    assert!(rt;
+        is_around(
+            text,
+            &own,
+            &Around {
+                core,
+                front,
+                name: "_A"
+            }
+        )
+    );
     let wanted = [
-        Around { core: "attribute long x;", front: " /* c */ ", name: "x" },
-        Around { core: "U f();", front: " // d\n ", name: "f" },
-        Around { core: "const T C = 1;", front: " ", name: "C" },
-        Around { core: "iterable<long>;", front: " ", name: "" },
-        Around { core: "long();", front: " ", name: "" },
-        Around { core: "stringifier;", front: " ", name: "" },
+        Around {
+            core: "attribute long x;",
+            front: " /* c */ ",
+            name: "x",
+        },
+        Around {
+            core: "U f();",
+            front: " // d\n ",
+            name: "f",
+        },
+        Around {
+            core: "const T C = 1;",
+            front: " ",
+            name: "C",
+        },
+        Around {
+            core: "iterable<long>;",
+            front: " ",
+            name: "",
+        },
+        Around {
+            core: "long();",
+            front: " ",
+            name: "",
+        },
+        Around {
+            core: "stringifier;",
+            front: " ",
+            name: "",
+        },
     ];
     assert!(rt; are_around(text, &members, &wanted));
     assert_eq!(rt; values.len(), 0);
@@ -305,18 +339,50 @@ fn what_stands_round_other_definitions(rt: HostRuntime) -> Result<(), Fail> {
     let alloc = rt.alloc();
     let text = "enum E { \"a\", /* v */ \"b\" , };";
     let (own, members, values) = first_of(alloc, text)?;
-    assert!(rt; is_around(text, &own, &Around { core: text, front: "", name: "E" }));
+    assert!(rt;
+        is_around(
+            text,
+            &own,
+            &Around {
+                core: text,
+                front: "",
+                name: "E"
+            }
+        )
+    );
     assert_eq!(rt; members.len(), 0);
     let wanted = [
-        Around { core: "\"a\"", front: " ", name: "" },
-        Around { core: "\"b\"", front: " /* v */ ", name: "" },
+        Around {
+            core: "\"a\"",
+            front: " ",
+            name: "",
+        },
+        Around {
+            core: "\"b\"",
+            front: " /* v */ ",
+            name: "",
+        },
     ];
     assert!(rt; are_around(text, &values, &wanted));
     let text = "/// D\ndictionary D {\n/// x\nrequired long _x;\n};\n";
     let (own, members, _) = first_of(alloc, text)?;
     let core = "/// D\ndictionary D {\n/// x\nrequired long _x;\n};";
-    assert!(rt; is_around(text, &own, &Around { core, front: "", name: "D" }));
-    let wanted = [Around { core: "/// x\nrequired long _x;", front: "\n", name: "_x" }];
+    assert!(rt;
+        is_around(
+            text,
+            &own,
+            &Around {
+                core,
+                front: "",
+                name: "D"
+            }
+        )
+    );
+    let wanted = [Around {
+        core: "/// x\nrequired long _x;",
+        front: "\n",
+        name: "_x",
+    }];
     assert!(rt; are_around(text, &members, &wanted));
     for (text, name) in [
         ("A includes M;", "A"),
@@ -326,7 +392,17 @@ fn what_stands_round_other_definitions(rt: HostRuntime) -> Result<(), Fail> {
         ("partial interface mixin M {};", "M"),
     ] {
         let (own, _, _) = first_of(alloc, text)?;
-        assert!(rt; is_around(text, &own, &Around { core: text, front: "", name }));
+        assert!(rt;
+            is_around(
+                text,
+                &own,
+                &Around {
+                    core: text,
+                    front: "",
+                    name
+                }
+            )
+        );
     }
     Ok(())
 }
@@ -342,8 +418,8 @@ fn a_text_without_definitions_is_whole_if_it_is_empty(rt: HostRuntime) -> Result
     Ok(())
 }
 
-/// Places ask for nodes, by descent or over a table of ends, for each list of members and of values, and for the list of
-/// definitions.
+/// Places ask for nodes, by descent or over a table of ends, for each list of members and of
+/// values, and for the list of definitions.
 #[test]
 fn places_are_found_or_want_memory(rt: HostRuntime) -> Result<(), Fail> {
     let alloc = rt.alloc();

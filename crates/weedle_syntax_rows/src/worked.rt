@@ -1,7 +1,8 @@
 //! Nodes of worked texts.
 //!
-//! What is expected comes by hand from the rows of the grammar, as docs/GRAMMAR.md tells them: of the first
-//! texts every node, with its depth, its rule's name and its bytes, and of the others the nodes of one rule.
+//! What is expected comes by hand from the rows of the grammar, as docs/GRAMMAR.md tells them: of
+//! the first texts every node, with its depth, its rule's name and its bytes, and of the others the
+//! nodes of one rule.
 
 use std::alloc::{AllocError, Global};
 use std::process::Abort;
@@ -219,7 +220,7 @@ fn comments_and_docstrings(rt: HostRuntime) -> Result<(), Fail> {
     Ok(())
 }
 
-/// An attribute may have a list of names, arguments, or both; each is tried in this order.
+/// An extended attribute may have a list of names, arguments, or both; each is tried in this order.
 #[test]
 fn attributes(rt: HostRuntime) -> Result<(), Fail> {
     let alloc = rt.alloc();

@@ -3,7 +3,7 @@
 /// A text on one line.
 pub const WINDOW: &str = "interface Window { readonly attribute Storage sessionStorage; };";
 
-/// The same with its line ends.
+/// [`WINDOW`] with line ends.
 pub const WINDOW_IN_LINES: &str = "
     interface Window {
         readonly attribute Storage sessionStorage;

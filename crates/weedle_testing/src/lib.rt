@@ -1,5 +1,6 @@
-//! What the tests share: texts, some made of a seed and a size; readers and writers that give and take little, or
-//! fail; and what is asked of an answer, as tables of rows, each a text and what is to be read of it.
+//! What the tests share: texts, some made of a seed and a size; inputs and outputs that give and
+//! take little, or fail; and what is asked of an answer, as tables of examples, each a text and
+//! what is to be read of it.
 #![tactic(auto)]
 
 pub mod examples;

@@ -3,8 +3,8 @@
 use crate::requests::Wanted;
 use std::alloc::{AllocError, Global};
 
-/// Attributes within attributes, to so many levels, before an interface: `[A([A(a... b)] a... b)] interface I {};`
-/// has one.
+/// Extended attributes within extended attributes, to so many levels, before an interface:
+/// `[A([A(a... b)] a... b)] interface I {};` has one. It fails where memory is refused.
 pub fn nested_attributes(alloc: Global, levels: usize) -> Result<String, AllocError> {
     let mut text = String::new(alloc);
     for _ in 0..levels {
@@ -18,7 +18,8 @@ pub fn nested_attributes(alloc: Global, levels: usize) -> Result<String, AllocEr
     Ok(text)
 }
 
-/// The 495 bytes of nested attributes to 39 levels, with ample memory unless a request is refused again.
+/// The 495 bytes of nested extended attributes to 39 levels, with ample memory unless a request is
+/// refused again.
 pub fn nested_text(alloc: Global, wanted: &mut Wanted) -> Result<String, AllocError> {
     match wanted.given(nested_attributes(alloc, 39)) {
         Some(text) => Ok(text),
@@ -26,7 +27,7 @@ pub fn nested_text(alloc: Global, wanted: &mut Wanted) -> Result<String, AllocEr
     }
 }
 
-/// A text with a part of it so many times.
+/// A text with a part of it so many times. It fails where memory is refused.
 pub fn repeated(
     alloc: Global,
     front: &str,

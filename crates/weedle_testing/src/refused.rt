@@ -23,7 +23,7 @@ pub fn is_failure<'a, T>(answer: &IResult<&'a str, T>, input: &str) -> bool {
     }
 }
 
-/// Whether each text is a mismatch.
+/// Whether each text is a mismatch. An error says of which it isn't so.
 pub fn refuses<'a, T: Parse<'a>>(alloc: Global, texts: &[&'a str]) -> Result<(), Unlike<'a>> {
     for text in texts {
         if !is_mismatch(&T::parse(alloc, text)) {
@@ -33,7 +33,8 @@ pub fn refuses<'a, T: Parse<'a>>(alloc: Global, texts: &[&'a str]) -> Result<(),
     Ok(())
 }
 
-/// Whether the call with the text is ended by a failure with code `Unread` at this input.
+/// Whether the call with the text is ended by a failure with code `Unread` at this input. An error
+/// names the text where it isn't.
 pub fn fails_at<'a, T: Parse<'a>>(
     alloc: Global,
     text: &'a str,

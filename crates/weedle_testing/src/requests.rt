@@ -1,9 +1,10 @@
 //! What calls answer where a request for memory may be refused.
 //!
-//! Nothing inside a test can have memory refused. So a test of such calls can be run with one request refused, the Nth
-//! of all that it makes, as tools/refused_requests.py does for each N. It makes each call twice: of all its calls
-//! one at most may want memory, and each else has to answer as with ample memory. What it does besides takes no
-//! memory, up to the end, where it asks for memory itself: so it tells whether the refused request was a call's.
+//! Nothing inside a test can have memory refused. So a test of such calls can be run with one
+//! request refused, the Nth of all that it makes, as tools/refused_requests.py does for each N. It
+//! makes each call twice: of all its calls one at most may want memory, and each else has to answer
+//! as with ample memory. What it does besides takes no memory, up to the end, where it asks for
+//! memory itself: so it tells whether the refused request was a call's.
 
 use crate::printed::is_printed;
 use crate::rows::Unlike;
@@ -18,7 +19,7 @@ pub struct Wanted {
 }
 
 impl Wanted {
-    /// None yet.
+    /// The count of no call.
     pub fn new() -> Wanted {
         Wanted { calls: 0 }
     }
@@ -59,8 +60,8 @@ impl Wanted {
         }
     }
 
-    /// Reads the whole text of each row, which is to be its value or to want memory, and copies what it reads. A copy
-    /// equals its original, which stays as it is where the copy wants memory.
+    /// Reads the whole text of each example, which is to be its value or to want memory, and copies
+    /// what it reads. A copy equals its original, which stays as it is where the copy wants memory.
     pub fn reads<'a, T: Parse<'a> + TryClone + PartialEq + Debug>(
         &mut self,
         alloc: Global,
@@ -92,8 +93,8 @@ impl Wanted {
         }
     }
 
-    /// Copies what is printed as the value, twice, and says whether each copy equals it or wants memory, and it is
-    /// printed so still.
+    /// Copies what is printed as the value, twice, and says whether each copy equals it or wants
+    /// memory, and it is printed so still.
     pub fn copies<T: TryClone + PartialEq + Debug>(
         &mut self,
         alloc: Global,
@@ -132,7 +133,8 @@ fn is_refused(alloc: Global) -> bool {
     false
 }
 
-/// Whether the whole text of each row is read as its value with no memory, and the text `#` is no value.
+/// Whether the whole text of each example is read as its value with no memory, and the text `#` is
+/// no value.
 pub fn reads_with_no_memory<'a, T: Parse<'a> + Debug>(
     alloc: Global,
     rows: &[(&'a str, &str)],

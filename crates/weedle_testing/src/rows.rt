@@ -34,8 +34,8 @@ impl<'a> From<AllocError> for Unlike<'a> {
     }
 }
 
-/// Whether each row's whole text is read as its value, a clone equals what is read, and both are
-/// printed alike.
+/// Whether the whole text of each example is read as its value, a clone equals what is read, and
+/// both are printed alike. An error says of which text it isn't so, and how.
 pub fn reads<'a, T: Parse<'a> + TryClone + PartialEq + Debug>(
     alloc: Global,
     rows: &[(&'a str, &str)],
@@ -46,7 +46,9 @@ pub fn reads<'a, T: Parse<'a> + TryClone + PartialEq + Debug>(
     Ok(())
 }
 
-/// The same of rows that say, between text and value, which rest is left.
+/// Whether each example, a text, the rest that is left of it and its value, is read so, a clone
+/// equals what is read, and both are printed alike. An error says of which text it isn't so, and
+/// how.
 pub fn reads_up_to<'a, T: Parse<'a> + TryClone + PartialEq + Debug>(
     alloc: Global,
     rows: &[(&'a str, &str, &str)],
@@ -57,7 +59,8 @@ pub fn reads_up_to<'a, T: Parse<'a> + TryClone + PartialEq + Debug>(
     Ok(())
 }
 
-/// The same where the whole text is read and a value is copied by assignment.
+/// Whether the whole text of each example is read as its value, a copy by assignment equals what is
+/// read, and both are printed alike. An error says of which text it isn't so, and how.
 pub fn reads_copied<'a, T: Parse<'a> + Copy + PartialEq + Debug>(
     alloc: Global,
     rows: &[(&'a str, &str)],
@@ -68,7 +71,9 @@ pub fn reads_copied<'a, T: Parse<'a> + Copy + PartialEq + Debug>(
     Ok(())
 }
 
-/// The same where this rest is left and a value is copied by assignment.
+/// Whether each example, a text, the rest that is left of it and its value, is read so, a copy by
+/// assignment equals what is read, and both are printed alike. An error says of which text it isn't
+/// so, and how.
 pub fn reads_copied_up_to<'a, T: Parse<'a> + Copy + PartialEq + Debug>(
     alloc: Global,
     rows: &[(&'a str, &str, &str)],
@@ -79,7 +84,7 @@ pub fn reads_copied_up_to<'a, T: Parse<'a> + Copy + PartialEq + Debug>(
     Ok(())
 }
 
-// One row of a type whose values are cloned.
+// One example of a type whose values are cloned.
 fn cloned<'a, T: Parse<'a> + TryClone + PartialEq + Debug>(
     alloc: Global,
     text: &'a str,
@@ -97,7 +102,7 @@ fn cloned<'a, T: Parse<'a> + TryClone + PartialEq + Debug>(
     }
 }
 
-// One row of a type whose values are copied by assignment.
+// One example of a type whose values are copied by assignment.
 fn copied<'a, T: Parse<'a> + Copy + PartialEq + Debug>(
     alloc: Global,
     text: &'a str,

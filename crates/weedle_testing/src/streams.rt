@@ -1,10 +1,10 @@
-//! Readers and writers that give and take little, or fail.
+//! Inputs and outputs that give and take little, or fail.
 
 use std::alloc::Global;
 use std::io;
 use std::io::{ErrorKind, Read, Write};
 
-/// Gives at most so many bytes a call, and fails once its calls are used up.
+/// An input that gives at most so many bytes a call, and fails once its calls are used up.
 #[derive(Drop)]
 pub struct ShortReader<'a> {
     bytes: &'a [u8],
@@ -26,7 +26,7 @@ impl Read for ShortReader<'_> {
     }
 }
 
-/// Takes at most so many bytes a call, and fails once its calls are used up.
+/// An output that takes at most so many bytes a call, and fails once its calls are used up.
 #[derive(Drop)]
 pub struct ShortWriter {
     /// The bytes that it took, in their order.
@@ -51,7 +51,7 @@ impl Write for ShortWriter {
     }
 }
 
-/// A reader that gives all the bytes, at most so many a call.
+/// An input that gives all the bytes, at most so many a call.
 pub fn short_reader(bytes: &[u8], most: usize) -> ShortReader<'_> {
     ShortReader {
         bytes,
@@ -61,7 +61,7 @@ pub fn short_reader(bytes: &[u8], most: usize) -> ShortReader<'_> {
     }
 }
 
-/// A reader that gives a byte a call, for so many calls, and then fails so.
+/// An input that gives a byte a call, for so many calls, and then fails so.
 pub fn failing_reader(bytes: &[u8], calls: usize, kind: ErrorKind) -> ShortReader<'_> {
     ShortReader {
         bytes,
@@ -71,7 +71,7 @@ pub fn failing_reader(bytes: &[u8], calls: usize, kind: ErrorKind) -> ShortReade
     }
 }
 
-/// A writer that takes at most so many bytes a call, for so many calls.
+/// An output that takes at most so many bytes a call, for so many calls.
 pub fn short_writer(alloc: Global, most: usize, calls: usize) -> ShortWriter {
     ShortWriter {
         taken: Vec::new(alloc),

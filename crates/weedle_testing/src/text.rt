@@ -74,7 +74,8 @@ const COMMENTS: [&str; 4] = [
 /// Defaults of the members of a dictionary.
 const VALUES: [&str; 4] = ["0", "false", "\"auto\"", "null"];
 
-/// Definitions of every kind mixed by the seed, about `size` bytes of them.
+/// Definitions of every kind mixed by the seed, about `size` bytes of them. It fails where memory
+/// is refused.
 pub fn definitions(alloc: Global, seed: u64, size: usize) -> Result<String, AllocError> {
     let mut random = Random::new(seed);
     let mut text = String::new(alloc);

@@ -1,4 +1,4 @@
-//! Attributes.
+//! Extended attributes.
 //!
 //! The values are those that weedle2 prints, in the port's names.
 
@@ -7,7 +7,7 @@ use std::test::Fail;
 use weedle_testing::{Unlike, reads, refuses};
 use weedle_types::attribute::{ExtendedAttribute, ExtendedAttributeList};
 
-/// What is read of each text, as one attribute.
+/// What is read of each text, as one extended attribute.
 fn reads_attributes<'a>(alloc: Global, rows: &[(&'a str, &str)]) -> Result<(), Unlike<'a>> {
     reads::<ExtendedAttribute<'_>>(alloc, rows)
 }

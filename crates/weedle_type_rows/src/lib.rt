@@ -1,5 +1,5 @@
-//! Tests of types, attributes, arguments and members: what is read, how values compare, and what is answered where
-//! memory is refused.
+//! Tests of types, extended attributes, arguments and members: what is read, how values compare,
+//! and what is answered where memory is refused.
 #![tactic(auto)]
 
 #[cfg(test)]

@@ -1,7 +1,7 @@
 //! Members of interfaces, mixins, namespaces and dictionaries.
 //!
-//! The values are those that weedle2 prints, in the port's names. A constant of `0x`, which it reads, is refused
-//! here, by hand from the grammar.
+//! The values are those that weedle2 prints, in the port's names. A constant of `0x`, which it
+//! reads, is refused here, by hand from the grammar.
 
 use std::alloc::Global;
 use std::test::Fail;
@@ -11,8 +11,8 @@ use weedle_namespaces::dictionary::DictionaryMember;
 use weedle_namespaces::namespace::NamespaceMember;
 use weedle_testing::{Unlike, reads, refuses};
 
-/// What is read of each text, as members of an interface: a list of one, since the same over a member itself meets
-/// the prover's limit of steps, where two types are compared.
+/// What is read of each text, as members of an interface: a list of one, since the same over a
+/// member itself meets the prover's limit of steps, where two types are compared.
 fn reads_members<'a>(alloc: Global, rows: &[(&'a str, &str)]) -> Result<(), Unlike<'a>> {
     reads::<Vec<InterfaceMember<'_>>>(alloc, rows)
 }

@@ -129,7 +129,8 @@ where
     }
 }
 
-/// Whether the type is printed as the variant of this name, of the word of this name with no `?` behind it.
+/// Whether the type is printed as the variant of this name, of the word of this name with no `?`
+/// behind it.
 fn is_printed_with(alloc: Global, type_: &NonAnyType<'_>, name: &str) -> Result<bool, AllocError> {
     let printed = format!(in alloc; "{type_:?}")?;
     Ok(printed == format!(in alloc; "{name}(MayBeNull {{ type_: {name}, q_mark: None }})")?)

@@ -44,7 +44,7 @@ module _ (known : Punctuated UnionMemberType Or → Type 0) where
   unfolding punctuated_reading pair_reading seen_reading
   nullable_union_type_has_rule = wider_rule (λ g. inl (inr (inl g))) nullable_union_type_law
 
--- Attributes.
+-- Extended attributes.
 module _ (known : Punctuated ExtendedAttribute Comma → Type 0) where
   abbrev pub extended_attributes_reading : Reading (Punctuated ExtendedAttribute Comma)
   extended_attributes_reading = punctuated_reading (own EXTENDED_ATTRIBUTE extended_attribute_tree (Unit {0})) (mark {V = Comma} COMMA) (λ p. p.list.items) known

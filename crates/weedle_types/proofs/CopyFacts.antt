@@ -29,7 +29,7 @@ option_same tree alike same None None h = refl
 pub docstring_alike : (a b : Option Docstring) → option_alike (λ v w. string_bytes v.0 ≡ string_bytes w.0) a b → option_tree docstring_tree a ≡ option_tree docstring_tree b
 docstring_alike a b h = option_same docstring_tree (λ v w. string_bytes v.0 ≡ string_bytes w.0) (λ v w e. ap Lines e) a b h
 
--- attributes
+-- extended attributes
 pub attributes_alike : (a b : Attributes) → option_alike (λ v w. all_alike (λ x y. extended_attribute_tree x ≡ extended_attribute_tree y) v.body.list.items w.body.list.items × (v.body.separator ≡ w.body.separator)) a b → attributes_tree a ≡ attributes_tree b
 attributes_alike a b h = option_same extended_attribute_list_tree _ (λ v w e. ap (λ ts. bracket_tree (Items ts)) (items_alike extended_attribute_tree v.body.list.items w.body.list.items e.0)) a b h
 

@@ -31,7 +31,7 @@ key_and_value_reading = seen_reading (λ v. (v.0, (v.1, v.2))) (pair_reading (ow
 key_and_value_rule : IsRule key_and_value_reading KEY_AND_VALUE_TYPES key_and_value_tree (Unit {0})
 key_and_value_rule = triple_rule (λ v. (v.0, (v.1, v.2))) attributed_type_rule (word COMMA) attributed_type_rule KEY_AND_VALUE_TYPES refl refl
 
--- the same between angle brackets
+-- the types of keys and values between angle brackets
 abbrev pub two_types_reading : Reading TwoTypes
 two_types_reading = generics_reading key_and_value_reading
 

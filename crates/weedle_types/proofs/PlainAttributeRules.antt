@@ -1,4 +1,4 @@
--- The attributes that hold no other type, and their rules.
+-- The extended attributes that hold no other type, and their rules.
 use Rattle.std.proofs.Common.{refl, inl, inr}
 use Rattle.std.specs.Borrow.{Bor}
 use Rattle.std.specs.Prelude.{ℕ, List, ◌⊎◌}

@@ -29,7 +29,7 @@ pub perhaps : {V : Type 0} {R : Reading V} {x : ℕ} {tree : V → Tree} → IsR
     → IsRule (option_reading R) r (option_tree tree) (Unit {0})
 perhaps rule r row shape = still_rule (option_rule rule r row shape)
 
--- attributes
+-- extended attributes
 abbrev pub attributes_reading : Reading Attributes
 attributes_reading = own OPT_EXTENDED_ATTRIBUTE_LIST attributes_tree (Unit {0})
 

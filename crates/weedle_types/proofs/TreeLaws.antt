@@ -91,7 +91,7 @@ promise_of x = ap (λ t. Alt 0 (Node (trees (Mark ∷ bracket_tree t ∷ [])))) 
 pub record_of : (x : MayBeNull (RecordType RecordTypes)) → non_any_type_tree (NonAnyType-RecordType x) ≡ Alt 27 (may_be_null_tree record_type_tree x)
 record_of x = ap (λ t. Alt 27 (Node (trees (Node (trees (Mark ∷ bracket_tree (Node (trees (t ∷ Mark ∷ type_tree x.type_.generics.body.2.value ∷ []))) ∷ [])) ∷ option_tree mark_tree x.q_mark ∷ [])))) (key_of x.type_.generics.body.0.value)
 
--- attributes, or none
+-- extended attributes, or none
 pub attributes_of : (o : Option (Bracketed (Punctuated ExtendedAttribute Comma))) → held_attributes (back-SingleArgument-attributes o) ≡ attributes_tree o
 attributes_of None = refl
 attributes_of (Some x) = ap (λ ts. Present (bracket_tree (Items ts))) (attribute_row_of x.body.list)

@@ -1,4 +1,4 @@
--- The parts that many members and definitions have: attributes by one name, and the tree of a list of members.
+-- The parts that many members and definitions have: extended attributes by one name, and the tree of a list of members.
 use Rattle.std.specs.Global.{Vec}
 use Rattle.std.specs.Prelude.{Option}
 use Rattle.weedle_base.specs.Rules.{items_tree}
@@ -8,7 +8,7 @@ use Rattle.weedle_grammar.specs.Trees.{Tree}
 use Rattle.weedle_term.specs.declared.written.symbols.Comma.{Comma}
 use Rattle.weedle_types.specs.declared.attribute.ExtendedAttribute.{ExtendedAttribute}
 
--- attributes in square brackets, or none
+-- extended attributes in square brackets, or none
 abbrev pub Attributes : Type 0
 Attributes = Option (Bracketed (Punctuated ExtendedAttribute Comma))
 

@@ -133,12 +133,12 @@ abbrev mutual
   held_single (Any' v) = Alt 0 Mark
   held_single (Type-Single-0-NonAny' v) = Alt 1 (non_any_type_tree v)
 
-  -- attributes in brackets, or none
+  -- extended attributes in brackets, or none
   pub held_attributes : Held-SingleArgument-attributes → Tree
   held_attributes None' = Absent
   held_attributes (Some' o m r s c) = Present (bracket_tree (Items (attribute_row r)))
 
-  -- an attribute
+  -- an extended attribute
   pub extended_attribute_tree : ExtendedAttribute → Tree
   extended_attribute_tree (ArgList' i o m r s c) = Alt 0 (Node (trees (identifier_tree i ∷ bracket_tree (Items (argument_row r)) ∷ [])))
   extended_attribute_tree (NamedArgList' i e j o m r s c) = Alt 1 (Node (trees (identifier_tree i ∷ Mark ∷ identifier_tree j ∷ bracket_tree (Items (argument_row r)) ∷ [])))
@@ -146,7 +146,7 @@ abbrev mutual
   extended_attribute_tree (Ident v) = Alt 3 (extended_attribute_ident_tree v)
   extended_attribute_tree (NoArgs v) = Alt 4 (extended_attribute_no_args_tree v)
 
-  -- attributes
+  -- extended attributes
   pub attribute_row : {m : _} → Row_of-ExtendedAttribute m → Trees
   attribute_row end_of-ExtendedAttribute = Done
   attribute_row (more_of-ExtendedAttribute v r) = Then (extended_attribute_tree v) (attribute_row r)
@@ -222,35 +222,35 @@ argument_list_tree = punctuated_tree argument_tree
 abbrev pub arguments_tree : ParenthesizedArgumentList → Tree
 arguments_tree v = bracket_tree (argument_list_tree v.body)
 
--- an attribute with arguments
+-- an extended attribute with arguments
 abbrev pub extended_attribute_arg_list_tree : ExtendedAttributeArgList → Tree
 extended_attribute_arg_list_tree v = Node (trees (identifier_tree v.identifier ∷ arguments_tree v.args ∷ []))
 
--- an attribute with a name and arguments
+-- an extended attribute with a name and arguments
 abbrev pub extended_attribute_named_arg_list_tree : ExtendedAttributeNamedArgList → Tree
 extended_attribute_named_arg_list_tree v = Node (trees (identifier_tree v.lhs_identifier ∷ Mark ∷ identifier_tree v.rhs_identifier ∷ arguments_tree v.args ∷ []))
 
--- attributes
+-- extended attributes
 abbrev pub extended_attributes_tree : Punctuated ExtendedAttribute Comma → Tree
 extended_attributes_tree = punctuated_tree extended_attribute_tree
 
--- attributes in brackets
+-- extended attributes in brackets
 abbrev pub extended_attribute_list_tree : Bracketed (Punctuated ExtendedAttribute Comma) → Tree
 extended_attribute_list_tree = bracketed_tree extended_attributes_tree
 
--- attributes in brackets, or none
+-- extended attributes in brackets, or none
 abbrev pub attributes_tree : Option (Bracketed (Punctuated ExtendedAttribute Comma)) → Tree
 attributes_tree = option_tree extended_attribute_list_tree
 
--- a type with its attributes
+-- a type with its extended attributes
 abbrev pub attributed_type_tree : AttributedType → Tree
 attributed_type_tree v = Node (trees (attributes_tree v.attributes ∷ type_tree v.type_ ∷ []))
 
--- a type with its attributes, where the type is neither `any` nor a union
+-- a type with its extended attributes, where the type is neither `any` nor a union
 abbrev pub attributed_non_any_type_tree : AttributedNonAnyType → Tree
 attributed_non_any_type_tree v = Node (trees (attributes_tree v.attributes ∷ non_any_type_tree v.type_ ∷ []))
 
--- an argument: its attributes, `optional`, its type with attributes, its name, its default
+-- an argument: its extended attributes, `optional`, its type with extended attributes, its name, its default
 abbrev pub single_argument_tree : SingleArgument → Tree
 single_argument_tree v = Node (trees (attributes_tree v.attributes ∷ option_tree mark_tree v.optional ∷ attributed_type_tree v.type_ ∷ identifier_tree v.identifier ∷ option_tree default_tree v.default ∷ []))
 

@@ -1,8 +1,8 @@
 //! Arguments, as `optional long x = 5`.
 //!
-//! A list of arguments ends behind its last argument: of `long x, long` the rest is `, long`. Attributes and
-//! types ask for memory: where it is refused, the call ends at once with a failure of code `Memory`.
-//! What each type reads stands in words in docs/GRAMMAR.md.
+//! A list of arguments ends behind its last argument: of `long x, long` the rest is `, long`.
+//! Extended attributes and types ask for memory: where it is refused, the call ends at once with a
+//! failure of code `Memory`. What each type reads stands in words in docs/GRAMMAR.md.
 
 mod written;
 
@@ -39,14 +39,14 @@ impl Drop for ParenthesizedArgumentList<'_> {
 }
 
 /// An argument, as `long x`, or `long... xs` for any number of them. Of what its variants read,
-/// `[attributes]` may be absent.
+/// `[extended attributes]` may be absent.
 #[cycle(types)]
 #[derive(Debug, PartialEq, Eq, PartialOrd, Ord, Hash)]
 pub enum Argument<'a> {
-    /// `[attributes] type name` or `[attributes] optional type name = value`, the latter also
-    /// without `= value`.
+    /// `[extended attributes] type name` or `[extended attributes] optional type name = value`, the
+    /// latter also without `= value`.
     Single(SingleArgument<'a>),
-    /// `[attributes] type... name`.
+    /// `[extended attributes] type... name`.
     Variadic(VariadicArgument<'a>),
 }
 
@@ -59,16 +59,17 @@ impl Drop for Argument<'_> {
     }
 }
 
-/// An argument, as `optional long x = 5`. A default is read only behind `optional`: of `long x = 5` the rest
-/// is `= 5`. The attributes that stand first are the argument's, and those behind them its type's.
+/// An argument, as `optional long x = 5`. A default is read only behind `optional`: of `long x = 5`
+/// the rest is `= 5`. The extended attributes that stand first are the argument's, and those behind
+/// them its type's.
 #[cycle(types)]
 #[derive(Debug, PartialEq, Eq, PartialOrd, Ord, Hash)]
 pub struct SingleArgument<'a> {
-    /// The attributes in brackets, as `[Exposed=Window]`, where they stand.
+    /// The extended attributes in brackets, as `[Exposed=Window]`, where they stand.
     pub attributes: Option<ExtendedAttributeList<'a>>,
     /// The word `optional`, where it stands.
     pub optional: Option<Optional>,
-    /// Its type, as `long`, with attributes of its own, as in `optional [Clamp] long x`.
+    /// Its type, as `long`, with extended attributes of its own, as in `optional [Clamp] long x`.
     pub type_: AttributedType<'a>,
     /// Its name.
     pub identifier: Identifier<'a>,
@@ -93,9 +94,9 @@ impl Drop for SingleArgument<'_> {
 #[cycle(types)]
 #[derive(Debug, PartialEq, Eq, PartialOrd, Ord, Hash)]
 pub struct VariadicArgument<'a> {
-    /// The attributes in brackets, as `[Exposed=Window]`, where they stand.
+    /// The extended attributes in brackets, as `[Exposed=Window]`, where they stand.
     pub attributes: Option<ExtendedAttributeList<'a>>,
-    /// Their type, as `long`, with no attributes of its own.
+    /// Their type, as `long`, with no extended attributes of its own.
     pub type_: Type<'a>,
     /// The `...`.
     pub ellipsis: Ellipsis,

@@ -1,8 +1,8 @@
-//! Attributes, as `[Exposed=(Window, Worker), SecureContext]`.
+//! Extended attributes, as `[Exposed=(Window, Worker), SecureContext]`.
 //!
-//! A list without its closing bracket, or with a comma at its end, is a mismatch. Lists ask for memory: where it
-//! is refused, the call ends at once with a failure of code `Memory`.
-//! What each type reads stands in words in docs/GRAMMAR.md.
+//! A list without its closing bracket, or with a comma at its end, is a mismatch. Lists ask for
+//! memory: where it is refused, the call ends at once with a failure of code `Memory`. What each
+//! type reads stands in words in docs/GRAMMAR.md.
 
 ghost use Rattle.weedle_base.specs.Own.{own};
 ghost use Rattle.weedle_base.specs.OwnLaws.{own_lawful};
@@ -28,13 +28,13 @@ use weedle_literal::StringLit;
 use weedle_parts::common::{Bracketed, Identifier, Parenthesized, Punctuated};
 use weedle_term::{Assign, Comma};
 
-/// Attributes in brackets, as `[Exposed=Window, SecureContext]`; `[]` too.
+/// Extended attributes in brackets, as `[Exposed=Window, SecureContext]`; `[]` too.
 pub type ExtendedAttributeList<'a> = Bracketed<Punctuated<ExtendedAttribute<'a>, Comma>>;
 
 /// Names, as `Window, Worker`, none included.
 pub type IdentifierList<'a> = Punctuated<Identifier<'a>, Comma>;
 
-/// An attribute, as `Exposed=Window` or `Constructor(long x)`.
+/// An extended attribute, as `Exposed=Window` or `Constructor(long x)`.
 #[cycle(types)]
 #[derive(Debug, PartialEq, Eq, PartialOrd, Ord, Hash)]
 pub enum ExtendedAttribute<'a> {
@@ -63,7 +63,7 @@ impl Drop for ExtendedAttribute<'_> {
     }
 }
 
-/// An attribute with arguments, as `Constructor(long x)`.
+/// An extended attribute with arguments, as `Constructor(long x)`.
 #[cycle(types)]
 #[derive(Debug, PartialEq, Eq, PartialOrd, Ord, Hash)]
 pub struct ExtendedAttributeArgList<'a> {
@@ -83,7 +83,7 @@ impl Drop for ExtendedAttributeArgList<'_> {
     }
 }
 
-/// An attribute with a name and arguments, as `NamedConstructor=Image(long x)`.
+/// An extended attribute with a name and arguments, as `NamedConstructor=Image(long x)`.
 #[cycle(types)]
 #[derive(Debug, PartialEq, Eq, PartialOrd, Ord, Hash)]
 pub struct ExtendedAttributeNamedArgList<'a> {
@@ -109,7 +109,7 @@ impl Drop for ExtendedAttributeNamedArgList<'_> {
     }
 }
 
-/// An attribute with names, as `Exposed=(Window, Worker)`.
+/// An extended attribute with names, as `Exposed=(Window, Worker)`.
 #[derive(Debug, PartialEq, Eq, PartialOrd, Ord, Hash, Drop)]
 pub struct ExtendedAttributeIdentList<'a> {
     /// Its name.
@@ -120,7 +120,7 @@ pub struct ExtendedAttributeIdentList<'a> {
     pub list: Parenthesized<IdentifierList<'a>>,
 }
 
-/// An attribute with a name or a string, as `PutForwards=name`. It takes no memory.
+/// An extended attribute with a name or a string, as `PutForwards=name`. It takes no memory.
 #[derive(Clone, Copy, Debug, PartialEq, Eq, PartialOrd, Ord, Hash)]
 pub struct ExtendedAttributeIdent<'a> {
     /// Its name, before the `=`.
@@ -131,7 +131,7 @@ pub struct ExtendedAttributeIdent<'a> {
     pub rhs: IdentifierOrString<'a>,
 }
 
-/// An attribute that is a name alone, as `Replaceable`. It takes no memory.
+/// An extended attribute that is a name alone, as `Replaceable`. It takes no memory.
 #[derive(Clone, Copy, Debug, PartialEq, Eq, PartialOrd, Ord, Hash)]
 pub struct ExtendedAttributeNoArgs<'a>(pub Identifier<'a>);
 

@@ -1,5 +1,5 @@
-//! How the types that lead back to themselves are cloned: one function for each type, each with the tree of the
-//! original. They call one another, with no limit on how deep.
+//! How the types that lead back to themselves are cloned: one function for each type, each with the
+//! tree of the original. They call one another, with no limit on how deep.
 
 mod written;
 

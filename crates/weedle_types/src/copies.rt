@@ -13,7 +13,7 @@ use weedle_base::TryClone;
 use weedle_parts::common::{Docstring, Generics};
 use weedle_term::Comma;
 
-/// Copies attributes.
+/// Copies extended attributes, where they stand. It fails where memory is refused.
 #[tactic(auto, using(crate::proofs::CopyFacts::attributes_alike))]
 pub fn copy_attributes<'a>(
     attributes: &Option<ExtendedAttributeList<'a>>,
@@ -25,7 +25,7 @@ pub fn copy_attributes<'a>(
     Ok(copy)
 }
 
-/// Copies a docstring that may be absent.
+/// Copies a docstring that may be absent. It fails where memory is refused.
 #[tactic(auto, using(crate::proofs::CopyFacts::docstring_alike))]
 pub fn copy_docstring(
     docstring: &Option<Docstring>,
@@ -37,7 +37,7 @@ pub fn copy_docstring(
     Ok(copy)
 }
 
-/// Copies a type between angle brackets.
+/// Copies a type between angle brackets. It fails where memory is refused.
 #[tactic(auto, using(crate::proofs::CopyFacts::one_type_alike))]
 pub fn copy_one_type<'a>(
     types: &Generics<AttributedType<'a>>,
@@ -49,7 +49,7 @@ pub fn copy_one_type<'a>(
     Ok(copy)
 }
 
-/// Copies the types of keys and values.
+/// Copies the types of keys and values. It fails where memory is refused.
 #[tactic(auto, using(crate::proofs::CopyFacts::two_types_alike))]
 pub fn copy_two_types<'a>(
     types: &Generics<(AttributedType<'a>, Comma, AttributedType<'a>)>,

@@ -1,5 +1,6 @@
-//! The parts of the recursive types that lead back to one type alone: each is made over that type, and its
-//! public name is an alias of it, as `SequenceType<'a>` is `formers::SequenceType<Type<'a>>`.
+//! The parts of the recursive types that lead back to one type alone: each is made over that type,
+//! and its public name is an alias of it, as `SequenceType<'a>` is
+//! `formers::SequenceType<Type<'a>>`.
 
 use weedle_parts::common::Generics;
 use weedle_term::{

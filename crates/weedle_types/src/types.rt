@@ -1,9 +1,10 @@
 //! Types, as `sequence<(long or DOMString)>?`.
 //!
-//! A type is read whole, with no limit on how deep types stand in one another. What follows it is the rest:
-//! `Promise<long>?` is a promise and `?`, since a promise is never null. A text that begins with no type is a
-//! mismatch. Boxes, unions and attributes ask for memory: where it is refused, the call ends at once with a
-//! failure of code `Memory`. What each type reads stands in words in docs/GRAMMAR.md.
+//! A type is read whole, with no limit on how deep types stand in one another. What follows it is
+//! the rest: `Promise<long>?` is a promise and `?`, since a promise is never null. A text that
+//! begins with no type is a mismatch. Boxes, unions and extended attributes ask for memory: where
+//! it is refused, the call ends at once with a failure of code `Memory`. What each type reads
+//! stands in words in docs/GRAMMAR.md.
 
 mod written;
 
@@ -32,7 +33,8 @@ pub type PromiseType<'a> = formers::PromiseType<ReturnType<'a>>;
 /// A record, as `record<DOMString, long>`. Its types are a tuple struct, [`RecordTypes`].
 pub type RecordType<'a> = formers::RecordType<RecordTypes<'a>>;
 
-/// The type of a record's keys: `ByteString`, `DOMString`, `USVString` or any type but `any` and unions.
+/// The type of a record's keys: `ByteString`, `DOMString`, `USVString` or any type but `any` and
+/// unions.
 pub type RecordKeyType<'a> = formers::RecordKeyType<NonAnyType<'a>>;
 
 /// The type of a result: `undefined`, or a type.
@@ -60,8 +62,8 @@ impl Drop for Type<'_> {
     }
 }
 
-/// A type that is neither `any` nor a union, as `long?`. A name that is no type of the grammar is an
-/// identifier. Of what its variants read, `?` may be absent.
+/// A type that is neither `any` nor a union, as `long?`. A name that is no type of the grammar is
+/// an identifier. Of what its variants read, `?` may be absent.
 #[cycle(types)]
 #[derive(Debug, PartialEq, Eq, PartialOrd, Ord, Hash)]
 pub enum NonAnyType<'a> {
@@ -162,7 +164,8 @@ impl Drop for NonAnyType<'_> {
     }
 }
 
-/// The types of a record, as `DOMString, long`: that of its keys, the comma, and that of its values.
+/// The types of a record, as `DOMString, long`: that of its keys, the comma, and that of its
+/// values.
 #[cycle(types)]
 #[derive(Debug, PartialEq, Eq, PartialOrd, Ord, Hash)]
 pub struct RecordTypes<'a>(pub Box<RecordKeyType<'a>>, pub Comma, pub Box<Type<'a>>);
@@ -178,8 +181,8 @@ impl Drop for RecordTypes<'_> {
 #[cycle(types)]
 #[derive(Debug, PartialEq, Eq, PartialOrd, Ord, Hash)]
 pub enum UnionMemberType<'a> {
-    /// `[attributes] type`, also without `[attributes]`, where the type is neither `any` nor a
-    /// union.
+    /// `[extended attributes] type`, also without `[extended attributes]`, where the type is
+    /// neither `any` nor a union.
     Single(AttributedNonAnyType<'a>),
     /// `(type or type)?`, also without `?`.
     Union(MayBeNull<UnionType<'a>>),
@@ -194,11 +197,11 @@ impl Drop for UnionMemberType<'_> {
     }
 }
 
-/// A type with the attributes that stand before it, as `[Clamp] octet`.
+/// A type with the extended attributes that stand before it, as `[Clamp] octet`.
 #[cycle(types)]
 #[derive(Debug, PartialEq, Eq, PartialOrd, Ord, Hash)]
 pub struct AttributedType<'a> {
-    /// The attributes in brackets, as `[Clamp]`, where they stand.
+    /// The extended attributes in brackets, as `[Clamp]`, where they stand.
     pub attributes: Option<ExtendedAttributeList<'a>>,
     /// The type, as `octet`.
     pub type_: Type<'a>,
@@ -214,11 +217,12 @@ impl Drop for AttributedType<'_> {
     }
 }
 
-/// The same where the type is neither `any` nor a union.
+/// A type that is neither `any` nor a union, with the extended attributes that stand before it, as
+/// `[Clamp] octet`.
 #[cycle(types)]
 #[derive(Debug, PartialEq, Eq, PartialOrd, Ord, Hash)]
 pub struct AttributedNonAnyType<'a> {
-    /// The attributes in brackets, as `[Clamp]`, where they stand.
+    /// The extended attributes in brackets, as `[Clamp]`, where they stand.
     pub attributes: Option<ExtendedAttributeList<'a>>,
     /// The type, as `octet`.
     pub type_: NonAnyType<'a>,

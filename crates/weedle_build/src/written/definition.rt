@@ -1,6 +1,6 @@
 //! A definition of any kind.
 //!
-//! Written by tools/builds.py.
+//! Written by tools/builds.py, and not edited by hand.
 #![tactic(auto, using(weedle_build_base::proofs::Finding::own_steps))]
 
 ghost use Rattle.std.specs.Prelude.{◌≡◌};

@@ -1,6 +1,6 @@
 //! Literals, and the values of defaults and constants.
 //!
-//! Written by tools/builds.py.
+//! Written by tools/builds.py, and not edited by hand.
 #![tactic(auto, using(crate::proofs::Finding::own_steps))]
 
 ghost use Rattle.std.specs.Prelude.{◌≡◌};

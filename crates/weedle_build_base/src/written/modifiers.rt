@@ -1,6 +1,6 @@
 //! What is inherited from, and the words before a member.
 //!
-//! Written by tools/builds.py.
+//! Written by tools/builds.py, and not edited by hand.
 #![tactic(auto, using(crate::proofs::Finding::own_steps))]
 
 ghost use Rattle.std.specs.Prelude.{◌≡◌};

@@ -1,6 +1,6 @@
 //! Types that hold no other type.
 //!
-//! Written by tools/builds.py.
+//! Written by tools/builds.py, and not edited by hand.
 #![tactic(auto, using(crate::proofs::Finding::own_steps))]
 
 ghost use Rattle.std.specs.Prelude.{◌≡◌};

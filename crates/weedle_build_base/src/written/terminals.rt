@@ -1,6 +1,6 @@
 //! The terminals: 16 symbols and 68 keywords.
 //!
-//! Written by tools/terminals.py.
+//! Written by tools/terminals.py, and not edited by hand.
 
 mod capitalized_keywords;
 mod definition_keywords;

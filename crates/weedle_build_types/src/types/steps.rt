@@ -30,7 +30,8 @@ pub(crate) fn optional<'a, T: Build<'a>>(
 }
 
 /// Puts what was built at the end of a list, and gives where it is then.
-// It stays a call, so that no list holds the room of an item more than once while the item is built.
+// It stays a call, so that no list holds the room of an item more than once while the item is
+// built.
 #[inline(never)]
 pub(crate) fn keep<T: Drop>(list: &mut Vec<T>, built: BuildResult<T>) -> Result<At, AllocError>
     ensures { IfOk result (λ at. Keeps list.old.items list.new.items built at) }

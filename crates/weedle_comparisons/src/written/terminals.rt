@@ -1,6 +1,6 @@
 //! The defaults and the orders of the terminals: each has one value.
 //!
-//! Written by tools/terminals.py.
+//! Written by tools/terminals.py, and not edited by hand.
 
 ghost use Rattle.std.specs.Prelude.{◌≡◌, ◌↔◌};
 
@@ -18,7 +18,7 @@ use weedle_term::{
     Unsigned,
 };
 
-/// The default of each of the symbols is its one value.
+/// A law, which does nothing: the default of each of the symbols is its one value.
 pub fn defaults_of_symbols()
     ensures open_paren { (v : OpenParen) → ⟦<OpenParen as Default>⟧.is_default v ↔ v ≡ record {} }
     ensures close_paren { (v : CloseParen) → ⟦<CloseParen as Default>⟧.is_default v ↔ v ≡ record {} }
@@ -38,7 +38,7 @@ pub fn defaults_of_symbols()
     ensures q_mark { (v : QMark) → ⟦<QMark as Default>⟧.is_default v ↔ v ≡ record {} }
 {}
 
-/// Of two of the same of the symbols neither stands before the other.
+/// A law, which does nothing: of two values of one of the symbols neither stands before the other.
 pub fn orders_of_symbols()
     ensures open_paren { (a b : OpenParen) → ⟦<OpenParen as Ord>⟧.cmp a b ≡ Ordering.Equal }
     ensures close_paren { (a b : CloseParen) → ⟦<CloseParen as Ord>⟧.cmp a b ≡ Ordering.Equal }
@@ -58,7 +58,8 @@ pub fn orders_of_symbols()
     ensures q_mark { (a b : QMark) → ⟦<QMark as Ord>⟧.cmp a b ≡ Ordering.Equal }
 {}
 
-/// The default of each of the keywords of definitions and their members is its one value.
+/// A law, which does nothing: the default of each of the keywords of definitions and their members
+/// is its one value.
 pub fn defaults_of_definition_keywords()
     ensures async_ { (v : Async) → ⟦<Async as Default>⟧.is_default v ↔ v ≡ record {} }
     ensures attribute { (v : Attribute) → ⟦<Attribute as Default>⟧.is_default v ↔ v ≡ record {} }
@@ -88,7 +89,8 @@ pub fn defaults_of_definition_keywords()
     ensures constructor { (v : Constructor) → ⟦<Constructor as Default>⟧.is_default v ↔ v ≡ record {} }
 {}
 
-/// Of two of the same of the keywords of definitions and their members neither stands before the other.
+/// A law, which does nothing: of two values of one of the keywords of definitions and their members
+/// neither stands before the other.
 pub fn orders_of_definition_keywords()
     ensures async_ { (a b : Async) → ⟦<Async as Ord>⟧.cmp a b ≡ Ordering.Equal }
     ensures attribute { (a b : Attribute) → ⟦<Attribute as Ord>⟧.cmp a b ≡ Ordering.Equal }
@@ -118,7 +120,8 @@ pub fn orders_of_definition_keywords()
     ensures constructor { (a b : Constructor) → ⟦<Constructor as Ord>⟧.cmp a b ≡ Ordering.Equal }
 {}
 
-/// The default of each of the keywords of types, arguments and values is its one value.
+/// A law, which does nothing: the default of each of the keywords of types, arguments and values is
+/// its one value.
 pub fn defaults_of_type_keywords()
     ensures or { (v : Or) → ⟦<Or as Default>⟧.is_default v ↔ v ≡ record {} }
     ensures optional { (v : Optional) → ⟦<Optional as Default>⟧.is_default v ↔ v ≡ record {} }
@@ -142,7 +145,8 @@ pub fn defaults_of_type_keywords()
     ensures record { (v : Record) → ⟦<Record as Default>⟧.is_default v ↔ v ≡ record {} }
 {}
 
-/// Of two of the same of the keywords of types, arguments and values neither stands before the other.
+/// A law, which does nothing: of two values of one of the keywords of types, arguments and values
+/// neither stands before the other.
 pub fn orders_of_type_keywords()
     ensures or { (a b : Or) → ⟦<Or as Ord>⟧.cmp a b ≡ Ordering.Equal }
     ensures optional { (a b : Optional) → ⟦<Optional as Ord>⟧.cmp a b ≡ Ordering.Equal }
@@ -166,7 +170,7 @@ pub fn orders_of_type_keywords()
     ensures record { (a b : Record) → ⟦<Record as Ord>⟧.cmp a b ≡ Ordering.Equal }
 {}
 
-/// The default of each of the keywords with capitals is its one value.
+/// A law, which does nothing: the default of each of the keywords with capitals is its one value.
 pub fn defaults_of_capitalized_keywords()
     ensures byte_string { (v : ByteString) → ⟦<ByteString as Default>⟧.is_default v ↔ v ≡ record {} }
     ensures dom_string { (v : DOMString) → ⟦<DOMString as Default>⟧.is_default v ↔ v ≡ record {} }
@@ -192,7 +196,8 @@ pub fn defaults_of_capitalized_keywords()
     ensures neg_infinity { (v : NegInfinity) → ⟦<NegInfinity as Default>⟧.is_default v ↔ v ≡ record {} }
 {}
 
-/// Of two of the same of the keywords with capitals neither stands before the other.
+/// A law, which does nothing: of two values of one of the keywords with capitals neither stands
+/// before the other.
 pub fn orders_of_capitalized_keywords()
     ensures byte_string { (a b : ByteString) → ⟦<ByteString as Ord>⟧.cmp a b ≡ Ordering.Equal }
     ensures dom_string { (a b : DOMString) → ⟦<DOMString as Ord>⟧.cmp a b ≡ Ordering.Equal }

@@ -17,7 +17,7 @@ abbrev pub OutWeighs : ℕ → ℕ → Outcome → Type 0
 OutWeighs extra p Fails = Unit {0}
 OutWeighs extra p (Gives ts e) = p < e → total_size ts + (10000 * p + 10000) ≤ 10000 * e + extra
 
--- the same of what a row yields
+-- where a row takes text, it yields at most so many nodes more than 10,000 for each byte but the first
 abbrev pub RawWeighs : ℕ → ℕ → Raw → Type 0
 RawWeighs extra p Breaks = Unit {0}
 RawWeighs extra p (Yields ts ends e) = p < e → total_size ts + (10000 * p + 10000) ≤ 10000 * e + extra

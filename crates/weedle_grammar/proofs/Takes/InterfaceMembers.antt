@@ -1,4 +1,4 @@
--- Which rules of this section always take a byte. Written by tools/grammar.py.
+-- Which rules of this section always take a byte. Written by tools/grammar.py, and not edited by hand.
 use Rattle.std.proofs.Common.{List, [], ◌∷◌, Bool, true, false}
 
 abbrev pub interface_members : List Bool

@@ -1,4 +1,4 @@
--- The names of the rules, as a syntax tree has them. Written by tools/grammar.py.
+-- The names of the rules, as a syntax tree has them. Written by tools/grammar.py, and not edited by hand.
 use Rattle.std.specs.Prelude.{ℕ, zero, suc, List, [], ◌∷◌, ◌++◌, codes}
 
 -- Trivia: line comments, blanks and block comments.
@@ -292,7 +292,7 @@ simple_types =
     codes "parenthesized_identifier_list" ∷
     []
 
--- Types that hold types, attributes and arguments, which read one another.
+-- Types that hold types, extended attributes and arguments, which read one another.
 abbrev pub types : List (List ℕ)
 types =
     codes "generics_type" ∷

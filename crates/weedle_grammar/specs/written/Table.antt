@@ -1,4 +1,4 @@
--- The grammar: the rows and shapes of all rules, section by section. Written by tools/grammar.py.
+-- The grammar: the rows and shapes of all rules, section by section. Written by tools/grammar.py, and not edited by hand.
 use Rattle.std.specs.Prelude.{ℕ, zero, suc, List, [], ◌∷◌, ◌++◌}
 use Rattle.weedle_grammar.specs.Rows.{Row, First}
 use Rattle.weedle_grammar.specs.Trees.{Outcome}

@@ -2,7 +2,7 @@
 //!
 //! A constant is a rule's number. The rows of a section stand beside its constants.
 //!
-//! Written by tools/grammar.py.
+//! Written by tools/grammar.py, and not edited by hand.
 
 ghost use Rattle.std.specs.Prelude.{◌≡◌};
 ghost use Rattle.weedle_grammar.specs.written.Names.{name_of as the_name_of};

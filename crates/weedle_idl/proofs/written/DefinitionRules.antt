@@ -1,4 +1,4 @@
--- Definitions. Written by tools/idl_proofs.py.
+-- Definitions. Written by tools/idl_proofs.py, and not edited by hand.
 use Rattle.std.proofs.Common.{inl, inr, refl}
 use Rattle.std.specs.Borrow.{Bor}
 use Rattle.std.specs.Prelude.{ℕ, List, ◌⊎◌}

@@ -1,4 +1,5 @@
--- The trees of a member of an interface, of its members, and of interfaces. Written by tools/trees.py.
+-- The trees of a member of an interface, of its members, and of interfaces.
+-- Written by tools/trees.py, and not edited by hand.
 use Rattle.std.specs.Prelude.{[], ◌∷◌}
 use Rattle.weedle_async_iterables.specs.written.Trees.{async_iterable_interface_member_tree}
 use Rattle.weedle_base.specs.Rules.{option_tree}
@@ -28,17 +29,17 @@ interface_member_tree (InterfaceMember-Maplike v) = Alt 6 (maplike_interface_mem
 interface_member_tree (InterfaceMember-Setlike v) = Alt 7 (setlike_interface_member_tree v)
 interface_member_tree (InterfaceMember-Stringifier v) = Alt 8 (stringifier_member_tree v)
 
--- a callback interface: its docstring where one stands, its attributes where they stand, `callback`,
+-- a callback interface: its docstring where one stands, its extended attributes where they stand, `callback`,
 -- `interface`, its name, the interface that it inherits from where one is named, its members, `;`
 abbrev pub callback_interface_definition_tree : CallbackInterfaceDefinition → Tree
 callback_interface_definition_tree v = Node (trees (option_tree docstring_tree v.docstring ∷ attributes_tree v.attributes ∷ Mark ∷ Mark ∷ identifier_tree v.identifier ∷ option_tree inheritance_tree v.inheritance ∷ braced_tree (members_tree interface_member_tree) v.members ∷ Mark ∷ []))
 
--- an interface: its docstring where one stands, its attributes where they stand, `interface`, its name, the
--- interface that it inherits from where one is named, its members, `;`
+-- an interface: its docstring where one stands, its extended attributes where they stand, `interface`, its
+-- name, the interface that it inherits from where one is named, its members, `;`
 abbrev pub interface_definition_tree : InterfaceDefinition → Tree
 interface_definition_tree v = Node (trees (option_tree docstring_tree v.docstring ∷ attributes_tree v.attributes ∷ Mark ∷ identifier_tree v.identifier ∷ option_tree inheritance_tree v.inheritance ∷ braced_tree (members_tree interface_member_tree) v.members ∷ Mark ∷ []))
 
--- a part of an interface: its attributes where they stand, `partial`, `interface`, the name of the interface
--- that it is a part of, its members, `;`
+-- a part of an interface: its extended attributes where they stand, `partial`, `interface`, the name of the
+-- interface that it is a part of, its members, `;`
 abbrev pub partial_interface_definition_tree : PartialInterfaceDefinition → Tree
 partial_interface_definition_tree v = Node (trees (attributes_tree v.attributes ∷ Mark ∷ Mark ∷ identifier_tree v.identifier ∷ braced_tree (members_tree interface_member_tree) v.members ∷ Mark ∷ []))

@@ -1,5 +1,5 @@
 -- The place of each variant in its declaration, counted from 0. Of a type that leads back to itself the variants
--- stand as the logic holds them, flat, with the parts of what they hold. Written by tools/orders.py.
+-- stand as the logic holds them, flat, with the parts of what they hold. Written by tools/orders.py, and not edited by hand.
 use Rattle.std.specs.Prelude.{ℕ}
 use Rattle.weedle_iterables.specs.declared.iterable.IterableInterfaceMember.{IterableInterfaceMember}
 use Rattle.weedle_iterables.specs.declared.iterable.IterableInterfaceMember.TheVariants.{Single as IterableInterfaceMember-Single, Double as IterableInterfaceMember-Double}

@@ -1,6 +1,6 @@
 //! Each terminal, with and without blanks round it.
 //!
-//! Written by tools/terminals.py.
+//! Written by tools/terminals.py, and not edited by hand.
 
 use std::alloc::Global;
 use std::process::Abort;

@@ -1,4 +1,4 @@
--- Dictionaries. Written by tools/idl_proofs.py.
+-- Dictionaries. Written by tools/idl_proofs.py, and not edited by hand.
 use Rattle.std.proofs.Common.{refl}
 use Rattle.std.specs.Borrow.{Bor}
 use Rattle.std.specs.Global.{Vec}

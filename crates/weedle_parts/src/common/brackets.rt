@@ -29,8 +29,8 @@ use weedle_term::{
     CloseBrace, CloseBracket, CloseParen, GreaterThan, LessThan, OpenBrace, OpenBracket, OpenParen,
 };
 
-/// A body in parentheses, as `(a, b)`: `(`, what the body reads, `)`. Where one of the three isn't there it
-/// is a mismatch. It takes the memory that the body takes.
+/// A body in parentheses, as `(a, b)`: `(`, what the body reads, `)`. Where one of the three isn't
+/// there it is a mismatch. It takes the memory that the body takes.
 #[derive(Clone, Copy, Debug, Default, Drop, PartialEq, Eq, PartialOrd, Ord, Hash)]
 pub struct Parenthesized<T> {
     /// The `(`.

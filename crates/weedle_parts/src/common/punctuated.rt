@@ -13,8 +13,8 @@ ghost use Rattle.weedle_parts.specs.ListLaws.{punctuated_lawful, punctuated_non_
 use std::alloc::{AllocError, Global};
 use weedle_base::{Err, IResult, Parse, TryClone, mismatch, out_of_memory};
 
-/// Items with a separator between each two, as `a, b`; none included. `separator` is the default, not what
-/// was read.
+/// Items with a separator between each two, as `a, b`; none included. `separator` is the default,
+/// not what was read.
 #[derive(Debug, Drop, PartialEq, Eq, PartialOrd, Ord, Hash)]
 pub struct Punctuated<T, S> {
     /// The items, one after another; none included.
@@ -59,8 +59,8 @@ impl<T: TryClone, S: TryClone> TryClone for Punctuated<T, S> {
     ghost equivalence = { seen_equivalence (λ p. (p.list.items, p.separator)) (pair_equivalence (all_equivalence T.equivalence) S.equivalence) };
 }
 
-/// Items with a separator between each two, one item at least, and one separator more where it stands, as
-/// `a, b,`. `separator` is the default, not what was read.
+/// Items with a separator between each two, one item at least, and one separator more where it
+/// stands, as `a, b,`. `separator` is the default, not what was read.
 #[derive(Debug, Drop, PartialEq, Eq, PartialOrd, Ord, Hash)]
 pub struct PunctuatedNonEmpty<T, S> {
     /// The items, one after another; one at least.

@@ -14,8 +14,8 @@ use std::alloc::Global;
 use weedle_base::{IResult, Parse};
 use weedle_term::{Boolean, Byte, Octet};
 
-/// The type of a constant, as `long?`: a type of numbers, `boolean`, `byte`, `octet` or a name, and `?` where
-/// it may be null. It takes no memory. Of what its variants read, `?` may be absent.
+/// The type of a constant, as `long?`: a type of numbers, `boolean`, `byte`, `octet` or a name, and
+/// `?` where it may be null. It takes no memory. Of what its variants read, `?` may be absent.
 #[derive(Clone, Copy, Debug, PartialEq, Eq, PartialOrd, Ord, Hash)]
 pub enum ConstType<'a> {
     /// `short?`, `long?` or `long long?`, each also with `unsigned` in front.

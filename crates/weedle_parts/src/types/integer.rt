@@ -92,8 +92,8 @@ impl<'a> Parse<'a> for ShortType {
     ghost lawful = { own_lawful SHORT_TYPE short_type_tree ⊥ };
 }
 
-/// A type of integers, as `unsigned long`: the first of its variants that fits, so `long longx` is `long` and
-/// leaves `longx`. Anything else, as `unsigned x`, is a mismatch. It takes no memory.
+/// A type of integers, as `unsigned long`: the first of its variants that fits, so `long longx` is
+/// `long` and leaves `longx`. Anything else, as `unsigned x`, is a mismatch. It takes no memory.
 #[derive(Clone, Copy, Debug, PartialEq, Eq, PartialOrd, Ord, Hash)]
 pub enum IntegerType {
     /// `unsigned long long`, also without `unsigned`.

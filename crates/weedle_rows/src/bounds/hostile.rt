@@ -10,7 +10,8 @@ use weedle_front::{Definition, parse, parse_counted};
 use weedle_testing::examples::CUT;
 use weedle_testing::{nested_attributes, repeated};
 
-/// Asserts that this is the outcome of the text, by `parse` and by `parse_counted`, within the bounds.
+/// Asserts that this is the outcome of the text, by `parse` and by `parse_counted`, within the
+/// bounds.
 fn assert_outcome(rt: &impl Abort, alloc: Global, text: &str, expected: Outcome<'_>) {
     let (answer, counts) = counted_outcome(parse_counted(alloc, text));
     assert_bounds(rt, text, counts);

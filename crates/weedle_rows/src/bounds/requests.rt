@@ -24,7 +24,7 @@ const TEXTS: [(&str, Outcome<'static>); 6] = [
     (KINDS, Outcome::Read(14, "implements", "Q")),
 ];
 
-/// The outcome of the nested attributes.
+/// The outcome of the nested extended attributes.
 const NESTED: Outcome<'static> = Outcome::Read(1, "interface", "I");
 
 /// Asserts that the text is read so or that memory is wanted, which is told with the text itself.
@@ -59,7 +59,8 @@ fn a_text_is_read_or_wants_memory(rt: HostRuntime) -> Result<(), Fail> {
     Ok(())
 }
 
-/// Asserts the counts of an answer that wants memory: none where the table was refused, else those of the table.
+/// Asserts the counts of an answer that wants memory: none where the table was refused, else those
+/// of the table.
 fn assert_reached(rt: &impl Abort, text: &str, counts: Counts) {
     assert_eq!(rt; counts.visits, 0, "of {text:?}");
     if counts.workings == 0 {
@@ -69,7 +70,8 @@ fn assert_reached(rt: &impl Abort, text: &str, counts: Counts) {
     }
 }
 
-/// The same as `assert_read`, by `parse_counted`, and asserts what is counted.
+/// Asserts that the text is read so by `parse_counted` or that memory is wanted, and what is
+/// counted.
 fn assert_counted(
     rt: &impl Abort,
     alloc: Global,

@@ -29,7 +29,8 @@ fn length<T: Drop>(list: Vec<T>) -> usize {
     list.len()
 }
 
-/// How many definitions are built of a text along its table, what is left, and how many nodes are visited.
+/// How many definitions are built of a text along its table, what is left, and how many nodes are
+/// visited.
 fn build<'a>(
     alloc: Global,
     ends: &Ends<'a>,

@@ -9,7 +9,7 @@ use crate::cell::Cell;
 use crate::reader::{Reader, Working};
 use weedle_grammar::Rule;
 
-/// The rule, or nothing where it fails.
+/// Works out a row `Opt`: the rule, or nothing where it fails.
 #[inline(always)]
 pub(crate) fn opt<C: Cell>(
     reader: &Reader<'_, C>,
@@ -28,7 +28,8 @@ pub(crate) fn opt<C: Cell>(
     }
 }
 
-/// The item from end to end until it fails: an item here, and the rule itself behind it.
+/// Works out a row `Many`: the item from end to end until it fails. It is an item here, and what
+/// the rule itself takes behind it.
 #[inline(always)]
 pub(crate) fn many<C: Cell>(
     reader: &Reader<'_, C>,
@@ -53,7 +54,7 @@ pub(crate) fn many<C: Cell>(
     }
 }
 
-/// An item, then the items after it; nothing where there is no item.
+/// Works out a row `List`: an item, then the items after it; nothing where there is no item.
 #[inline(always)]
 pub(crate) fn list<C: Cell>(
     reader: &Reader<'_, C>,
@@ -73,7 +74,7 @@ pub(crate) fn list<C: Cell>(
     }
 }
 
-/// An item, then the items after it.
+/// Works out a row `List1`: an item, then the items after it.
 #[inline(always)]
 pub(crate) fn list1<C: Cell>(
     reader: &Reader<'_, C>,
@@ -93,7 +94,8 @@ pub(crate) fn list1<C: Cell>(
     }
 }
 
-/// Items, each behind a separator: one here, and the rule itself behind it.
+/// Works out a row `Tail`: items, each behind a separator. They are one here, and what the rule
+/// itself takes behind it.
 #[inline(always)]
 pub(crate) fn tail<C: Cell>(
     reader: &Reader<'_, C>,

@@ -10,7 +10,7 @@ use crate::cell::Cell;
 use crate::reader::{Reader, Working};
 use weedle_grammar::{Parts, Rule};
 
-/// The parts, each from the end of the one before.
+/// Works out a row `Seq`: the parts, each from the end of the one before.
 #[inline(always)]
 pub(crate) fn seq<C: Cell>(
     reader: &Reader<'_, C>,
@@ -33,7 +33,7 @@ pub(crate) fn seq<C: Cell>(
     Some(end)
 }
 
-/// The first part that fits.
+/// Works out a row `First`: the first part that fits.
 #[inline(always)]
 pub(crate) fn first<C: Cell>(
     reader: &Reader<'_, C>,
@@ -55,7 +55,7 @@ pub(crate) fn first<C: Cell>(
     None
 }
 
-/// The first where the test holds, else the second.
+/// The first of two booleans where the test holds, else the second.
 #[inline(always)]
 fn choose(test: bool, first: bool, second: bool) -> bool
     ensures { result ≡ (if test then first else second) }
@@ -63,7 +63,7 @@ fn choose(test: bool, first: bool, second: bool) -> bool
     if test { first } else { second }
 }
 
-/// The parts, then the rule where the part of this number gave something.
+/// Works out a row `If`: the parts, then the rule where the part of this number gave something.
 #[inline(always)]
 pub(crate) fn conditional<C: Cell>(
     reader: &Reader<'_, C>,

@@ -49,7 +49,7 @@ fn stand_at<C: Cell>(
     true
 }
 
-/// These bytes.
+/// Works out a row `Bytes`: these bytes.
 #[inline(always)]
 pub(crate) fn bytes<C: Cell>(
     reader: &Reader<'_, C>,
@@ -69,7 +69,7 @@ pub(crate) fn bytes<C: Cell>(
     }
 }
 
-/// One byte of the class.
+/// Works out a row `OneOf`: one byte of the class.
 #[inline(always)]
 pub(crate) fn one_of<C: Cell>(
     reader: &Reader<'_, C>,
@@ -94,7 +94,7 @@ pub(crate) fn one_of<C: Cell>(
     }
 }
 
-/// Nothing, where no byte of the class is next.
+/// Works out a row `NotNext`: nothing, where no byte of the class is next.
 #[inline(always)]
 pub(crate) fn not_next<C: Cell>(
     reader: &Reader<'_, C>,
@@ -119,7 +119,8 @@ pub(crate) fn not_next<C: Cell>(
     }
 }
 
-/// All bytes of the class from here on: the byte here, and the rule itself behind it.
+/// Works out a row `Run`: all bytes of the class from here on. They are the byte here, and what the
+/// rule itself takes behind it.
 #[inline(always)]
 pub(crate) fn run<C: Cell>(
     reader: &Reader<'_, C>,
@@ -144,7 +145,8 @@ pub(crate) fn run<C: Cell>(
     }
 }
 
-/// Everything up to the bytes, and these: they stand here, or else the rule itself behind this place.
+/// Works out a row `Past`: everything up to the bytes, and these. They stand here, or else it is
+/// what the rule itself takes behind this place.
 #[inline(always)]
 pub(crate) fn past<C: Cell>(
     reader: &Reader<'_, C>,

@@ -2,13 +2,13 @@
 
 ghost use Rattle.weedle_spell.specs.Laws.{SymbolLaw, KeywordLaw};
 
-/// A symbol, as `{`.
+/// A law, which does nothing: the text of a symbol, as `{`, spells it.
 #[tactic(auto, using(crate::proofs::LawFacts::symbols))]
 pub fn symbols()
     ensures { SymbolLaw }
 {}
 
-/// A keyword, as `interface`.
+/// A law, which does nothing: the text of a keyword, as `interface`, spells it.
 #[tactic(auto, using(crate::proofs::LawFacts::keywords))]
 pub fn keywords()
     ensures { KeywordLaw }

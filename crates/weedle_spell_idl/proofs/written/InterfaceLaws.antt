@@ -1,5 +1,5 @@
 -- The laws of the members of interfaces, of interfaces and of mixins.
--- Written by tools/spellings.py.
+-- Written by tools/spellings.py, and not edited by hand.
 use Rattle.std.proofs.Common.{refl}
 use Rattle.weedle_grammar.specs.written.Table.Definitions.{CALLBACK_INTERFACE_DEFINITION, INTERFACE_DEFINITION, INTERFACE_MIXIN_DEFINITION, PARTIAL_INTERFACE_DEFINITION, PARTIAL_INTERFACE_MIXIN_DEFINITION}
 use Rattle.weedle_grammar.specs.written.Table.InterfaceMembers.{INTERFACE_MEMBER, INTERFACE_MEMBERS}

@@ -1,4 +1,4 @@
--- The laws of iterations, maps and sets. Written by tools/spellings.py.
+-- The laws of iterations, maps and sets. Written by tools/spellings.py, and not edited by hand.
 use Rattle.std.proofs.Common.{refl}
 use Rattle.weedle_async_iterables.specs.declared.async_iterable.AsyncIterableInterfaceMember.TheVariants.{Single as AsyncIterableInterfaceMember-Single, Double as AsyncIterableInterfaceMember-Double}
 use Rattle.weedle_async_iterables.specs.written.PartTrees.{async_iterable_tree}

@@ -1,5 +1,5 @@
 -- The laws of constants, attributes, operations, constructors and stringifiers of interfaces, and
--- of the members of mixins. Written by tools/spellings.py.
+-- of the members of mixins. Written by tools/spellings.py, and not edited by hand.
 use Rattle.std.proofs.Common.{refl}
 use Rattle.weedle_grammar.specs.written.Table.InterfaceMembers.{ATTRIBUTE_INTERFACE_MEMBER, CONSTRUCTOR_INTERFACE_MEMBER, CONST_MEMBER, OPERATION_INTERFACE_MEMBER, STRINGIFIER_MEMBER}
 use Rattle.weedle_grammar.specs.written.Table.OtherMembers.{ATTRIBUTE_MIXIN_MEMBER, MIXIN_MEMBER, MIXIN_MEMBERS, OPERATION_MIXIN_MEMBER}

@@ -1,5 +1,5 @@
 -- The laws of what is inherited from, and of the words before a member.
--- Written by tools/spellings.py.
+-- Written by tools/spellings.py, and not edited by hand.
 use Rattle.std.proofs.Common.{refl}
 use Rattle.weedle_grammar.specs.written.Table.InterfaceMembers.{INHERITANCE, SPECIAL, STRINGIFIER_OR_INHERIT_OR_STATIC, STRINGIFIER_OR_STATIC}
 use Rattle.weedle_modifier.specs.declared.modifier.Special.TheVariants.{Getter as Special-Getter, Setter as Special-Setter, Deleter as Special-Deleter, LegacyCaller as Special-LegacyCaller}

@@ -1,4 +1,5 @@
--- The laws of namespaces and dictionaries, and of their members. Written by tools/spellings.py.
+-- The laws of namespaces and dictionaries, and of their members.
+-- Written by tools/spellings.py, and not edited by hand.
 use Rattle.std.proofs.Common.{refl}
 use Rattle.weedle_grammar.specs.written.Table.Definitions.{DICTIONARY_DEFINITION, NAMESPACE_DEFINITION, PARTIAL_DICTIONARY_DEFINITION, PARTIAL_NAMESPACE_DEFINITION}
 use Rattle.weedle_grammar.specs.written.Table.OtherMembers.{ATTRIBUTE_NAMESPACE_MEMBER, DICTIONARY_MEMBER, DICTIONARY_MEMBERS, NAMESPACE_MEMBER, NAMESPACE_MEMBERS, OPERATION_NAMESPACE_MEMBER}

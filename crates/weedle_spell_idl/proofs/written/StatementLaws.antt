@@ -1,4 +1,4 @@
--- The laws of definitions without members. Written by tools/spellings.py.
+-- The laws of definitions without members. Written by tools/spellings.py, and not edited by hand.
 use Rattle.std.proofs.Common.{refl}
 use Rattle.weedle_grammar.specs.written.Table.Definitions.{CALLBACK_DEFINITION, ENUM_DEFINITION, IMPLEMENTS_DEFINITION, INCLUDES_STATEMENT_DEFINITION, TYPEDEF_DEFINITION}
 use Rattle.weedle_grammar.specs.written.Table.OtherMembers.{ENUM_VALUE_LIST, ENUM_VARIANT}

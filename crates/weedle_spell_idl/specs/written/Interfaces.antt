@@ -1,4 +1,5 @@
--- How the members of interfaces are spelt, interfaces and mixins. Written by tools/spellings.py.
+-- How the members of interfaces are spelt, interfaces and mixins.
+-- Written by tools/spellings.py, and not edited by hand.
 use Rattle.std.specs.Global.{Vec}
 use Rattle.std.specs.Prelude.{codes}
 use Rattle.weedle_interfaces.specs.declared.definition.CallbackInterfaceDefinition.{CallbackInterfaceDefinition}

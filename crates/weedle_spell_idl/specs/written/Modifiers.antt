@@ -1,5 +1,5 @@
 -- How what is inherited from is spelt, and the words before a member.
--- Written by tools/spellings.py.
+-- Written by tools/spellings.py, and not edited by hand.
 use Rattle.std.specs.Prelude.{codes}
 use Rattle.weedle_modifier.specs.declared.inheritance.Inheritance.{Inheritance}
 use Rattle.weedle_modifier.specs.declared.modifier.Special.TheVariants.{Getter as Special-Getter, Setter as Special-Setter, Deleter as Special-Deleter, LegacyCaller as Special-LegacyCaller}

@@ -1,4 +1,5 @@
--- How namespaces and dictionaries are spelt, and their members. Written by tools/spellings.py.
+-- How namespaces and dictionaries are spelt, and their members.
+-- Written by tools/spellings.py, and not edited by hand.
 use Rattle.std.specs.Global.{Vec}
 use Rattle.std.specs.Prelude.{codes}
 use Rattle.weedle_namespaces.specs.declared.dictionary.DictionaryMember.{DictionaryMember}

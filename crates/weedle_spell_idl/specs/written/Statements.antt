@@ -1,4 +1,4 @@
--- How definitions without members are spelt. Written by tools/spellings.py.
+-- How definitions without members are spelt. Written by tools/spellings.py, and not edited by hand.
 use Rattle.std.specs.Prelude.{codes}
 use Rattle.weedle_parts.specs.declared.common.punctuated.PunctuatedNonEmpty.{PunctuatedNonEmpty}
 use Rattle.weedle_spell.specs.Forms.{Form, optional, ◌then◌}

@@ -1,6 +1,6 @@
 //! What scripts write.
 //!
-//! Written by tools/modules.py.
+//! Written by tools/modules.py, and not edited by hand.
 
 pub mod all_definitions;
 pub mod interfaces;

@@ -1,4 +1,5 @@
--- The laws of arguments, and of attributes that may have arguments. Written by tools/spellings.py.
+-- The laws of arguments, and of extended attributes that may have arguments.
+-- Written by tools/spellings.py, and not edited by hand.
 use Rattle.std.proofs.Common.{refl}
 use Rattle.weedle_grammar.specs.written.Table.Types.{ARGUMENT, ARGUMENT_LIST, EXTENDED_ATTRIBUTE, EXTENDED_ATTRIBUTE_ARG_LIST, EXTENDED_ATTRIBUTE_LIST, EXTENDED_ATTRIBUTE_NAMED_ARG_LIST, OPT_EXTENDED_ATTRIBUTE_LIST, PARENTHESIZED_ARGUMENT_LIST, SINGLE_ARGUMENT, VARIADIC_ARGUMENT}
 use Rattle.weedle_spell.proofs.Conditional.{if_spelt}

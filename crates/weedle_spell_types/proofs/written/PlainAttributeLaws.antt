@@ -1,4 +1,5 @@
--- The laws of attributes without arguments. Written by tools/spellings.py.
+-- The laws of extended attributes without arguments.
+-- Written by tools/spellings.py, and not edited by hand.
 use Rattle.std.proofs.Common.{refl}
 use Rattle.weedle_grammar.specs.written.Table.SimpleTypes.{IDENTIFIER_LIST}
 use Rattle.weedle_grammar.specs.written.Table.Types.{EXTENDED_ATTRIBUTE_IDENT, EXTENDED_ATTRIBUTE_IDENT_LIST, EXTENDED_ATTRIBUTE_NO_ARGS, IDENTIFIER_OR_STRING}

@@ -1,4 +1,4 @@
--- The laws of types. Written by tools/spellings.py.
+-- The laws of types. Written by tools/spellings.py, and not edited by hand.
 use Rattle.std.proofs.Common.{refl}
 use Rattle.weedle_grammar.specs.written.Table.Types.{ATTRIBUTED_NON_ANY_TYPE, ATTRIBUTED_TYPE, FROZEN_ARRAY_TYPE, NON_ANY_TYPE, PROMISE_TYPE, RECORD_KEY_TYPE, RECORD_TYPE, RECORD_TYPES, RETURN_TYPE, SEQUENCE_TYPE, SINGLE_TYPE, TYPE, UNION_MEMBER_TYPE, UNION_TYPE}
 use Rattle.weedle_spell.proofs.LawFacts.{loose}

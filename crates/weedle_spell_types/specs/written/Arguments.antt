@@ -1,4 +1,5 @@
--- How attributes and arguments are spelt. Written by tools/spellings.py.
+-- How extended attributes and arguments are spelt.
+-- Written by tools/spellings.py, and not edited by hand.
 use Rattle.std.specs.Prelude.{Option, codes}
 use Rattle.weedle_parts.specs.declared.common.brackets.Bracketed.{Bracketed}
 use Rattle.weedle_parts.specs.declared.common.punctuated.Punctuated.{Punctuated}
@@ -26,22 +27,22 @@ arguments_spelling v =
     terminal (codes "(") v.open_paren then argument_list_spelling v.body
     then terminal (codes ")") v.close_paren
 
--- an attribute with arguments
+-- an extended attribute with arguments
 abbrev pub extended_attribute_arg_list_spelling : ExtendedAttributeArgList → Form
 extended_attribute_arg_list_spelling v = identifier_spelling v.identifier then arguments_spelling v.args
 
--- an attribute with a name and arguments
+-- an extended attribute with a name and arguments
 abbrev pub extended_attribute_named_arg_list_spelling : ExtendedAttributeNamedArgList → Form
 extended_attribute_named_arg_list_spelling v =
     identifier_spelling v.lhs_identifier then terminal (codes "=") v.assign
     then identifier_spelling v.rhs_identifier then arguments_spelling v.args
 
--- attributes in brackets
+-- extended attributes in brackets
 abbrev pub extended_attribute_list_spelling : Bracketed (Punctuated ExtendedAttribute Comma) → Form
 extended_attribute_list_spelling =
     bracketed_spelling (punctuated_spelling extended_attribute_spelling (word (codes ",")))
 
--- attributes, or none
+-- extended attributes, or none
 abbrev pub attributes_spelling : Option (Bracketed (Punctuated ExtendedAttribute Comma)) → Form
 attributes_spelling = optional extended_attribute_list_spelling
 

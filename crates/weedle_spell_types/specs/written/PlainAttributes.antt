@@ -1,4 +1,5 @@
--- How attributes without arguments are spelt. Written by tools/spellings.py.
+-- How extended attributes without arguments are spelt.
+-- Written by tools/spellings.py, and not edited by hand.
 use Rattle.std.specs.Prelude.{codes}
 use Rattle.weedle_parts.specs.declared.common.identifier.Identifier.{Identifier}
 use Rattle.weedle_parts.specs.declared.common.punctuated.Punctuated.{Punctuated}
@@ -22,18 +23,18 @@ identifier_or_string_spelling (IdentifierOrString-String v) = string_spelling v
 abbrev pub identifier_list_spelling : Punctuated Identifier Comma → Form
 identifier_list_spelling = punctuated_spelling identifier_spelling (word (codes ","))
 
--- an attribute with a name or a string
+-- an extended attribute with a name or a string
 abbrev pub extended_attribute_ident_spelling : ExtendedAttributeIdent → Form
 extended_attribute_ident_spelling v =
     identifier_spelling v.lhs_identifier then terminal (codes "=") v.assign
     then identifier_or_string_spelling v.rhs
 
--- an attribute with names
+-- an extended attribute with names
 abbrev pub extended_attribute_ident_list_spelling : ExtendedAttributeIdentList → Form
 extended_attribute_ident_list_spelling v =
     identifier_spelling v.identifier then terminal (codes "=") v.assign
     then parenthesized_spelling identifier_list_spelling v.list
 
--- an attribute that is a name alone
+-- an extended attribute that is a name alone
 abbrev pub extended_attribute_no_args_spelling : ExtendedAttributeNoArgs → Form
 extended_attribute_no_args_spelling v = identifier_spelling v.0

@@ -3,14 +3,15 @@
 ghost use Rattle.weedle_spell_types.specs.Variants.{VariantsAreSpelt};
 ghost use Rattle.weedle_spell_types.specs.VariantTrees.{VariantsHaveTrees};
 
-/// A variant of a type, an argument or an attribute that holds such a value is spelt as that value.
+/// A law, which does nothing: a variant of a type, an argument or an extended attribute that holds
+/// such a value is spelt as that value.
 #[tactic(auto, using(crate::proofs::VariantFacts::variants_law))]
 pub fn variants()
     ensures { VariantsAreSpelt }
 {}
 
-/// A variant of a type, an argument or an attribute that holds such a value has the tree of that
-/// value, as the alternative of its place among the variants.
+/// A law, which does nothing: a variant of a type, an argument or an extended attribute that holds
+/// such a value has the tree of that value, as the alternative of its place among the variants.
 #[tactic(auto, using(crate::proofs::VariantTreeFacts::variant_trees_law))]
 pub fn variant_trees()
     ensures { VariantsHaveTrees }

@@ -1,6 +1,6 @@
 //! What follows from the declarations of the module above.
 //!
-//! Written by tools/impls.py.
+//! Written by tools/impls.py, and not edited by hand.
 
 ghost use Rattle.std.specs.Prelude.{◌≡◌};
 ghost use Rattle.weedle_base.specs.AlikeLaws.{equal_equivalence, seen_equivalence};

@@ -1,6 +1,6 @@
 //! Keywords of definitions and their members.
 //!
-//! Written by tools/terminals.py.
+//! Written by tools/terminals.py, and not edited by hand.
 
 ghost use Rattle.weedle_grammar.specs.Trees.{Mark};
 ghost use Rattle.weedle_grammar.specs.written.Table.Keywords.{

@@ -1,4 +1,4 @@
-//! Attributes, and types that are read, which lead back to themselves.
+//! Extended attributes, and types that are read, which lead back to themselves.
 
 use super::{EQUAL, GREATER, LESS, name_list};
 use std::alloc::{AllocError, Global};

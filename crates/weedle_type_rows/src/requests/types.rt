@@ -1,4 +1,4 @@
-//! Types, attributes and arguments, with each request for memory refused.
+//! Types, extended attributes and arguments, with each request for memory refused.
 
 use std::test::Fail;
 use weedle_modifier::{Inheritance, Special, StringifierOrInheritOrStatic, StringifierOrStatic};
@@ -127,7 +127,8 @@ fn attributes_are_read_and_copied_or_want_memory(rt: HostRuntime) -> Result<(), 
     Ok(())
 }
 
-/// An argument that could be read as no other where its attributes were dropped: `[A] long... x`.
+/// An argument that could be read as no other where its extended attributes were dropped:
+/// `[A] long... x`.
 #[test]
 fn arguments_are_read_and_copied_or_want_memory(rt: HostRuntime) -> Result<(), Fail> {
     let alloc = rt.alloc();

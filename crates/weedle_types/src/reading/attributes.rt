@@ -1,4 +1,4 @@
-//! Attributes.
+//! Extended attributes.
 
 ghost use Rattle.std.specs.Prelude.{◌<◌, ◌≤◌, length, IfOk};
 ghost use Rattle.weedle_base.specs.Own.{own};
@@ -33,7 +33,7 @@ use weedle_base::{Err, IResult, out_of_memory};
 use weedle_parts::common::{Bracketed, Punctuated};
 use weedle_term::Comma;
 
-/// Reads attributes in brackets, where they stand.
+/// Reads extended attributes in brackets, where they stand.
 #[cycle(group)]
 #[tactic(auto, using(crate::proofs::written::AttributeRules::attributes_steps))]
 pub(crate) fn attributes<'a>(
@@ -50,7 +50,7 @@ pub(crate) fn attributes<'a>(
     }
 }
 
-/// Reads attributes in brackets, as `[Exposed=Window, SecureContext]`.
+/// Reads extended attributes in brackets, as `[Exposed=Window, SecureContext]`.
 #[cycle(group)]
 #[tactic(auto, using(crate::proofs::written::AttributeRules::extended_attribute_list_steps))]
 pub(crate) fn extended_attribute_list<'a>(
@@ -73,7 +73,7 @@ pub(crate) fn extended_attribute_list<'a>(
     ))
 }
 
-/// Reads an attribute, as `Exposed=Window`.
+/// Reads an extended attribute, as `Exposed=Window`.
 #[cycle(group)]
 #[tactic(auto, using(crate::proofs::written::AttributeRules::extended_attribute_steps))]
 pub(crate) fn extended_attribute<'a>(
@@ -107,7 +107,7 @@ pub(crate) fn extended_attribute<'a>(
     Ok((rest, ExtendedAttribute::NoArgs(member)))
 }
 
-/// Reads an attribute with arguments, as `Constructor(long x)`.
+/// Reads an extended attribute with arguments, as `Constructor(long x)`.
 #[cycle(group)]
 #[tactic(auto, using(crate::proofs::written::AttributeRules::extended_attribute_arg_list_steps))]
 pub(crate) fn extended_attribute_arg_list<'a>(
@@ -122,7 +122,7 @@ pub(crate) fn extended_attribute_arg_list<'a>(
     Ok((rest, ExtendedAttributeArgList { identifier, args }))
 }
 
-/// Reads an attribute with a name and arguments, as `NamedConstructor=Image(long x)`.
+/// Reads an extended attribute with a name and arguments, as `NamedConstructor=Image(long x)`.
 #[cycle(group)]
 #[tactic(auto, using(crate::proofs::written::AttributeRules::extended_attribute_named_arg_list_steps))]
 pub(crate) fn extended_attribute_named_arg_list<'a>(
@@ -147,7 +147,7 @@ pub(crate) fn extended_attribute_named_arg_list<'a>(
     ))
 }
 
-/// Reads attributes, as `Exposed=Window, SecureContext`, none included.
+/// Reads extended attributes, as `Exposed=Window, SecureContext`, none included.
 #[cycle(group)]
 #[tactic(auto, using(crate::proofs::written::AttributeRules::extended_attributes_steps))]
 pub(crate) fn extended_attributes<'a>(
@@ -183,7 +183,7 @@ pub(crate) fn extended_attributes<'a>(
     }
 }
 
-/// Reads the attributes after the first, each behind a comma.
+/// Reads the extended attributes after the first, each behind a comma.
 #[cycle(group)]
 #[tactic(auto, using(weedle_base::proofs::TakesFacts::own_takes))]
 pub(crate) fn more_extended_attributes<'a>(

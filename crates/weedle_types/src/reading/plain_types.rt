@@ -1,5 +1,5 @@
-//! The types that hold no other types, four at a time, in the order of the variants of [`NonAnyType`]: each
-//! with `?` where it may be null. They take no memory.
+//! The types that hold no other types, four at a time, in the order of the variants of
+//! [`NonAnyType`]: each with `?` where it may be null. They take no memory.
 
 ghost use Rattle.std.specs.Prelude.{◌<◌, length, IfOk};
 ghost use Rattle.weedle_base.specs.Reading.{Answers};

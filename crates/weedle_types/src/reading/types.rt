@@ -154,7 +154,7 @@ pub(crate) fn return_type<'a>(alloc: Global, input: &'a str) -> IResult<&'a str,
     Ok((rest, ReturnType::Type_(member)))
 }
 
-/// Reads a type with its attributes, as `[Clamp] octet`.
+/// Reads a type with its extended attributes, as `[Clamp] octet`.
 #[cycle(group)]
 #[tactic(auto, using(crate::proofs::written::TypeRules::attributed_type_steps))]
 pub(crate) fn attributed_type<'a>(
@@ -169,8 +169,10 @@ pub(crate) fn attributed_type<'a>(
     Ok((rest, AttributedType { attributes, type_ }))
 }
 
-/// Reads a type with its attributes, as `[Clamp] octet`, where the type is neither `any` nor a union.
-// It stays a call: within a member of a union its room would be held at each level of nested unions.
+/// Reads a type with its extended attributes, as `[Clamp] octet`, where the type is neither `any`
+/// nor a union.
+// It stays a call: within a member of a union its room would be held at each level of nested
+// unions.
 #[inline(never)]
 #[cycle(group)]
 #[tactic(auto, using(crate::proofs::written::TypeRules::attributed_non_any_type_steps))]

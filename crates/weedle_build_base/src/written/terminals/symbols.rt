@@ -1,6 +1,6 @@
 //! Symbols.
 //!
-//! Written by tools/terminals.py.
+//! Written by tools/terminals.py, and not edited by hand.
 
 ghost use Rattle.std.specs.Prelude.{◌≡◌};
 ghost use Rattle.weedle_grammar.specs.written.Table.Symbols.{

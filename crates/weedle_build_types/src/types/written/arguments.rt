@@ -1,6 +1,6 @@
 //! Arguments.
 //!
-//! Written by tools/build_types.py.
+//! Written by tools/build_types.py, and not edited by hand.
 
 ghost use Rattle.weedle_grammar.specs.written.Table.Types.{
   ARGUMENT,

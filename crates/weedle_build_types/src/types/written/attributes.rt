@@ -1,6 +1,6 @@
-//! Attributes.
+//! Extended attributes.
 //!
-//! Written by tools/build_types.py.
+//! Written by tools/build_types.py, and not edited by hand.
 
 ghost use Rattle.weedle_grammar.specs.written.Table.Types.{
   EXTENDED_ATTRIBUTE,
@@ -34,7 +34,7 @@ use weedle_types::attribute::{
     ExtendedAttributeNoArgs,
 };
 
-/// Builds attributes in brackets, where they stand.
+/// Builds extended attributes in brackets, where they stand.
 #[cycle(group)]
 pub(crate) fn attributes<'a>(
     alloc: Global,
@@ -53,7 +53,7 @@ pub(crate) fn attributes<'a>(
     }
 }
 
-/// Builds attributes in brackets, as `[Exposed=Window, SecureContext]`.
+/// Builds extended attributes in brackets, as `[Exposed=Window, SecureContext]`.
 #[cycle(group)]
 pub(crate) fn extended_attribute_list<'a>(
     alloc: Global,
@@ -76,7 +76,7 @@ pub(crate) fn extended_attribute_list<'a>(
     ))
 }
 
-/// Builds an attribute, as `Exposed=Window`.
+/// Builds an extended attribute, as `Exposed=Window`.
 #[cycle(group)]
 pub(crate) fn extended_attribute<'a>(
     alloc: Global,
@@ -129,7 +129,7 @@ pub(crate) fn extended_attribute<'a>(
     }
 }
 
-/// Builds an attribute with arguments, as `Constructor(long x)`.
+/// Builds an extended attribute with arguments, as `Constructor(long x)`.
 #[cycle(group)]
 pub(crate) fn extended_attribute_arg_list<'a>(
     alloc: Global,
@@ -144,7 +144,7 @@ pub(crate) fn extended_attribute_arg_list<'a>(
     Ok((ExtendedAttributeArgList { identifier, args }, visit(at)))
 }
 
-/// Builds an attribute with a name and arguments, as `NamedConstructor=Image(long x)`.
+/// Builds an extended attribute with a name and arguments, as `NamedConstructor=Image(long x)`.
 #[cycle(group)]
 pub(crate) fn extended_attribute_named_arg_list<'a>(
     alloc: Global,
@@ -169,7 +169,7 @@ pub(crate) fn extended_attribute_named_arg_list<'a>(
     ))
 }
 
-/// Builds attributes, as `Exposed=Window, SecureContext`, none included.
+/// Builds extended attributes, as `Exposed=Window, SecureContext`, none included.
 #[cycle(group)]
 pub(crate) fn extended_attributes<'a>(
     alloc: Global,

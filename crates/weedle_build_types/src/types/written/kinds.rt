@@ -1,6 +1,6 @@
 //! Types.
 //!
-//! Written by tools/build_types.py.
+//! Written by tools/build_types.py, and not edited by hand.
 
 ghost use Rattle.weedle_grammar.specs.written.Table.Types.{
   ATTRIBUTED_NON_ANY_TYPE,
@@ -181,7 +181,7 @@ pub(crate) fn return_type<'a>(
     }
 }
 
-/// Builds a type with its attributes, as `[Clamp] octet`.
+/// Builds a type with its extended attributes, as `[Clamp] octet`.
 #[cycle(group)]
 pub(crate) fn attributed_type<'a>(
     alloc: Global,
@@ -196,8 +196,10 @@ pub(crate) fn attributed_type<'a>(
     Ok((AttributedType { attributes, type_ }, visit(at)))
 }
 
-/// Builds a type with its attributes, as `[Clamp] octet`, where the type is neither `any` nor a union.
-// It stays a call: within a member of a union its room would be held at each level of nested unions.
+/// Builds a type with its extended attributes, as `[Clamp] octet`, where the type is neither `any`
+/// nor a union.
+// It stays a call: within a member of a union its room would be held at each level of nested
+// unions.
 #[inline(never)]
 #[cycle(group)]
 pub(crate) fn attributed_non_any_type<'a>(

@@ -1,6 +1,7 @@
-//! The types that hold no other type, four at a time, in the order of the variants of [`NonAnyType`].
+//! The types that hold no other type, four at a time, in the order of the variants of
+//! [`NonAnyType`].
 //!
-//! Written by tools/build_types.py.
+//! Written by tools/build_types.py, and not edited by hand.
 
 ghost use Rattle.std.specs.Prelude.{◌≢◌, ◌≤◌};
 ghost use Rattle.weedle_grammar.specs.written.Table.Types.{NON_ANY_TYPE};
@@ -19,7 +20,8 @@ use weedle_term::{
 };
 use weedle_types::types::NonAnyType;
 
-/// Builds a type that holds no other, as `long?`: the variant of this number, which is the first that fits.
+/// Builds a type that holds no other, as `long?`: the variant of this number, which is the first
+/// that fits.
 pub(crate) fn plain_type<'a>(
     alloc: Global,
     table: &Ends<'a>,

@@ -1,6 +1,6 @@
 //! Unions.
 //!
-//! Written by tools/build_types.py.
+//! Written by tools/build_types.py, and not edited by hand.
 
 ghost use Rattle.std.specs.Prelude.{IfOk};
 ghost use Rattle.weedle_parts.specs.ValueTrees.{may_be_null_tree};
@@ -89,7 +89,8 @@ fn keep_union<'a>(
     Ok(visit(at))
 }
 
-/// Builds a member of a union, as `[Clamp] octet`, behind those of a list, and gives where it is then.
+/// Builds a member of a union, as `[Clamp] octet`, behind those of a list, and gives where it is
+/// then.
 // It hands on what it builds, so that no level of nested unions has room for a member.
 #[cycle(group)]
 pub(crate) fn add_union_member_type<'a>(

@@ -1,6 +1,6 @@
-//! Orders of attributes and arguments.
+//! Orders of extended attributes and arguments.
 //!
-//! Written by tools/orders.py.
+//! Written by tools/orders.py, and not edited by hand.
 
 ghost use Rattle.std.specs.Prelude.{◌≡◌, ◌<◌};
 ghost use Rattle.std.specs.Ordering.{ordering_then};
@@ -24,7 +24,7 @@ use weedle_types::attribute::{
 };
 use weedle_types::types::{AttributedType, Type};
 
-/// `ParenthesizedArgumentList` goes by its fields, in order.
+/// A law, which does nothing: `cmp` of `ParenthesizedArgumentList` goes by its fields, in order.
 pub fn parenthesized_argument_list<'a>()
     ensures { (a b : ParenthesizedArgumentList)
         → ⟦<ParenthesizedArgumentList<'a> as Ord>⟧.cmp a b
@@ -33,7 +33,8 @@ pub fn parenthesized_argument_list<'a>()
         (⟦<CloseParen as Ord>⟧.cmp a.close_paren b.close_paren)) }
 {}
 
-/// `Argument` goes by its variants, and of one variant by what it holds.
+/// A law, which does nothing: `cmp` of `Argument` goes by its variants, and of one variant by what
+/// it holds.
 pub fn argument<'a>()
     ensures earlier { (a b : Argument)
         → argument_place a < argument_place b
@@ -49,7 +50,7 @@ pub fn argument<'a>()
         ≡ ⟦<VariadicArgument<'a> as Ord>⟧.cmp a b }
 {}
 
-/// `SingleArgument` goes by its fields, in order.
+/// A law, which does nothing: `cmp` of `SingleArgument` goes by its fields, in order.
 pub fn single_argument<'a>()
     ensures { (a b : SingleArgument)
         → ⟦<SingleArgument<'a> as Ord>⟧.cmp a b
@@ -60,7 +61,7 @@ pub fn single_argument<'a>()
         (⟦<Option<Default<'a>> as Ord>⟧.cmp a.default b.default)))) }
 {}
 
-/// `VariadicArgument` goes by its fields, in order.
+/// A law, which does nothing: `cmp` of `VariadicArgument` goes by its fields, in order.
 pub fn variadic_argument<'a>()
     ensures { (a b : VariadicArgument)
         → ⟦<VariadicArgument<'a> as Ord>⟧.cmp a b
@@ -70,7 +71,8 @@ pub fn variadic_argument<'a>()
         (⟦<Identifier<'a> as Ord>⟧.cmp a.identifier b.identifier))) }
 {}
 
-/// `ExtendedAttribute` goes by its variants, and of one variant by what it holds.
+/// A law, which does nothing: `cmp` of `ExtendedAttribute` goes by its variants, and of one variant
+/// by what it holds.
 pub fn extended_attribute<'a>()
     ensures earlier { (a b : ExtendedAttribute)
         → extended_attribute_place a < extended_attribute_place b
@@ -100,7 +102,7 @@ pub fn extended_attribute<'a>()
         ≡ ⟦<ExtendedAttributeNoArgs<'a> as Ord>⟧.cmp a b }
 {}
 
-/// `ExtendedAttributeArgList` goes by its fields, in order.
+/// A law, which does nothing: `cmp` of `ExtendedAttributeArgList` goes by its fields, in order.
 pub fn extended_attribute_arg_list<'a>()
     ensures { (a b : ExtendedAttributeArgList)
         → ⟦<ExtendedAttributeArgList<'a> as Ord>⟧.cmp a b
@@ -108,7 +110,8 @@ pub fn extended_attribute_arg_list<'a>()
         (⟦<ParenthesizedArgumentList<'a> as Ord>⟧.cmp a.args b.args) }
 {}
 
-/// `ExtendedAttributeNamedArgList` goes by its fields, in order.
+/// A law, which does nothing: `cmp` of `ExtendedAttributeNamedArgList` goes by its fields, in
+/// order.
 pub fn extended_attribute_named_arg_list<'a>()
     ensures { (a b : ExtendedAttributeNamedArgList)
         → ⟦<ExtendedAttributeNamedArgList<'a> as Ord>⟧.cmp a b
@@ -118,7 +121,7 @@ pub fn extended_attribute_named_arg_list<'a>()
         (⟦<ParenthesizedArgumentList<'a> as Ord>⟧.cmp a.args b.args))) }
 {}
 
-/// `ExtendedAttributeIdentList` goes by its fields, in order.
+/// A law, which does nothing: `cmp` of `ExtendedAttributeIdentList` goes by its fields, in order.
 pub fn extended_attribute_ident_list<'a>()
     ensures { (a b : ExtendedAttributeIdentList)
         → ⟦<ExtendedAttributeIdentList<'a> as Ord>⟧.cmp a b
@@ -127,7 +130,7 @@ pub fn extended_attribute_ident_list<'a>()
         (⟦<Parenthesized<IdentifierList<'a>> as Ord>⟧.cmp a.list b.list)) }
 {}
 
-/// `ExtendedAttributeIdent` goes by its fields, in order.
+/// A law, which does nothing: `cmp` of `ExtendedAttributeIdent` goes by its fields, in order.
 pub fn extended_attribute_ident<'a>()
     ensures { (a b : ExtendedAttributeIdent)
         → ⟦<ExtendedAttributeIdent<'a> as Ord>⟧.cmp a b
@@ -136,14 +139,15 @@ pub fn extended_attribute_ident<'a>()
         (⟦<IdentifierOrString<'a> as Ord>⟧.cmp a.rhs b.rhs)) }
 {}
 
-/// `ExtendedAttributeNoArgs` goes by its fields, in order.
+/// A law, which does nothing: `cmp` of `ExtendedAttributeNoArgs` goes by its fields, in order.
 pub fn extended_attribute_no_args<'a>()
     ensures { (a b : ExtendedAttributeNoArgs)
         → ⟦<ExtendedAttributeNoArgs<'a> as Ord>⟧.cmp a b
         ≡ ⟦<Identifier<'a> as Ord>⟧.cmp a.0 b.0 }
 {}
 
-/// `IdentifierOrString` goes by its variants, and of one variant by what it holds.
+/// A law, which does nothing: `cmp` of `IdentifierOrString` goes by its variants, and of one
+/// variant by what it holds.
 pub fn identifier_or_string<'a>()
     ensures earlier { (a b : IdentifierOrString)
         → identifier_or_string_place a < identifier_or_string_place b

@@ -1,6 +1,6 @@
 //! Orders of literals and defaults.
 //!
-//! Written by tools/orders.py.
+//! Written by tools/orders.py, and not edited by hand.
 
 ghost use Rattle.std.specs.Prelude.{◌≡◌, ◌<◌};
 ghost use Rattle.std.specs.Ordering.{ordering_then};
@@ -20,14 +20,14 @@ use weedle_term::{
     Assign, CloseBrace, CloseBracket, Infinity, NaN, NegInfinity, Null, OpenBrace, OpenBracket,
 };
 
-/// `BooleanLit` goes by its fields, in order.
+/// A law, which does nothing: `cmp` of `BooleanLit` goes by its fields, in order.
 pub fn boolean_lit()
     ensures { (a b : BooleanLit)
         → ⟦<BooleanLit as Ord>⟧.cmp a b
         ≡ ⟦<bool as Ord>⟧.cmp a.0 b.0 }
 {}
 
-/// `Default` goes by its fields, in order.
+/// A law, which does nothing: `cmp` of `Default` goes by its fields, in order.
 pub fn default<'a>()
     ensures { (a b : Default)
         → ⟦<Default<'a> as Ord>⟧.cmp a b
@@ -35,7 +35,7 @@ pub fn default<'a>()
         (⟦<DefaultValue<'a> as Ord>⟧.cmp a.value b.value) }
 {}
 
-/// `EmptyArrayLit` goes by its fields, in order.
+/// A law, which does nothing: `cmp` of `EmptyArrayLit` goes by its fields, in order.
 pub fn empty_array_lit()
     ensures { (a b : EmptyArrayLit)
         → ⟦<EmptyArrayLit as Ord>⟧.cmp a b
@@ -43,7 +43,7 @@ pub fn empty_array_lit()
         (⟦<CloseBracket as Ord>⟧.cmp a.close_bracket b.close_bracket) }
 {}
 
-/// `EmptyDictionaryLit` goes by its fields, in order.
+/// A law, which does nothing: `cmp` of `EmptyDictionaryLit` goes by its fields, in order.
 pub fn empty_dictionary_lit()
     ensures { (a b : EmptyDictionaryLit)
         → ⟦<EmptyDictionaryLit as Ord>⟧.cmp a b
@@ -51,14 +51,15 @@ pub fn empty_dictionary_lit()
         (⟦<CloseBrace as Ord>⟧.cmp a.close_brace b.close_brace) }
 {}
 
-/// `FloatValueLit` goes by its fields, in order.
+/// A law, which does nothing: `cmp` of `FloatValueLit` goes by its fields, in order.
 pub fn float_value_lit<'a>()
     ensures { (a b : FloatValueLit)
         → ⟦<FloatValueLit<'a> as Ord>⟧.cmp a b
         ≡ ⟦<&'a str as Ord>⟧.cmp a.0 b.0 }
 {}
 
-/// `FloatLit` goes by its variants, and of one variant by what it holds.
+/// A law, which does nothing: `cmp` of `FloatLit` goes by its variants, and of one variant by what
+/// it holds.
 pub fn float_lit<'a>()
     ensures earlier { (a b : FloatLit)
         → float_lit_place a < float_lit_place b
@@ -80,28 +81,29 @@ pub fn float_lit<'a>()
         ≡ ⟦<NaN as Ord>⟧.cmp a b }
 {}
 
-/// `DecLit` goes by its fields, in order.
+/// A law, which does nothing: `cmp` of `DecLit` goes by its fields, in order.
 pub fn dec_lit<'a>()
     ensures { (a b : DecLit)
         → ⟦<DecLit<'a> as Ord>⟧.cmp a b
         ≡ ⟦<&'a str as Ord>⟧.cmp a.0 b.0 }
 {}
 
-/// `HexLit` goes by its fields, in order.
+/// A law, which does nothing: `cmp` of `HexLit` goes by its fields, in order.
 pub fn hex_lit<'a>()
     ensures { (a b : HexLit)
         → ⟦<HexLit<'a> as Ord>⟧.cmp a b
         ≡ ⟦<&'a str as Ord>⟧.cmp a.0 b.0 }
 {}
 
-/// `OctLit` goes by its fields, in order.
+/// A law, which does nothing: `cmp` of `OctLit` goes by its fields, in order.
 pub fn oct_lit<'a>()
     ensures { (a b : OctLit)
         → ⟦<OctLit<'a> as Ord>⟧.cmp a b
         ≡ ⟦<&'a str as Ord>⟧.cmp a.0 b.0 }
 {}
 
-/// `IntegerLit` goes by its variants, and of one variant by what it holds.
+/// A law, which does nothing: `cmp` of `IntegerLit` goes by its variants, and of one variant by
+/// what it holds.
 pub fn integer_lit<'a>()
     ensures earlier { (a b : IntegerLit)
         → integer_lit_place a < integer_lit_place b
@@ -120,14 +122,15 @@ pub fn integer_lit<'a>()
         ≡ ⟦<OctLit<'a> as Ord>⟧.cmp a b }
 {}
 
-/// `StringLit` goes by its fields, in order.
+/// A law, which does nothing: `cmp` of `StringLit` goes by its fields, in order.
 pub fn string_lit<'a>()
     ensures { (a b : StringLit)
         → ⟦<StringLit<'a> as Ord>⟧.cmp a b
         ≡ ⟦<&'a str as Ord>⟧.cmp a.0 b.0 }
 {}
 
-/// `DefaultValue` goes by its variants, and of one variant by what it holds.
+/// A law, which does nothing: `cmp` of `DefaultValue` goes by its variants, and of one variant by
+/// what it holds.
 pub fn default_value<'a>()
     ensures earlier { (a b : DefaultValue)
         → default_value_place a < default_value_place b
@@ -159,7 +162,8 @@ pub fn default_value<'a>()
         ≡ ⟦<StringLit<'a> as Ord>⟧.cmp a b }
 {}
 
-/// `ConstValue` goes by its variants, and of one variant by what it holds.
+/// A law, which does nothing: `cmp` of `ConstValue` goes by its variants, and of one variant by
+/// what it holds.
 pub fn const_value<'a>()
     ensures earlier { (a b : ConstValue)
         → const_value_place a < const_value_place b

@@ -1,6 +1,6 @@
 //! Orders of constants, attributes, operations and stringifiers.
 //!
-//! Written by tools/orders.py.
+//! Written by tools/orders.py, and not edited by hand.
 
 ghost use Rattle.std.specs.Prelude.{◌≡◌};
 ghost use Rattle.std.specs.Ordering.{ordering_then};
@@ -18,7 +18,7 @@ use weedle_types::argument::ParenthesizedArgumentList;
 use weedle_types::attribute::ExtendedAttributeList;
 use weedle_types::types::{AttributedType, ReturnType};
 
-/// `AttributeInterfaceMember` goes by its fields, in order.
+/// A law, which does nothing: `cmp` of `AttributeInterfaceMember` goes by its fields, in order.
 pub fn attribute_interface_member<'a>()
     ensures { (a b : AttributeInterfaceMember)
         → ⟦<AttributeInterfaceMember<'a> as Ord>⟧.cmp a b
@@ -31,7 +31,7 @@ pub fn attribute_interface_member<'a>()
         (⟦<SemiColon as Ord>⟧.cmp a.semi_colon b.semi_colon)))))) }
 {}
 
-/// `ConstMember` goes by its fields, in order.
+/// A law, which does nothing: `cmp` of `ConstMember` goes by its fields, in order.
 pub fn const_member<'a>()
     ensures { (a b : ConstMember)
         → ⟦<ConstMember<'a> as Ord>⟧.cmp a b
@@ -44,7 +44,7 @@ pub fn const_member<'a>()
         (⟦<SemiColon as Ord>⟧.cmp a.semi_colon b.semi_colon)))))) }
 {}
 
-/// `ConstructorInterfaceMember` goes by its fields, in order.
+/// A law, which does nothing: `cmp` of `ConstructorInterfaceMember` goes by its fields, in order.
 pub fn constructor_interface_member<'a>()
     ensures { (a b : ConstructorInterfaceMember)
         → ⟦<ConstructorInterfaceMember<'a> as Ord>⟧.cmp a b
@@ -55,7 +55,7 @@ pub fn constructor_interface_member<'a>()
         (⟦<SemiColon as Ord>⟧.cmp a.semi_colon b.semi_colon)))) }
 {}
 
-/// `OperationInterfaceMember` goes by its fields, in order.
+/// A law, which does nothing: `cmp` of `OperationInterfaceMember` goes by its fields, in order.
 pub fn operation_interface_member<'a>()
     ensures { (a b : OperationInterfaceMember)
         → ⟦<OperationInterfaceMember<'a> as Ord>⟧.cmp a b
@@ -69,7 +69,7 @@ pub fn operation_interface_member<'a>()
         (⟦<SemiColon as Ord>⟧.cmp a.semi_colon b.semi_colon))))))) }
 {}
 
-/// `StringifierMember` goes by its fields, in order.
+/// A law, which does nothing: `cmp` of `StringifierMember` goes by its fields, in order.
 pub fn stringifier_member<'a>()
     ensures { (a b : StringifierMember)
         → ⟦<StringifierMember<'a> as Ord>⟧.cmp a b

@@ -1,6 +1,6 @@
 //! Orders of words before a member, and of what is inherited from.
 //!
-//! Written by tools/orders.py.
+//! Written by tools/orders.py, and not edited by hand.
 
 ghost use Rattle.std.specs.Prelude.{◌≡◌, ◌<◌};
 ghost use Rattle.std.specs.Ordering.{ordering_then};
@@ -15,7 +15,7 @@ use weedle_modifier::{Inheritance, Special, StringifierOrInheritOrStatic, String
 use weedle_parts::common::Identifier;
 use weedle_term::{Colon, Deleter, Getter, Inherit, LegacyCaller, Setter, Static, Stringifier};
 
-/// `Inheritance` goes by its fields, in order.
+/// A law, which does nothing: `cmp` of `Inheritance` goes by its fields, in order.
 pub fn inheritance<'a>()
     ensures { (a b : Inheritance)
         → ⟦<Inheritance<'a> as Ord>⟧.cmp a b
@@ -23,7 +23,8 @@ pub fn inheritance<'a>()
         (⟦<Identifier<'a> as Ord>⟧.cmp a.identifier b.identifier) }
 {}
 
-/// `Special` goes by its variants, and of one variant by what it holds.
+/// A law, which does nothing: `cmp` of `Special` goes by its variants, and of one variant by what
+/// it holds.
 pub fn special()
     ensures earlier { (a b : Special)
         → special_place a < special_place b
@@ -45,7 +46,8 @@ pub fn special()
         ≡ ⟦<LegacyCaller as Ord>⟧.cmp a b }
 {}
 
-/// `StringifierOrInheritOrStatic` goes by its variants, and of one variant by what it holds.
+/// A law, which does nothing: `cmp` of `StringifierOrInheritOrStatic` goes by its variants, and of
+/// one variant by what it holds.
 pub fn stringifier_or_inherit_or_static()
     ensures earlier { (a b : StringifierOrInheritOrStatic)
         → stringifier_or_inherit_or_static_place a < stringifier_or_inherit_or_static_place b
@@ -67,7 +69,8 @@ pub fn stringifier_or_inherit_or_static()
         ≡ ⟦<Static as Ord>⟧.cmp a b }
 {}
 
-/// `StringifierOrStatic` goes by its variants, and of one variant by what it holds.
+/// A law, which does nothing: `cmp` of `StringifierOrStatic` goes by its variants, and of one
+/// variant by what it holds.
 pub fn stringifier_or_static()
     ensures earlier { (a b : StringifierOrStatic)
         → stringifier_or_static_place a < stringifier_or_static_place b

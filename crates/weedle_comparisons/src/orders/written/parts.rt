@@ -1,6 +1,6 @@
 //! Orders of generic parts, names, docstrings and plain types.
 //!
-//! Written by tools/orders.py.
+//! Written by tools/orders.py, and not edited by hand.
 
 ghost use Rattle.std.specs.Prelude.{◌≡◌, ◌<◌};
 ghost use Rattle.std.specs.Ordering.{ordering_then};
@@ -24,7 +24,7 @@ use weedle_term::{
     Long, Octet, OpenBrace, OpenBracket, OpenParen, QMark, Short, Unrestricted, Unsigned,
 };
 
-/// `Parenthesized` goes by its fields, in order.
+/// A law, which does nothing: `cmp` of `Parenthesized` goes by its fields, in order.
 pub fn parenthesized<T: Ord>()
     ensures { (a b : Parenthesized T)
         → ⟦<Parenthesized<T> as Ord>⟧.cmp a b
@@ -33,7 +33,7 @@ pub fn parenthesized<T: Ord>()
         (⟦<CloseParen as Ord>⟧.cmp a.close_paren b.close_paren)) }
 {}
 
-/// `Bracketed` goes by its fields, in order.
+/// A law, which does nothing: `cmp` of `Bracketed` goes by its fields, in order.
 pub fn bracketed<T: Ord>()
     ensures { (a b : Bracketed T)
         → ⟦<Bracketed<T> as Ord>⟧.cmp a b
@@ -42,7 +42,7 @@ pub fn bracketed<T: Ord>()
         (⟦<CloseBracket as Ord>⟧.cmp a.close_bracket b.close_bracket)) }
 {}
 
-/// `Braced` goes by its fields, in order.
+/// A law, which does nothing: `cmp` of `Braced` goes by its fields, in order.
 pub fn braced<T: Ord>()
     ensures { (a b : Braced T)
         → ⟦<Braced<T> as Ord>⟧.cmp a b
@@ -51,7 +51,7 @@ pub fn braced<T: Ord>()
         (⟦<CloseBrace as Ord>⟧.cmp a.close_brace b.close_brace)) }
 {}
 
-/// `Generics` goes by its fields, in order.
+/// A law, which does nothing: `cmp` of `Generics` goes by its fields, in order.
 pub fn generics<T: Ord>()
     ensures { (a b : Generics T)
         → ⟦<Generics<T> as Ord>⟧.cmp a b
@@ -60,21 +60,21 @@ pub fn generics<T: Ord>()
         (⟦<GreaterThan as Ord>⟧.cmp a.close_angle b.close_angle)) }
 {}
 
-/// `Docstring` goes by its fields, in order.
+/// A law, which does nothing: `cmp` of `Docstring` goes by its fields, in order.
 pub fn docstring()
     ensures { (a b : Docstring)
         → ⟦<Docstring as Ord>⟧.cmp a b
         ≡ ⟦<String as Ord>⟧.cmp a.0 b.0 }
 {}
 
-/// `Identifier` goes by its fields, in order.
+/// A law, which does nothing: `cmp` of `Identifier` goes by its fields, in order.
 pub fn identifier<'a>()
     ensures { (a b : Identifier)
         → ⟦<Identifier<'a> as Ord>⟧.cmp a b
         ≡ ⟦<&'a str as Ord>⟧.cmp a.0 b.0 }
 {}
 
-/// `Punctuated` goes by its fields, in order.
+/// A law, which does nothing: `cmp` of `Punctuated` goes by its fields, in order.
 pub fn punctuated<T: Ord, S: Ord>()
     ensures { (a b : Punctuated T S)
         → ⟦<Punctuated<T, S> as Ord>⟧.cmp a b
@@ -82,7 +82,7 @@ pub fn punctuated<T: Ord, S: Ord>()
         (S.cmp a.separator b.separator) }
 {}
 
-/// `PunctuatedNonEmpty` goes by its fields, in order.
+/// A law, which does nothing: `cmp` of `PunctuatedNonEmpty` goes by its fields, in order.
 pub fn punctuated_non_empty<T: Ord, S: Ord>()
     ensures { (a b : PunctuatedNonEmpty T S)
         → ⟦<PunctuatedNonEmpty<T, S> as Ord>⟧.cmp a b
@@ -90,7 +90,8 @@ pub fn punctuated_non_empty<T: Ord, S: Ord>()
         (S.cmp a.separator b.separator) }
 {}
 
-/// `ConstType` goes by its variants, and of one variant by what it holds.
+/// A law, which does nothing: `cmp` of `ConstType` goes by its variants, and of one variant by what
+/// it holds.
 pub fn const_type<'a>()
     ensures earlier { (a b : ConstType)
         → const_type_place a < const_type_place b
@@ -118,7 +119,7 @@ pub fn const_type<'a>()
         ≡ ⟦<MayBeNull<Identifier<'a>> as Ord>⟧.cmp a b }
 {}
 
-/// `FloatType` goes by its fields, in order.
+/// A law, which does nothing: `cmp` of `FloatType` goes by its fields, in order.
 pub fn float_type()
     ensures { (a b : FloatType)
         → ⟦<FloatType as Ord>⟧.cmp a b
@@ -126,7 +127,7 @@ pub fn float_type()
         (⟦<Float as Ord>⟧.cmp a.float b.float) }
 {}
 
-/// `DoubleType` goes by its fields, in order.
+/// A law, which does nothing: `cmp` of `DoubleType` goes by its fields, in order.
 pub fn double_type()
     ensures { (a b : DoubleType)
         → ⟦<DoubleType as Ord>⟧.cmp a b
@@ -134,7 +135,8 @@ pub fn double_type()
         (⟦<Double as Ord>⟧.cmp a.double b.double) }
 {}
 
-/// `FloatingPointType` goes by its variants, and of one variant by what it holds.
+/// A law, which does nothing: `cmp` of `FloatingPointType` goes by its variants, and of one variant
+/// by what it holds.
 pub fn floating_point_type()
     ensures earlier { (a b : FloatingPointType)
         → floating_point_type_place a < floating_point_type_place b
@@ -151,7 +153,7 @@ pub fn floating_point_type()
         ≡ ⟦<DoubleType as Ord>⟧.cmp a b }
 {}
 
-/// `LongLongType` goes by its fields, in order.
+/// A law, which does nothing: `cmp` of `LongLongType` goes by its fields, in order.
 pub fn long_long_type()
     ensures { (a b : LongLongType)
         → ⟦<LongLongType as Ord>⟧.cmp a b
@@ -159,7 +161,7 @@ pub fn long_long_type()
         (⟦<(Long, Long) as Ord>⟧.cmp a.long_long b.long_long) }
 {}
 
-/// `LongType` goes by its fields, in order.
+/// A law, which does nothing: `cmp` of `LongType` goes by its fields, in order.
 pub fn long_type()
     ensures { (a b : LongType)
         → ⟦<LongType as Ord>⟧.cmp a b
@@ -167,7 +169,7 @@ pub fn long_type()
         (⟦<Long as Ord>⟧.cmp a.long b.long) }
 {}
 
-/// `ShortType` goes by its fields, in order.
+/// A law, which does nothing: `cmp` of `ShortType` goes by its fields, in order.
 pub fn short_type()
     ensures { (a b : ShortType)
         → ⟦<ShortType as Ord>⟧.cmp a b
@@ -175,7 +177,8 @@ pub fn short_type()
         (⟦<Short as Ord>⟧.cmp a.short b.short) }
 {}
 
-/// `IntegerType` goes by its variants, and of one variant by what it holds.
+/// A law, which does nothing: `cmp` of `IntegerType` goes by its variants, and of one variant by
+/// what it holds.
 pub fn integer_type()
     ensures earlier { (a b : IntegerType)
         → integer_type_place a < integer_type_place b
@@ -194,7 +197,7 @@ pub fn integer_type()
         ≡ ⟦<ShortType as Ord>⟧.cmp a b }
 {}
 
-/// `MayBeNull` goes by its fields, in order.
+/// A law, which does nothing: `cmp` of `MayBeNull` goes by its fields, in order.
 pub fn may_be_null<T: Ord>()
     ensures { (a b : MayBeNull T)
         → ⟦<MayBeNull<T> as Ord>⟧.cmp a b

@@ -1,6 +1,6 @@
 //! Orders of types.
 //!
-//! Written by tools/orders.py.
+//! Written by tools/orders.py, and not edited by hand.
 
 ghost use Rattle.std.specs.Prelude.{◌≡◌, ◌<◌};
 ghost use Rattle.std.specs.Ordering.{ordering_then};
@@ -54,7 +54,8 @@ use weedle_types::types::{
     UnionType,
 };
 
-/// `SingleType` goes by its variants, and of one variant by what it holds.
+/// A law, which does nothing: `cmp` of `SingleType` goes by its variants, and of one variant by
+/// what it holds.
 pub fn single_type<'a>()
     ensures earlier { (a b : SingleTypeOf NonAnyType)
         → single_type_place a < single_type_place b
@@ -70,7 +71,7 @@ pub fn single_type<'a>()
         ≡ ⟦<NonAnyType<'a> as Ord>⟧.cmp a b }
 {}
 
-/// `SequenceType` goes by its fields, in order.
+/// A law, which does nothing: `cmp` of `SequenceType` goes by its fields, in order.
 pub fn sequence_type<'a>()
     ensures { (a b : SequenceTypeOf «Type»)
         → ⟦<SequenceType<'a> as Ord>⟧.cmp a b
@@ -78,7 +79,7 @@ pub fn sequence_type<'a>()
         (⟦<Generics<Box<Type<'a>>> as Ord>⟧.cmp a.generics b.generics) }
 {}
 
-/// `FrozenArrayType` goes by its fields, in order.
+/// A law, which does nothing: `cmp` of `FrozenArrayType` goes by its fields, in order.
 pub fn frozen_array_type<'a>()
     ensures { (a b : FrozenArrayTypeOf «Type»)
         → ⟦<FrozenArrayType<'a> as Ord>⟧.cmp a b
@@ -86,7 +87,7 @@ pub fn frozen_array_type<'a>()
         (⟦<Generics<Box<Type<'a>>> as Ord>⟧.cmp a.generics b.generics) }
 {}
 
-/// `PromiseType` goes by its fields, in order.
+/// A law, which does nothing: `cmp` of `PromiseType` goes by its fields, in order.
 pub fn promise_type<'a>()
     ensures { (a b : PromiseTypeOf (ReturnTypeOf «Type»))
         → ⟦<PromiseType<'a> as Ord>⟧.cmp a b
@@ -94,7 +95,7 @@ pub fn promise_type<'a>()
         (⟦<Generics<Box<ReturnType<'a>>> as Ord>⟧.cmp a.generics b.generics) }
 {}
 
-/// `RecordType` goes by its fields, in order.
+/// A law, which does nothing: `cmp` of `RecordType` goes by its fields, in order.
 pub fn record_type<'a>()
     ensures { (a b : RecordTypeOf RecordTypes)
         → ⟦<RecordType<'a> as Ord>⟧.cmp a b
@@ -102,7 +103,8 @@ pub fn record_type<'a>()
         (⟦<Generics<RecordTypes<'a>> as Ord>⟧.cmp a.generics b.generics) }
 {}
 
-/// `RecordKeyType` goes by its variants, and of one variant by what it holds.
+/// A law, which does nothing: `cmp` of `RecordKeyType` goes by its variants, and of one variant by
+/// what it holds.
 pub fn record_key_type<'a>()
     ensures earlier { (a b : RecordKeyTypeOf NonAnyType)
         → record_key_type_place a < record_key_type_place b
@@ -124,7 +126,8 @@ pub fn record_key_type<'a>()
         ≡ ⟦<NonAnyType<'a> as Ord>⟧.cmp a b }
 {}
 
-/// `ReturnType` goes by its variants, and of one variant by what it holds.
+/// A law, which does nothing: `cmp` of `ReturnType` goes by its variants, and of one variant by
+/// what it holds.
 pub fn return_type<'a>()
     ensures earlier { (a b : ReturnTypeOf «Type»)
         → return_type_place a < return_type_place b
@@ -140,7 +143,8 @@ pub fn return_type<'a>()
         ≡ ⟦<Type<'a> as Ord>⟧.cmp a b }
 {}
 
-/// `Type` goes by its variants, and of one variant by what it holds.
+/// A law, which does nothing: `cmp` of `Type` goes by its variants, and of one variant by what it
+/// holds.
 pub fn type_<'a>()
     ensures earlier { (a b : «Type»)
         → type_place a < type_place b
@@ -156,7 +160,8 @@ pub fn type_<'a>()
         ≡ ⟦<MayBeNull<UnionType<'a>> as Ord>⟧.cmp a b }
 {}
 
-/// `NonAnyType` goes by its variants, and of one variant by what it holds.
+/// A law, which does nothing: `cmp` of `NonAnyType` goes by its variants, and of one variant by
+/// what it holds.
 pub fn non_any_type<'a>()
     ensures earlier { (a b : NonAnyType)
         → non_any_type_place a < non_any_type_place b
@@ -256,7 +261,7 @@ pub fn non_any_type<'a>()
         ≡ ⟦<MayBeNull<Identifier<'a>> as Ord>⟧.cmp a b }
 {}
 
-/// `RecordTypes` goes by its fields, in order.
+/// A law, which does nothing: `cmp` of `RecordTypes` goes by its fields, in order.
 pub fn record_types<'a>()
     ensures { (a b : RecordTypes)
         → ⟦<RecordTypes<'a> as Ord>⟧.cmp a b
@@ -265,7 +270,8 @@ pub fn record_types<'a>()
         (⟦<Box<Type<'a>> as Ord>⟧.cmp a.2 b.2)) }
 {}
 
-/// `UnionMemberType` goes by its variants, and of one variant by what it holds.
+/// A law, which does nothing: `cmp` of `UnionMemberType` goes by its variants, and of one variant
+/// by what it holds.
 pub fn union_member_type<'a>()
     ensures earlier { (a b : UnionMemberType)
         → union_member_type_place a < union_member_type_place b
@@ -281,7 +287,7 @@ pub fn union_member_type<'a>()
         ≡ ⟦<MayBeNull<UnionType<'a>> as Ord>⟧.cmp a b }
 {}
 
-/// `AttributedType` goes by its fields, in order.
+/// A law, which does nothing: `cmp` of `AttributedType` goes by its fields, in order.
 pub fn attributed_type<'a>()
     ensures { (a b : AttributedType)
         → ⟦<AttributedType<'a> as Ord>⟧.cmp a b
@@ -289,7 +295,7 @@ pub fn attributed_type<'a>()
         (⟦<Type<'a> as Ord>⟧.cmp a.type_ b.type_) }
 {}
 
-/// `AttributedNonAnyType` goes by its fields, in order.
+/// A law, which does nothing: `cmp` of `AttributedNonAnyType` goes by its fields, in order.
 pub fn attributed_non_any_type<'a>()
     ensures { (a b : AttributedNonAnyType)
         → ⟦<AttributedNonAnyType<'a> as Ord>⟧.cmp a b

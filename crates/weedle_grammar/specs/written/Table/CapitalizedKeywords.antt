@@ -1,5 +1,6 @@
 -- Keywords with capitals: trivia, the keyword's bytes with no name character next, trivia.
--- Written by tools/grammar.py: the number of each rule, and its row and shape, in the order of the numbers.
+-- The number of each rule, and its row and shape, in the order of the numbers.
+-- Written by tools/grammar.py, and not edited by hand.
 use Rattle.std.specs.Prelude.{ℕ, List, [], ◌∷◌, codes}
 use Rattle.weedle_grammar.specs.Rows.{Bytes, Seq}
 use Rattle.weedle_grammar.specs.Meaning.{Marked, Silent}

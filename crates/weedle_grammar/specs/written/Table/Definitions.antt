@@ -1,5 +1,6 @@
 -- Definitions.
--- Written by tools/grammar.py: the number of each rule, and its row and shape, in the order of the numbers.
+-- The number of each rule, and its row and shape, in the order of the numbers.
+-- Written by tools/grammar.py, and not edited by hand.
 use Rattle.std.specs.Prelude.{ℕ, List, [], ◌∷◌}
 use Rattle.weedle_grammar.specs.Rows.{First, Many, Seq}
 use Rattle.weedle_grammar.specs.Meaning.{Plain}

@@ -1,5 +1,6 @@
 -- Leaves: names, numbers, strings and docstrings.
--- Written by tools/grammar.py: the number of each rule, and its row and shape, in the order of the numbers.
+-- The number of each rule, and its row and shape, in the order of the numbers.
+-- Written by tools/grammar.py, and not edited by hand.
 use Rattle.std.specs.Prelude.{ℕ, List, [], ◌∷◌, codes}
 use Rattle.weedle_grammar.specs.declared.class.Class.TheVariants.{Digit, ELetter, Hex, Letter, Name, NotQuote, Octal, OneToNine, Sign, XLetter}
 use Rattle.weedle_grammar.specs.Rows.{Bytes, First, Many, OneOf, Opt, Past, Run, Seq}

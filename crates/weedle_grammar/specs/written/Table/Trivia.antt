@@ -1,5 +1,6 @@
 -- Trivia: line comments, blanks and block comments.
--- Written by tools/grammar.py: the number of each rule, and its row and shape, in the order of the numbers.
+-- The number of each rule, and its row and shape, in the order of the numbers.
+-- Written by tools/grammar.py, and not edited by hand.
 use Rattle.std.specs.Prelude.{ℕ, List, [], ◌∷◌, codes}
 use Rattle.weedle_grammar.specs.declared.class.Class.TheVariants.{Any, Blank, NotLineFeed, Slash}
 use Rattle.weedle_grammar.specs.Rows.{Bytes, First, Many, NotNext, OneOf, Past, Run, Seq}

@@ -1,5 +1,6 @@
--- Types that hold types, attributes and arguments, which read one another.
--- Written by tools/grammar.py: the number of each rule, and its row and shape, in the order of the numbers.
+-- Types that hold types, extended attributes and arguments, which read one another.
+-- The number of each rule, and its row and shape, in the order of the numbers.
+-- Written by tools/grammar.py, and not edited by hand.
 use Rattle.std.specs.Prelude.{ℕ, List, [], ◌∷◌}
 use Rattle.weedle_grammar.specs.Rows.{First, If, ListOf, Opt, Seq, Tail}
 use Rattle.weedle_grammar.specs.Meaning.{Plain}

@@ -1,6 +1,6 @@
 //! Keywords with capitals: trivia, the keyword's bytes with no name character next, trivia.
 //!
-//! Written by tools/grammar.py.
+//! Written by tools/grammar.py, and not edited by hand.
 
 ghost use Rattle.std.specs.Prelude.{◌≡◌, ◌<◌, ◌≤◌};
 ghost use Rattle.weedle_grammar.specs.written.Names.{name_of};

@@ -1,6 +1,6 @@
 //! Members of mixins, namespaces and dictionaries, and the values of an enum.
 //!
-//! Written by tools/grammar.py.
+//! Written by tools/grammar.py, and not edited by hand.
 
 ghost use Rattle.std.specs.Prelude.{◌≡◌, ◌<◌, ◌≤◌};
 ghost use Rattle.weedle_grammar.specs.written.Names.{name_of};

@@ -1,6 +1,6 @@
 //! Symbols: trivia, the symbol's bytes, trivia.
 //!
-//! Written by tools/grammar.py.
+//! Written by tools/grammar.py, and not edited by hand.
 
 ghost use Rattle.std.specs.Prelude.{◌≡◌, ◌<◌, ◌≤◌};
 ghost use Rattle.weedle_grammar.specs.written.Names.{name_of};

@@ -1,6 +1,6 @@
 //! Trivia: line comments, blanks and block comments.
 //!
-//! Written by tools/grammar.py.
+//! Written by tools/grammar.py, and not edited by hand.
 
 ghost use Rattle.std.specs.Prelude.{◌≡◌, ◌<◌, ◌≤◌};
 ghost use Rattle.weedle_grammar.specs.written.Names.{name_of};

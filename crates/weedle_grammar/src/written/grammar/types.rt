@@ -1,6 +1,6 @@
-//! Types that hold types, attributes and arguments, which read one another.
+//! Types that hold types, extended attributes and arguments, which read one another.
 //!
-//! Written by tools/grammar.py.
+//! Written by tools/grammar.py, and not edited by hand.
 
 ghost use Rattle.std.specs.Prelude.{◌≡◌, ◌<◌, ◌≤◌};
 ghost use Rattle.weedle_grammar.specs.written.Names.{name_of};
@@ -171,11 +171,11 @@ impl Rule {
     pub const TYPE: Rule = Rule(TYPE);
     /// What an operation returns: `undefined`, or a type.
     pub const RETURN_TYPE: Rule = Rule(RETURN_TYPE);
-    /// Attributes, as `[Clamp, Exposed=Window]`.
+    /// Extended attributes, as `[Clamp, Exposed=Window]`.
     pub const EXTENDED_ATTRIBUTE_LIST: Rule = Rule(EXTENDED_ATTRIBUTE_LIST);
-    /// A type with attributes, as `[Clamp] long`.
+    /// A type with extended attributes, as `[Clamp] long`.
     pub const ATTRIBUTED_TYPE: Rule = Rule(ATTRIBUTED_TYPE);
-    /// The same where the type is neither `any` nor a union.
+    /// A type that is neither `any` nor a union, with extended attributes, as `[Clamp] long`.
     pub const ATTRIBUTED_NON_ANY_TYPE: Rule = Rule(ATTRIBUTED_NON_ANY_TYPE);
     /// A member of a union.
     pub const UNION_MEMBER_TYPE: Rule = Rule(UNION_MEMBER_TYPE);
@@ -187,19 +187,19 @@ impl Rule {
     pub const ARGUMENT: Rule = Rule(ARGUMENT);
     /// Arguments, as `long x, long y`, none included.
     pub const ARGUMENT_LIST: Rule = Rule(ARGUMENT_LIST);
-    /// An attribute with arguments, as `Constructor(long x)`.
+    /// An extended attribute with arguments, as `Constructor(long x)`.
     pub const EXTENDED_ATTRIBUTE_ARG_LIST: Rule = Rule(EXTENDED_ATTRIBUTE_ARG_LIST);
-    /// An attribute with a name and arguments, as `NamedConstructor=Image(long x)`.
+    /// An extended attribute with a name and arguments, as `NamedConstructor=Image(long x)`.
     pub const EXTENDED_ATTRIBUTE_NAMED_ARG_LIST: Rule = Rule(EXTENDED_ATTRIBUTE_NAMED_ARG_LIST);
-    /// An attribute with names, as `Exposed=(Window, Worker)`.
+    /// An extended attribute with names, as `Exposed=(Window, Worker)`.
     pub const EXTENDED_ATTRIBUTE_IDENT_LIST: Rule = Rule(EXTENDED_ATTRIBUTE_IDENT_LIST);
     /// A name or a string.
     pub const IDENTIFIER_OR_STRING: Rule = Rule(IDENTIFIER_OR_STRING);
-    /// An attribute with a name or a string, as `PutForwards=name`.
+    /// An extended attribute with a name or a string, as `PutForwards=name`.
     pub const EXTENDED_ATTRIBUTE_IDENT: Rule = Rule(EXTENDED_ATTRIBUTE_IDENT);
-    /// An attribute alone, as `Replaceable`.
+    /// An extended attribute alone, as `Replaceable`.
     pub const EXTENDED_ATTRIBUTE_NO_ARGS: Rule = Rule(EXTENDED_ATTRIBUTE_NO_ARGS);
-    /// An attribute.
+    /// An extended attribute.
     pub const EXTENDED_ATTRIBUTE: Rule = Rule(EXTENDED_ATTRIBUTE);
 }
 

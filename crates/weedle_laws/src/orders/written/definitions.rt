@@ -1,6 +1,6 @@
 //! Orders of definitions.
 //!
-//! Written by tools/orders.py.
+//! Written by tools/orders.py, and not edited by hand.
 
 ghost use Rattle.std.specs.Prelude.{◌≡◌, ◌<◌};
 ghost use Rattle.weedle_laws.specs.written.Places.{definition_place};
@@ -20,7 +20,8 @@ use weedle_statements::{
     TypedefDefinition,
 };
 
-/// `Definition` goes by its variants, and of one variant by what it holds.
+/// A law, which does nothing: `cmp` of `Definition` goes by its variants, and of one variant by
+/// what it holds.
 pub fn definition<'a>()
     ensures earlier { (a b : Definition)
         → definition_place a < definition_place b

@@ -1,6 +1,6 @@
 //! Orders of interfaces, with their members.
 //!
-//! Written by tools/orders.py.
+//! Written by tools/orders.py, and not edited by hand.
 
 ghost use Rattle.std.specs.Prelude.{◌≡◌, ◌<◌};
 ghost use Rattle.std.specs.Ordering.{ordering_then};
@@ -22,7 +22,7 @@ use weedle_parts::common::{Braced, Docstring, Identifier};
 use weedle_term::{Callback, Interface, Partial, SemiColon};
 use weedle_types::attribute::ExtendedAttributeList;
 
-/// `CallbackInterfaceDefinition` goes by its fields, in order.
+/// A law, which does nothing: `cmp` of `CallbackInterfaceDefinition` goes by its fields, in order.
 pub fn callback_interface_definition<'a>()
     ensures { (a b : CallbackInterfaceDefinition)
         → ⟦<CallbackInterfaceDefinition<'a> as Ord>⟧.cmp a b
@@ -36,7 +36,7 @@ pub fn callback_interface_definition<'a>()
         (⟦<SemiColon as Ord>⟧.cmp a.semi_colon b.semi_colon))))))) }
 {}
 
-/// `InterfaceDefinition` goes by its fields, in order.
+/// A law, which does nothing: `cmp` of `InterfaceDefinition` goes by its fields, in order.
 pub fn interface_definition<'a>()
     ensures { (a b : InterfaceDefinition)
         → ⟦<InterfaceDefinition<'a> as Ord>⟧.cmp a b
@@ -49,7 +49,7 @@ pub fn interface_definition<'a>()
         (⟦<SemiColon as Ord>⟧.cmp a.semi_colon b.semi_colon)))))) }
 {}
 
-/// `PartialInterfaceDefinition` goes by its fields, in order.
+/// A law, which does nothing: `cmp` of `PartialInterfaceDefinition` goes by its fields, in order.
 pub fn partial_interface_definition<'a>()
     ensures { (a b : PartialInterfaceDefinition)
         → ⟦<PartialInterfaceDefinition<'a> as Ord>⟧.cmp a b
@@ -61,7 +61,8 @@ pub fn partial_interface_definition<'a>()
         (⟦<SemiColon as Ord>⟧.cmp a.semi_colon b.semi_colon))))) }
 {}
 
-/// `InterfaceMember` goes by its variants, and of one variant by what it holds.
+/// A law, which does nothing: `cmp` of `InterfaceMember` goes by its variants, and of one variant
+/// by what it holds.
 pub fn interface_member<'a>()
     ensures earlier { (a b : InterfaceMember)
         → interface_member_place a < interface_member_place b

@@ -1,6 +1,6 @@
 //! Orders of iterations, and of what is like a map or a set.
 //!
-//! Written by tools/orders.py.
+//! Written by tools/orders.py, and not edited by hand.
 
 ghost use Rattle.std.specs.Prelude.{◌≡◌, ◌<◌};
 ghost use Rattle.std.specs.Ordering.{ordering_then};
@@ -23,7 +23,7 @@ use weedle_types::argument::ParenthesizedArgumentList;
 use weedle_types::attribute::ExtendedAttributeList;
 use weedle_types::types::AttributedType;
 
-/// `MaplikeInterfaceMember` goes by its fields, in order.
+/// A law, which does nothing: `cmp` of `MaplikeInterfaceMember` goes by its fields, in order.
 pub fn maplike_interface_member<'a>()
     ensures { (a b : MaplikeInterfaceMember)
         → ⟦<MaplikeInterfaceMember<'a> as Ord>⟧.cmp a b
@@ -35,7 +35,7 @@ pub fn maplike_interface_member<'a>()
         (⟦<SemiColon as Ord>⟧.cmp a.semi_colon b.semi_colon)))) }
 {}
 
-/// `SetlikeInterfaceMember` goes by its fields, in order.
+/// A law, which does nothing: `cmp` of `SetlikeInterfaceMember` goes by its fields, in order.
 pub fn setlike_interface_member<'a>()
     ensures { (a b : SetlikeInterfaceMember)
         → ⟦<SetlikeInterfaceMember<'a> as Ord>⟧.cmp a b
@@ -46,7 +46,7 @@ pub fn setlike_interface_member<'a>()
         (⟦<SemiColon as Ord>⟧.cmp a.semi_colon b.semi_colon)))) }
 {}
 
-/// `SingleTypedIterable` goes by its fields, in order.
+/// A law, which does nothing: `cmp` of `SingleTypedIterable` goes by its fields, in order.
 pub fn single_typed_iterable<'a>()
     ensures { (a b : SingleTypedIterable)
         → ⟦<SingleTypedIterable<'a> as Ord>⟧.cmp a b
@@ -56,7 +56,7 @@ pub fn single_typed_iterable<'a>()
         (⟦<SemiColon as Ord>⟧.cmp a.semi_colon b.semi_colon))) }
 {}
 
-/// `DoubleTypedIterable` goes by its fields, in order.
+/// A law, which does nothing: `cmp` of `DoubleTypedIterable` goes by its fields, in order.
 pub fn double_typed_iterable<'a>()
     ensures { (a b : DoubleTypedIterable)
         → ⟦<DoubleTypedIterable<'a> as Ord>⟧.cmp a b
@@ -67,7 +67,8 @@ pub fn double_typed_iterable<'a>()
         (⟦<SemiColon as Ord>⟧.cmp a.semi_colon b.semi_colon))) }
 {}
 
-/// `IterableInterfaceMember` goes by its variants, and of one variant by what it holds.
+/// A law, which does nothing: `cmp` of `IterableInterfaceMember` goes by its variants, and of one
+/// variant by what it holds.
 pub fn iterable_interface_member<'a>()
     ensures earlier { (a b : IterableInterfaceMember)
         → iterable_interface_member_place a < iterable_interface_member_place b
@@ -85,7 +86,7 @@ pub fn iterable_interface_member<'a>()
         ≡ ⟦<DoubleTypedIterable<'a> as Ord>⟧.cmp a b }
 {}
 
-/// `SingleTypedAsyncIterable` goes by its fields, in order.
+/// A law, which does nothing: `cmp` of `SingleTypedAsyncIterable` goes by its fields, in order.
 pub fn single_typed_async_iterable<'a>()
     ensures { (a b : SingleTypedAsyncIterable)
         → ⟦<SingleTypedAsyncIterable<'a> as Ord>⟧.cmp a b
@@ -96,7 +97,7 @@ pub fn single_typed_async_iterable<'a>()
         (⟦<SemiColon as Ord>⟧.cmp a.semi_colon b.semi_colon)))) }
 {}
 
-/// `DoubleTypedAsyncIterable` goes by its fields, in order.
+/// A law, which does nothing: `cmp` of `DoubleTypedAsyncIterable` goes by its fields, in order.
 pub fn double_typed_async_iterable<'a>()
     ensures { (a b : DoubleTypedAsyncIterable)
         → ⟦<DoubleTypedAsyncIterable<'a> as Ord>⟧.cmp a b
@@ -108,7 +109,8 @@ pub fn double_typed_async_iterable<'a>()
         (⟦<SemiColon as Ord>⟧.cmp a.semi_colon b.semi_colon)))) }
 {}
 
-/// `AsyncIterableInterfaceMember` goes by its variants, and of one variant by what it holds.
+/// A law, which does nothing: `cmp` of `AsyncIterableInterfaceMember` goes by its variants, and of
+/// one variant by what it holds.
 pub fn async_iterable_interface_member<'a>()
     ensures earlier { (a b : AsyncIterableInterfaceMember)
         → async_iterable_interface_member_place a < async_iterable_interface_member_place b

@@ -1,6 +1,6 @@
 //! Orders of mixins, with their members.
 //!
-//! Written by tools/orders.py.
+//! Written by tools/orders.py, and not edited by hand.
 
 ghost use Rattle.std.specs.Prelude.{◌≡◌, ◌<◌};
 ghost use Rattle.std.specs.Ordering.{ordering_then};
@@ -16,7 +16,7 @@ use weedle_types::argument::ParenthesizedArgumentList;
 use weedle_types::attribute::ExtendedAttributeList;
 use weedle_types::types::{AttributedType, ReturnType};
 
-/// `OperationMixinMember` goes by its fields, in order.
+/// A law, which does nothing: `cmp` of `OperationMixinMember` goes by its fields, in order.
 pub fn operation_mixin_member<'a>()
     ensures { (a b : OperationMixinMember)
         → ⟦<OperationMixinMember<'a> as Ord>⟧.cmp a b
@@ -28,7 +28,7 @@ pub fn operation_mixin_member<'a>()
         (⟦<SemiColon as Ord>⟧.cmp a.semi_colon b.semi_colon))))) }
 {}
 
-/// `AttributeMixinMember` goes by its fields, in order.
+/// A law, which does nothing: `cmp` of `AttributeMixinMember` goes by its fields, in order.
 pub fn attribute_mixin_member<'a>()
     ensures { (a b : AttributeMixinMember)
         → ⟦<AttributeMixinMember<'a> as Ord>⟧.cmp a b
@@ -41,7 +41,8 @@ pub fn attribute_mixin_member<'a>()
         (⟦<SemiColon as Ord>⟧.cmp a.semi_colon b.semi_colon)))))) }
 {}
 
-/// `MixinMember` goes by its variants, and of one variant by what it holds.
+/// A law, which does nothing: `cmp` of `MixinMember` goes by its variants, and of one variant by
+/// what it holds.
 pub fn mixin_member<'a>()
     ensures earlier { (a b : MixinMember)
         → mixin_member_place a < mixin_member_place b
@@ -63,7 +64,7 @@ pub fn mixin_member<'a>()
         ≡ ⟦<StringifierMember<'a> as Ord>⟧.cmp a b }
 {}
 
-/// `InterfaceMixinDefinition` goes by its fields, in order.
+/// A law, which does nothing: `cmp` of `InterfaceMixinDefinition` goes by its fields, in order.
 pub fn interface_mixin_definition<'a>()
     ensures { (a b : InterfaceMixinDefinition)
         → ⟦<InterfaceMixinDefinition<'a> as Ord>⟧.cmp a b
@@ -75,7 +76,8 @@ pub fn interface_mixin_definition<'a>()
         (⟦<SemiColon as Ord>⟧.cmp a.semi_colon b.semi_colon))))) }
 {}
 
-/// `PartialInterfaceMixinDefinition` goes by its fields, in order.
+/// A law, which does nothing: `cmp` of `PartialInterfaceMixinDefinition` goes by its fields, in
+/// order.
 pub fn partial_interface_mixin_definition<'a>()
     ensures { (a b : PartialInterfaceMixinDefinition)
         → ⟦<PartialInterfaceMixinDefinition<'a> as Ord>⟧.cmp a b

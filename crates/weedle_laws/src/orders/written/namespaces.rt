@@ -1,6 +1,6 @@
 //! Orders of namespaces and dictionaries, with their members.
 //!
-//! Written by tools/orders.py.
+//! Written by tools/orders.py, and not edited by hand.
 
 ghost use Rattle.std.specs.Prelude.{◌≡◌, ◌<◌};
 ghost use Rattle.std.specs.Ordering.{ordering_then};
@@ -23,7 +23,7 @@ use weedle_types::argument::ParenthesizedArgumentList;
 use weedle_types::attribute::ExtendedAttributeList;
 use weedle_types::types::{AttributedType, ReturnType, Type};
 
-/// `DictionaryMember` goes by its fields, in order.
+/// A law, which does nothing: `cmp` of `DictionaryMember` goes by its fields, in order.
 pub fn dictionary_member<'a>()
     ensures { (a b : DictionaryMember)
         → ⟦<DictionaryMember<'a> as Ord>⟧.cmp a b
@@ -36,7 +36,7 @@ pub fn dictionary_member<'a>()
         (⟦<SemiColon as Ord>⟧.cmp a.semi_colon b.semi_colon)))))) }
 {}
 
-/// `DictionaryDefinition` goes by its fields, in order.
+/// A law, which does nothing: `cmp` of `DictionaryDefinition` goes by its fields, in order.
 pub fn dictionary_definition<'a>()
     ensures { (a b : DictionaryDefinition)
         → ⟦<DictionaryDefinition<'a> as Ord>⟧.cmp a b
@@ -49,7 +49,7 @@ pub fn dictionary_definition<'a>()
         (⟦<SemiColon as Ord>⟧.cmp a.semi_colon b.semi_colon)))))) }
 {}
 
-/// `PartialDictionaryDefinition` goes by its fields, in order.
+/// A law, which does nothing: `cmp` of `PartialDictionaryDefinition` goes by its fields, in order.
 pub fn partial_dictionary_definition<'a>()
     ensures { (a b : PartialDictionaryDefinition)
         → ⟦<PartialDictionaryDefinition<'a> as Ord>⟧.cmp a b
@@ -61,7 +61,7 @@ pub fn partial_dictionary_definition<'a>()
         (⟦<SemiColon as Ord>⟧.cmp a.semi_colon b.semi_colon))))) }
 {}
 
-/// `OperationNamespaceMember` goes by its fields, in order.
+/// A law, which does nothing: `cmp` of `OperationNamespaceMember` goes by its fields, in order.
 pub fn operation_namespace_member<'a>()
     ensures { (a b : OperationNamespaceMember)
         → ⟦<OperationNamespaceMember<'a> as Ord>⟧.cmp a b
@@ -73,7 +73,7 @@ pub fn operation_namespace_member<'a>()
         (⟦<SemiColon as Ord>⟧.cmp a.semi_colon b.semi_colon))))) }
 {}
 
-/// `AttributeNamespaceMember` goes by its fields, in order.
+/// A law, which does nothing: `cmp` of `AttributeNamespaceMember` goes by its fields, in order.
 pub fn attribute_namespace_member<'a>()
     ensures { (a b : AttributeNamespaceMember)
         → ⟦<AttributeNamespaceMember<'a> as Ord>⟧.cmp a b
@@ -86,7 +86,8 @@ pub fn attribute_namespace_member<'a>()
         (⟦<SemiColon as Ord>⟧.cmp a.semi_colon b.semi_colon)))))) }
 {}
 
-/// `NamespaceMember` goes by its variants, and of one variant by what it holds.
+/// A law, which does nothing: `cmp` of `NamespaceMember` goes by its variants, and of one variant
+/// by what it holds.
 pub fn namespace_member<'a>()
     ensures earlier { (a b : NamespaceMember)
         → namespace_member_place a < namespace_member_place b
@@ -104,7 +105,7 @@ pub fn namespace_member<'a>()
         ≡ ⟦<AttributeNamespaceMember<'a> as Ord>⟧.cmp a b }
 {}
 
-/// `NamespaceDefinition` goes by its fields, in order.
+/// A law, which does nothing: `cmp` of `NamespaceDefinition` goes by its fields, in order.
 pub fn namespace_definition<'a>()
     ensures { (a b : NamespaceDefinition)
         → ⟦<NamespaceDefinition<'a> as Ord>⟧.cmp a b
@@ -116,7 +117,7 @@ pub fn namespace_definition<'a>()
         (⟦<SemiColon as Ord>⟧.cmp a.semi_colon b.semi_colon))))) }
 {}
 
-/// `PartialNamespaceDefinition` goes by its fields, in order.
+/// A law, which does nothing: `cmp` of `PartialNamespaceDefinition` goes by its fields, in order.
 pub fn partial_namespace_definition<'a>()
     ensures { (a b : PartialNamespaceDefinition)
         → ⟦<PartialNamespaceDefinition<'a> as Ord>⟧.cmp a b

@@ -1,6 +1,6 @@
 //! Orders of definitions without members.
 //!
-//! Written by tools/orders.py.
+//! Written by tools/orders.py, and not edited by hand.
 
 ghost use Rattle.std.specs.Prelude.{◌≡◌};
 ghost use Rattle.std.specs.Ordering.{ordering_then};
@@ -16,7 +16,7 @@ use weedle_types::argument::ParenthesizedArgumentList;
 use weedle_types::attribute::ExtendedAttributeList;
 use weedle_types::types::{AttributedType, ReturnType};
 
-/// `CallbackDefinition` goes by its fields, in order.
+/// A law, which does nothing: `cmp` of `CallbackDefinition` goes by its fields, in order.
 pub fn callback_definition<'a>()
     ensures { (a b : CallbackDefinition)
         → ⟦<CallbackDefinition<'a> as Ord>⟧.cmp a b
@@ -29,7 +29,7 @@ pub fn callback_definition<'a>()
         (⟦<SemiColon as Ord>⟧.cmp a.semi_colon b.semi_colon)))))) }
 {}
 
-/// `EnumVariant` goes by its fields, in order.
+/// A law, which does nothing: `cmp` of `EnumVariant` goes by its fields, in order.
 pub fn enum_variant<'a>()
     ensures { (a b : EnumVariant)
         → ⟦<EnumVariant<'a> as Ord>⟧.cmp a b
@@ -37,7 +37,7 @@ pub fn enum_variant<'a>()
         (⟦<StringLit<'a> as Ord>⟧.cmp a.value b.value) }
 {}
 
-/// `EnumDefinition` goes by its fields, in order.
+/// A law, which does nothing: `cmp` of `EnumDefinition` goes by its fields, in order.
 pub fn enum_definition<'a>()
     ensures { (a b : EnumDefinition)
         → ⟦<EnumDefinition<'a> as Ord>⟧.cmp a b
@@ -49,7 +49,7 @@ pub fn enum_definition<'a>()
         (⟦<SemiColon as Ord>⟧.cmp a.semi_colon b.semi_colon))))) }
 {}
 
-/// `IncludesStatementDefinition` goes by its fields, in order.
+/// A law, which does nothing: `cmp` of `IncludesStatementDefinition` goes by its fields, in order.
 pub fn includes_statement_definition<'a>()
     ensures { (a b : IncludesStatementDefinition)
         → ⟦<IncludesStatementDefinition<'a> as Ord>⟧.cmp a b
@@ -60,7 +60,7 @@ pub fn includes_statement_definition<'a>()
         (⟦<SemiColon as Ord>⟧.cmp a.semi_colon b.semi_colon)))) }
 {}
 
-/// `ImplementsDefinition` goes by its fields, in order.
+/// A law, which does nothing: `cmp` of `ImplementsDefinition` goes by its fields, in order.
 pub fn implements_definition<'a>()
     ensures { (a b : ImplementsDefinition)
         → ⟦<ImplementsDefinition<'a> as Ord>⟧.cmp a b
@@ -71,7 +71,7 @@ pub fn implements_definition<'a>()
         (⟦<SemiColon as Ord>⟧.cmp a.semi_colon b.semi_colon)))) }
 {}
 
-/// `TypedefDefinition` goes by its fields, in order.
+/// A law, which does nothing: `cmp` of `TypedefDefinition` goes by its fields, in order.
 pub fn typedef_definition<'a>()
     ensures { (a b : TypedefDefinition)
         → ⟦<TypedefDefinition<'a> as Ord>⟧.cmp a b

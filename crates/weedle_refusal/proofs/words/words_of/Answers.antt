@@ -1,23 +1,31 @@
-use Rattle.std.proofs.Common.{◌≡◌, ◌<◌, ◌∙◌, ℕ, true, sym, subst, length, slice_index, below_more, arith}
-use Rattle.std.proofs.lemmas.Grind.{get_or_default_zero}
-use Rattle.weedle_refusal.specs.Words.{IsSaid, has_word}
+use Rattle.std.proofs.Common.{◌≡◌, ◌∙◌, ◌<◌, ◌+◌, List, [], ◌∷◌, ◌++◌, length, map, take, sym, ap, subst, arith}
+use Rattle.std.specs.List.{filter_map}
+use Rattle.std.proofs.Math.Seq.{take-length}
+use Rattle.std.proofs.lemmas.List.{take_more}
+use Rattle.std.proofs.lemmas.List.Elements.{filter_map-append}
+use Rattle.weedle_refusal.proofs.WordFacts.{are_words}
+use Rattle.weedle_refusal.specs.Words.{IsEachOnce, Word, none, word_for, word_view}
 use Rattle.weedle_refusal.proofs.words.words_of.Goals as goal
+
+pub loop-rule-init : goal.loop-rule-init
+loop-rule-init c = rw c.new-words.ensures.items none
 
 pub loop-rule-preserved : goal.loop-rule-preserved
 loop-rule-preserved c =
     let rules = c.args.rules.now in
-    let within : c.loop-rule.rule-index < length rules = omega arith in
-    let is : c.rule-item.result ≡ slice_index rules c.loop-rule.rule-index = c.rule-item.is ∙ get_or_default_zero rules _ _ within in
-    let P : ℕ → Type 0 = λ r. has_word r ≡ true → IsSaid rules c.add_word.new.words.items r in
-    (c.add_word.ensures.sound, below_more _ _ (λ k h word. c.add_word.ensures.kept _ (c.loop-rule.invariant.1 k h word)) (subst P is c.in_ok-add_word.ensures.said))
+    let i = c.loop-rule.rule-index in
+    let r = c.rule-item.result in
+    let f = word_for rules in
+    let new : List Word = map word_view c.add_word.new.words.items in
+    let within : i < length rules = omega arith in
+    let front : take (i + 1) rules ≡ take i rules ++ r ∷ [] = take_more rules i r within ∙ ap (λ x. take i rules ++ x ∷ []) (sym c.rule-item.is) in
+    let words : filter_map f (take (i + 1) rules) ≡ filter_map f (take i rules) ++ filter_map f (r ∷ []) = ap (filter_map f) front ∙ filter_map-append f (take i rules) (r ∷ []) in
+    subst (λ ws. IsEachOnce ws new) (sym words) (c.in_ok-add_word.ensures (filter_map f (take i rules)) c.loop-rule.invariant)
 
 pub returns : goal.returns
 returns c =
     let rules = c.args.rules.now in
-    record {
-      sound = c.loop-rule.invariant.0;
-      complete = λ r among.
-          let before : among.0 < c.loop-rule.rule-index = omega arith in
-          let P : ℕ → Type 0 = λ k. has_word k ≡ true → IsSaid rules c.loop-rule.words.items k in
-          subst P (sym (get_or_default_zero rules _ _ among.1) ∙ among.2) (c.loop-rule.invariant.1 among.0 before);
-    }
+    let words = c.loop-rule.words.items in
+    let all : c.loop-rule.rule-index ≡ length rules = omega arith in
+    let whole : take c.loop-rule.rule-index rules ≡ rules = ap (λ n. take n rules) all ∙ take-length rules in
+    are_words rules words (subst (λ rs. IsEachOnce (filter_map (word_for rules) rs) (map word_view words)) whole c.loop-rule.invariant)

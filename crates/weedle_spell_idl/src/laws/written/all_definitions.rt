@@ -1,4 +1,4 @@
-//! The laws of definitions. Written by tools/spellings.py.
+//! The laws of definitions. Written by tools/spellings.py, and not edited by hand.
 
 ghost use Rattle.weedle_grammar.specs.written.Table.Definitions.{DEFINITION, DEFINITIONS};
 ghost use Rattle.weedle_idl.specs.written.DefinitionTrees.{definition_tree, definitions_tree};
@@ -8,13 +8,14 @@ ghost use Rattle.weedle_spell_idl.specs.written.Definitions.{
   definitions_spelling,
 };
 
-/// A definition, as `interface A {};`.
+/// A law, which does nothing: the text of a definition, as `interface A {};`, spells its value.
 #[tactic(auto, using(crate::proofs::written::DefinitionLaws::definition_law))]
 pub fn definition()
     ensures { SpellsValues DEFINITION definition_tree definition_spelling }
 {}
 
-/// Definitions one after another, as `interface A {}; interface B {};`.
+/// A law, which does nothing: the text of definitions one after another, as
+/// `interface A {}; interface B {};`, spells its value.
 #[tactic(auto, using(crate::proofs::written::DefinitionLaws::definitions_law))]
 pub fn definitions()
     ensures { SpellsValues DEFINITIONS definitions_tree definitions_spelling }

@@ -1,5 +1,5 @@
 //! The laws of the members of interfaces, of interfaces and of mixins.
-//! Written by tools/spellings.py.
+//! Written by tools/spellings.py, and not edited by hand.
 
 ghost use Rattle.weedle_grammar.specs.written.Table.Definitions.{
   CALLBACK_INTERFACE_DEFINITION,
@@ -34,43 +34,49 @@ ghost use Rattle.weedle_spell_idl.specs.written.Interfaces.{
 };
 ghost use Rattle.weedle_types.specs.PartTrees.{members_tree};
 
-/// A member of an interface, as `attribute long length;`.
+/// A law, which does nothing: the text of a member of an interface, as `attribute long length;`,
+/// spells its value.
 #[tactic(auto, using(crate::proofs::written::InterfaceLaws::interface_member_law))]
 pub fn interface_member()
     ensures { SpellsValues INTERFACE_MEMBER interface_member_tree interface_member_spelling }
 {}
 
-/// The members of an interface, one after another, as `long f(); long g();`.
+/// A law, which does nothing: the text of the members of an interface, one after another, as
+/// `long f(); long g();`, spells its value.
 #[tactic(auto, using(crate::proofs::written::InterfaceLaws::interface_members_law))]
 pub fn interface_members()
     ensures { SpellsValues INTERFACE_MEMBERS (members_tree interface_member_tree) interface_members_spelling }
 {}
 
-/// A callback interface, as `callback interface A {};`.
+/// A law, which does nothing: the text of a callback interface, as `callback interface A {};`,
+/// spells its value.
 #[tactic(auto, using(crate::proofs::written::InterfaceLaws::callback_interface_definition_law))]
 pub fn callback_interface_definition()
     ensures { SpellsValues CALLBACK_INTERFACE_DEFINITION callback_interface_definition_tree callback_interface_definition_spelling }
 {}
 
-/// An interface, as `interface A : B { attribute long x; };`.
+/// A law, which does nothing: the text of an interface, as
+/// `interface A : B { attribute long x; };`, spells its value.
 #[tactic(auto, using(crate::proofs::written::InterfaceLaws::interface_definition_law))]
 pub fn interface_definition()
     ensures { SpellsValues INTERFACE_DEFINITION interface_definition_tree interface_definition_spelling }
 {}
 
-/// A part of an interface, as `partial interface A {};`.
+/// A law, which does nothing: the text of a part of an interface, as `partial interface A {};`,
+/// spells its value.
 #[tactic(auto, using(crate::proofs::written::InterfaceLaws::partial_interface_definition_law))]
 pub fn partial_interface_definition()
     ensures { SpellsValues PARTIAL_INTERFACE_DEFINITION partial_interface_definition_tree partial_interface_definition_spelling }
 {}
 
-/// A mixin, as `interface mixin A {};`.
+/// A law, which does nothing: the text of a mixin, as `interface mixin A {};`, spells its value.
 #[tactic(auto, using(crate::proofs::written::InterfaceLaws::interface_mixin_definition_law))]
 pub fn interface_mixin_definition()
     ensures { SpellsValues INTERFACE_MIXIN_DEFINITION interface_mixin_definition_tree interface_mixin_definition_spelling }
 {}
 
-/// A part of a mixin, as `partial interface mixin A {};`.
+/// A law, which does nothing: the text of a part of a mixin, as `partial interface mixin A {};`,
+/// spells its value.
 #[tactic(auto, using(crate::proofs::written::InterfaceLaws::partial_interface_mixin_definition_law))]
 pub fn partial_interface_mixin_definition()
     ensures { SpellsValues PARTIAL_INTERFACE_MIXIN_DEFINITION partial_interface_mixin_definition_tree partial_interface_mixin_definition_spelling }

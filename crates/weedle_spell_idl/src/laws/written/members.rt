@@ -1,5 +1,5 @@
 //! The laws of constants, attributes, operations, constructors and stringifiers of interfaces, and
-//! of the members of mixins. Written by tools/spellings.py.
+//! of the members of mixins. Written by tools/spellings.py, and not edited by hand.
 
 ghost use Rattle.weedle_grammar.specs.written.Table.InterfaceMembers.{
   ATTRIBUTE_INTERFACE_MEMBER,
@@ -40,55 +40,63 @@ ghost use Rattle.weedle_spell_idl.specs.written.Members.{
 };
 ghost use Rattle.weedle_types.specs.PartTrees.{members_tree};
 
-/// An attribute of an interface, as `static readonly attribute long x;`.
+/// A law, which does nothing: the text of an attribute of an interface, as
+/// `static readonly attribute long x;`, spells its value.
 #[tactic(auto, using(crate::proofs::written::MemberLaws::attribute_interface_member_law))]
 pub fn attribute_interface_member()
     ensures { SpellsValues ATTRIBUTE_INTERFACE_MEMBER attribute_interface_member_tree attribute_interface_member_spelling }
 {}
 
-/// A constant, as `const long X = 5;`.
+/// A law, which does nothing: the text of a constant, as `const long X = 5;`, spells its value.
 #[tactic(auto, using(crate::proofs::written::MemberLaws::const_member_law))]
 pub fn const_member()
     ensures { SpellsValues CONST_MEMBER const_member_tree const_member_spelling }
 {}
 
-/// A constructor, as `constructor(long x);`.
+/// A law, which does nothing: the text of a constructor, as `constructor(long x);`, spells its
+/// value.
 #[tactic(auto, using(crate::proofs::written::MemberLaws::constructor_interface_member_law))]
 pub fn constructor_interface_member()
     ensures { SpellsValues CONSTRUCTOR_INTERFACE_MEMBER constructor_interface_member_tree constructor_interface_member_spelling }
 {}
 
-/// An operation of an interface, as `getter long item(long index);`.
+/// A law, which does nothing: the text of an operation of an interface, as
+/// `getter long item(long index);`, spells its value.
 #[tactic(auto, using(crate::proofs::written::MemberLaws::operation_interface_member_law))]
 pub fn operation_interface_member()
     ensures { SpellsValues OPERATION_INTERFACE_MEMBER operation_interface_member_tree operation_interface_member_spelling }
 {}
 
-/// A stringifier with no body, as `stringifier;`.
+/// A law, which does nothing: the text of a stringifier with no body, as `stringifier;`, spells its
+/// value.
 #[tactic(auto, using(crate::proofs::written::MemberLaws::stringifier_member_law))]
 pub fn stringifier_member()
     ensures { SpellsValues STRINGIFIER_MEMBER stringifier_member_tree stringifier_member_spelling }
 {}
 
-/// An operation of a mixin, as `stringifier long f(long x);`.
+/// A law, which does nothing: the text of an operation of a mixin, as
+/// `stringifier long f(long x);`, spells its value.
 #[tactic(auto, using(crate::proofs::written::MemberLaws::operation_mixin_member_law))]
 pub fn operation_mixin_member()
     ensures { SpellsValues OPERATION_MIXIN_MEMBER operation_mixin_member_tree operation_mixin_member_spelling }
 {}
 
-/// An attribute of a mixin, as `readonly attribute long x;`.
+/// A law, which does nothing: the text of an attribute of a mixin, as `readonly attribute long x;`,
+/// spells its value.
 #[tactic(auto, using(crate::proofs::written::MemberLaws::attribute_mixin_member_law))]
 pub fn attribute_mixin_member()
     ensures { SpellsValues ATTRIBUTE_MIXIN_MEMBER attribute_mixin_member_tree attribute_mixin_member_spelling }
 {}
 
-/// A member of a mixin, as `readonly attribute long x;`.
+/// A law, which does nothing: the text of a member of a mixin, as `readonly attribute long x;`,
+/// spells its value.
 #[tactic(auto, using(crate::proofs::written::MemberLaws::mixin_member_law))]
 pub fn mixin_member()
     ensures { SpellsValues MIXIN_MEMBER mixin_member_tree mixin_member_spelling }
 {}
 
-/// The members of a mixin, one after another, as `long f(); long g();`.
+/// A law, which does nothing: the text of the members of a mixin, one after another, as
+/// `long f(); long g();`, spells its value.
 #[tactic(auto, using(crate::proofs::written::MemberLaws::mixin_members_law))]
 pub fn mixin_members()
     ensures { SpellsValues MIXIN_MEMBERS (members_tree mixin_member_tree) mixin_members_spelling }

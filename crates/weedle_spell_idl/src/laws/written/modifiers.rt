@@ -1,5 +1,5 @@
 //! The laws of what is inherited from, and of the words before a member.
-//! Written by tools/spellings.py.
+//! Written by tools/spellings.py, and not edited by hand.
 
 ghost use Rattle.weedle_grammar.specs.written.Table.InterfaceMembers.{
   INHERITANCE,
@@ -21,25 +21,29 @@ ghost use Rattle.weedle_spell_idl.specs.written.Modifiers.{
   stringifier_or_static_spelling,
 };
 
-/// What an interface or a dictionary inherits from, as `: Node`.
+/// A law, which does nothing: the text of what an interface or a dictionary inherits from, as
+/// `: Node`, spells its value.
 #[tactic(auto, using(crate::proofs::written::ModifierLaws::inheritance_law))]
 pub fn inheritance()
     ensures { SpellsValues INHERITANCE inheritance_tree inheritance_spelling }
 {}
 
-/// The word of a special operation, as `getter`.
+/// A law, which does nothing: the text of the word of a special operation, as `getter`, spells its
+/// value.
 #[tactic(auto, using(crate::proofs::written::ModifierLaws::special_law))]
 pub fn special()
     ensures { SpellsValues SPECIAL special_tree special_spelling }
 {}
 
-/// The word before an attribute, as `static`.
+/// A law, which does nothing: the text of the word before an attribute, as `static`, spells its
+/// value.
 #[tactic(auto, using(crate::proofs::written::ModifierLaws::stringifier_or_inherit_or_static_law))]
 pub fn stringifier_or_inherit_or_static()
     ensures { SpellsValues STRINGIFIER_OR_INHERIT_OR_STATIC stringifier_or_inherit_or_static_tree stringifier_or_inherit_or_static_spelling }
 {}
 
-/// The word before an operation, as `stringifier` or `static`.
+/// A law, which does nothing: the text of the word before an operation, as `stringifier` or
+/// `static`, spells its value.
 #[tactic(auto, using(crate::proofs::written::ModifierLaws::stringifier_or_static_law))]
 pub fn stringifier_or_static()
     ensures { SpellsValues STRINGIFIER_OR_STATIC stringifier_or_static_tree stringifier_or_static_spelling }

@@ -1,6 +1,6 @@
 -- Alternatives, each where those before it were a mismatch; lists, and arguments with a default.
 --
--- Written by tools/types_proofs.py.
+-- Written by tools/types_proofs.py, and not edited by hand.
 use Rattle.std.proofs.Common.{Global, Vec, ap, arith, inl, refl, rules, ◌∙◌}
 use Rattle.std.specs.Prelude.{List, [], ◌++◌, ◌+◌, ◌∷◌, ◌≡◌}
 use Rattle.weedle_base.proofs.Direct.{stop_first, stop_next, take_first, take_next}

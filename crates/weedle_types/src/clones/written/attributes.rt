@@ -1,6 +1,6 @@
-//! Clones of attributes.
+//! Clones of extended attributes.
 //!
-//! Written by tools/types_impls.py.
+//! Written by tools/types_impls.py, and not edited by hand.
 #![tactic(auto, using(crate::proofs::TreeLaws::clone_steps))]
 
 ghost use Rattle.std.specs.Prelude.{◌≡◌, IfOk, map};
@@ -21,7 +21,7 @@ use crate::attribute::{
 use std::alloc::{AllocError, Global};
 use weedle_parts::common::{Bracketed, Identifier, Parenthesized, Punctuated};
 
-/// Clones attributes in brackets, where they stand.
+/// Clones extended attributes in brackets, where they stand.
 #[cycle(clones)]
 pub(crate) fn clone_attributes<'a>(
     original: &Option<ExtendedAttributeList<'a>>,
@@ -42,7 +42,7 @@ pub(crate) fn clone_attributes<'a>(
     }
 }
 
-/// Clones attributes, in their order.
+/// Clones extended attributes, in their order.
 #[cycle(clones)]
 #[tactic(auto, using(crate::proofs::TreeLaws::clone_steps, crate::proofs::Smaller::attribute_smaller))]
 pub(crate) fn clone_extended_attributes<'a>(
@@ -58,7 +58,7 @@ pub(crate) fn clone_extended_attributes<'a>(
     Ok(clones)
 }
 
-/// Clones an attribute, as `Exposed=Window` or `Constructor(long x)`.
+/// Clones an extended attribute, as `Exposed=Window` or `Constructor(long x)`.
 #[cycle(clones)]
 pub(crate) fn clone_extended_attribute<'a>(
     original: &ExtendedAttribute<'a>,
@@ -81,7 +81,7 @@ pub(crate) fn clone_extended_attribute<'a>(
     }
 }
 
-/// Clones an attribute with arguments, as `Constructor(long x)`.
+/// Clones an extended attribute with arguments, as `Constructor(long x)`.
 #[cycle(clones)]
 pub(crate) fn clone_extended_attribute_arg_list<'a>(
     original: &ExtendedAttributeArgList<'a>,
@@ -95,7 +95,7 @@ pub(crate) fn clone_extended_attribute_arg_list<'a>(
     })
 }
 
-/// Clones an attribute with a name and arguments, as `NamedConstructor=Image(long x)`.
+/// Clones an extended attribute with a name and arguments, as `NamedConstructor=Image(long x)`.
 #[cycle(clones)]
 pub(crate) fn clone_extended_attribute_named_arg_list<'a>(
     original: &ExtendedAttributeNamedArgList<'a>,
@@ -111,7 +111,7 @@ pub(crate) fn clone_extended_attribute_named_arg_list<'a>(
     })
 }
 
-/// Clones an attribute with names, as `Exposed=(Window, Worker)`.
+/// Clones an extended attribute with names, as `Exposed=(Window, Worker)`.
 pub(crate) fn clone_extended_attribute_ident_list<'a>(
     original: &ExtendedAttributeIdentList<'a>,
     alloc: Global,

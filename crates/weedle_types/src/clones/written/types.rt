@@ -1,6 +1,6 @@
 //! Clones of types.
 //!
-//! Written by tools/types_impls.py.
+//! Written by tools/types_impls.py, and not edited by hand.
 #![tactic(auto, using(crate::proofs::TreeLaws::clone_steps))]
 
 ghost use Rattle.std.specs.Prelude.{◌≡◌, IfOk};
@@ -132,7 +132,7 @@ pub(crate) fn clone_return_type<'a>(
     }
 }
 
-/// Clones a type with the attributes that stand before it, as `[Clamp] octet`.
+/// Clones a type with the extended attributes that stand before it, as `[Clamp] octet`.
 #[cycle(clones)]
 pub(crate) fn clone_attributed_type<'a>(
     original: &AttributedType<'a>,
@@ -146,7 +146,8 @@ pub(crate) fn clone_attributed_type<'a>(
     })
 }
 
-/// Clones the same where the type is neither `any` nor a union.
+/// Clones a type that is neither `any` nor a union, with the extended attributes that stand before
+/// it, as `[Clamp] octet`.
 #[cycle(clones)]
 pub(crate) fn clone_attributed_non_any_type<'a>(
     original: &AttributedNonAnyType<'a>,

@@ -1,6 +1,6 @@
 //! What a value of `NonAnyType` is made from.
 //!
-//! Written by tools/impls.py.
+//! Written by tools/impls.py, and not edited by hand.
 
 ghost use Rattle.std.specs.Prelude.{◌≡◌};
 

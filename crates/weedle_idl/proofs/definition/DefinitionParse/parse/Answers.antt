@@ -1,4 +1,4 @@
--- Alternatives, each where those before it were a mismatch. Written by tools/idl_proofs.py.
+-- Alternatives, each where those before it were a mismatch. Written by tools/idl_proofs.py, and not edited by hand.
 use Rattle.weedle_base.proofs.Steps.{exit_answers}
 use Rattle.weedle_idl.proofs.written.DefinitionRules.{definition_fault, definition_got_0, definition_got_1, definition_got_2, definition_got_3}
 use Rattle.weedle_idl.proofs.definition.DefinitionParse.parse.Goals as goal

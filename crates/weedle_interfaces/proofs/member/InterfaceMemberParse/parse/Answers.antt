@@ -1,4 +1,4 @@
--- Alternatives, each where those before it were a mismatch. Written by tools/idl_proofs.py.
+-- Alternatives, each where those before it were a mismatch. Written by tools/idl_proofs.py, and not edited by hand.
 use Rattle.weedle_base.proofs.Steps.{exit_answers}
 use Rattle.weedle_interfaces.proofs.written.MemberRules.{interface_member_fault, interface_member_got_0, interface_member_got_1, interface_member_got_2}
 use Rattle.weedle_interfaces.proofs.member.InterfaceMemberParse.parse.Goals as goal

@@ -1,6 +1,7 @@
-//! Works out the cells of a place, section: Keywords in lower case: trivia, the keyword's bytes with no name character next, trivia.
+//! Works out the cells of a place, section: Keywords in lower case: trivia, the keyword's bytes
+//! with no name character next, trivia.
 //!
-//! Written by tools/grammar.py.
+//! Written by tools/grammar.py, and not edited by hand.
 
 ghost use Rattle.std.specs.Prelude.{◌≤◌, length};
 ghost use Rattle.weedle_rules.specs.Filling.{IsFilling};

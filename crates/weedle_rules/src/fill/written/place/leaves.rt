@@ -1,6 +1,6 @@
 //! Works out the cells of a place, section: Leaves: names, numbers, strings and docstrings.
 //!
-//! Written by tools/grammar.py.
+//! Written by tools/grammar.py, and not edited by hand.
 
 ghost use Rattle.std.specs.Prelude.{◌≤◌, length};
 ghost use Rattle.weedle_rules.specs.Filling.{IsFilling};

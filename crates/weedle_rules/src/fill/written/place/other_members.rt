@@ -1,6 +1,7 @@
-//! Works out the cells of a place, section: Members of mixins, namespaces and dictionaries, and the values of an enum.
+//! Works out the cells of a place, section: Members of mixins, namespaces and dictionaries, and the
+//! values of an enum.
 //!
-//! Written by tools/grammar.py.
+//! Written by tools/grammar.py, and not edited by hand.
 
 ghost use Rattle.std.specs.Prelude.{◌≤◌, length};
 ghost use Rattle.weedle_rules.specs.Filling.{IsFilling};

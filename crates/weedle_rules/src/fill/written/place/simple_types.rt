@@ -1,6 +1,6 @@
 //! Works out the cells of a place, section: Types that hold no other type, and lists of names.
 //!
-//! Written by tools/grammar.py.
+//! Written by tools/grammar.py, and not edited by hand.
 
 ghost use Rattle.std.specs.Prelude.{◌≤◌, length};
 ghost use Rattle.weedle_rules.specs.Filling.{IsFilling};

@@ -1,6 +1,7 @@
-//! Works out the cells of a place, section: Types that hold types, attributes and arguments, which read one another.
+//! Works out the cells of a place, section: Types that hold types, extended attributes and
+//! arguments, which read one another.
 //!
-//! Written by tools/grammar.py.
+//! Written by tools/grammar.py, and not edited by hand.
 
 ghost use Rattle.std.specs.Prelude.{◌≤◌, length};
 ghost use Rattle.weedle_rules.specs.Filling.{IsFilling};

@@ -1,4 +1,4 @@
--- Written by tools/orders.py.
+-- Written by tools/orders.py, and not edited by hand.
 use Rattle.weedle_types.specs.contracts.types.AttributedTypeOrd.TheImpl.Laws as order
 use Rattle.weedle_comparisons.proofs.orders.written.types.attributed_type.Goals as goal
 

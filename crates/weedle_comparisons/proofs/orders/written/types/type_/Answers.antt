@@ -1,4 +1,4 @@
--- Written by tools/orders.py.
+-- Written by tools/orders.py, and not edited by hand.
 use Rattle.std.proofs.Common.{◌≡◌, ◌∙◌, inl, inr, refl}
 use denote.Hole.Carrier
 use denote.Signature.{static_lft}

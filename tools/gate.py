@@ -1,0 +1,202 @@
+#!/usr/bin/env python3
+"""Runs `rt ci`, with an order of its own: long proofs that all others wait for get more than one processor.
+
+    python3 tools/gate.py
+
+What is proved, refused, built and run is rt's own, and so is what is printed: this loads the command `rt` as a
+module, puts one function in the place of its scheduler, and calls its `ci`. By rt's order a proof gets a second
+processor only where hardly anything else is ready. So the longest chain of proofs, which decides how long the
+gate takes, is walked by one processor while others idle. Here it goes by the times of docs/gate_times.json:
+what has the longest chain of times behind it begins first, and a proof of four minutes or more on the longest
+chain gets two processors, or three where it takes half an hour, if memory holds that.
+
+Where `rt` has another scheduler than the one that is known here, or can't be read as Python, it is plain `rt ci`,
+and a line says so. The status is that of `rt ci`. `rt ci` itself gives the same verdict, later.
+"""
+
+import importlib.machinery
+import importlib.util
+import inspect
+import json
+import os
+import shutil
+import subprocess
+import sys
+from concurrent.futures import FIRST_COMPLETED, ThreadPoolExecutor, wait
+from pathlib import Path
+
+from command_line import take_none
+
+TOP = Path(__file__).resolve().parent.parent
+TIMES = TOP / "docs/gate_times.json"
+# Of a task that was never measured: its seconds for each line of its crate.
+SECONDS_OF_A_LINE = 0.3
+# How much later a proof may come to its end, by one processor each, and be on the longest chain, in seconds.
+SLACK = 300
+# From how many seconds on a proof on the longest chain gets two processors, and from how many three.
+LONG, LONGEST = 240, 1800
+# With fewer processors than these none is idle for long, and each task gets one.
+FEWEST = 3
+# What part of the free memory is used, as rt has it.
+ROOM = 0.85
+# How many times rt's figure for its memory a check takes that doesn't stand on the recursive types, how many times one
+# that does, and how much more for each further job. As seen: 1.3 GB of the first, 4 to 5 of the others, 8 of the
+# types themselves by one job and 11 by four.
+OF_A_SMALL_CHECK, OF_A_CHECK, OF_A_JOB = 0.5, 1.4, 0.3
+TYPES = "weedle_types"
+
+
+class Task:
+    """A task of rt: what it waits for, whether it is a proof, its seconds, its bytes, and the call that does it."""
+
+    def __init__(self, waits, is_proof, seconds, needs, call=None):
+        self.waits, self.is_proof, self.seconds = waits, is_proof, seconds
+        self.needs, self.call = needs, call
+
+    def memory(self, jobs):
+        return self.needs * (1 + OF_A_JOB * (jobs - 1))
+
+
+def part_of(name, waits):
+    """How many times rt's figure a check of a crate takes, by what its proof waits for."""
+    is_small = name != TYPES and (TYPES, "proof") not in waits
+    return OF_A_SMALL_CHECK if is_small else OF_A_CHECK
+
+
+def known(tasks, times):
+    """The tasks of rt by their keys."""
+    found = {}
+    for (name, kind), (waits, lines, needs, call) in tasks.items():
+        seconds = times.get((name, kind), SECONDS_OF_A_LINE * lines)
+        memory = needs * part_of(name, tasks[name, "proof"][0])
+        found[name, kind] = Task(waits, kind == "proof", seconds, memory, call)
+    return found
+
+
+def measured(file):
+    """The seconds of tasks by their keys, as rt has them, from a file of gate_times.py; none where it isn't there."""
+    if not file.is_file():
+        return {}
+    times = json.loads(file.read_text())
+    found = {(name, "tests"): seconds for name, seconds in times["tests"].items()}
+    found |= {(name, "edits"): whole for name, (_, whole) in times["edits"].items()}
+    for name, seconds in times["proof"].items():
+        found[name, "proof"] = seconds + times["programs"].get(name, 0)
+    return found
+
+
+def chains(tasks):
+    """Of each task the seconds of the longest chain that ends before it, and of the longest that begins with it."""
+    ahead, behind = {}, {key: 0 for key in tasks}
+    for key, task in tasks.items():
+        ahead[key] = max((ahead[it] + tasks[it].seconds for it in task.waits), default=0)
+    for key in reversed([*tasks]):
+        behind[key] += tasks[key].seconds
+        for it in tasks[key].waits:
+            behind[it] = max(behind[it], behind[key])
+    return ahead, behind
+
+
+class Order:
+    """Which task begins, and by how many jobs."""
+
+    def __init__(self, tasks, processors, memory):
+        self.tasks, self.processors, self.room = tasks, processors, memory
+        self.ahead, self.behind = chains(tasks)
+        self.longest = max(self.behind.values(), default=0)
+
+    def wish(self, key):
+        """How many jobs a task is to have."""
+        task = self.tasks[key]
+        slack = self.longest - self.ahead[key] - self.behind[key]
+        if self.processors < FEWEST or not task.is_proof or slack > SLACK or task.seconds < LONG:
+            return 1
+        return 3 if task.seconds >= LONGEST else 2
+
+    def jobs(self, key, running):
+        """By how many jobs a ready task begins beside those that run; 0 where it has to wait.
+
+        One that is to have several begins where all but one of them lack an idle processor, and by as many as memory
+        holds. Where nothing runs a task begins however little memory there is."""
+        wish, idle = self.wish(key), self.processors - sum(running.values())
+        left = self.room - sum(self.tasks[it].memory(jobs) for it, jobs in running.items())
+        for jobs in range(min(wish, idle + wish - 1), 0, -1):
+            if self.tasks[key].memory(jobs) <= left or jobs == 1 and not running:
+                return jobs
+        return 0
+
+    def begin(self, waiting, given, running):
+        """The tasks that begin now, with their jobs, the one with the longest chain behind it first."""
+        for key in sorted(waiting, key=lambda it: -self.behind[it]):
+            if all(it in given for it in self.tasks[key].waits):
+                jobs = self.jobs(key, running)
+                if jobs:
+                    running[key] = jobs
+                    yield key, jobs
+
+
+def run_all(order):
+    """Runs the tasks, each once those that it waits for have ended, and gives what each gave."""
+    waiting, given, running, futures = set(order.tasks), {}, {}, {}
+    with ThreadPoolExecutor(len(order.tasks) or 1) as pool:
+        while waiting or running:
+            for key, jobs in order.begin(set(waiting), given, running):
+                waiting.remove(key)
+                futures[pool.submit(order.tasks[key].call, given, jobs)] = key
+            for done in wait(futures, return_when=FIRST_COMPLETED).done:
+                key = futures.pop(done)
+                running.pop(key)
+                given[key] = done.result()
+    return given
+
+
+def scheduler(rt, times):
+    """What stands in the place of rt's `in_lanes`."""
+
+    def in_lanes(tasks):
+        return run_all(Order(known(tasks, times), rt.processors(), ROOM * rt.free()))
+
+    return in_lanes
+
+
+def load(path):
+    """The command as a module, or None where it is no Python or doesn't come to its end."""
+    loader = importlib.machinery.SourceFileLoader("rt_command", path)
+    made = importlib.util.module_from_spec(importlib.util.spec_from_loader("rt_command", loader))
+    try:
+        loader.exec_module(made)
+    except (SyntaxError, ValueError, ImportError, OSError):
+        return None
+    return made
+
+
+def is_known(rt):
+    """Whether the scheduler is the one that is known here: it takes the tasks alone, each what it waits for, its
+    lines, its memory and a call that takes what was given and how many jobs it may use."""
+    try:
+        words = " ".join(inspect.getdoc(rt.in_lanes).split())
+        given = [*inspect.signature(rt.in_lanes).parameters]
+        calls = [rt.processors, rt.free, rt.ci]
+    except (AttributeError, TypeError):
+        return False
+    task = "A task is what it waits for, its work in lines, its memory, and a call that gets what was given"
+    return given == ["tasks"] and task in words and all(map(callable, calls))
+
+
+def main():
+    take_none(__doc__)
+    path = shutil.which("rt")
+    if path is None:
+        print("gate.py: there is no command rt on PATH", file=sys.stderr)
+        return 2
+    os.chdir(TOP)
+    rt = load(os.path.realpath(path))
+    if rt is None or not is_known(rt):
+        print("gate.py: this rt has another scheduler, so it keeps its own order", flush=True)
+        return subprocess.run(["rt", "ci"], check=False).returncode
+    rt.in_lanes = scheduler(rt, measured(TIMES))
+    return rt.main(["ci"])
+
+
+if __name__ == "__main__":
+    sys.exit(main())

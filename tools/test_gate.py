@@ -1,0 +1,145 @@
+#!/usr/bin/env python3
+"""Tests gate.py over made-up tasks.
+
+    python3 tools/test_gate.py
+"""
+
+import threading
+import types
+import unittest
+
+from gate import Order, is_known, known, load, run_all, scheduler
+
+GB = 10**9
+TIMES = {("low", "proof"): 60, ("long", "proof"): 2400, ("side", "proof"): 500, ("top", "proof"): 300}
+
+
+def rows_of(calls):
+    """Tasks as rt has them: `long` and `side` stand on `low`, and `top` on both."""
+    below = {"low": [], "long": ["low"], "side": ["low"], "top": ["low", "long", "side"]}
+    tasks = {}
+    for name, under in below.items():
+        waits = [(it, "proof") for it in under]
+        for kind in ("proof", "tests"):
+            key = name, kind
+            tasks[key] = (waits, 10 * (kind == "proof"), GB, lambda given, jobs, it=key: calls(it, given, jobs))
+        both = [(name, "proof"), (name, "tests")]
+        tasks[name, "edits"] = (both, 0, GB, lambda given, jobs, it=(name, "edits"): calls(it, given, jobs))
+    return tasks
+
+
+class Run:
+    """What was called: of each task its jobs, and what had ended before."""
+
+    def __init__(self):
+        self.jobs, self.before, self.lock = {}, {}, threading.Lock()
+
+    def call(self, key, given, jobs):
+        with self.lock:
+            assert key not in self.jobs, f"{key} twice"
+            self.jobs[key], self.before[key] = jobs, set(given)
+        return f"{key[0]} {key[1]}"
+
+
+def order_of(tasks, processors=4, memory=20 * GB):
+    return Order(known(tasks, TIMES), processors, memory)
+
+
+class Ran(unittest.TestCase):
+    def test_each_task_is_called_once_behind_those_that_it_waits_for(self):
+        run = Run()
+        tasks = rows_of(run.call)
+        given = run_all(order_of(tasks))
+        self.assertEqual(given, {key: f"{key[0]} {key[1]}" for key in tasks})
+        self.assertEqual(set(run.jobs), set(tasks))
+        for key, (waits, *_) in tasks.items():
+            self.assertLessEqual(set(waits), run.before[key], key)
+
+    def test_a_long_proof_on_the_longest_chain_gets_three_jobs(self):
+        run = Run()
+        run_all(order_of(rows_of(run.call)))
+        self.assertEqual(run.jobs["long", "proof"], 3)
+        self.assertEqual({jobs for key, jobs in run.jobs.items() if key[0] in ("low", "side")}, {1})
+        self.assertEqual(run.jobs["top", "proof"], 2)
+
+    def test_what_a_call_raises_is_raised(self):
+        def raises(key, given, jobs):
+            raise ValueError(key)
+
+        with self.assertRaises(ValueError):
+            run_all(order_of(rows_of(raises)))
+
+    def test_no_tasks(self):
+        self.assertEqual(run_all(order_of({})), {})
+
+
+class Began(unittest.TestCase):
+    def begun(self, order, given, running):
+        return dict(order.begin(set(order.tasks) - set(given) - set(running), given, dict(running)))
+
+    def test_a_proof_of_one_job_waits_for_a_processor(self):
+        order = order_of(rows_of(None), processors=1)
+        self.assertEqual(self.begun(order, {}, {}), {("low", "proof"): 1})
+
+    def test_what_has_the_longest_chain_behind_it_is_first(self):
+        order = order_of(rows_of(None))
+        begun = self.begun(order, {("low", "proof"): 1, ("low", "tests"): 1}, {})
+        self.assertEqual([*begun.items()][0], (("long", "proof"), 3))
+        self.assertEqual(begun["side", "proof"], 1)
+
+    def test_memory_takes_jobs_away_and_then_holds_a_task_back(self):
+        given = {("low", "proof"): 1, ("low", "tests"): 1, ("low", "edits"): 1}
+        order = order_of(rows_of(None), memory=0.7 * GB)
+        self.assertEqual(self.begun(order, given, {})["long", "proof"], 2)
+        begun = self.begun(order, given, {("long", "tests"): 1})
+        self.assertNotIn(("long", "proof"), begun)
+
+    def test_one_task_begins_however_little_memory_there_is(self):
+        order = order_of(rows_of(None), memory=0)
+        self.assertEqual(len(self.begun(order, {}, {})), 1)
+
+    def test_a_crate_that_was_never_measured_goes_by_its_lines(self):
+        task = known({("new", "proof"): ([], 100, GB, None)}, TIMES)["new", "proof"]
+        self.assertEqual(task.seconds, 30)
+
+    def test_what_stands_on_the_recursive_types_takes_more_than_rt_says_and_all_else_less(self):
+        tasks = {
+            ("new", "proof"): ([("weedle_types", "proof")], 1, GB, None),
+            ("new", "edits"): ([("new", "proof")], 1, GB, None),
+            ("other", "proof"): ([("low", "proof")], 1, GB, None),
+        }
+        found = known(tasks, {})
+        self.assertEqual([found["new", it].memory(1) for it in ("proof", "edits")], [1.4 * GB, 1.4 * GB])
+        self.assertEqual([found["other", "proof"].memory(it) for it in (1, 3)], [0.5 * GB, 0.8 * GB])
+
+
+class Known(unittest.TestCase):
+    def rt(self, in_lanes):
+        return types.SimpleNamespace(in_lanes=in_lanes, processors=lambda: 4, free=lambda: GB, ci=lambda: 0)
+
+    def test_a_scheduler_with_other_words_is_not_known(self):
+        def in_lanes(tasks):
+            """Runs tasks side by side."""
+
+        self.assertFalse(is_known(self.rt(in_lanes)))
+        self.assertFalse(is_known(types.SimpleNamespace()))
+
+    def test_the_scheduler_that_is_known(self):
+        def in_lanes(tasks):
+            """Runs tasks. A task is what it waits for, its work in lines, its memory, and a call that gets what
+            was given and how many jobs it may use."""
+
+        self.assertTrue(is_known(self.rt(in_lanes)))
+
+    def test_it_takes_rows_as_rt_has_them(self):
+        run = Run()
+        rt = types.SimpleNamespace(processors=lambda: 4, free=lambda: 20 * GB)
+        tasks = rows_of(run.call)
+        self.assertEqual(set(scheduler(rt, TIMES)(tasks)), set(tasks))
+
+    def test_what_is_no_python_is_not_loaded(self):
+        self.assertIsNone(load("/bin/true"))
+
+
+if __name__ == "__main__":
+    unittest.main()
