@@ -16,4 +16,4 @@
 mod refusal;
 
 pub use refusal::explain;
-pub use weedle_refusal::{Class, Expected, Position, Refusal, position_of};
+pub use weedle_refusal::{Class, Expected, Lines, Position, Refusal, position_of};

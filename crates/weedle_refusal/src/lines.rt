@@ -48,16 +48,18 @@ impl<'a> Lines<'a> {
     }
 
     /// The line and the column of a place, which is given in bytes from the front of the text, as
-    /// [`position_of`](crate::position_of) counts them.
+    /// [`position_of`](crate::position_of) counts them. One behind the end of the text is taken as
+    /// that end.
     ///
     /// In `interface A {\n  é ?` the `?` has the place 19; it stands in line 2, at column 5.
     ///
     /// It halves the lines: of a million it looks at 20. Then it looks at the bytes of the place's
     /// own line before it. It takes no memory.
     pub fn position(&self, place: usize) -> Position
-        requires { place ≤ length self.now }
-        ensures { IsPositionOf self.now place result }
+        ensures position { place ≤ length self.now → IsPositionOf self.now place result }
+        ensures behind { length self.now ≤ place → IsPositionOf self.now (length self.now) result }
     {
+        let place = place.min(self.text.len());
         let before = &self.text.as_bytes()[..place];
         Position {
             line: 1 + self.feeds_before(place),

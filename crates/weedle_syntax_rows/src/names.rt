@@ -11,6 +11,7 @@ use weedle_places::Role::{
     PartialMixin, PartialNamespace, Type, Typedef,
 };
 use weedle_places::{Name, Role, names, names_of};
+use weedle_refusal::Lines;
 use weedle_syntax::Syntax;
 use weedle_testing::definitions;
 use weedle_testing::examples::{SOUNDS, TEXTS};
@@ -180,5 +181,28 @@ fn each_is_the_part_of_the_text_that_its_span_says(rt: HostRuntime) -> Result<()
         let text = definitions(alloc, seed, 200)?;
         assert_parts(&rt, alloc, &text)?;
     }
+    Ok(())
+}
+
+/// A line for each type that a text names, with its position: the example of docs/USING.md.
+fn types_of(alloc: Global, text: &str) -> Result<String, AllocError> {
+    let mut listing = String::new(alloc);
+    let lines = Lines::new(alloc, text)?;
+    if let Some(found) = names(alloc, text)? {
+        for name in &found {
+            if name.role == Role::Type {
+                let position = lines.position(name.span.start);
+                writeln!(listing, "{position}: {}", name.text)?;
+            }
+        }
+    }
+    Ok(listing)
+}
+
+#[test]
+fn the_example_lists_types(rt: HostRuntime) -> Result<(), Fail> {
+    let text = "interface A : B {\n  attribute sequence<C?> x;\n};";
+    let listing = types_of(rt.alloc(), text)?;
+    assert_eq!(rt; listing.as_str(), "2:22: C\n");
     Ok(())
 }
