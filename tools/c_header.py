@@ -128,13 +128,17 @@ uint32_t weedle_syntax(
  * WEEDLE_STATUS_READ: the grammar reads the whole text; there is nothing to say.
  * WEEDLE_STATUS_REFUSED: it doesn't, and `refusal` says where. The message is written to `message`, as
  *     `weedle_check` prints it behind the name of a file: line, column and what would have been read there, the line
- *     of the text, and a mark below the place. It is cut behind the last character that there is room for, and ended
- *     by a zero; so it needs a room of `length` + 1. 1,024 bytes hold any. With a room of 0 nothing is written.
+ *     of the text, a mark below the place, and, where it is known, what would mend the text, with a line and a column.
+ *     It is cut behind the last character that there is room for, and ended by a zero; so it needs a room of
+ *     `length` + 1. 1,024 bytes hold any. With a room of 0 nothing is written.
  * WEEDLE_STATUS_NOT_UTF8: exactly where the bytes aren't UTF-8.
  * WEEDLE_STATUS_NO_MEMORY: memory was refused.
  * Only with WEEDLE_STATUS_REFUSED is anything written to `message`.
  *
- * It reads the text as weedle_syntax does, and then takes a table of the unread rest: some 1,600 bytes for each byte.
+ * It reads the text as weedle_syntax does, and then goes by descent over the first definition that isn't read, in some 200
+ * to 300 nanoseconds for each byte of it and with no more memory than for a list. Where that would take too long or too
+ * much of the stack, since the rest nests deep, it takes a table of the rest: some 1,600 bytes for each byte.
+ * Where the rest nests little, it is read so again with up to eight changes, for what would mend it.
  */
 uint32_t weedle_explain(
     const char *text, size_t length,

@@ -111,7 +111,7 @@ def a_mark_of_byte_order(room):
     """A mark of byte order in front is refused, and said so."""
     room.lay("a", "\ufeff" + LOOSE)
     status, out, err = room.run("--write", "a")
-    assert status == 1 and err == "" and "not a byte order mark" in out and room.text("a") == "\ufeff" + LOOSE
+    assert status == 1 and err == "" and "1:1: a byte order mark\n" in out and room.text("a") == "\ufeff" + LOOSE
 
 
 def what_cannot_be_written(room):

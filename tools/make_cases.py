@@ -2,6 +2,7 @@
 """Writes tests/: texts, and what is wanted of each, from weedle2 and the rows of the grammar.
 
     python3 tools/make_cases.py [--weedle2 PATH] [--real FOLDER]
+    python3 tools/make_cases.py --rows-alone
     python3 tools/make_cases.py --check
 
 Build the program of compare/ first (its README.md says how); --weedle2 says where it stands, where it isn't
@@ -10,7 +11,11 @@ there. FOLDER has the files of Debian's librust-web-sys-dev; without it tests/re
 What is wanted of a text is weedle2's answer, but where one of the three rules that were changed on purpose
 was tried and read otherwise: then a reader of the grammar's rows gives the answer (table_reader.py), and must
 give weedle2's with those rules as they were. Where a text is refused, the furthest place and the words are
-by the rows alone (row_words.py). Nothing is taken from the port. tests/README.md says what stands in which file.
+by the rows alone (row_words.py), and so is what would mend it (row_hints.py). Nothing is taken from the port. tests/README.md says what stands in which file.
+
+With --rows-alone only what the rows say alone is made again, of the texts that the archives have: of each that is
+refused the place, the words, the excerpt and the hint. It needs neither weedle2 nor FOLDER, and leaves the real files
+as they are.
 
 With --check nothing is written: it prints a line for each archive that isn't the one that tests/INDEX lists,
 and for each whose texts are others than those that are made now. It needs neither weedle2 nor FOLDER.
@@ -24,9 +29,11 @@ import hashlib
 import sys
 import tempfile
 import unicodedata
+from itertools import accumulate
 from pathlib import Path
 
 import case_texts
+import row_hints
 import weedle2_texts
 import worked_rows
 from case_files import INDEX, TESTS, Case, archive_of, cases_of, compact, line_of, numbered, packed, wrong_sums
@@ -43,9 +50,11 @@ SEED = 7
 RANDOM, PREFIXES, CHANGED, NEAR = 2_000, 5_000, 2_000, 1_000
 # Who says it.
 BY_WEEDLE2, BY_ROWS = "weedle2", "the grammar's rows"
-# How many characters of a line are shown.
+# How many characters are shown of a line.
 WIDTH = 100
-BYTE_ORDER_MARK = "\ufeff"
+# What can't be seen beside control characters, or not for what it is: a blank that doesn't break, separators of lines
+# and paragraphs, what has no width, a mark of byte order, and what turns the direction of a line.
+UNSEEN = "\u00a0\u200b\u200c\u200d\u200e\u200f\u2028\u2029\u202a\u202b\u202c\u202d\u202e\u2066\u2067\u2068\u2069\ufeff"
 
 
 class Disagree(Exception):
@@ -141,20 +150,24 @@ def made_texts():
 
 # What is wanted.
 def excerpt(text, place):
-    """What weedle_check shows of a place: at most 100 characters of its line, and a mark below it."""
+    """What weedle_check shows of a place: at most 100 characters of its line, as they are shown, and a mark below it."""
     line, column = position(text, place)
     shown = text.split("\n")[line - 1]
     if line <= text.count("\n"):
         shown = shown.removesuffix("\r")
-    first = min(max(column - 1 - WIDTH // 2, 0), max(len(shown) - WIDTH, 0))
-    mark = "".join("\t" if it == "\t" else " " for it in shown[first:column - 1])
-    return "".join(map(visible, shown[first:first + WIDTH])) + f"\n{mark}^\n"
+    pieces = [visible(it) for it in shown]
+    ends = list(accumulate(map(len, pieces)))
+    behind = [0, *ends]
+    first = min(max(behind[column - 1] - WIDTH // 2, 0), max(behind[-1] - WIDTH, 0))
+    mark = "".join("\t" if piece == "\t" else " " * len(piece) for start, piece in zip(behind, pieces[:column - 1]) if start >= first)
+    line = "".join(piece for start, end, piece in zip(behind, ends, pieces) if start >= first and end <= first + WIDTH)
+    return f"{line}\n{mark}^\n"
 
 
 def visible(character):
-    """A character as it is shown: what has no form of its own is a replacement character."""
-    is_hidden = unicodedata.category(character) == "Cc" and character != "\t" or character == BYTE_ORDER_MARK
-    return "\ufffd" if is_hidden else character
+    """A character as it is shown: what can't be seen, or not for what it is, by its number."""
+    is_control = unicodedata.category(character) == "Cc" and character != "\t"
+    return f"U+{ord(character):04X}" if is_control or character in UNSEEN else character
 
 
 def places(text):
@@ -191,14 +204,27 @@ def wanted_of(text, answer):
         is_alike = end == len(text.encode()) and len(wanted["at"]) == len(wanted["value"])
     else:
         rest = int(answer.lines[-1].rpartition(" ")[2])
-        place, sentence = refusal(text, rest)
-        mark = ", not a byte order mark" if text.encode()[place:].decode().startswith(BYTE_ORDER_MARK) else ""
-        at = "{}:{}".format(*position(text, place))
-        wanted = {"by": by, "rest": rest, "place": place, "at": at, "says": sentence + mark, "shows": excerpt(text, place)}
+        wanted = {"by": by, "rest": rest, **said_by_rows(text, rest)}
         is_alike = end == rest
     if not is_alike:
         raise Disagree(f"the rows end {text!r} at {end}, and not where {by} does")
     return wanted
+
+
+def said_by_rows(text, rest):
+    """What is wanted of a text whose rest from this byte on is refused, beside that byte."""
+    place, sentence = refusal(text, rest)
+    at = "{}:{}".format(*position(text, place))
+    hint = row_hints.line(text, rest, place)
+    return {"place": place, "at": at, "says": sentence, "shows": excerpt(text, place)} | ({"hint": hint} if hint else {})
+
+
+def with_rows_again(case):
+    """A case with what the rows say now where it is refused."""
+    if case.is_read:
+        return case
+    kept = {name: case.wanted[name] for name in ("by", "rest")}
+    return Case(case.name, case.text, kept | said_by_rows(case.text, case.wanted["rest"]))
 
 
 def in_files(texts, room):
@@ -255,7 +281,7 @@ def without_text(text, wanted):
     for name in ("rest", "place", "says"):
         if name in wanted:
             kept[name] = wanted[name]
-    for name in ("list", "at", "value", "shows"):
+    for name in ("list", "at", "value", "shows", "hint"):
         if name in wanted:
             kept[f"sum of {name}"] = sum_of(compact(wanted[name]))
     return kept
@@ -311,10 +337,19 @@ def make(weedle2, real):
     return made
 
 
+def make_with_rows_again():
+    made = {folder: [with_rows_again(case) for case in cases_of(folder, TESTS)] for folder in made_texts()}
+    for cases in made.values():
+        hold_to_rows(cases)
+        hold_to_words(cases)
+    return made
+
+
 def arguments():
     words = argparse.ArgumentParser(description=__doc__.splitlines()[0])
     words.add_argument("--weedle2", default=str(WEEDLE2), metavar="PATH", help="the program of compare/")
     words.add_argument("--real", metavar="FOLDER", help="where the real files are")
+    words.add_argument("--rows-alone", action="store_true", help="make again only what the rows say alone")
     words.add_argument("--check", action="store_true", help="say what is stale, and write nothing")
     return words.parse_args()
 
@@ -326,7 +361,7 @@ def main(wanted):
         print(*lines, sep="\n", end="\n" if lines else "")
         return 1 if lines else 0
     try:
-        write(TESTS, make(Weedle2(wanted.weedle2), wanted.real))
+        write(TESTS, make_with_rows_again() if wanted.rows_alone else make(Weedle2(wanted.weedle2), wanted.real))
     except Disagree as fault:
         print(fault, file=sys.stderr)
         return 1

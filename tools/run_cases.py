@@ -50,7 +50,9 @@ TRIED_TEXT, TRIED_VALUES = 2_000, 600_000
 def said_of(case, name):
     """What weedle_check has to write of a text that is refused."""
     wanted = case.wanted
-    return f"{name}:{wanted['at']}: {wanted['says']}\n{wanted['shows']}" if not case.is_read else ""
+    if case.is_read:
+        return ""
+    return f"{name}:{wanted['at']}: {wanted['says']}\n{wanted['shows']}{wanted.get('hint', '')}"
 
 
 def check_all(program, cases, room):
@@ -237,8 +239,9 @@ def answer_of_real(program, file, wanted):
             "value": [it["value"] for it in trees],
         }
     at, _, says = (lines or [""])[0].removeprefix(f"{file}:").partition(": ")
-    return {"by": wanted["by"], "rest": wanted.get("rest"), "place": wanted.get("place"), "at": at, "says": says,
-            "shows": "".join(f"{line}\n" for line in lines[1:])}
+    shows, hint = ["".join(f"{line}\n" for line in part) for part in (lines[1:3], lines[3:])]
+    said = {"by": wanted["by"], "rest": wanted.get("rest"), "place": wanted.get("place"), "at": at, "says": says, "shows": shows}
+    return said | ({"hint": hint} if "sum of hint" in wanted else {})
 
 
 def title_of(tree):

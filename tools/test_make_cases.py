@@ -14,7 +14,9 @@ from unittest import mock
 import make_cases
 from case_files import INDEX, Case, archive_of, cases_of, compact, folders, numbered, packed, unpacked, wrong_sums
 from compare_with_weedle2 import answer_by_rows
-from make_cases import BY_WEEDLE2, Disagree, cases_of_texts, excerpt, hold_to_rows, hold_to_words, prefixes, without_text
+from make_cases import (
+    BY_WEEDLE2, Disagree, cases_of_texts, excerpt, hold_to_rows, hold_to_words, prefixes, with_rows_again, without_text,
+)
 from random_texts import Maker
 from row_ends import NOW, PLAIN, reads_otherwise
 from row_words import position, refusal, sentence
@@ -84,7 +86,7 @@ class Words(unittest.TestCase):
     def test_excerpts(self):
         digits = "0123456789" * 30
         table = [
-            ("a\tb\x01\ufeff?", 7, "a\tb\ufffd\ufffd?\n \t   ^\n"), ("a\r\nb\r\n", 4, "b\n ^\n"), ("a\n", 2, "\n^\n"),
+            ("a\tb\x01\ufeff?", 7, "a\tbU+0001U+FEFF?\n \t" + " " * 13 + "^\n"), ("a\r\nb\r\n", 4, "b\n ^\n"), ("a\n", 2, "\n^\n"),
             (digits, 49, digits[:100] + "\n" + " " * 49 + "^\n"), (digits, 250, digits[:100] + "\n" + " " * 50 + "^\n"),
             (digits, 260, digits[:100] + "\n" + " " * 60 + "^\n"), (digits, 300, digits[:100] + "\n" + " " * 100 + "^\n"),
         ]
@@ -107,8 +109,20 @@ class Wanted(unittest.TestCase):
             "shows": "A includes B; foo\n                 ^\n",
         })
 
-    def test_a_byte_order_mark_is_named(self):
-        self.assertTrue(wanted("\ufeffA includes B;")["says"].endswith(" or 4 more, not a byte order mark"))
+    def test_what_would_mend_it(self):
+        self.assertEqual(wanted("\ufeffA includes B;")["hint"], "1:1: a byte order mark\n")
+        self.assertEqual(wanted("A includs B;")["hint"], "1:3: `includes` in place of `includs`?\n")
+
+    def test_what_the_rows_say_is_made_again(self):
+        for text in ("A includes B; foo", "A includs B;", "A includes B;"):
+            case, = cases_of_texts(ByRows(), "tests", [text])
+            older = Case(case.name, text, case.wanted if case.is_read else {"by": case.wanted["by"], "rest": case.wanted["rest"], "says": "x"})
+            self.assertEqual(with_rows_again(older).wanted, case.wanted)
+
+    def test_a_line_is_cut_where_it_is_shown_wide(self):
+        hidden = "\u00a0" * 100
+        self.assertEqual(excerpt(hidden, 0), "U+00A0" * 16 + "\n^\n")
+        self.assertEqual(excerpt(hidden + "?", 200), "U+00A0" * 16 + "?\n" + " " * 96 + "^\n")
 
     def test_the_rules_that_were_changed(self):
         self.assertEqual(wanted("A includes B; // c")["by"],

@@ -17,6 +17,7 @@ from unittest import mock
 
 import case_runs
 import run_cases
+import row_hints
 from case_files import archive_of, numbered, packed
 from compare_with_weedle2 import BETWEEN, answer_by_rows
 from make_cases import excerpt, wanted_of
@@ -25,7 +26,7 @@ from row_words import position, refusal
 from table_reader import Table
 from tree_json import debug
 
-TEXTS = ["///d\ninterface A { attribute long x; };", "foo", "A includes B;\n?", "", "enum E { '\x01' };", "typedef any between;"]
+TEXTS = ["///d\ninterface A { attribute long x; };", "foo", "A includes B;\nC includs D;", "", "enum E { '\x01' };", "typedef any between;"]
 HEAD = """#!{python} -SE
 import json, os, sys
 with open({answers!r}, encoding="utf-8") as it:
@@ -76,8 +77,9 @@ def nodes_in(text, wrong):
 def refused(text, end, wrong):
     place, words = refusal(text, end)
     shown = excerpt(text, place)
+    hint = "" if wrong == "hint" else row_hints.line(text, end, place) or ""
     line, column = position(text, place)
-    return f"FILE:{line}:{column}: {words}\n" + (shown.replace("\ufffd", "\x01") if wrong == "excerpt" else shown)
+    return f"FILE:{line}:{column}: {words}\n" + (shown.replace("U+0001", "\x01") if wrong == "excerpt" else shown) + hint
 
 
 def trees(text, values, wrong):
@@ -129,6 +131,10 @@ class Cases(unittest.TestCase):
 
     def test_an_excerpt_that_is_wrong(self):
         status, out, _ = self.ended(self.program("weedle_check", "excerpt"), "some")
+        self.assertEqual((status, out.splitlines()[-1]), (1, "11 passed, 1 failed"))
+
+    def test_a_hint_that_is_lacking(self):
+        status, out, _ = self.ended(self.program("weedle_check", "hint"), "some")
         self.assertEqual((status, out.splitlines()[-1]), (1, "11 passed, 1 failed"))
 
     def test_a_node_that_is_wrong(self):
@@ -246,7 +252,7 @@ class Runs(unittest.TestCase):
         runs = case_runs.runs()
         self.assertEqual({run.program for run in runs}, set(run_cases.PROGRAMS))
         self.assertEqual(len(runs), len({(run.program, run.what) for run in runs}))
-        self.assertEqual(len(runs), 98)
+        self.assertEqual(len(runs), 106)
 
 
 if __name__ == "__main__":

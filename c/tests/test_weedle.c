@@ -137,7 +137,7 @@ static void test_what_is_refused(void) {
 
 static void test_words_of_a_refusal(void) {
     static const char text[] = "interface A {\n  readonly attribute long x\n};";
-    static const char words[] = "3:1: expected `;`\n};\n^\n";
+    static const char words[] = "3:1: expected `;`\n};\n^\n2:28: `;` missing here?\n";
     struct weedle_refusal refusal;
     char message[1024];
     CHECK(weedle_explain(text, strlen(text), message, sizeof message, &refusal) == WEEDLE_STATUS_REFUSED);
@@ -173,6 +173,37 @@ static void test_any_message_has_room_in_1024_bytes(void) {
     CHECK(refusal.length < sizeof message && strlen(message) == refusal.length);
     CHECK(refusal.column == 335);
     free(text);
+}
+
+/* A blank that doesn't break is shown as U+00A0, and the mark stands behind what that takes. */
+static void test_what_cannot_be_seen_has_room_too(void) {
+    size_t length;
+    char *text = repeated("/*", "\xc2\xa0", 300, "*/ typedef unsiged long T; // ", &length);
+    struct weedle_refusal refusal;
+    char message[1024];
+    CHECK(weedle_explain(text, length, message, sizeof message, &refusal) == WEEDLE_STATUS_REFUSED);
+    CHECK(refusal.length < sizeof message && strlen(message) == refusal.length);
+    CHECK(refusal.column == 327 && strstr(message, "U+00A0U+00A0*/ typedef unsiged long T;") != NULL);
+    CHECK(strstr(message, "\n1:314: `unsigned` in place of `unsiged`?\n") != NULL);
+    free(text);
+}
+
+static const char *hint_of(const char *text, char message[1024]) {
+    struct weedle_refusal refusal;
+    CHECK(weedle_explain(text, strlen(text), message, 1024, &refusal) == WEEDLE_STATUS_REFUSED);
+    char *mark = strstr(message, "^\n");
+    return mark == NULL ? message : mark + 2;
+}
+
+static void test_hints(void) {
+    char message[1024];
+    CHECK(strcmp(hint_of("interface A { atribute long x; };", message), "1:15: `attribute` in place of `atribute`?\n") == 0);
+    CHECK(strcmp(hint_of("/// a\ntypedef long T;", message), "1:1: no docstring here\n") == 0);
+    CHECK(strcmp(hint_of("interface A { }\ninterface B { };", message), "1:16: `;` missing here?\n") == 0);
+    CHECK(strcmp(hint_of("enum E { \"a };", message), "1:10: the string opens here\n") == 0);
+    CHECK(strcmp(hint_of("\xef\xbb\xbftypedef long T;", message), "1:1: a byte order mark\n") == 0);
+    CHECK(strcmp(hint_of("// a", message), "1:1: no definitions\n") == 0);
+    CHECK(strcmp(hint_of("enum E { \"a\" \"b\" };", message), "") == 0);
 }
 
 /* Laid out by hand, as docs/LAYOUT.md says. */
@@ -313,6 +344,8 @@ static const struct test TESTS[] = {
     {"words of a refusal", test_words_of_a_refusal},
     {"a message is cut at a character", test_a_message_is_cut_at_a_character},
     {"any message has room in 1,024 bytes", test_any_message_has_room_in_1024_bytes},
+    {"what can't be seen has room too", test_what_cannot_be_seen_has_room_too},
+    {"hints", test_hints},
     {"a text laid out", test_a_text_laid_out},
     {"no layout", test_no_layout},
     {"version, rules and names", test_version_rules_and_names},

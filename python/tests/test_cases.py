@@ -98,7 +98,11 @@ class Cases(unittest.TestCase):
         refused = raised.exception
         self.assertEqual((refused.start, refused.place), (wanted["rest"], wanted["place"]), text)
         self.assertEqual(f"{refused.line}:{refused.column}", wanted["at"], text)
-        self.assertEqual(f"{refused}\n", f"{wanted['at']}: {wanted['says']}\n{wanted['shows']}", text)
+        hint = wanted.get("hint", "")
+        self.assertEqual(
+            f"{refused}\n", f"{wanted['at']}: {wanted['says']}\n{wanted['shows']}{hint}", text
+        )
+        self.assertEqual(refused.hint, hint.rstrip("\n") or None, text)
         self.assertIn(refused.expected, wanted["says"], text)
 
 
@@ -112,7 +116,11 @@ class RealFiles(unittest.TestCase):
     def test_sums(self):
         for text, wanted in self.texts:
             self.assertEqual(sum_of(text), wanted["sum"])
-            self.assertEqual(without_text(text, {"by": wanted["by"], **said_of(text)}), wanted)
+            found = without_text(text, {"by": wanted["by"], **said_of(text)})
+            # Sums that were made before hints were told have none of them.
+            if "sum of hint" not in wanted:
+                found.pop("sum of hint", None)
+            self.assertEqual(found, wanted)
 
     def test_slices(self):
         count = 0
@@ -138,8 +146,9 @@ def said_of(text):
     except weedle.Refused as refused:
         line, *shown = str(refused).split("\n")
         at, _, says = line.partition(": ")
-        shows = "".join(f"{it}\n" for it in shown)
-        return {"rest": refused.start, "place": refused.place, "at": at, "says": says, "shows": shows}
+        shows = "".join(f"{it}\n" for it in shown[:2])
+        said = {"rest": refused.start, "place": refused.place, "at": at, "says": says, "shows": shows}
+        return said | ({"hint": f"{refused.hint}\n"} if refused.hint else {})
     values = [in_weedle2s_words(json.loads(it.to_json())) for it in definitions]
     return {
         "list": [title_of({"value": it}) for it in values], "value": values,

@@ -79,7 +79,9 @@ class Program(unittest.TestCase):
     def test_what_is_refused_beside_json(self):
         status, out, err = run("--json", "-", given=b"A includes B")
         self.assertEqual((status, out), (1, ""))
-        self.assertEqual(err, "<stdin>:1:13: expected `;`\nA includes B\n            ^\n")
+        mark = " " * len("A includes B") + "^"
+        hint = "1:13: `;` missing here?"
+        self.assertEqual(err, f"<stdin>:1:13: expected `;`\nA includes B\n{mark}\n{hint}\n")
 
 
 class AsWeedleCheck(unittest.TestCase):

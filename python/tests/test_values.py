@@ -226,6 +226,28 @@ class Faults(unittest.TestCase):
         self.assertEqual(raised.exception.start, 16)
         self.assertIsInstance(raised.exception, ValueError)
 
+    def test_a_hint(self):
+        hints = {
+            "interface A { atribute long x; };": "1:15: `attribute` in place of `atribute`?",
+            "interface A {\n  attribute long x\n};": "2:19: `;` missing here?",
+            "/// a\ntypedef long T;": "1:1: no docstring here",
+            'enum E { "a };': "1:10: the string opens here",
+            "\ufefftypedef long T;": "1:1: a byte order mark",
+            "// none": "1:1: no definitions",
+            'enum E { "a" "b" };': None,
+        }
+        for text, hint in hints.items():
+            with self.assertRaises(weedle.Refused) as raised:
+                weedle.parse(text)
+            refused = raised.exception
+            self.assertEqual(refused.hint, hint, text)
+            self.assertEqual(refused.message.split("\n")[3:], [hint] if hint else [], text)
+
+    def test_a_hint_where_memory_ran_out(self):
+        refused = weedle.Refused(weedle._text.Text("interface A { atribute long x; };"), 0)
+        refused.__dict__["_explanation"] = None
+        self.assertIsNone(refused.hint)
+
     def test_what_is_not_utf_8(self):
         for data, place in ((b"\xff", 0), (b"interface A {};\xc3", 15), (b"// \xed\xa0\x80", 3)):
             with self.assertRaises(UnicodeDecodeError) as raised:

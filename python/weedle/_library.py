@@ -159,7 +159,7 @@ def read_nodes(data: bytes) -> memoryview:
 
 
 def explain(data: bytes) -> Explanation:
-    """Why a text is refused, by a table of its unread rest; MemoryError where that has no room."""
+    """Why a text is refused; MemoryError where there is no room to find it."""
     room, answer = bytearray(4096), ExplainAnswer()
     while True:
         address = ctypes.addressof(ctypes.c_char.from_buffer(room))

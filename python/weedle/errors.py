@@ -11,6 +11,8 @@ from weedle._text import Text
 
 # A message begins with line and column, and what was expected ends with its line.
 MESSAGE = re.compile(r"\d+:\d+: (?:expected )?(.*)")
+# Behind that line, the line of the text and the mark stands the hint, if there is one.
+HINT = 3
 
 
 class Refused(ValueError):
@@ -19,8 +21,10 @@ class Refused(ValueError):
     Of `interface A {}; enum E { "a" "b" };` the second definition, from byte 16 on, isn't read:
     the reading comes to line 1, column 30, where a `,` or a `}` would go on.
 
-    What is expected is found when it is asked for, by a table of the text from `start` on, which
-    takes some 1,600 bytes of memory and 2 microseconds a byte.
+    What is expected is found when it is asked for: mostly in some 300 nanoseconds for each byte of
+    the definition that isn't read, and up to eight times more in the search for a hint. Where the
+    text nests deep, by a table of it from `start` on, which takes some 1,600 bytes of memory and 2
+    microseconds a byte.
     """
 
     def __init__(self, text: Text, start: int) -> None:
@@ -58,8 +62,19 @@ class Refused(ValueError):
         return found[1] if found else ""
 
     @property
+    def hint(self) -> Optional[str]:
+        """What would mend the text, or what it lacks, with line and column; None where nothing was found.
+
+        Of `interface A { atribute long x; };`, which is read up to column 29, it is
+        "1:15: `attribute` in place of `atribute`?". A keyword, a closing sign or the place of a
+        docstring is told only where the text was read again with the change, and came further.
+        """
+        lines = self._explanation.message.split("\n") if self._explanation else []
+        return lines[HINT] or None if len(lines) > HINT else None
+
+    @property
     def message(self) -> str:
-        """Line, column and what was expected, and below that the line of the text with a mark."""
+        """Line, column and what was expected, the line of the text with a mark, and the hint."""
         if self._explanation:
             return self._explanation.message.rstrip("\n")
         line, column = self._text.position(self.start)

@@ -10,7 +10,7 @@ use crate::reader::front;
 use crate::status::{NO_MEMORY, NOT_UTF8, READ, REFUSED};
 use std::alloc::{AllocError, Global};
 use std::io;
-use weedle_refusal::{Refusal, position_of, refusal_from, rest_of, write_message};
+use weedle_refusal::{Refusal, position_of, refusal_from, rest_of, write_hint, write_message};
 
 /// Where a text is refused.
 #[repr(C)]
@@ -122,11 +122,14 @@ fn tell(
     REFUSED
 }
 
-/// The message, as `weedle_check` prints it behind the name of a file.
+/// The message, as `weedle_check` prints it behind the name of a file, the hint below it.
 fn message_of(alloc: Global, raw: &str, refusal: &Refusal) -> io::Result<Vec<u8>> {
     let words = format!(in alloc; "{refusal}")?;
     let mut message = Vec::new(alloc);
     write_message(raw, refusal.place, &words, &mut message)?;
+    if let Some(hint) = &refusal.hint {
+        write_hint(raw, hint, &mut message)?;
+    }
     Ok(message)
 }
 

@@ -3,7 +3,7 @@
 use std::alloc::{AllocError, Global};
 use std::io::{self, Write};
 use weedle_base::Err;
-use weedle_explain::{Refusal, explain};
+use weedle_explain::{Hint, Refusal, explain, write_hint};
 use weedle_front::parse_quick;
 use weedle_refusal::write_message;
 
@@ -15,6 +15,8 @@ pub struct Slip {
     /// What would have been read there, or None where memory ran out for more than the place, which
     /// then is where the unread rest begins.
     pub words: Option<String>,
+    /// What would mend it, or what it lacks, where that is known.
+    pub hint: Option<Hint>,
 }
 
 /// Where a text is refused, or None where it is read whole. It fails where there is no memory even
@@ -33,10 +35,12 @@ fn explained(alloc: Global, refusal: Refusal) -> Slip {
         Ok(words) => Slip {
             place: refusal.place,
             words: Some(words),
+            hint: refusal.hint,
         },
         Err(_) => Slip {
             place: refusal.start,
             words: None,
+            hint: None,
         },
     }
 }
@@ -48,18 +52,23 @@ fn unexplained(alloc: Global, text: &str) -> Result<Option<Slip>, AllocError> {
         Err(Err::Error(left)) => Ok(Some(Slip {
             place: text.len().saturating_sub(left.input.len()),
             words: None,
+            hint: None,
         })),
         Err(Err::Failure(_)) => Err(AllocError),
     }
 }
 
-/// Writes where the text of this name is refused and why, and below it the line of the text with a
-/// mark. It fails where a write does.
+/// Writes where the text of this name is refused and why, below it the line of the text with a
+/// mark, and below that the hint. It fails where a write does.
 pub fn write_slip<W: Write>(name: &str, text: &str, slip: &Slip, out: &mut W) -> io::Result<()> {
     let said = match &slip.words {
         Some(words) => words.as_str(),
         None => "unread from here on; memory ran out for more",
     };
     write!(out, "{name}:")?;
-    write_message(text, slip.place, said, out)
+    write_message(text, slip.place, said, out)?;
+    if let Some(hint) = &slip.hint {
+        write_hint(text, hint, out)?;
+    }
+    Ok(())
 }

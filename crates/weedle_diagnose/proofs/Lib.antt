@@ -1,4 +1,5 @@
 pub mod OutcomeFacts
+pub mod LeafEnds
 pub mod LaterFacts
 pub mod AddingFacts
 pub mod ConditionFacts
@@ -10,3 +11,7 @@ pub mod LastBit
 pub mod MarkingFacts
 pub mod FurthestFacts
 pub mod BoundaryFacts
+pub mod NotingFacts
+pub mod LeadFacts
+pub mod TestFacts
+pub mod DiagnosisFacts

@@ -2,23 +2,28 @@
 //! what fails there.
 //!
 //! ```rust
-//! use weedle_diagnose::diagnose_from;
-//! use weedle_rules::Ends;
+//! use weedle_diagnose::diagnose_quick;
 //!
-//! let ends = Ends::new(rt.alloc(), "interface A { readonly attribute long x };")?;
-//! let diagnosis = diagnose_from(rt.alloc(), &ends, 0)?;
+//! let text = "interface A { readonly attribute long x };";
+//! let diagnosis = diagnose_quick(rt.alloc(), text, 0)?;
 //! assert_eq!(rt; diagnosis.place, 40);
 //! ```
 //!
-//! At 40 stands the `}`, where the text lacks a `;`. So the rule of that sign is one of `expected`, beside
-//! those that begin a comment or a blank, which may stand there too.
+//! At 40 stands the `}`, where the text lacks a `;`. So the rule of that sign is one of `expected`,
+//! beside those that begin a comment or a blank, which may stand there too. [`diagnose_from`] says the
+//! same over a table of ends.
 #![tactic(auto)]
 
+mod descent;
 mod diagnosis;
+mod leaves;
 mod marking;
 mod marks;
+mod noted;
+mod quick;
 mod tries;
 mod unmet;
 mod ways;
 
 pub use diagnosis::{Diagnosis, diagnose_from};
+pub use quick::{diagnose_by_descent, diagnose_quick};

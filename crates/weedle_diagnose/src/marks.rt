@@ -26,7 +26,7 @@ use weedle_grammar::{RULES, Rule};
 
 /// Whether the cell's bit is set.
 #[inline(always)]
-fn is_set(marks: &[u64], cell: usize) -> bool
+pub(crate) fn is_set(marks: &[u64], cell: usize) -> bool
     requires { cell < 64 * length marks.now }
     ensures { IsTrue result ↔ IsSet marks.now cell }
 {
@@ -35,7 +35,7 @@ fn is_set(marks: &[u64], cell: usize) -> bool
 
 /// Sets the cell's bit.
 #[inline(always)]
-fn set(marks: &mut [u64], cell: usize)
+pub(crate) fn set(marks: &mut [u64], cell: usize)
     requires { cell < 64 * length marks.old }
     ensures { (other : ℕ) → IsSet marks.new other ↔ (IsSet marks.old other ⊎ (other ≡ cell)) }
 {

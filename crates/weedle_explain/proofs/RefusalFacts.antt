@@ -1,12 +1,14 @@
 -- What is said of the rest is said of the text.
-use Rattle.std.proofs.Common.{◌≡◌, ◌≤◌, ◌+◌, ◌-◌, ◌∙◌, ℕ, List, length, drop, ap, refl, subst, arith}
+use Rattle.std.proofs.Common.{◌≡◌, ◌≤◌, ◌+◌, ◌-◌, ◌∙◌, ℕ, List, Option, IfSome, length, drop, ap, refl, subst, arith}
 use Rattle.std.proofs.lemmas.List.{length-drop}
 use Rattle.std.proofs.lemmas.Str.{IsCharBoundary-from_rest}
 use Rattle.std.specs.Global.{Vec}
 use Rattle.weedle_explain.specs.Refusal.{IsRefusal, IsRest}
 use Rattle.weedle_front.specs.Whole.{IsLeft}
 use Rattle.weedle_refusal.specs.Furthest.{IsFurthest}
+use Rattle.weedle_refusal.specs.Hint.{IsHint}
 use Rattle.weedle_refusal.specs.declared.expected.Expected.{Expected}
+use Rattle.weedle_refusal.specs.declared.hint.Hint.{Hint}
 
 module _ {raw rest : List ℕ} (h : IsRest raw rest) where
   -- the rest stands behind what is read
@@ -18,10 +20,11 @@ module _ {raw rest : List ℕ} (h : IsRest raw rest) where
       let end : h.left.1 ≡ length raw - length rest = omega (arith, short, h.nonempty) in
       is ∙ ap (λ n. drop n raw) end
 
-  -- of what is furthest in the rest, the refusal
-  pub refused : {furthest : ℕ} {words : Vec Expected} → IsFurthest rest furthest words.items
-      → IsRefusal raw (record { start = length raw - length rest; place = (length raw - length rest) + furthest; expected = words })
-  refused {furthest} {words} found =
+  -- of what is furthest in the rest, and a hint of it, the refusal
+  pub refused : {furthest : ℕ} {words : Vec Expected} {hint : Option Hint} → IsFurthest rest furthest words.items
+      → IfSome hint (IsHint raw (length raw - length rest) ((length raw - length rest) + furthest))
+      → IsRefusal raw (record { start = length raw - length rest; place = (length raw - length rest) + furthest; expected = words; hint = hint })
+  refused {furthest} {words} {hint} found told =
       let start = length raw - length rest in
       let F : List ℕ → Type 0 = λ text. IsFurthest text furthest words.items in
       let L : List ℕ → Type 0 = λ text. IsLeft raw text in
@@ -35,4 +38,5 @@ module _ {raw rest : List ℕ} (h : IsRest raw rest) where
         found = here;
         place = refl;
         boundary = IsCharBoundary-from_rest raw start furthest before here.boundary;
+        hint = told;
       }

@@ -6,7 +6,7 @@ ghost use Rattle.weedle_explain.specs.Refusal.{Explains, IsUnreadRest};
 use std::alloc::{AllocError, Global};
 use weedle_base::Err;
 use weedle_front::parse_quick;
-use weedle_refusal::{Refusal, furthest_in};
+use weedle_refusal::{Refusal, furthest_in, hint_of};
 
 /// Why a text is refused, or None where it is read whole.
 ///
@@ -15,8 +15,9 @@ use weedle_refusal::{Refusal, furthest_in};
 /// explained.
 ///
 /// It reads the text by [`parse_quick`], and costs what that costs. Where that leaves a rest, it
-/// fills a table of ends of the rest alone, and marks what is tried: together some 1,600 bytes of
-/// memory for each byte of the rest. Where memory is refused, the answer is an error.
+/// goes on as [`furthest_in`] does: mostly in some 200 to 300 nanoseconds for each byte of the
+/// definition that isn't read, and up to eight times more in the search for a hint. Where memory is
+/// refused, the answer is an error.
 pub fn explain(alloc: Global, raw: &str) -> Result<Option<Refusal>, AllocError>
     ensures explains { IfOk result (Explains raw.now) }
 
@@ -28,10 +29,13 @@ pub fn explain(alloc: Global, raw: &str) -> Result<Option<Refusal>, AllocError>
     };
     let start = raw.len() - rest.len();
     let (furthest, expected) = furthest_in(alloc, rest)?;
+    let place = start + furthest;
+    let hint = hint_of(alloc, raw, start, place)?;
     Ok(Some(Refusal {
         start,
-        place: start + furthest,
+        place,
         expected,
+        hint,
     }))
 }
 

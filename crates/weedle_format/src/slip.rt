@@ -2,7 +2,7 @@
 
 use std::alloc::{AllocError, Global};
 use std::io::{self, Write};
-use weedle_refusal::{refusal_of, rest_of, write_message};
+use weedle_refusal::{Hint, refusal_of, rest_of, write_hint, write_message};
 use weedle_syntax::syntax_of_front;
 
 /// Where a text is refused.
@@ -13,6 +13,8 @@ pub struct Slip {
     /// What would have been read there, or None where memory ran out for more than the place, which
     /// then is where the unread rest begins.
     pub words: Option<String>,
+    /// What would mend it, or what it lacks, where that is known.
+    pub hint: Option<Hint>,
 }
 
 /// Where a text is refused that isn't read whole. It fails where there is no memory even to find
@@ -23,6 +25,7 @@ pub fn slip_in(alloc: Global, text: &str) -> Result<Slip, AllocError> {
             return Ok(Slip {
                 place: refusal.place,
                 words: Some(words),
+                hint: refusal.hint,
             });
         }
     }
@@ -30,16 +33,21 @@ pub fn slip_in(alloc: Global, text: &str) -> Result<Slip, AllocError> {
     Ok(Slip {
         place: rest_of(&nodes),
         words: None,
+        hint: None,
     })
 }
 
-/// Writes where the text of this name is refused and why, and below it the line of the text with a
-/// mark. It fails where a write does.
+/// Writes where the text of this name is refused and why, below it the line of the text with a
+/// mark, and below that the hint. It fails where a write does.
 pub fn write_slip<W: Write>(name: &str, text: &str, slip: &Slip, out: &mut W) -> io::Result<()> {
     let said = match &slip.words {
         Some(words) => words.as_str(),
         None => "unread from here on; memory ran out for more",
     };
     write!(out, "{name}:")?;
-    write_message(text, slip.place, said, out)
+    write_message(text, slip.place, said, out)?;
+    if let Some(hint) = &slip.hint {
+        write_hint(text, hint, out)?;
+    }
+    Ok(())
 }

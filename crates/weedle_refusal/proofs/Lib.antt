@@ -6,5 +6,6 @@ pub mod TextFacts
 pub mod StartFacts
 pub mod EmptyFacts
 pub mod FurthestFacts
+pub mod HintFacts
 pub mod RefusalFacts
 pub mod FrontFacts

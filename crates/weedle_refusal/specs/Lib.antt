@@ -4,4 +4,5 @@ pub mod Words
 pub mod Texts
 pub mod Starts
 pub mod Furthest
+pub mod Hint
 pub mod Refusal

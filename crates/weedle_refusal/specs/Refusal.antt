@@ -1,6 +1,7 @@
 -- What is said of a text: nothing, where the grammar reads it whole, and else where and why it is refused.
-use Rattle.std.specs.Prelude.{◌≡◌, ◌+◌, ◌<◌, ℕ, List, length, drop, Option, Some, None, IsCharBoundary}
+use Rattle.std.specs.Prelude.{◌≡◌, ◌+◌, ◌<◌, ℕ, List, length, drop, Option, Some, None, IfSome, IsCharBoundary}
 use Rattle.weedle_refusal.specs.Furthest.{IsFurthest}
+use Rattle.weedle_refusal.specs.Hint.{IsHint}
 use Rattle.weedle_refusal.specs.declared.refusal.Refusal.{Refusal}
 use Rattle.weedle_syntax.specs.Syntax.{IsWhole, RestBegins}
 
@@ -14,6 +15,8 @@ pub record IsRefusal (raw : List ℕ) (refusal : Refusal) : Type 0 where
   pub place : refusal.place ≡ refusal.start + furthest
   -- a character of the whole text begins at the place, or the text ends there
   pub boundary : IsCharBoundary raw refusal.place
+  -- what is told beside it was tried, or stands in the text
+  pub hint : IfSome refusal.hint (IsHint raw refusal.start refusal.place)
 
 -- None where the grammar reads the whole text, and else a refusal
 abbrev pub Explains : List ℕ → Option Refusal → Type 0

@@ -10,7 +10,8 @@ use std::fmt::{self, Display, Formatter, Write};
 /// How many words are shown at most.
 const SHOWN: usize = 6;
 
-/// Says what was expected, as ``expected `}` or `,` ``: six words at most, and then how many more there are.
+/// Says what was expected, as ``expected `}` or `,` ``: six words at most, and then how many more
+/// there are.
 impl Display for Refusal {
     ghost output = { λ refusal. Some (refusal_text refusal) };
 
@@ -30,7 +31,8 @@ impl Display for Refusal {
     }
 }
 
-/// What stands in front of a word: nothing at the first, `or` where it is the last and nothing follows.
+/// What stands in front of a word: nothing at the first, `or` where it is the last and nothing
+/// follows.
 fn between(at: usize, shown: usize, more: usize) -> &'static str
     requires { at < shown }
     ensures { result.now ≡ (if at == 0 then [] else (if more == 0 && at + 1 == shown then codes " or " else codes ", ")) }

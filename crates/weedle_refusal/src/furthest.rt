@@ -6,23 +6,23 @@ ghost use Rattle.weedle_refusal.specs.Furthest.{IsFurthest};
 use crate::expected::Expected;
 use crate::words::words_of;
 use std::alloc::{AllocError, Global};
-use weedle_diagnose::diagnose_from;
-use weedle_rules::Ends;
+use weedle_diagnose::diagnose_quick;
 
-/// Where the reading of a text as definitions comes furthest, in bytes from its front, and what would have been read
-/// there.
+/// Where the reading of a text as definitions comes furthest, in bytes from its front, and what
+/// would have been read there.
 ///
-/// In `enum E { "a" "b" };` it comes to 13, where a `,` or a `}` would go on. A text that is read whole has an answer
-/// too: what could follow at its end.
+/// In `enum E { "a" "b" };` it comes to 13, where a `,` or a `}` would go on. A text that is read
+/// whole has an answer too: what could follow at its end.
 ///
-/// It fills a table of ends, and marks what is tried: together some 1,600 bytes of memory for each byte. Where memory
-/// is refused, the answer is an error.
+/// It goes by descent up to the first definition that isn't read, in some 200 to 300 nanoseconds for
+/// each byte, and asks for memory for the list alone. Where descent gives up, as of what nests deep,
+/// it fills a table of ends of the text, and marks what is tried: together some 1,600 bytes of memory
+/// for each byte. Where memory is refused, the answer is an error.
 pub fn furthest_in(alloc: Global, text: &str) -> Result<(usize, Vec<Expected>), AllocError>
     ensures found { IfOk result (λ found. IsFurthest text.now found.0 found.1.items) }
     ensures short { IfOk result (λ found. found.0 ≤ length text.now) }
 {
-    let ends = Ends::new(alloc, text)?;
-    let diagnosis = diagnose_from(alloc, &ends, 0)?;
+    let diagnosis = diagnose_quick(alloc, text, 0)?;
     let expected = words_of(alloc, &diagnosis.expected)?;
     Ok((diagnosis.place, expected))
 }

@@ -1,5 +1,5 @@
-//! What always holds of the words: by which rules a type, a value and a name begin. Each of these functions does nothing
-//! when it runs: its contract is the law.
+//! What always holds of the words: by which rules a type, a value and a name begin. Each of these
+//! functions does nothing when it runs: its contract is the law.
 
 ghost use Rattle.weedle_grammar.specs.written.Table.Leaves.{IDENTIFIER};
 ghost use Rattle.weedle_grammar.specs.written.Table.Literals.{CONST_VALUE, DEFAULT_VALUE};
@@ -14,16 +14,16 @@ pub fn names()
     ensures { AreStarts IDENTIFIER NAMES.now }
 {}
 
-/// A law: a type begins by exactly the rules of one list of which 'a type' is said, one that is neither `any` nor a union
-/// by those of another, and a constant's by those of a third.
+/// A law: a type begins by exactly the rules of one list of which 'a type' is said, one that is
+/// neither `any` nor a union by those of another, and a constant's by those of a third.
 pub fn types()
     ensures any { AreStarts TYPE TYPES.now }
     ensures but_any { AreStarts NON_ANY_TYPE TYPES_BUT_ANY.now }
     ensures of_constants { AreStarts CONST_TYPE CONST_TYPES.now }
 {}
 
-/// A law: the value of a default begins by exactly the rules of one list of which 'a value' is said, and that of a
-/// constant by those of another.
+/// A law: the value of a default begins by exactly the rules of one list of which 'a value' is
+/// said, and that of a constant by those of another.
 pub fn values()
     ensures of_defaults { AreStarts DEFAULT_VALUE DEFAULT_VALUES.now }
     ensures of_constants { AreStarts CONST_VALUE CONST_VALUES.now }

@@ -1,5 +1,6 @@
-//! What is said of a text that is refused: where, at which line and column, and in words what would have been read
-//! there. It stands on the grammar and the table of ends, and on no type of the tree.
+//! What is said of a text that is refused: where, at which line and column, in words what would have
+//! been read there, and what would mend it. It stands on the grammar and the table of ends, and on no
+//! type of the tree.
 //!
 //! ```rust
 //! use weedle_refusal::{position_of, refusal_of};
@@ -18,6 +19,7 @@ mod display;
 mod excerpt;
 mod expected;
 mod furthest;
+mod hint;
 pub mod laws;
 mod lines;
 mod message;
@@ -29,6 +31,7 @@ mod words;
 pub use excerpt::write_excerpt;
 pub use expected::Expected;
 pub use furthest::furthest_in;
+pub use hint::{Hint, hint_of, write_hint};
 pub use lines::Lines;
 pub use message::write_message;
 pub use position::{Position, position_of};

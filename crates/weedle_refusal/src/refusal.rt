@@ -6,6 +6,7 @@ ghost use Rattle.weedle_syntax.specs.Syntax.{RestBegins, rest_of as the_rest_of}
 
 use crate::expected::Expected;
 use crate::furthest::furthest_in;
+use crate::hint::{Hint, hint_of};
 use std::alloc::{AllocError, Global};
 use weedle_syntax::{Node, syntax_of_front};
 
@@ -24,6 +25,9 @@ pub struct Refusal {
     /// What would have been read at that place, each word once. Blanks and comments, which may stand
     /// nearly everywhere, aren't among it.
     pub expected: Vec<Expected>,
+    /// What would mend the definition, or what it lacks, where something was found. It may stand
+    /// well before the furthest place.
+    pub hint: Option<Hint>,
 }
 
 /// Why a text is refused, or None where it is read whole.
@@ -52,7 +56,7 @@ pub fn refusal_of(alloc: Global, raw: &str) -> Result<Option<Refusal>, AllocErro
 /// Why a text is refused whose unread rest begins at this place, as `syntax_of_front` has it.
 ///
 /// It fills a table of ends of the rest alone, and marks what is tried: together some 1,600 bytes of memory for each
-/// byte of the rest. Where memory is refused, the answer is an error.
+/// byte of the rest. Beside that it costs what [`hint_of`] costs. Where memory is refused, the answer is an error.
 pub fn refusal_from(alloc: Global, raw: &str, start: usize) -> Result<Refusal, AllocError>
     requires rest { RestBegins raw.now start }
     requires unread { start < length raw.now }
@@ -60,10 +64,13 @@ pub fn refusal_from(alloc: Global, raw: &str, start: usize) -> Result<Refusal, A
     ensures within { IfOk result (λ refusal. refusal.place ≤ length raw.now) }
 {
     let (furthest, expected) = furthest_in(alloc, &raw[start..])?;
+    let place = start + furthest;
+    let hint = hint_of(alloc, raw, start, place)?;
     Ok(Refusal {
         start,
-        place: start + furthest,
+        place,
         expected,
+        hint,
     })
 }
 

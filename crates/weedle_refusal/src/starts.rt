@@ -1,4 +1,5 @@
-//! The rules without parts by which names, types and values begin, all of them and no others, as `laws` says.
+//! The rules without parts by which names, types and values begin, all of them and no others, as
+//! `laws` says.
 
 use weedle_grammar::grammar::capitalized_keywords::{
     BYTES_ARRAY_BUFFER, BYTES_ARRAY_BUFFER_VIEW, BYTES_BUFFER_SOURCE, BYTES_BYTE_STRING,

@@ -7,4 +7,4 @@ use Rattle.weedle_explain.proofs.refusal.explain.Goals as goal
 pub returns-clause-explains : goal.returns-clause-explains
 returns-clause-explains c =
     let R : Option (Bor (List ℕ)) → Type 0 = λ rest. IsUnreadRest c.args.raw.now rest in
-    refused (subst R c.in-Some.is c.in_ok-rest.ensures) c.in_ok-furthest.ensures.found
+    refused (subst R c.in-Some.is c.in_ok-rest.ensures) c.in_ok-furthest.ensures.found c.in_ok-hint.ensures

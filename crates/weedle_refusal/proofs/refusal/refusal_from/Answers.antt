@@ -14,4 +14,4 @@ range_from-requires c =
 pub returns-clause-is : goal.returns-clause-is
 returns-clause-is c =
     let F : List ℕ → Type 0 = λ text. IsFurthest text c.in_ok-furthest.furthest c.in_ok-furthest.expected.items in
-    refused c.requires.rest c.requires.unread (subst F c.range_from.ensures.value c.in_ok-furthest.ensures.found)
+    refused c.requires.rest c.requires.unread (subst F c.range_from.ensures.value c.in_ok-furthest.ensures.found) c.in_ok-hint.ensures

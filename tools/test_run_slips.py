@@ -1,0 +1,65 @@
+#!/usr/bin/env python3
+"""Tests run_slips.py with no program, in a second.
+
+    python3 tools/test_run_slips.py
+"""
+
+import contextlib
+import io
+import subprocess
+import unittest
+
+import run_slips
+from run_cases import last_line
+from run_slips import Slip, run, slips
+
+
+class ByRows:
+    """A program that says what the rows say, or of each text what it is given."""
+
+    def __init__(self, said=None):
+        self.said = said
+
+    def run(self, words, names=(), room=None, given=b""):
+        out = ""
+        for name, slip in zip(names, slips()):
+            wanted = slip.wanted()
+            out += f"{name}:" + (self.said or f"{wanted['at']}: {wanted['says']}\n{wanted['shows']}{wanted.get('hint', '')}")
+        return subprocess.CompletedProcess(words, 1, (out + last_line(len(names), len(names))).encode(), b"")
+
+
+def status_and_last(program):
+    with contextlib.redirect_stdout(io.StringIO()) as out:
+        status = run(program)
+    return status, out.getvalue().split("\n")[-2]
+
+
+class Slips(unittest.TestCase):
+    def test_sixty(self):
+        self.assertEqual(len(slips()), 60)
+        self.assertEqual(len({slip.text for slip in slips()}), 60)
+
+    def test_each_is_marked_once(self):
+        for slip in slips():
+            self.assertEqual(slip.line.count(run_slips.MARK), 1, slip.line)
+            self.assertNotIn(run_slips.MARK, slip.text)
+
+    def test_what_points_at_a_slip(self):
+        slip = Slip("a b\u2038 /* c */ // d\\n e")
+        for line, is_at in (("1:4: x", True), ("2:2: x", True), ("1:5: x", True), ("1:3: x", False), ("2:3: x", False), ("x", False)):
+            self.assertEqual(slip.is_at(line), is_at, line)
+
+    def test_at_least_three_of_four(self):
+        status, last = status_and_last(ByRows())
+        self.assertEqual(status, 0)
+        self.assertGreaterEqual(int(last.split()[0]), 45)
+
+    def test_a_program_that_says_something_else(self):
+        self.assertEqual(status_and_last(ByRows("1:1: expected `;`\nx\n^\n"))[0], 1)
+
+    def test_the_page(self):
+        self.assertEqual(run_slips.page(), run_slips.PAGE.read_text(encoding="utf-8"))
+
+
+if __name__ == "__main__":
+    unittest.main()
