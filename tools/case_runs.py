@@ -1,8 +1,9 @@
-"""Runs of the programs that are written by hand, in tests/runs.toml: arguments, files, and what is to come of them.
+"""Runs of the programs that are written by hand, in tests/runs.toml and tests/memory.toml: arguments, files, and what is
+to come of them.
 
 A run has the keys
     what        what it shows
-    program     weedle_check or weedle_list
+    program     weedle_check or weedle_list; in tests/memory.toml weedle_table or weedle_format too
     arguments   the arguments; none where it is left out
     files       the texts of files, by their names
     bytes       the bytes of files in hexadecimal, by their names
@@ -15,7 +16,10 @@ A run has the keys
     built       true: a build with checks takes too long for it
     status, stdout, stderr    what is to come; stdout and stderr are nothing where they are left out
     stdout_like, stderr_like  the same as a regular expression, for what differs from run to run
-A text may be a table of front, piece, times and back: the piece so many times, between the two others.
+    asks        what it asks for at most, of memory, as tools/asked_memory.py says
+A text may be a table of front, piece, times and back: the piece so many times, between the two others. Where it has a
+number `checked`, the piece stands so many times for a program that is built with checks, which takes long; and TIMES in
+what is to come is the number that was taken.
 """
 
 import os
@@ -34,7 +38,7 @@ RUNS = "runs"
 SECONDS = 120
 KEYS = set(
     "what program arguments files bytes folders input input_bytes input_folder breaks output memory built status stdout "
-    "stderr stdout_like stderr_like".split()
+    "stderr stdout_like stderr_like asks".split()
 )
 
 
@@ -45,11 +49,18 @@ def text_of(value):
     return value.get("front", "") + value["piece"] * value["times"] + value.get("back", "")
 
 
+def shorter(value):
+    """The text that a program with checks is given."""
+    return value | {"times": value["checked"]} if isinstance(value, dict) and "checked" in value else value
+
+
 class Run:
     def __init__(self, keys):
         if not KEYS.issuperset(keys):
             raise ValueError(f"a run has the keys {sorted(set(keys) - KEYS)}")
         self.keys = keys
+        # What the environment has more, and what a program with checks is told more.
+        self.env, self.checks = {}, ""
         self.what, self.program, self.memory = keys["what"], keys["program"], keys.get("memory")
         # Whether it isn't for a build with checks.
         self.is_for_built = keys.get("built", False)
@@ -61,6 +72,17 @@ class Run:
         out, err = (self.keys.get(f"{name}_like", self.keys.get(name, "")) for name in ("stdout", "stderr"))
         return shown(self.keys["status"], out, err)
 
+    def texts(self):
+        """The texts of the files, and the one on standard input."""
+        return [*self.keys.get("files", {}).values(), *([self.keys["input"]] if "input" in self.keys else [])]
+
+    def for_checks(self):
+        """The same with the shorter texts that a program with checks is given."""
+        keys = self.keys | {"files": {name: shorter(text) for name, text in self.keys.get("files", {}).items()}}
+        if "input" in keys:
+            keys["input"] = shorter(keys["input"])
+        return Run(keys)
+
     def came(self, program):
         """What came, in one text; where it is like what is wanted, as that has it."""
         with tempfile.TemporaryDirectory() as room:
@@ -70,7 +92,8 @@ class Run:
 
     def as_wanted(self, name, text):
         pattern = self.keys.get(f"{name}_like")
-        return pattern if pattern and re.fullmatch(pattern, text) else text
+        times = "".join(str(text["times"]) for text in self.texts() if isinstance(text, dict))
+        return pattern if pattern and re.fullmatch(pattern.replace("TIMES", times), text) else text
 
     def lay(self, room):
         """Lays the files and the folders."""
@@ -91,12 +114,13 @@ class Run:
         words = [program, *self.keys.get("arguments", ())]
         with open("/dev/full" if self.keys.get("output") == "full" else f"{room}/.output", "w+b") as out, \
                 (broken_off if self.keys.get("breaks") else kept)(self.given()) as given:
-            how = {"cwd": room, "stdin": given, "stdout": out, "stderr": subprocess.PIPE, "timeout": SECONDS}
+            how = {"cwd": room, "stdin": given, "stdout": out, "stderr": subprocess.PIPE, "timeout": SECONDS,
+                   "env": os.environ | self.env}
             if self.keys.get("input_folder"):
                 how["stdin"] = subprocess.DEVNULL
                 words = ["sh", "-c", 'exec "$@" < .', "sh", *words]
             try:
-                done = subprocess.run(words, check=False, **how, **self.limits(program, room))
+                done = subprocess.run(words, check=False, **how | self.limits(program, room))
             except subprocess.TimeoutExpired:
                 return -1, "", f"it hadn't ended after {SECONDS} s\n"
             written = b"" if self.keys.get("output") == "full" else Path(f"{room}/.output").read_bytes()
@@ -106,8 +130,8 @@ class Run:
         """How a program is run that has little memory, or an output with little room."""
         found, how = [], {}
         if self.memory and has_checks(program):
-            most = f"allocator_may_return_null=1:max_allocation_size_mb={self.memory >> 20}:log_path={room}/.checks"
-            how["env"] = os.environ | {"ASAN_OPTIONS": most}
+            most = f"allocator_may_return_null=1:max_allocation_size_mb={self.memory >> 20}:log_path={room}/.checks{self.checks}"
+            how["env"] = os.environ | self.env | {"ASAN_OPTIONS": most}
         elif self.memory:
             found.append((resource.RLIMIT_AS, self.memory))
         if self.room is not None:

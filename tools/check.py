@@ -11,7 +11,8 @@ Beside that it is looked whether each public field and each variant has a doc li
 variant (tools/conversions.py), whether the `Drop` behind each declaration is what follows from it
 (tools/drops.py --check), whether docs/CALLING.md is as the crates are (tools/calling.py --check),
 whether the numbers in pages that follow from the grammar still do (tools/grammar_numbers.py),
-whether each wrong body that is tried by hand still applies (tools/try_edits.py --check), whether
+whether each wrong body that is tried by hand, or that tests have to find, still applies
+(tools/try_edits.py --check, tools/try_wrong_programs.py --check), whether
 each link of the pages leads somewhere (tools/links.py), whether what they name of the repository is
 there (tools/pages.py), and whether the cases of tests/ are those that are listed, of the texts that
 are made now (tools/make_cases.py --check), and whether the tables of docs/GATE.md are those of the
@@ -42,6 +43,7 @@ LOOKS = (
     ["calling.py", "--check"],
     ["grammar_numbers.py"],
     ["try_edits.py", "--check"],
+    ["try_wrong_programs.py", "--check"],
     ["links.py"],
     ["pages.py"],
     ["make_cases.py", "--check"],

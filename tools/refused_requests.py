@@ -1,10 +1,11 @@
 #!/usr/bin/env python3
-"""Refuses tests each of their requests for memory: those in modules `requests`, or named `.._or_want_memory`.
+"""Refuses tests each of their requests for memory: those in modules `requests`, or named `.._or_want_memory`
+or `.._by_N_requests`.
 
 Of each test it refuses the first request in the first run, the second in the second, up to the run in which none
 of its calls has one left. In each run before that the test has to pass and to say that a call wanted memory: a
 call that goes on behind a refusal would say nothing. The calls of tests that are named `no_..`, of any module,
-make no request at all.
+make no request at all; those of tests named `.._by_N_requests` make so many, no fewer and no more.
 
     python3 tools/refused_requests.py [CRATE..]
 
@@ -14,6 +15,7 @@ such tests. A C compiler has to be there, as `cc`, for tools/refuse_request.c. F
 """
 
 import os
+import re
 import subprocess
 import sys
 import tempfile
@@ -31,10 +33,23 @@ BEHIND = "a request behind the calls was refused"
 MOST = 10_000
 
 
+def wanted_of(test):
+    """How many requests a test's calls have to make, by its name; None where it says nothing of it."""
+    if "::no_" in test:
+        return 0
+    found = re.search(r"_by_(\d+)_requests$", test)
+    return int(found[1]) if found else None
+
+
+def is_swept(test):
+    """Whether a test is run with requests refused."""
+    return "requests::" in test or test.endswith("_or_want_memory") or wanted_of(test) is not None
+
+
 def tests_of(program):
     listed = subprocess.run([program, "--list"], capture_output=True, text=True, check=True).stdout
     names = [line.rsplit(": ", 1)[0] for line in listed.splitlines() if line.endswith(": test")]
-    return [name for name in names if "requests::" in name or "::no_" in name or name.endswith("_or_want_memory")]
+    return [name for name in names if is_swept(name)]
 
 
 def run(program, test, library, number):
@@ -69,8 +84,8 @@ def main():
                 sys.exit(f"{program} isn't built: run rt test in crates/{crate}")
             for test in tests_of(program):
                 count = sweep(program, test, library)
-                if "::no_" in test and count:
-                    sys.exit(f"{crate} {test}: {count} requests, where none should be made")
+                if wanted_of(test) not in (None, count):
+                    sys.exit(f"{crate} {test}: {count} requests, where {wanted_of(test)} should be made")
                 print(f"{crate} {test}: {count} requests, each refused once")
 
 

@@ -3,7 +3,7 @@
 
 use std::alloc::{AllocError, Global};
 use std::test::Fail;
-use weedle_base::{TryClone, docstring, ident_tag, is_alphanum_underscore_dash, sp};
+use weedle_base::{Choice, Parse, TryClone, docstring, ident_tag, is_alphanum_underscore_dash, sp};
 use weedle_literal::{
     BooleanLit, ConstValue, DecLit, Default, DefaultValue, EmptyArrayLit, EmptyDictionaryLit,
     FloatLit, FloatValueLit, HexLit, IntegerLit, OctLit, StringLit,
@@ -148,6 +148,18 @@ fn copies_equal_their_originals_or_want_memory(rt: HostRuntime) -> Result<(), Fa
     }
     assert!(rt; wanted.copies(alloc, &(Comma, Or, Comma), "(Comma, Or, Comma)"));
     assert!(rt; wanted.tell(&rt, alloc));
+    Ok(())
+}
+
+/// A second alternative that is read would ask for memory, also where its value is let go of.
+#[test]
+fn no_choice_reads_on_where_the_first_fits(rt: HostRuntime) -> Result<(), Fail> {
+    let alloc = rt.alloc();
+    match Choice::<Comma, Box<Comma>>::parse(alloc, ",") {
+        Ok((rest, Choice::First(Comma))) => assert_eq!(rt; rest, ""),
+        _ => assert!(rt; false),
+    }
+    assert!(rt; Wanted::new().tell(&rt, alloc));
     Ok(())
 }
 

@@ -67,3 +67,29 @@ fn outlines_are_made_or_want_memory(rt: HostRuntime) -> Result<(), Fail> {
     assert!(rt; wanted.tell(&rt, alloc));
     Ok(())
 }
+
+/// The list of nine definitions grows twice, so it takes three requests. An outline of it takes one, and is made once.
+#[test]
+fn an_outline_of_nine_definitions_is_made_by_4_requests(rt: HostRuntime) -> Result<(), Fail> {
+    let alloc = rt.alloc();
+    let mut wanted = Wanted::new();
+    assert_outlined(
+        &rt,
+        alloc,
+        &mut wanted,
+        "A includes B;A includes B;A includes B;A includes B;A includes B;A includes B;A includes B;A includes B;A includes B;",
+        &[
+            ("includes", "A", None),
+            ("includes", "A", None),
+            ("includes", "A", None),
+            ("includes", "A", None),
+            ("includes", "A", None),
+            ("includes", "A", None),
+            ("includes", "A", None),
+            ("includes", "A", None),
+            ("includes", "A", None),
+        ],
+    );
+    assert!(rt; wanted.tell(&rt, alloc));
+    Ok(())
+}

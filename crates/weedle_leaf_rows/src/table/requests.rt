@@ -29,9 +29,9 @@ fn make(rt: &impl Abort, alloc: Global, wanted: &mut Wanted, text: &str) {
     }
 }
 
-/// Each table makes one request, and what it is asked makes none: so there are eight.
+/// Each table makes one request, and what it is asked makes none.
 #[test]
-fn a_table_is_made_or_wants_memory(rt: HostRuntime) -> Result<(), Fail> {
+fn eight_tables_are_made_by_8_requests(rt: HostRuntime) -> Result<(), Fail> {
     let alloc = rt.alloc();
     let mut wanted = Wanted::new();
     for text in ["", "interface A {}; // end"] {
