@@ -138,7 +138,7 @@ uint32_t weedle_syntax(
  * It reads the text as weedle_syntax does, and then goes by descent over the first definition that isn't read, in some 200
  * to 300 nanoseconds for each byte of it and with no more memory than for a list. Where that would take too long or too
  * much of the stack, since the rest nests deep, it takes a table of the rest: some 1,600 bytes for each byte.
- * Where the rest nests little, it is read so again with up to eight changes, for what would mend it.
+ * Where the rest nests little, descent goes over the definition again with up to eight changes, for what would mend it.
  */
 uint32_t weedle_explain(
     const char *text, size_t length,

@@ -1,12 +1,11 @@
 -- What a hint says of a text whose definition at `start` is read up to `place` and no further.
 use Rattle.std.specs.Prelude.{◌≡◌, ◌≤◌, ◌<◌, ◌+◌, ◌-◌, ◌⊎◌, ◌==◌, ℕ, true, false, List, [], ◌∷◌, ◌++◌, length, max, take, drop, slice_index, slice_range, codes}
 use Rattle.std.specs.List.{list_any}
+use Rattle.weedle_diagnose.specs.Diagnosis.{IsDiagnosis}
 use Rattle.weedle_grammar.specs.Rows.{Bytes, is_in, run_length}
 use Rattle.weedle_grammar.specs.declared.class.Class.TheVariants.{Name}
 use Rattle.weedle_grammar.specs.written.Table.{row_of}
 use Rattle.weedle_grammar.specs.written.Table.Trivia.{TRIVIA}
-use Rattle.weedle_refusal.specs.Furthest.{IsFurthest}
-use Rattle.weedle_refusal.specs.declared.expected.Expected.{Expected}
 use Rattle.weedle_refusal.specs.declared.hint.Hint.{Hint}
 use Rattle.weedle_refusal.specs.declared.hint.Hint.TheVariants as hint
 use Rattle.weedle_rules.specs.Outcomes.{EndsAt}
@@ -26,8 +25,8 @@ HasDefinition text = (end : ℕ) × RestBegins text end × (0 < end)
 -- the furthest place of the text leaves fewer bytes behind it than so many
 pub record LeavesLess (text : List ℕ) (left : ℕ) : Type 0 where
   pub place : ℕ
-  pub words : List Expected
-  pub found : IsFurthest text place words
+  pub rules : List ℕ
+  pub diagnosed : IsDiagnosis text 0 place rules
   pub less : length text - place < left
 
 -- with this change the reading comes further than to `place`: to the end of a definition, or to a place that leaves fewer bytes behind it than `place` does, and than what was changed does

@@ -19,13 +19,13 @@ ghost use Rattle.weedle_refusal.specs.Hint.{
 };
 ghost use Rattle.weedle_rules.specs.Outcomes.{EndsAt};
 
-use crate::furthest::furthest_in;
 use crate::hint::Hint;
 use crate::hint::keywords::is_keyword;
 use crate::hint::tokens::past_token;
 use crate::refusal::rest_of;
 use std::alloc::{AllocError, Global};
 use weedle_base::scan::{run, skip_trivia};
+use weedle_diagnose::diagnose_by_descent;
 use weedle_grammar::{Class, holds};
 use weedle_nesting::{nesting, suits_descent};
 use weedle_syntax::syntax_of_front;
@@ -172,12 +172,15 @@ fn has_definition(alloc: Global, text: &str) -> Result<bool, AllocError>
     Ok(rest_of(&nodes) > 0)
 }
 
-/// Whether the furthest place of a text leaves fewer bytes behind it than so many.
+/// Whether the furthest place of a text leaves fewer bytes behind it than so many. No where descent
+/// gives up, so that no table is filled.
 fn leaves_less(alloc: Global, text: &str, left: usize) -> Result<bool, AllocError>
     ensures { IfOk result (λ less. IsTrue less → LeavesLess text.now left) }
 {
-    let (furthest, _) = furthest_in(alloc, text)?;
-    Ok(text.len() - furthest < left)
+    match diagnose_by_descent(alloc, text, 0)? {
+        Some(diagnosis) => Ok(text.len().saturating_sub(diagnosis.place) < left),
+        None => Ok(false),
+    }
 }
 
 /// The text from `start` on with a change, or None where that takes out what isn't there.
