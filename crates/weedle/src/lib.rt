@@ -26,7 +26,9 @@ pub mod literal;
 pub mod types;
 
 pub use weedle_base::{Err, Error, ErrorKind, IResult, Parse, TryClone, at_byte};
-pub use weedle_explain::{Class, Expected, Hint, Position, Refusal, explain, position_of, write_hint};
+pub use weedle_explain::{
+    Class, Expected, Hint, Lines, Position, Refusal, explain, position_of, write_hint,
+};
 pub use weedle_front::{
     Counted, Depths, Entry, RunFault, Status, kind_of, lend, name_of, nesting, outline, parse,
     parse_by_descent, parse_counted, parse_quick, run, run_outline,
@@ -38,6 +40,6 @@ pub use weedle_idl::{
     PartialDictionaryDefinition, PartialInterfaceDefinition, PartialInterfaceMixinDefinition,
     PartialNamespaceDefinition, TypedefDefinition, dictionary, interface, mixin, namespace,
 };
-pub use weedle_places::{Place, Span, places};
+pub use weedle_places::{MemberPlace, Name, Place, Role, Span, names, places};
 pub use weedle_term as term;
 pub use weedle_types::{argument, attribute};

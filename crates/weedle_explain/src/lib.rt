@@ -16,4 +16,6 @@
 mod refusal;
 
 pub use refusal::explain;
-pub use weedle_refusal::{Class, Expected, Hint, Position, Refusal, position_of, write_hint};
+pub use weedle_refusal::{
+    Class, Expected, Hint, Lines, Position, Refusal, position_of, write_hint,
+};

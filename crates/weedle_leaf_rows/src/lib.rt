@@ -1,4 +1,4 @@
-//! Tests of the grammar's rows, the table of ends, diagnoses, places, scanners, terminals, standard
+//! Tests of the grammar's rows, the table of ends, diagnoses, scanners, terminals, standard
 //! types, generic parts and leaves: worked examples whose answers come from outside.
 #![tactic(auto)]
 
@@ -8,8 +8,6 @@ mod diagnoses;
 mod generic_parts;
 #[cfg(test)]
 mod leaves;
-#[cfg(test)]
-mod places;
 #[cfg(test)]
 mod plain_types;
 #[cfg(test)]

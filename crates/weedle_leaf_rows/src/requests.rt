@@ -155,8 +155,11 @@ fn copies_equal_their_originals_or_want_memory(rt: HostRuntime) -> Result<(), Fa
 #[test]
 fn no_choice_reads_on_where_the_first_fits(rt: HostRuntime) -> Result<(), Fail> {
     let alloc = rt.alloc();
-    match Choice::<Comma, Box<Comma>>::parse(alloc, ",") {
-        Ok((rest, Choice::First(Comma))) => assert_eq!(rt; rest, ""),
+    match Choice::<Identifier<'_>, Box<Identifier<'_>>>::parse(alloc, "a") {
+        Ok((rest, Choice::First(name))) => {
+            assert_eq!(rt; rest, "");
+            assert_eq!(rt; name, Identifier("a"));
+        }
         _ => assert!(rt; false),
     }
     assert!(rt; Wanted::new().tell(&rt, alloc));

@@ -1,6 +1,12 @@
 pub mod OutcomeFacts
-pub mod ItemFacts
 pub mod KindFacts
 pub mod MemberFacts
 pub mod WithinFacts
+pub mod NumberFacts
+pub mod PartFacts
 pub mod PlaceFacts
+pub mod ValueFacts
+pub mod RowFacts
+pub mod NameFacts
+pub mod OwnFacts
+pub mod AboveFacts

@@ -1,11 +1,12 @@
 -- The members of a definition.
-use Rattle.std.specs.Prelude.{◌≡◌, ◌⊎◌, ◌==◌, ℕ, List, [], ◌∷◌, Option, Some, None, MatchOption, if◌then◌else◌}
+use Rattle.std.specs.Prelude.{map, ◌≡◌, ◌⊎◌, ◌==◌, ℕ, List, [], ◌∷◌, Option, Some, None, MatchOption, if◌then◌else◌}
 use Rattle.weedle_grammar.specs.Rows.{Row, Seq, First}
 use Rattle.weedle_grammar.specs.written.Table.{row_of}
 use Rattle.weedle_grammar.specs.written.Table.Symbols.{OPEN_BRACE}
 use Rattle.weedle_grammar.specs.written.Table.InterfaceMembers.{INTERFACE_MEMBER, BRACED_INTERFACE_MEMBERS}
 use Rattle.weedle_grammar.specs.written.Table.OtherMembers.{MIXIN_MEMBER, BRACED_MIXIN_MEMBERS, NAMESPACE_MEMBER, BRACED_NAMESPACE_MEMBERS, DICTIONARY_MEMBER, BRACED_DICTIONARY_MEMBERS}
 use Rattle.weedle_grammar.specs.written.Table.Definitions.{DEFINITION}
+use Rattle.weedle_places.specs.declared.members.MemberPlace.{MemberPlace}
 use Rattle.weedle_places.specs.declared.span.Span.{Span}
 use Rattle.weedle_rules.specs.Outcomes.{EndsAt, FailsAt}
 use Rattle.weedle_places.specs.Items.{AreItems}
@@ -18,11 +19,19 @@ member_of r =
     (if r == BRACED_NAMESPACE_MEMBERS then Some NAMESPACE_MEMBER else
     (if r == BRACED_DICTIONARY_MEMBERS then Some DICTIONARY_MEMBER else None)))
 
+-- the spans of members
+abbrev pub spans_of : List MemberPlace → List Span
+spans_of members = map (λ m. m.span) members
+
+-- items y behind an open brace that is read from p
+abbrev pub IsBehindBrace : List ℕ → ℕ → ℕ → List Span → Type 0
+IsBehindBrace text y p ms = (q : ℕ) × EndsAt text OPEN_BRACE p q × AreItems text y q ms
+
 -- of the parts of a definition, the first at p: the members stand behind the open brace of the first list of members, or there are none
 abbrev pub AreMembers : List ℕ → List ℕ → ℕ → List Span → Type 0
 AreMembers text [] p ms = ms ≡ []
 AreMembers text (r ∷ rs) p ms =
-    MatchOption (member_of r) ((e : ℕ) × EndsAt text r p e × AreMembers text rs e ms) (λ y. (q : ℕ) × EndsAt text OPEN_BRACE p q × AreItems text y q ms)
+    MatchOption (member_of r) ((e : ℕ) × EndsAt text r p e × AreMembers text rs e ms) (λ y. IsBehindBrace text y p ms)
 
 -- rule a is the first of these that fits at p
 abbrev pub FitsFirst : List ℕ → List ℕ → ℕ → ℕ → Type 0

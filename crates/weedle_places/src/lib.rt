@@ -1,22 +1,34 @@
-//! Where definitions and their members stand in a text.
+//! Where definitions, their members and names stand in a text.
 //!
 //! ```rust
-//! use weedle_places::places;
+//! use weedle_places::{Role, names, places};
 //!
-//! let text = "interface A { attribute long x; };";
+//! let text = "interface A { attribute B x; };";
 //! if let Some(found) = places(rt.alloc(), text)? {
 //!     for place in &found {
-//!         assert_eq!(rt; place.span.end, 34);
+//!         assert_eq!(rt; place.span.end, 31);
 //!         assert_eq!(rt; place.members.len(), 1);
 //!     }
+//! }
+//! if let Some(found) = names(rt.alloc(), text)? {
+//!     assert_eq!(rt; found.len(), 3);
+//!     assert_eq!(rt; found[1].text, "B");
+//!     assert_eq!(rt; found[1].role, Role::Type);
 //! }
 //! ```
 #![tactic(auto)]
 
-mod items;
+mod above;
+mod around;
 mod members;
+mod name;
+mod own;
 mod place;
+mod role;
 mod span;
 
+pub use members::MemberPlace;
+pub use name::{Name, names, names_of};
 pub use place::{Place, places, places_of};
+pub use role::Role;
 pub use span::Span;

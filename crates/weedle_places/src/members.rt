@@ -1,48 +1,82 @@
 //! The members of a definition.
 
-ghost use Rattle.std.specs.Prelude.{
-  ◌≡◌,
-  ◌≤◌,
-  ℕ,
-  List,
-  [],
-  Some,
-  length,
-  IfOk,
-  IfSome,
-  MatchOption,
-};
-ghost use Rattle.weedle_grammar.specs.Meaning.{Piece, ReadsSeq};
-ghost use Rattle.weedle_grammar.specs.Rows.{Many};
-ghost use Rattle.weedle_grammar.specs.written.Table.{webidl, row_of as the_row_of};
+ghost use Rattle.std.specs.Prelude.{◌≡◌, ◌<◌, ℕ, List, Some, All, length, IfOk};
+ghost use Rattle.weedle_grammar.specs.Rows.{Seq, Many};
+ghost use Rattle.weedle_grammar.specs.written.Table.{row_of};
 ghost use Rattle.weedle_grammar.specs.written.Table.Definitions.{DEFINITION};
-ghost use Rattle.weedle_grammar.specs.View.{numbers_of};
-ghost use Rattle.weedle_places.specs.declared.span.Span.{Span as TheSpan};
-ghost use Rattle.weedle_rules.specs.Outcomes.{EndsAt};
 ghost use Rattle.weedle_places.specs.Items.{AreItems};
 ghost use Rattle.weedle_places.specs.Members.{
   member_of as the_member_of,
   AreMembers,
-  FitsFirst,
   HasMembers,
-  choices_in,
+  IsBehindBrace,
+  spans_of,
 };
+ghost use Rattle.weedle_places.specs.Standing.{IsMember, IsMemberAt, AreValues};
+ghost use Rattle.weedle_syntax.specs.Tree.{node_at};
 
-use crate::items::items;
-use crate::span::Span;
+use crate::around::around;
+use crate::own::name_span;
+use crate::span::{Span, span_of};
 use std::alloc::{AllocError, Global};
+use weedle_grammar::Rule;
 use weedle_grammar::grammar::interface_members::BRACED_INTERFACE_MEMBERS;
 use weedle_grammar::grammar::other_members::{
     BRACED_DICTIONARY_MEMBERS, BRACED_MIXIN_MEMBERS, BRACED_NAMESPACE_MEMBERS,
 };
-use weedle_grammar::{Parts, Row, Rule, row_of};
-use weedle_rules::Ends;
+use weedle_syntax::Syntax;
 
-/// Members in braces: their rule, and the place behind the open brace.
-#[derive(Clone, Copy)]
-struct Braced {
-    member: Rule,
-    start: usize,
+/// Where a member of a definition stands, or a value of an enum.
+///
+/// In `interface A { /* x */ attribute long x; };` the one member has the span from 22 to 40 and
+/// the core from 22 to 39; in front of it, from 13 to 22, stand two blanks and a comment, and its
+/// name stands from 37 to 38.
+#[derive(Clone, Copy, Debug, PartialEq, Eq)]
+pub struct MemberPlace {
+    /// The member, as the grammar has it: with the blanks and comments behind it.
+    pub span: Span,
+    /// The same without blanks and comments at either end.
+    pub core: Span,
+    /// The blanks and comments in front of the core, up to what stands before them.
+    pub front: Span,
+    /// Where its name stands, with an underscore in front. A value has none, as `iterable<long>;`.
+    pub name: Option<Span>,
+}
+
+/// What is said of a node.
+pub(crate) fn member_at(syntax: &Syntax<'_>, i: usize) -> MemberPlace
+    requires { i < length syntax.now.nodes }
+    ensures { IsMemberAt syntax.now.text syntax.now.nodes i result }
+{
+    let nodes = syntax.nodes();
+    let (core, front) = around(syntax, i);
+    MemberPlace {
+        span: span_of(nodes, i),
+        core,
+        front,
+        name: name_span(syntax, i),
+    }
+}
+
+/// The values of a definition that is an enum.
+pub(crate) fn values_at(
+    alloc: Global,
+    syntax: &Syntax<'_>,
+    definition: usize,
+) -> Result<Vec<MemberPlace>, AllocError>
+    requires { definition < length syntax.now.nodes }
+    ensures { IfOk result
+        (λ values. AreValues syntax.now.text syntax.now.nodes definition values.items) }
+{
+    let nodes = syntax.nodes();
+    let start = definition + 1;
+    let mut values = Vec::new(alloc);
+    for i in start..start + syntax.below(definition) {
+        if nodes[i].rule == Rule::ENUM_VARIANT {
+            values.push(member_at(syntax, i))?;
+        }
+    }
+    Ok(values)
 }
 
 /// The rule of the members that a list in braces holds.
@@ -58,72 +92,93 @@ fn member_of(part: Rule) -> Option<Rule>
     }
 }
 
-/// The first alternative of a definition that fits at the place.
-fn kind_at(ends: &Ends<'_>, place: usize) -> Option<Rule>
-    requires within { place ≤ length ends.now.text }
-    requires fits { (e : ℕ) × EndsAt ends.now.text DEFINITION place e }
-    ensures { MatchOption result ⊥
-        (λ kind. FitsFirst ends.now.text (choices_in (the_row_of DEFINITION)) place kind) }
-{
-    let Row::First(kinds) = row_of(Rule::DEFINITION) else {
-        return None;
-    };
-    for i in 0..kinds.len() {
-        let kind = kinds.rule(i);
-        match ends.end(kind, place) {
-            Some(_) => return Some(kind),
-            None => {}
-        }
-    }
-    None
-}
-
-/// The members in braces among the parts of a definition.
-fn braced_at(ends: &Ends<'_>, parts: Parts, place: usize) -> Option<Braced>
-    requires within { place ≤ length ends.now.text }
-    requires reads { (pieces : List Piece)
-        × ReadsSeq webidl ends.now.text (numbers_of parts) place (Some pieces) }
-    ensures are { MatchOption result (AreMembers ends.now.text (numbers_of parts) place [])
-        (λ b. (ms : List TheSpan) → AreItems ends.now.text b.member b.start ms
-        → AreMembers ends.now.text (numbers_of parts) place ms) }
-    ensures within { IfSome result (λ b. b.start ≤ length ends.now.text) }
-    ensures repeated { IfSome result (λ b. (list : ℕ) × (the_row_of list ≡ Many b.member)) }
-{
-    let mut at = place;
-    for i in 0..parts.len() {
-        let part = parts.rule(i);
-        if let Some(member) = member_of(part) {
-            return match ends.end(Rule::OPEN_BRACE, at) {
-                Some(start) => Some(Braced { member, start }),
-                None => None,
-            };
-        }
-        match ends.end(part, at) {
-            Some(end) => at = end,
-            None => return None,
-        }
-    }
-    None
-}
-
-/// The spans of the members of the definition that begins at the place.
+/// The members of a definition.
 pub(crate) fn members_at(
     alloc: Global,
-    ends: &Ends<'_>,
-    place: usize,
-) -> Result<Vec<Span>, AllocError>
-    requires within { place ≤ length ends.now.text }
-    requires fits { (e : ℕ) × EndsAt ends.now.text DEFINITION place e }
-    ensures { IfOk result (λ spans. HasMembers ends.now.text place spans.items) }
+    syntax: &Syntax<'_>,
+    definition: usize,
+) -> Result<Vec<MemberPlace>, AllocError>
+    requires within { definition < length syntax.now.nodes }
+    requires rule { (node_at syntax.now.nodes definition).rule ≡ DEFINITION }
+    ensures are { IfOk result (λ members. HasMembers syntax.now.text
+        (node_at syntax.now.nodes definition).start (spans_of members.items)) }
+    ensures each { IfOk result
+        (λ members. All (IsMember syntax.now.text syntax.now.nodes) members.items) }
 {
-    let Some(kind) = kind_at(ends, place) else {
-        return Ok(Vec::new(alloc));
+    let _ = syntax.nodes();
+    let mut kinds = syntax.children(definition);
+    let Some(kind) = kinds.next() else {
+        unreachable!();
     };
-    let Row::Seq(parts) = row_of(kind) else {
-        return Ok(Vec::new(alloc));
-    };
-    match braced_at(ends, parts, place) {
-        Some(braced) => items(alloc, ends, braced.member, braced.start),
-        None => Ok(Vec::new(alloc)),
+    members_of(alloc, syntax, kind)
+}
+
+/// The members of a node of the kind of a definition.
+fn members_of(
+    alloc: Global,
+    syntax: &Syntax<'_>,
+    kind: usize,
+) -> Result<Vec<MemberPlace>, AllocError>
+    requires within { kind < length syntax.now.nodes }
+    requires seq { (parts : List ℕ) × (row_of (node_at syntax.now.nodes kind).rule ≡ Seq parts) }
+    ensures are { IfOk result (λ members. (parts : List ℕ)
+        → row_of (node_at syntax.now.nodes kind).rule ≡ Seq parts
+        → AreMembers syntax.now.text parts (node_at syntax.now.nodes kind).start
+        (spans_of members.items)) }
+    ensures each { IfOk result
+        (λ members. All (IsMember syntax.now.text syntax.now.nodes) members.items) }
+{
+    let nodes = syntax.nodes();
+    for part in syntax.children(kind) {
+        if let Some(_) = member_of(nodes[part].rule) {
+            return members_in(alloc, syntax, part);
+        }
     }
+    Ok(Vec::new(alloc))
+}
+
+/// The members between the braces of such a list.
+fn members_in(
+    alloc: Global,
+    syntax: &Syntax<'_>,
+    braced: usize,
+) -> Result<Vec<MemberPlace>, AllocError>
+    requires within { braced < length syntax.now.nodes }
+    requires list { (y : ℕ) × (the_member_of (node_at syntax.now.nodes braced).rule ≡ Some y) }
+    ensures are { IfOk result (λ members. (y : ℕ)
+        → the_member_of (node_at syntax.now.nodes braced).rule ≡ Some y
+        → IsBehindBrace syntax.now.text y (node_at syntax.now.nodes braced).start
+        (spans_of members.items)) }
+    ensures each { IfOk result
+        (λ members. All (IsMember syntax.now.text syntax.now.nodes) members.items) }
+{
+    // What is known of a tree comes with its nodes.
+    let _ = syntax.nodes();
+    let mut parts = syntax.children(braced);
+    let Some(_) = parts.next() else {
+        unreachable!();
+    };
+    let Some(list) = parts.next() else {
+        unreachable!();
+    };
+    listed(alloc, syntax, list)
+}
+
+/// The members of a node of a list.
+fn listed(alloc: Global, syntax: &Syntax<'_>, list: usize) -> Result<Vec<MemberPlace>, AllocError>
+    requires within { list < length syntax.now.nodes }
+    requires many { (y : ℕ) × (row_of (node_at syntax.now.nodes list).rule ≡ Many y) }
+    ensures are { IfOk result (λ members. (y : ℕ)
+        → row_of (node_at syntax.now.nodes list).rule ≡ Many y
+        → AreItems syntax.now.text y (node_at syntax.now.nodes list).start
+        (spans_of members.items)) }
+    ensures each { IfOk result
+        (λ members. All (IsMember syntax.now.text syntax.now.nodes) members.items) }
+{
+    let _ = syntax.nodes();
+    let mut members = Vec::new(alloc);
+    for item in syntax.children(list) {
+        members.push(member_at(syntax, item))?;
+    }
+    Ok(members)
 }

@@ -1,13 +1,14 @@
 //! The places of definitions.
 
-ghost use Rattle.std.specs.Prelude.{◌≡◌, ◌↔◌, length, IsTrue, IsSome, IfOk, IfSome};
+ghost use Rattle.std.specs.Prelude.{◌↔◌, IsSome, IfOk, IfSome};
 ghost use Rattle.weedle_places.specs.Places.{IsWhole, ArePlaces};
+ghost use Rattle.weedle_syntax.specs.Syntax.{IsSyntax};
 
-use crate::members::members_at;
+use crate::members::{MemberPlace, member_at, members_at, values_at};
 use crate::span::Span;
 use std::alloc::{AllocError, Global};
-use weedle_grammar::Rule;
 use weedle_rules::Ends;
+use weedle_syntax::Syntax;
 
 /// Where a definition stands, and each of its members.
 ///
@@ -15,52 +16,60 @@ use weedle_rules::Ends;
 /// member that from 14 to 32.
 #[derive(Debug, Drop)]
 pub struct Place {
-    /// The definition.
+    /// The definition, as the grammar has it: with the blanks and comments behind it. The first
+    /// definition has those in front of it too.
     pub span: Span,
+    /// The same without blanks and comments at either end.
+    pub core: Span,
+    /// The blanks and comments in front of the core, up to what stands before them.
+    pub front: Span,
+    /// Where its name stands, with an underscore in front: of `A includes B;` that of `A`.
+    pub name: Option<Span>,
     /// The members between its braces, in their order. A definition without members has none; the
     /// values of an enum aren't members.
-    pub members: Vec<Span>,
-}
-
-/// Whether the text is read whole.
-fn is_whole(ends: &Ends<'_>) -> bool
-    ensures { IsTrue result ↔ IsWhole ends.now.text }
-{
-    match ends.end(Rule::DEFINITIONS, 0) {
-        Some(end) => end == ends.text().len(),
-        None => false,
-    }
+    pub members: Vec<MemberPlace>,
+    /// The values of an enum, in their order. They have no name.
+    pub values: Vec<MemberPlace>,
 }
 
 /// The places of the definitions of a text that is read whole.
-fn definitions(alloc: Global, ends: &Ends<'_>) -> Result<Vec<Place>, AllocError>
-    requires { IsWhole ends.now.text }
-    ensures { IfOk result (λ found. ArePlaces ends.now.text 0 found.items) }
+fn definitions(alloc: Global, syntax: &Syntax<'_>) -> Result<Vec<Place>, AllocError>
+    requires { IsSyntax syntax.now.text syntax.now.nodes }
+    ensures { IfOk result (λ found. ArePlaces syntax.now.text 0 found.items) }
 {
+    let _ = syntax.nodes();
     let mut found = Vec::new(alloc);
-    let mut start = 0;
-    while let Some(end) = ends.end(Rule::DEFINITION, start) {
-        let members = members_at(alloc, ends, start)?;
-        let span = Span { start, end };
-        found.push(Place { span, members })?;
-        start = end;
+    for definition in syntax.children(syntax.root()) {
+        let members = members_at(alloc, syntax, definition)?;
+        let values = values_at(alloc, syntax, definition)?;
+        let own = member_at(syntax, definition);
+        found.push(Place {
+            span: own.span,
+            core: own.core,
+            front: own.front,
+            name: own.name,
+            members,
+            values,
+        })?;
     }
     Ok(found)
 }
 
 /// The same as `places`, over the table of ends of the whole text.
 ///
-/// It asks for memory for the answer alone.
+/// It asks for memory for the nodes of the text and for the answer.
 pub fn places_of(alloc: Global, ends: &Ends<'_>) -> Result<Option<Vec<Place>>, AllocError>
     ensures whole { IfOk result (λ found. IsSome found ↔ IsWhole ends.now.text) }
     ensures are { IfOk result
         (λ found. IfSome found (λ places. ArePlaces ends.now.text 0 places.items)) }
 {
-    if !is_whole(ends) {
-        return Ok(None);
+    match Syntax::of_table(alloc, ends)? {
+        Some(syntax) => {
+            let found = definitions(alloc, &syntax)?;
+            Ok(Some(found))
+        }
+        None => Ok(None),
     }
-    let found = definitions(alloc, ends)?;
-    Ok(Some(found))
 }
 
 /// Where each definition of the text and each of its members stand, or None where the text isn't
@@ -70,14 +79,19 @@ pub fn places_of(alloc: Global, ends: &Ends<'_>) -> Result<Option<Vec<Place>>, A
 /// the blank between them belongs to what stands before it. The empty text has none; of
 /// `interface A {` the answer is None.
 ///
-/// It asks for memory for a table of ends, as `Ends::new` says, and for the answer. Where that is
-/// refused, the answer is an error. Beside the table each member is gone over once; there is no
-/// recursion, however deep the text nests.
+/// It reads as [`Syntax::new`] does: by descent where that suits the text, and else over a table of
+/// ends. It asks for memory for that and for the answer, and where it is refused, the answer is an
+/// error.
 pub fn places(alloc: Global, raw: &str) -> Result<Option<Vec<Place>>, AllocError>
     ensures whole { IfOk result (λ found. IsSome found ↔ IsWhole raw.now) }
     ensures are { IfOk result
         (λ found. IfSome found (λ places. ArePlaces raw.now 0 places.items)) }
 {
-    let ends = Ends::new(alloc, raw)?;
-    places_of(alloc, &ends)
+    match Syntax::new(alloc, raw)? {
+        Some(syntax) => {
+            let found = definitions(alloc, &syntax)?;
+            Ok(Some(found))
+        }
+        None => Ok(None),
+    }
 }

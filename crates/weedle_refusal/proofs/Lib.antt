@@ -1,5 +1,6 @@
 pub mod OnceFacts
 pub mod TableFacts
+pub mod LineFacts
 pub mod WordFacts
 pub mod TextFacts
 pub mod StartFacts

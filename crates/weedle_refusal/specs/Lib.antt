@@ -1,4 +1,5 @@
 pub mod Position
+pub mod Lines
 pub mod Words
 pub mod Texts
 pub mod Starts

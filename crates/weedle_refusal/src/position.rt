@@ -52,7 +52,7 @@ fn line_feeds(bytes: &[u8]) -> usize
 }
 
 /// How many characters begin behind the last LF.
-fn characters_of_last_line(bytes: &[u8]) -> usize
+pub(crate) fn characters_of_last_line(bytes: &[u8]) -> usize
     ensures value { result ≡ count_by begins_character (last_line bytes.now) }
     ensures few { result ≤ length bytes.now }
 {

@@ -55,8 +55,9 @@ pub fn refusal_of(alloc: Global, raw: &str) -> Result<Option<Refusal>, AllocErro
 
 /// Why a text is refused whose unread rest begins at this place, as `syntax_of_front` has it.
 ///
-/// It fills a table of ends of the rest alone, and marks what is tried: together some 1,600 bytes of memory for each
-/// byte of the rest. Beside that it costs what [`hint_of`] costs. Where memory is refused, the answer is an error.
+/// It reads the rest as [`furthest_in`] does, mostly in some 200 to 300 nanoseconds for each byte of
+/// the definition that isn't read. Beside that it costs what [`hint_of`] costs. Where memory is
+/// refused, the answer is an error.
 pub fn refusal_from(alloc: Global, raw: &str, start: usize) -> Result<Refusal, AllocError>
     requires rest { RestBegins raw.now start }
     requires unread { start < length raw.now }

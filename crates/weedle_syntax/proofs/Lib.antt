@@ -20,4 +20,5 @@ pub mod StepFacts
 pub mod WalkFacts
 pub mod StartFacts
 pub mod BeginFacts
+pub mod InnerFacts
 pub mod WordFacts

@@ -33,9 +33,11 @@ use crate::below::count_below;
 use crate::iter::{Children, Leaves};
 use crate::node::Node;
 use crate::quick::syntax_of_front;
+use crate::readers::syntax_of;
 use std::alloc::{AllocError, Global};
 use std::marker::Model;
 use weedle_grammar::Rule;
+use weedle_rules::Ends;
 
 /// A text with its nodes, to go from node to node.
 ///
@@ -94,6 +96,27 @@ impl<'a> Syntax<'a> {
         let nodes = syntax_of_front(alloc, text)?;
         let below = count_below(alloc, &nodes)?;
         Ok(Syntax { text, nodes, below })
+    }
+
+    /// The same as [`new`](Syntax::new), over the table of ends of the whole text.
+    ///
+    /// It asks for memory for the nodes, and once for 8 bytes for each.
+    pub fn of_table(alloc: Global, ends: &Ends<'a>) -> Result<Option<Syntax<'a>>, AllocError>
+        ensures whole { IfOk result (λ found. IsSome found ↔ IsWhole ends.now.text) }
+        ensures text { IfOk result (λ found. IfSome found (λ s. s.text ≡ ends.now.text)) }
+        ensures are { IfOk result (λ found. IfSome found (λ s. IsSyntax s.text s.nodes)) }
+    {
+        match syntax_of(alloc, ends)? {
+            Some(nodes) => {
+                let below = count_below(alloc, &nodes)?;
+                Ok(Some(Syntax {
+                    text: ends.text(),
+                    nodes,
+                    below,
+                }))
+            }
+            None => Ok(None),
+        }
     }
 
     /// The text. It takes no memory, as none of the following but those that return a `Vec`.

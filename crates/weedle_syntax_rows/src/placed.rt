@@ -4,7 +4,7 @@ use std::alloc::{AllocError, Global};
 use std::process::Abort;
 use std::test::Fail;
 use weedle_grammar::Rule;
-use weedle_places::{Place, Span, places};
+use weedle_places::{MemberPlace, Place, places};
 use weedle_syntax::{Node, syntax_quick};
 use weedle_testing::definitions;
 use weedle_testing::examples::{SOUNDS, TEXTS};
@@ -29,10 +29,10 @@ fn of_nodes(alloc: Global, nodes: &[Node]) -> Result<Vec<(usize, usize)>, AllocE
     Ok(all)
 }
 
-/// Adds the bytes of these spans.
-fn add_spans(all: &mut Vec<(usize, usize)>, spans: &[Span]) -> Result<(), AllocError> {
-    for span in spans {
-        all.push((span.start, span.end))?;
+/// Adds the bytes of these members.
+fn add_members(all: &mut Vec<(usize, usize)>, members: &[MemberPlace]) -> Result<(), AllocError> {
+    for member in members {
+        all.push((member.span.start, member.span.end))?;
     }
     Ok(())
 }
@@ -42,7 +42,7 @@ fn of_places(alloc: Global, places: &[Place]) -> Result<Vec<(usize, usize)>, All
     let mut all = Vec::new(alloc);
     for place in places {
         all.push((place.span.start, place.span.end))?;
-        add_spans(&mut all, &place.members)?;
+        add_members(&mut all, &place.members)?;
     }
     Ok(all)
 }

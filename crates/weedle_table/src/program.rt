@@ -6,7 +6,7 @@ use std::env::{self, Args};
 use std::io::{self, BufWriter, Read, Write};
 use std::rt::Runtime;
 use weedle_diagnose::diagnose_from;
-use weedle_places::{Place, places};
+use weedle_places::{Place, places_of};
 use weedle_rules::Ends;
 
 /// What is asked of a text.
@@ -66,7 +66,8 @@ fn task_of(mut arguments: Args) -> Result<Task, Fault> {
 
 /// Writes where each definition and each of its members stand.
 fn write_places<W: Write>(alloc: Global, text: &str, out: &mut W) -> Result<u8, Fault> {
-    let Some(found) = places(alloc, text)? else {
+    let table = Ends::new(alloc, text)?;
+    let Some(found) = places_of(alloc, &table)? else {
         writeln!(out, "refused")?;
         return Ok(1);
     };
@@ -86,7 +87,7 @@ fn write_places<W: Write>(alloc: Global, text: &str, out: &mut W) -> Result<u8, 
 fn write_place<W: Write>(place: &Place, out: &mut W) -> io::Result<()> {
     writeln!(out, "{}..{}", place.span.start, place.span.end)?;
     for member in &place.members {
-        writeln!(out, "  {}..{}", member.start, member.end)?;
+        writeln!(out, "  {}..{}", member.span.start, member.span.end)?;
     }
     Ok(())
 }

@@ -1,9 +1,46 @@
-use Rattle.std.proofs.Common.{sym}
-use Rattle.weedle_places.proofs.KindFacts.{kind_ends}
-use Rattle.weedle_places.proofs.MemberFacts.{parts_read}
+use Rattle.std.proofs.Common.{◌≡◌, ◌<◌, ◌+◌, ℕ, List, [], ◌∷◌, length, sym, subst, ◌∙◌, ap}
+use Rattle.weedle_grammar.specs.Rows.{Seq}
+use Rattle.weedle_grammar.specs.written.Table.{row_of}
+use Rattle.weedle_syntax.specs.Syntax.{IsFront}
+use Rattle.weedle_syntax.specs.Tree.{node_at}
+use Rattle.weedle_places.specs.Members.{AreMembers, HasMembers, spans_of}
+use Rattle.weedle_places.proofs.PartFacts.{definition_kind, has_members, if_ok_so, one_is}
 use Rattle.weedle_places.proofs.members.members_at.Goals as goal
 
-pub braced_at-requires-clause-reads : goal.braced_at-requires-clause-reads
-braced_at-requires-clause-reads c =
-    let fits = c.requires.fits in
-    parts_read c.args.ends.now.text c.in-Some.kind c.args.place fits.0 _ (sym c.in-Seq.ensures) (kind_ends c.args.ends.now.text c.args.place c.in-Some.kind fits.0 c.in-Some.ensures fits.1)
+pub unreachable-requires : goal.unreachable-requires
+unreachable-requires c =
+    let front = subst (IsFront c.args.syntax.now.text) c.nodes.ensures.are c.nodes.ensures.front in
+    let k = definition_kind c.args.syntax.now.text c.args.syntax.now.nodes front c.args.definition c.requires.within c.requires.rule in
+    let are = k.are in
+    let none = c.in_default.ensures.steps.0 in
+    let all = c.children-kinds.ensures in
+    absurd (let n : ⊥ = cc in n)
+
+pub members_of-requires-clause-within : goal.members_of-requires-clause-within
+members_of-requires-clause-within c =
+    let front = subst (IsFront c.args.syntax.now.text) c.nodes.ensures.are c.nodes.ensures.front in
+    let k = definition_kind c.args.syntax.now.text c.args.syntax.now.nodes front c.args.definition c.requires.within c.requires.rule in
+    let same = one_is _ _ _ _ k.kind c.children-kinds.ensures k.are c.in-Some.ensures.steps in
+    subst (λ z. z < length c.args.syntax.now.nodes) same k.within
+
+pub members_of-requires-clause-seq : goal.members_of-requires-clause-seq
+members_of-requires-clause-seq c =
+    let ns = c.args.syntax.now.nodes in
+    let front = subst (IsFront c.args.syntax.now.text) c.nodes.ensures.are c.nodes.ensures.front in
+    let k = definition_kind c.args.syntax.now.text ns front c.args.definition c.requires.within c.requires.rule in
+    let same = one_is _ _ _ _ k.kind c.children-kinds.ensures k.are c.in-Some.ensures.steps in
+    (k.seq.0, subst (λ z. row_of (node_at ns z).rule ≡ Seq k.seq.0) same k.seq.1)
+
+pub returns-clause-are : goal.returns-clause-are
+returns-clause-are c =
+    let ns = c.args.syntax.now.nodes in
+    let text = c.args.syntax.now.text in
+    let front = subst (IsFront text) c.nodes.ensures.are c.nodes.ensures.front in
+    let k = definition_kind text ns front c.args.definition c.requires.within c.requires.rule in
+    let same = one_is _ _ _ _ k.kind c.children-kinds.ensures k.are c.in-Some.ensures.steps in
+    let kind = c.in-Some.kind in
+    if_ok_so c.members_of.result (λ ms. (parts : List ℕ) → row_of (node_at ns kind).rule ≡ Seq parts → AreMembers text parts (node_at ns kind).start (spans_of ms.items))
+    (λ ms. HasMembers text (node_at ns c.args.definition).start (spans_of ms.items))
+    (λ ms h. has_members text ns ((node_at ns c.args.definition).depth + 1) (node_at ns c.args.definition).start (node_at ns c.args.definition).end _ (spans_of ms.items) k
+    (subst (λ z. AreMembers text k.seq.0 (node_at ns z).start (spans_of ms.items)) (sym same) (h k.seq.0 (subst (λ z. row_of (node_at ns z).rule ≡ Seq k.seq.0) same k.seq.1))))
+    c.members_of.ensures.are

@@ -1,9 +1,6 @@
-use Rattle.std.proofs.Common.{◌-◌, length}
-use Rattle.weedle_places.proofs.PlaceFacts.{Going}
+use Rattle.std.proofs.Common.{length}
+use Rattle.weedle_places.proofs.PlaceFacts.{Placing}
 use Rattle.weedle_places.proofs.place.definitions.Given as goal
 
-abbrev pub invariant-loop-end : goal.invariant-loop-end
-invariant-loop-end l = Going l.ends.text l.found.items l.start
-
-abbrev pub decreases-loop-end : goal.decreases-loop-end
-decreases-loop-end l = length l.ends.text - l.start
+abbrev pub invariant-loop-definition : goal.invariant-loop-definition
+invariant-loop-definition l = Placing l.syntax.text l.syntax.nodes 1 (length l.syntax.text) l.found.items l.definition-iterator

@@ -1,0 +1,73 @@
+-- The roles of names, by the rules that read them.
+use Rattle.std.specs.Prelude.{◌==◌, ℕ, Bool, Option, Some, None, if◌then◌else◌}
+use Rattle.weedle_grammar.specs.written.Table.SimpleTypes.{IDENTIFIER_LIST, MAY_BE_NULL_IDENTIFIER, TAIL_IDENTIFIER_COMMA}
+use Rattle.weedle_grammar.specs.written.Table.Types.{EXTENDED_ATTRIBUTE_ARG_LIST, EXTENDED_ATTRIBUTE_IDENT, EXTENDED_ATTRIBUTE_IDENT_LIST, EXTENDED_ATTRIBUTE_NAMED_ARG_LIST, EXTENDED_ATTRIBUTE_NO_ARGS, IDENTIFIER_OR_STRING, SINGLE_ARGUMENT, VARIADIC_ARGUMENT}
+use Rattle.weedle_grammar.specs.written.Table.InterfaceMembers.{ATTRIBUTE_INTERFACE_MEMBER, CONST_MEMBER, INHERITANCE, OPT_IDENTIFIER}
+use Rattle.weedle_grammar.specs.written.Table.OtherMembers.{ATTRIBUTE_MIXIN_MEMBER, ATTRIBUTE_NAMESPACE_MEMBER, DICTIONARY_MEMBER}
+use Rattle.weedle_grammar.specs.written.Table.Definitions.{CALLBACK_DEFINITION, CALLBACK_INTERFACE_DEFINITION, DICTIONARY_DEFINITION, ENUM_DEFINITION, IMPLEMENTS_DEFINITION, INCLUDES_STATEMENT_DEFINITION, INTERFACE_DEFINITION, INTERFACE_MIXIN_DEFINITION, NAMESPACE_DEFINITION, PARTIAL_DICTIONARY_DEFINITION, PARTIAL_INTERFACE_DEFINITION, PARTIAL_INTERFACE_MIXIN_DEFINITION, PARTIAL_NAMESPACE_DEFINITION, TYPEDEF_DEFINITION}
+use Rattle.weedle_places.specs.declared.role.Role.{Role}
+use Rattle.weedle_places.specs.declared.role.Role.TheVariants as role
+
+-- of the first name that a definition's own rule reads
+abbrev pub of_definition : ℕ → Option Role
+of_definition r =
+    if r == CALLBACK_DEFINITION then Some role.Callback else
+    (if r == CALLBACK_INTERFACE_DEFINITION then Some role.CallbackInterface else
+    (if r == INTERFACE_DEFINITION then Some role.Interface else
+    (if r == INTERFACE_MIXIN_DEFINITION then Some role.Mixin else
+    (if r == NAMESPACE_DEFINITION then Some role.Namespace else
+    (if r == DICTIONARY_DEFINITION then Some role.Dictionary else
+    (if r == PARTIAL_INTERFACE_DEFINITION then Some role.PartialInterface else
+    (if r == PARTIAL_INTERFACE_MIXIN_DEFINITION then Some role.PartialMixin else
+    (if r == PARTIAL_DICTIONARY_DEFINITION then Some role.PartialDictionary else
+    (if r == PARTIAL_NAMESPACE_DEFINITION then Some role.PartialNamespace else
+    (if r == ENUM_DEFINITION then Some role.Enum else
+    (if r == TYPEDEF_DEFINITION then Some role.Typedef else
+    (if r == INCLUDES_STATEMENT_DEFINITION then Some role.Includer else
+    (if r == IMPLEMENTS_DEFINITION then Some role.Implementer else None)))))))))))))
+
+-- of the name that a member's own rule reads; an operation may be without one
+abbrev pub of_member : ℕ → Option Role
+of_member r =
+    if r == CONST_MEMBER then Some role.Const else
+    (if r == ATTRIBUTE_INTERFACE_MEMBER then Some role.Attribute else
+    (if r == ATTRIBUTE_MIXIN_MEMBER then Some role.Attribute else
+    (if r == ATTRIBUTE_NAMESPACE_MEMBER then Some role.Attribute else
+    (if r == OPT_IDENTIFIER then Some role.Operation else
+    (if r == DICTIONARY_MEMBER then Some role.DictionaryMember else None)))))
+
+-- of the first name that a part of a definition or of a member reads
+abbrev pub of_part : ℕ → Option Role
+of_part r =
+    if r == SINGLE_ARGUMENT then Some role.Argument else
+    (if r == VARIADIC_ARGUMENT then Some role.Argument else
+    (if r == MAY_BE_NULL_IDENTIFIER then Some role.Type else
+    (if r == INHERITANCE then Some role.Inherited else
+    (if r == EXTENDED_ATTRIBUTE_ARG_LIST then Some role.ExtendedAttribute else
+    (if r == EXTENDED_ATTRIBUTE_NAMED_ARG_LIST then Some role.ExtendedAttribute else
+    (if r == EXTENDED_ATTRIBUTE_IDENT_LIST then Some role.ExtendedAttribute else
+    (if r == EXTENDED_ATTRIBUTE_IDENT then Some role.ExtendedAttribute else
+    (if r == EXTENDED_ATTRIBUTE_NO_ARGS then Some role.ExtendedAttribute else
+    (if r == IDENTIFIER_LIST then Some role.ExtendedAttributeValue else
+    (if r == TAIL_IDENTIFIER_COMMA then Some role.ExtendedAttributeValue else
+    (if r == IDENTIFIER_OR_STRING then Some role.ExtendedAttributeValue else None)))))))))))
+
+-- of a name before which the same rule has read another, where it isn't that of the first
+abbrev pub of_later : ℕ → Option Role
+of_later r =
+    if r == EXTENDED_ATTRIBUTE_NAMED_ARG_LIST then Some role.ExtendedAttributeValue else
+    (if r == INCLUDES_STATEMENT_DEFINITION then Some role.Included else
+    (if r == IMPLEMENTS_DEFINITION then Some role.Implemented else None))
+
+-- the one if it is there, and else the other
+abbrev pub or_else : Option Role → Option Role → Option Role
+or_else (Some one) other = Some one
+or_else None other = other
+
+-- of the first name that a rule reads; None of a rule that reads none
+abbrev pub first_role : ℕ → Option Role
+first_role r = or_else (of_definition r) (or_else (of_member r) (of_part r))
+
+-- of a name, by the rule that reads it, and by whether that has read another before
+abbrev pub role_of : ℕ → Bool → Option Role
+role_of r later = if later then or_else (of_later r) (first_role r) else first_role r
