@@ -1,8 +1,8 @@
 """Says what would mend a refused definition, or what it lacks, by the rows of the grammar alone.
 
 It is what docs/USING.md says under "What is said of a refused text", read by row_ends.py; nothing is taken from
-the port. A hint is a place in bytes and a line of words. Here descent never gives up: of long extended attributes
-before a word of the last alternatives more may be told here.
+the port. A hint is a place in bytes and a line of words. Here descent never gives up: of more than 10,000 bytes
+with long extended attributes more may be told here.
 """
 
 import re

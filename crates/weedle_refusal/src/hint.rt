@@ -88,8 +88,8 @@ impl Hint {
 /// A change is told only where it was tried: the text from `start` on is read again with it, and
 /// comes further. At most eight are tried, the first that helps is told, and where the text doesn't
 /// suit descent, or nests more than 64 levels deep, none is tried. Each costs a copy of the text
-/// from `start` on, and the time of descent over the definition: no table is filled. Where memory is
-/// refused, the answer is an error.
+/// from `start` on, and the time of descent over the definition; a table is filled of no more than
+/// 10,000 bytes. Where memory is refused, the answer is an error.
 pub fn hint_of(
     alloc: Global,
     raw: &str,

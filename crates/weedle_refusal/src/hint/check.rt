@@ -25,7 +25,7 @@ use crate::hint::tokens::past_token;
 use crate::refusal::rest_of;
 use std::alloc::{AllocError, Global};
 use weedle_base::scan::{run, skip_trivia};
-use weedle_diagnose::diagnose_by_descent;
+use weedle_diagnose::{diagnose_by_descent, diagnose_quick};
 use weedle_grammar::{Class, holds};
 use weedle_nesting::{nesting, suits_descent};
 use weedle_syntax::syntax_of_front;
@@ -41,6 +41,9 @@ const BYTE_ORDER_MARK: &[u8] = b"\xEF\xBB\xBF";
 
 /// How many levels a text may nest that is read again: some 1.6 kB of stack for each.
 const MOST_LEVELS: usize = 64;
+
+/// How many bytes a text may have of which a table is filled: some 16 MB.
+const MOST_OF_TABLE: usize = 10_000;
 
 /// Some bytes in place of others.
 #[derive(Clone, Copy)]
@@ -173,11 +176,16 @@ fn has_definition(alloc: Global, text: &str) -> Result<bool, AllocError>
 }
 
 /// Whether the furthest place of a text leaves fewer bytes behind it than so many. No where descent
-/// gives up, so that no table is filled.
+/// gives up, but of a short text, of which a table is filled then.
 fn leaves_less(alloc: Global, text: &str, left: usize) -> Result<bool, AllocError>
     ensures { IfOk result (λ less. IsTrue less → LeavesLess text.now left) }
 {
-    match diagnose_by_descent(alloc, text, 0)? {
+    let found = if text.len() <= MOST_OF_TABLE {
+        Some(diagnose_quick(alloc, text, 0)?)
+    } else {
+        diagnose_by_descent(alloc, text, 0)?
+    };
+    match found {
         Some(diagnosis) => Ok(text.len().saturating_sub(diagnosis.place) < left),
         None => Ok(false),
     }
