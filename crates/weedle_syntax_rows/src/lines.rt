@@ -6,9 +6,7 @@ use weedle_refusal::{Lines, Position, position_of};
 use weedle_testing::examples::{KINDS, SOUNDS};
 
 /// Asserts of each place of a text that both ways say the same.
-fn assert_alike(rt: &impl Abort, lines: &Lines<'_>, text: &str)
-    requires { lines.now ≡ text.now }
-{
+fn assert_alike(rt: &impl Abort, lines: &Lines<'_>, text: &str) {
     for place in 0..=text.len() {
         assert_eq!(rt; lines.position(place), position_of(text, place));
     }
