@@ -7,9 +7,10 @@ use weedle_testing::examples::{KINDS, SOUNDS};
 
 /// Asserts of each place of a text that both ways say the same.
 fn assert_alike(rt: &impl Abort, lines: &Lines<'_>, text: &str) {
-    for place in 0..=text.len() {
+    for place in 0..text.len() {
         assert_eq!(rt; lines.position(place), position_of(text, place));
     }
+    assert_eq!(rt; lines.position(text.len()), position_of(text, text.len()));
 }
 
 #[test]
