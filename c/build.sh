@@ -3,9 +3,10 @@
 #
 #     c/build.sh
 #
-# `rt lib` proves and builds the crate weedle_c. Its archive is joined with the toolchain's part in C, which `rt doc`
+# c/prove.sh proves and builds the crate weedle_c. Its archive is joined with the toolchain's part in C, which `rt doc`
 # finds. A word behind the command goes on to `rt lib`, as --jobs 2.
 set -eu
+[ "${1:-}" != --help ] || { sed -n '2,${/^#/!q;s/^# \{0,1\}//p}' "$0"; exit; }
 
 top=$(cd "$(dirname "$0")/.." && pwd)
 out=$top/c/out
@@ -20,7 +21,7 @@ command -v "${AR:=ar}" >/dev/null || missing "there is no archiver $AR; AR may n
 part=$(dirname "$(rt doc)")/c/liblibc_c.a
 [ -f "$part" ] || missing "the toolchain has no $part"
 
-(cd "$top/crates/weedle_c" && rt lib "$@")
+"$top/c/prove.sh" "$@"
 mkdir -p "$out"
 cd "$out"
 rm -f libweedle.a

@@ -7,6 +7,7 @@
 # that is missing is an error, said in a line. CC, CXX, CARGO and VALGRIND may name other commands. The large texts of
 # the tests take 2 GB of memory and some seconds.
 set -eu
+[ "${1:-}" != --help ] || { sed -n '2,${/^#/!q;s/^# \{0,1\}//p}' "$0"; exit; }
 
 top=$(cd "$(dirname "$0")/.." && pwd)
 out=$top/c/out

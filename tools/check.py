@@ -14,10 +14,11 @@ whether the numbers in pages that follow from the grammar still do (tools/gramma
 whether each wrong body that is tried by hand, or that tests have to find, still applies
 (tools/try_edits.py --check, tools/try_wrong_programs.py --check), whether
 each link of the pages leads somewhere (tools/links.py), whether what they name of the repository is
-there (tools/pages.py), and whether the cases of tests/ are those that are listed, of the texts that
-are made now (tools/make_cases.py --check), and whether the tables of docs/GATE.md are those of the
-times that were measured last (tools/gate_page.py --check), and whether docs/SLIPS.md says what the
-rows say of the slips of tests/ (tools/run_slips.py --page --check).
+there (tools/pages.py), whether the cases of tests/ are those that are listed, of the texts that are
+made now (tools/make_cases.py --check), whether the table of docs/GATE.md is that of the times that
+were measured last (tools/gate_page.py --check), whether docs/SLIPS.md says what the rows say of the
+slips of tests/ (tools/run_slips.py --page --check), and whether the pieces of Rust in README.md and
+docs/USING.md stand where the gate proves and runs them (tools/try_readme.py --no-run).
 
 It prints a line for each file that is stale, for each that no script writes though it says so, and
 for whatever else was found. It changes nothing. It needs the toolchain's command `rt` on PATH, and
@@ -49,6 +50,7 @@ LOOKS = (
     ["make_cases.py", "--check"],
     ["gate_page.py", "--check"],
     ["run_slips.py", "--page", "--check"],
+    ["try_readme.py", "--no-run"],
 )
 
 

@@ -31,6 +31,7 @@ import re
 import subprocess
 import sys
 import tempfile
+import tomllib
 from collections import Counter
 from pathlib import Path
 
@@ -186,13 +187,16 @@ def explanation(text, port, weedle2):
 
 # The texts.
 def worked_texts():
-    """Each string of the tests, and each text of weedle2_texts.py."""
+    """Each string of the tests, and each text of weedle2_texts.py and of the worked texts in tests/."""
     tests = [name for name in read_lines(TOP) if name.endswith("_rows") or name == "weedle_testing"]
     for crate in tests:
         for file in sorted((TOP / "crates" / crate / "src").rglob("*.rt")):
             yield from map(unescaped, STRING.findall(file.read_text(encoding="utf-8")))
     for lines in [*(lines for _, lines in WHOLE.values()), LEFT[2]]:
         yield from map(unescaped, lines.strip().split("\n"))
+    for name in ("layouts", "table"):
+        for rows in tomllib.loads((TOP / f"tests/{name}.toml").read_text(encoding="utf-8")).values():
+            yield from (row[key] for row in rows for key in ("text", "laid_out") if key in row)
 
 
 def unescaped(text):

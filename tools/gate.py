@@ -23,6 +23,7 @@ import shutil
 import subprocess
 import sys
 from concurrent.futures import FIRST_COMPLETED, ThreadPoolExecutor, wait
+from contextlib import nullcontext
 from pathlib import Path
 
 from command_line import take_none
@@ -35,6 +36,8 @@ SECONDS_OF_A_LINE = 0.3
 SLACK = 300
 # From how many seconds on a proof on the longest chain gets two processors, and from how many three.
 LONG, LONGEST = 240, 1800
+# What is done of a crate once its wrong bodies were tried: whether it is still proved, and that their results are kept.
+LAST = ("sound", "again")
 # With fewer processors than these none is idle for long, and each task gets one.
 FEWEST = 3
 # What part of the free memory is used, as rt has it.
@@ -64,22 +67,25 @@ def part_of(name, waits):
 
 
 def known(tasks, times):
-    """The tasks of rt by their keys."""
+    """The tasks of rt by their keys: a crate, what is done of it, and of a wrong body that is a task of its own its
+    number."""
     found = {}
-    for (name, kind), (waits, lines, needs, call) in tasks.items():
+    for key, (waits, lines, needs, call) in tasks.items():
+        name, kind = key[:2]
         seconds = times.get((name, kind), SECONDS_OF_A_LINE * lines)
         memory = needs * part_of(name, tasks[name, "proof"][0])
-        found[name, kind] = Task(waits, kind == "proof", seconds, memory, call)
+        found[key] = Task(waits, kind == "proof", seconds, memory, call)
     return found
 
 
 def measured(file):
-    """The seconds of tasks by their keys, as rt has them, from a file of gate_times.py; none where it isn't there."""
+    """The seconds of tasks by crate and kind, from a file of gate_times.py; none where it isn't there. Of wrong bodies
+    those of one."""
     if not file.is_file():
         return {}
     times = json.loads(file.read_text())
     found = {(name, "tests"): seconds for name, seconds in times["tests"].items()}
-    found |= {(name, "edits"): whole for name, (_, whole) in times["edits"].items()}
+    found |= {(name, "edits"): whole / max(number, 1) for name, (number, whole) in times["edits"].items()}
     for name, seconds in times["proof"].items():
         found[name, "proof"] = seconds + times["programs"].get(name, 0)
     return found
@@ -126,8 +132,9 @@ class Order:
         return 0
 
     def begin(self, waiting, given, running):
-        """The tasks that begin now, with their jobs, the one with the longest chain behind it first."""
-        for key in sorted(waiting, key=lambda it: -self.behind[it]):
+        """The tasks that begin now, with their jobs: what keeps the results of wrong bodies, so that a run which is cut
+        off keeps them, and then the one with the longest chain behind it first."""
+        for key in sorted(waiting, key=lambda it: (it[1] not in LAST, -self.behind[it])):
             if all(it in given for it in self.tasks[key].waits):
                 jobs = self.jobs(key, running)
                 if jobs:
@@ -154,7 +161,9 @@ def scheduler(rt, times):
     """What stands in the place of rt's `in_lanes`."""
 
     def in_lanes(tasks):
-        return run_all(Order(known(tasks, times), rt.processors(), ROOM * rt.free()))
+        # Where wrong bodies are tasks of their own, what they begin with is removed in the end.
+        with getattr(rt, "ending", nullcontext)():
+            return run_all(Order(known(tasks, times), rt.processors(), ROOM * rt.free()))
 
     return in_lanes
 

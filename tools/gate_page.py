@@ -1,13 +1,14 @@
 #!/usr/bin/env python3
-"""Writes the tables of docs/GATE.md from the times that were measured last.
+"""Writes the table of docs/GATE.md from the times that were measured last.
 
     python3 tools/gate_page.py [--check]
 
-The times stand in docs/gate_times.json, as `tools/gate_times.py --json` writes them. There are two
-tables, each between a line `<!-- NAME: written by tools/gate_page.py -->` and the next `<!-- end -->`:
-`times`, what each crate takes, and `costs`, what a change of a crate costs by the lists of crates.txt.
+The times stand in docs/gate_times.json, as `tools/gate_times.py --json` writes them, with their date and
+machine. The table stands between a line `<!-- times: written by tools/gate_page.py -->` and the next
+`<!-- end -->`: what each crate takes, and, by the lists of crates.txt, how many crates stand on it, and
+what a change of it costs, all in minutes.
 
-With --check nothing is written: a line says which table is stale, and the status is 1.
+With --check nothing is written: a line says that the table is stale, and the status is 1.
 """
 
 import argparse
@@ -16,7 +17,7 @@ import re
 import sys
 from pathlib import Path
 
-from gate_plan import Gate, costs
+from gate_plan import Gate, cost_of
 
 TOP = Path(__file__).resolve().parent.parent
 TABLE = re.compile(r"(<!-- (\w+): written by tools/gate_page\.py -->\n).*?(?=<!-- end -->)", re.DOTALL)
@@ -31,29 +32,28 @@ def wrong_bodies(edits):
     return f"{minutes(seconds)} ({count})" if count else ""
 
 
+HEADS = "Crate|Proof|By the clock|Tests|Wrong bodies|Program|Above|A change|Longest chain".split("|")
+
+
 def times_table(gate, times):
-    """A row for each crate, in the order of crates.txt."""
-    yield "| Crate | Proof | By the clock | Tests | Wrong bodies | Program |"
-    yield "|---|---|---|---|---|---|"
+    """When and where the times were taken; a row for each crate, in the order of crates.txt."""
+    yield f"Of {times['date']}, on {times['machine']}:"
+    yield ""
+    yield f"| {' | '.join(HEADS)} |"
+    yield "|---" * len(HEADS) + "|"
     parts = ("proof", "clock", "tests", "edits", "programs")
     for name in gate.rows:
         proof, clock, tests, edits, program = (times.get(it, {}).get(name) for it in parts)
         cells = [minutes(proof), minutes(clock), minutes(tests), wrong_bodies(edits), minutes(program)]
-        yield f"| `{name}` | {' | '.join(cells)} |"
+        yield f"| `{name}` | {' | '.join([*cells, *cost_of(gate, name)])} |"
     sums = [sum(times[it].values()) for it in ("proof", "tests", "programs")]
     edits = sum(it[1] for it in times["edits"].values())
-    cells = [minutes(sums[0]), "", minutes(sums[1]), minutes(edits), minutes(sums[2])]
+    cells = [minutes(sums[0]), "", minutes(sums[1]), minutes(edits), minutes(sums[2]), "", "", ""]
     yield f"| all of these | {' | '.join(cells)} |"
 
 
-def tables(root, times):
-    gate = Gate(root, times)
-    order = sorted(gate.rows, key=lambda name: -len(gate.above(name)))
-    return {"times": times_table(gate, times), "costs": costs(gate, order)}
-
-
 def written(page, made):
-    """The page with each table as it is made."""
+    """The page with each table of `made` in its place."""
     return TABLE.sub(lambda found: found[1] + "\n".join(made[found[2]]) + "\n", page)
 
 
@@ -65,10 +65,10 @@ def main():
     said = parser.parse_args()
     page, times = TOP / "docs/GATE.md", json.loads((TOP / "docs/gate_times.json").read_text())
     text = page.read_text(encoding="utf-8")
-    new = written(text, {name: [*rows] for name, rows in tables(TOP, times).items()})
+    new = written(text, {"times": times_table(Gate(TOP, times), times)})
     if said.check:
         if new != text:
-            print("docs/GATE.md: stale, tools/gate_page.py writes its tables otherwise")
+            print("docs/GATE.md: stale, tools/gate_page.py writes its table otherwise")
         return int(new != text)
     page.write_text(new, encoding="utf-8")
     return 0

@@ -12,15 +12,20 @@ tests and for each wrong body; a proof is ready when those of the crates below a
 chain behind a task, in lines, goes first; wrong bodies are tried where nothing else is ready. A ready
 proof gets the idle processors by the number of proofs and tests that are ready, four at most, and the
 tests of a crate that has none count as one. Times are those of one job; by two, three or four jobs a
-proof takes SPEED of them. Before and after a library's proof `rt` sums up what it is made from, once for
-each way down the lists, so a proof takes SECONDS_OF_A_WAY for each of them on top. With --memory no task
+proof takes SPEED of them. With --memory no task
 begins beside others for which less is left of so many GB than `rt ci` expects it to take, from its lines
 and those below it; it uses 85 hundredths of what is free when it begins. It prints, for each N (4 and 2 where none is given), the minutes by the clock and
 of processor time; with --show when each task that takes a minute or more begins and ends.
 
+Where a crate has several wrong bodies, what they begin with is a task (`seed`), each is one, and the check at
+their end is one (`sound`); one alone is tried from nothing.
+
 With --older the order is that of rattle-kit-13b: a crate's wrong bodies are one task, also where it
-has none, which is ready like any other; so where `weedle_types` begins it is never alone. With --own it
-is that of tools/gate.py over the same tasks; where more jobs run than there are processors, they share them.
+has none, which is ready like any other; so where `weedle_types` begins it is never alone. Before and after a
+library's proof that kit sums up what it is made from, once for each way down the lists, which takes
+SECONDS_OF_A_WAY for each of them on top; rattle-kit-13f sums each crate up once. With --own it
+is that of tools/gate.py over the tasks of rattle-kit-13f, by the times that it knows: none of what wrong
+bodies begin and end with. Where more jobs run than there are processors, they share them.
 
 With --costs it prints a row for each CRATE: how many crates stand above it, the minutes of processor
 time of all of these and its own, and those of the longest chain among them.
@@ -41,8 +46,12 @@ SPEED = {1: 1.0, 2: 1.8, 3: 2.4, 4: 2.9}
 # Where a crate has several wrong bodies: what part of their time is the check that they begin
 # with, and what part the one at their end.
 FIRST, LAST = 0.35, 0.2
-# What it takes to sum up what a library is made from, once before and once after its proof, for each way
-# down the lists of crates.txt.
+# What part of the memory a check takes that begins with what another one proved.
+OVER = 0.7
+# The kinds of tasks whose times tools/gate.py knows.
+KNOWN = ("proof", "tests", "edits")
+# What it takes rattle-kit-13b to sum up what a library is made from, once before and once after its proof, for
+# each way down the lists of crates.txt.
 SECONDS_OF_A_WAY = 2 * 0.0025
 # How many GB `rt ci` expects a check to take: of itself, with what the kit's libraries take, and for each
 # line of the crate's sources, of its definitions and proofs, and of the sources below it; and what part
@@ -113,7 +122,8 @@ class Gate:
         for name in sorted(self.rows, key=lambda it: len(self.below(it))):
             waits, lines = [(it, "proof") for it in self.below(name)], self.lines(name)
             proof, tests, needs = self.proof.get(name, 0), self.tests.get(name, 0), self.needs(name)
-            proof += SECONDS_OF_A_WAY * self.ways(name, ways) * self.is_library(name)
+            if older and self.is_library(name):
+                proof += SECONDS_OF_A_WAY * self.ways(name, ways)
             found[name, "proof"] = Task(waits, lines, proof, needs)
             found[name, "tests"] = Task(waits, lines * (tests > 0), tests, needs)
             if older:
@@ -130,15 +140,14 @@ class Gate:
         count, whole = self.edits.get(name, (0, 0))
         if not count:
             return {}
-        first = min(self.proof[name], FIRST * whole) if count > 1 else 0
-        last = LAST * whole if count > 1 else 0
-        begun = [(name, "proof"), (name, "tests"), (name, "seed")]
-        each = {
-            (name, "wrong body", at): Task(begun, lines, (whole - first - last) / count, needs, True)
-            for at in range(count)
-        }
-        seed, sound = Task(waits, 0, first, needs, True), Task([*each], 0, last, needs, True)
-        return {(name, "seed"): seed, **each, (name, "sound"): sound}
+        well = [(name, "proof"), (name, "tests")]
+        if count == 1:
+            return {(name, "edits", 0): Task(well, lines, whole, needs, True)}
+        first, last, seed = min(self.proof[name], FIRST * whole), LAST * whole, (name, "seed")
+        one = Task([*well, seed], lines, (whole - first - last) / count, OVER * needs, True)
+        each = {(name, "edits", at): one for at in range(count)}
+        sound = Task([*each, seed], 0, last, OVER * needs)
+        return {seed: Task(waits, 0, first, needs, True), **each, (name, "sound"): sound}
 
     def longest_chain(self, name):
         """The seconds of the longest chain of proofs from a crate up, with what ends it."""
@@ -196,7 +205,7 @@ def simulated(tasks, processors, memory=math.inf):
 def in_own_order(tasks, processors, memory=math.inf):
     """The same by the order of tools/gate.py."""
     rows = {key: (it.waits, it.lines, it.needs, None) for key, it in tasks.items()}
-    own = gate.known(rows, {key: it.seconds for key, it in tasks.items()})
+    own = gate.known(rows, {key[:2]: it.seconds for key, it in tasks.items() if key[1] in KNOWN})
     order, given, running, left, log, now = gate.Order(own, processors, memory), set(), {}, {}, {}, 0.0
     while len(given) < len(tasks):
         for key, jobs in order.begin(set(tasks) - set(log), given, running):
@@ -216,17 +225,22 @@ def minutes(seconds):
     return f"{seconds / 60:.0f}"
 
 
+def cost_of(gate, name):
+    """How many crates stand on one, and the minutes of a change of it: in all, and along a chain."""
+    above = gate.above(name)
+    whole = sum(map(gate.seconds, [name, *above]))
+    return str(len(above)), str(minutes(whole)), str(minutes(gate.longest_chain(name)))
+
+
 def costs(gate, names):
     yield "| A change in | Crates above | Minutes of one processor | Longest chain |"
     yield "|---|---|---|---|"
     for name in names:
-        above = gate.above(name)
-        whole = sum(map(gate.seconds, [name, *above]))
-        yield f"| `{name}` | {len(above)} | {minutes(whole)} | {minutes(gate.longest_chain(name))} |"
+        yield f"| `{name}` | {' | '.join(cost_of(gate, name))} |"
 
 
 def plan(gate, processors, is_shown, older=False, memory=math.inf, own=False):
-    tasks = gate.tasks(older or own)
+    tasks = gate.tasks(older)
     log = (in_own_order if own else simulated)(tasks, processors, memory)
     end, work = max(it[1] for it in log.values()), sum(it.seconds for it in tasks.values())
     yield f"{processors} processors: {minutes(end)} minutes, {minutes(work)} of processor time"

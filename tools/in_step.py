@@ -9,6 +9,7 @@ places; the rest of the file stays as it is. A module of tools/kept does so for 
 
 - starts.py: by which words names, types and values begin, for what is said of refused texts;
 - titles.py: kind, name and docstring of each definition, for outlines and reports;
+- views.py: which definitions have extended attributes, docstrings, parents and members, and which are parts;
 - pieces.py: the functions that read a few variants each, and the rules of these;
 - formers.py: what reads and spells a new type over a type in angle brackets, as that of `FrozenArray`;
 - variants.py: trees and spellings of variants, with their numbers.
@@ -21,11 +22,11 @@ from pathlib import Path
 
 from command_line import refuse_writer
 from crates import Unfit
-from kept import formers, pieces, starts, titles, variants
+from kept import formers, pieces, starts, titles, variants, views
 
 TOP = Path(__file__).resolve().parent.parent
 # In this order: the numbers of what is written of a new type are put right by the last.
-KINDS = (starts, titles, pieces, formers, variants)
+KINDS = (starts, titles, views, pieces, formers, variants)
 
 
 def run(root):

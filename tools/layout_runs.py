@@ -3,8 +3,12 @@
 import os
 import subprocess
 import tempfile
+import tomllib
 from pathlib import Path
 
+from case_files import TESTS
+
+WORKED = TESTS / "layouts.toml"
 LOOSE, LAID_OUT, SLIP = "A includes B ;", "A includes B;\n", "interface A {\n  attribute long x\n};"
 MESSAGE = "{}:3:1: expected `;`\n}};\n^\n"
 USAGE = "usage: weedle_format [--check | --write] [FILE..]\n"
@@ -128,6 +132,18 @@ def what_cannot_be_written(room):
         assert err.startswith("below/a: cannot replace the file: ") and room.text("below/a") == LOOSE
 
 
+def worked_texts_are_laid_out(room):
+    """Each worked text is laid out as is written by hand, which stays as it is; and others aren't read whole."""
+    for it in tomllib.loads(WORKED.read_text())["layout"]:
+        layout = it.get("laid_out")
+        if layout is None:
+            status, out, err = room.run(given=it["text"])
+            assert status == 1 and out == "" and err.startswith("<stdin>:"), it["what"]
+        else:
+            for text in (it["text"], layout):
+                assert room.run(given=text) == (0, layout, ""), it["what"]
+
+
 def other_arguments(room):
     """What there is no use for gets the usage, with status 5."""
     for words in (["--both"], ["--check", "--write", "a"], ["--write"], ["--write", "-"]):
@@ -138,7 +154,8 @@ def other_arguments(room):
 
 RUNS = (
     standard_input_is_printed, files_are_printed, check_prints_names, write_replaces_files, a_link_is_followed,
-    a_name_that_is_taken, what_cannot_be_read, a_mark_of_byte_order, what_cannot_be_written, other_arguments,
+    a_name_that_is_taken, what_cannot_be_read, a_mark_of_byte_order, what_cannot_be_written, worked_texts_are_laid_out,
+    other_arguments,
 )
 
 

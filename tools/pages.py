@@ -10,6 +10,8 @@
   pages of docs/ and in README.md: from the top, from crates/ or from tools/. `{a,b}` stands for each
   of a and b, `*` for any name. Paths are looked at that begin with a crate's name or with a folder
   of the top, but for what is built.
+- README.md, docs/PROVED.md and the newest version of CHANGELOG.md that names one name the same kit of
+  the toolchain, as `rattle-kit-13f logic dac8208d650f15bf`.
 
 It prints a line for each that isn't so. The status is 0 where there is none, or else 1.
 """
@@ -34,6 +36,9 @@ SCRIPTS = (".py", ".sh", ".c")
 # as that of README's program.
 BUILT = {"out", "target"}
 ANY = {"NAME", "CRATE", "FOLDER", "app"}
+# The line of `rt version`, and the pages of which the first such line counts.
+KIT = re.compile(r"`(rattle-kit-\w+ logic [0-9a-f]+)`")
+KIT_PAGES = ("README.md", "docs/PROVED.md", "CHANGELOG.md")
 
 
 def crates_named(text):
@@ -92,8 +97,20 @@ def of_paths(root):
                 yield f"{page.relative_to(root).as_posix()}:{number}: there is no {path}"
 
 
+def of_kits(root):
+    """The pages that name another kit than the first of them, or none."""
+    first = None
+    for page in KIT_PAGES:
+        found = KIT.search((root / page).read_text(encoding="utf-8"))
+        first = first or found
+        if not found:
+            yield f"{page}: no kit is named"
+        elif found[1] != first[1]:
+            yield f"{page}: the kit is {found[1]}, and {first[1]} in {KIT_PAGES[0]}"
+
+
 def main():
-    rows = [*of_crates(TOP), *of_scripts(TOP), *of_paths(TOP)]
+    rows = [*of_crates(TOP), *of_scripts(TOP), *of_paths(TOP), *of_kits(TOP)]
     if rows:
         print(*rows, sep="\n")
     return 1 if rows else 0

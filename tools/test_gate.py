@@ -7,6 +7,7 @@
 import threading
 import types
 import unittest
+from contextlib import nullcontext
 
 from gate import Order, is_known, known, load, run_all, scheduler
 
@@ -24,7 +25,9 @@ def rows_of(calls):
             key = name, kind
             tasks[key] = (waits, 10 * (kind == "proof"), GB, lambda given, jobs, it=key: calls(it, given, jobs))
         both = [(name, "proof"), (name, "tests")]
-        tasks[name, "edits"] = (both, 0, GB, lambda given, jobs, it=(name, "edits"): calls(it, given, jobs))
+        for number in range(2):
+            key = name, "edits", number
+            tasks[key] = (both, 10, GB, lambda given, jobs, it=key: calls(it, given, jobs))
     return tasks
 
 
@@ -87,8 +90,14 @@ class Began(unittest.TestCase):
         self.assertEqual([*begun.items()][0], (("long", "proof"), 3))
         self.assertEqual(begun["side", "proof"], 1)
 
+    def test_results_of_wrong_bodies_are_kept_first(self):
+        tasks = rows_of(None)
+        tasks["low", "sound"] = ([("low", "edits", 0), ("low", "edits", 1)], 0, GB, None)
+        given = {("low", it): 1 for it in ("proof", "tests")} | {("low", "edits", it): 1 for it in range(2)}
+        self.assertEqual([*self.begun(order_of(tasks), given, {})][0], ("low", "sound"))
+
     def test_memory_takes_jobs_away_and_then_holds_a_task_back(self):
-        given = {("low", "proof"): 1, ("low", "tests"): 1, ("low", "edits"): 1}
+        given = {("low", "proof"): 1, ("low", "tests"): 1, ("low", "edits", 0): 1, ("low", "edits", 1): 1}
         order = order_of(rows_of(None), memory=0.7 * GB)
         self.assertEqual(self.begun(order, given, {})["long", "proof"], 2)
         begun = self.begun(order, given, {("long", "tests"): 1})
@@ -105,11 +114,11 @@ class Began(unittest.TestCase):
     def test_what_stands_on_the_recursive_types_takes_more_than_rt_says_and_all_else_less(self):
         tasks = {
             ("new", "proof"): ([("weedle_types", "proof")], 1, GB, None),
-            ("new", "edits"): ([("new", "proof")], 1, GB, None),
+            ("new", "edits", 0): ([("new", "proof")], 1, GB, None),
             ("other", "proof"): ([("low", "proof")], 1, GB, None),
         }
         found = known(tasks, {})
-        self.assertEqual([found["new", it].memory(1) for it in ("proof", "edits")], [1.4 * GB, 1.4 * GB])
+        self.assertEqual([it.memory(1) for key, it in found.items() if key[0] == "new"], [1.4 * GB, 1.4 * GB])
         self.assertEqual([found["other", "proof"].memory(it) for it in (1, 3)], [0.5 * GB, 0.8 * GB])
 
 
@@ -133,7 +142,7 @@ class Known(unittest.TestCase):
 
     def test_it_takes_rows_as_rt_has_them(self):
         run = Run()
-        rt = types.SimpleNamespace(processors=lambda: 4, free=lambda: 20 * GB)
+        rt = types.SimpleNamespace(processors=lambda: 4, free=lambda: 20 * GB, ending=nullcontext)
         tasks = rows_of(run.call)
         self.assertEqual(set(scheduler(rt, TIMES)(tasks)), set(tasks))
 

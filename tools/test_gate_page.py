@@ -23,10 +23,13 @@ class TestTables(unittest.TestCase):
         self.gate = gate_of(room.name)
 
     def test_a_crate_has_a_row_with_its_minutes(self):
-        rows = [*gate_page.times_table(self.gate, {**TIMES, "clock": {"low": 90}})]
-        self.assertIn("| `low` | 1.0 | 1.5 |  | 1.7 (2) |  |", rows)
-        self.assertIn("| `top` | 2.0 |  | 1.0 |  | 1.0 |", rows)
-        self.assertEqual(rows[-1], "| all of these | 48.0 |  | 1.0 | 1.7 | 1.0 |")
+        times = {**TIMES, "clock": {"low": 90}, "date": "2026-11-28", "machine": "a machine"}
+        rows = [*gate_page.times_table(self.gate, times)]
+        self.assertEqual(rows[0], "Of 2026-11-28, on a machine:")
+        self.assertIn("| `low` | 1.0 | 1.5 |  | 1.7 (2) |  | ", "\n".join(rows))
+        self.assertIn("| `top` | 2.0 |  | 1.0 |  | 1.0 | 0 | 4 | 4 |", rows)
+        self.assertEqual(rows[-1], "| all of these | 48.0 |  | 1.0 | 1.7 | 1.0 |  |  |  |")
+        self.assertEqual({row.count("|") for row in rows[2:]}, {10})
 
     def test_only_what_stands_between_the_marks_is_written(self):
         new = gate_page.written(PAGE, {"times": ["| a |", "| b |"]})

@@ -7,6 +7,7 @@
 import tempfile
 import unittest
 from pathlib import Path
+from unittest.mock import patch
 
 import gate_plan
 from gate_plan import Gate, costs, in_own_order, plan, simulated
@@ -54,18 +55,31 @@ class Planned(unittest.TestCase):
         self.assertEqual(log["low", "wrong bodies"][1] - log["low", "wrong bodies"][0], 100)
 
     def test_by_the_own_order_the_longest_proof_gets_three_jobs_and_shares_the_processors(self):
-        log = in_own_order(self.gate.tasks(older=True), 4)
+        log = in_own_order(self.gate.tasks(), 4)
         begin, end, jobs = log["wide", "proof"]
         self.assertEqual((begin, jobs), (60, 3))
         # Beside it the wrong bodies of `low` are tried by one job, and nothing lacks a processor.
         self.assertAlmostEqual(end - begin, 1800 / 2.4)
 
     def test_by_the_own_order_each_task_ends_behind_those_that_it_waits_for(self):
-        tasks = self.gate.tasks(older=True)
-        for processors in (1, 2, 4):
-            log = in_own_order(tasks, processors)
-            for key, task in tasks.items():
-                self.assertTrue(all(log[it][1] <= log[key][0] for it in task.waits), (processors, key))
+        for tasks in (self.gate.tasks(), self.gate.tasks(older=True)):
+            for processors in (1, 2, 4):
+                log = in_own_order(tasks, processors)
+                for key, task in tasks.items():
+                    self.assertTrue(all(log[it][1] <= log[key][0] for it in task.waits), (processors, key))
+
+    def test_several_wrong_bodies_have_a_beginning_and_an_end(self):
+        tasks = self.gate.tasks()
+        of_low = {key[1:]: task for key, task in tasks.items() if key[0] == "low" and key[1] not in ("proof", "tests")}
+        self.assertEqual([*of_low], [("seed",), ("edits", 0), ("edits", 1), ("sound",)])
+        self.assertEqual(sum(it.seconds for it in of_low.values()), 100)
+        self.assertIn(("low", "seed"), of_low["edits", 1].waits)
+        self.assertEqual(of_low["edits", 0].needs, gate_plan.OVER * of_low[("seed",)].needs)
+
+    def test_one_wrong_body_is_tried_from_nothing(self):
+        self.gate.edits = {"low": [1, 40]}
+        keys = [key for key in self.gate.tasks() if key[0] == "low"]
+        self.assertEqual(keys, [("low", "proof"), ("low", "tests"), ("low", "edits", 0)])
 
     def test_crates_side_by_side_get_one_job_each(self):
         log = simulated(self.gate.tasks(), 2)
@@ -77,8 +91,11 @@ class Planned(unittest.TestCase):
         log = simulated(self.gate.tasks(), 2, memory=1.0)
         self.assertEqual(log["other", "proof"][0], log["one", "proof"][1])
 
-    def test_each_way_down_from_a_crate_counts(self):
+    def test_each_way_down_from_a_crate_counts_by_the_older_order(self):
         self.assertEqual([self.gate.ways(it, {}) for it in ("low", "one", "top")], [1, 4, 9])
+        with patch.object(gate_plan, "SECONDS_OF_A_WAY", 2):
+            older, newer = (self.gate.tasks(older)["one", "proof"].seconds for older in (True, False))
+        self.assertEqual((older, newer), (608, 600))
 
     def test_a_plan_says_the_clock_and_the_work(self):
         said = [*plan(self.gate, 1, False)]

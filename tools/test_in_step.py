@@ -16,7 +16,7 @@ import in_step
 from crates import Unfit
 from description.flat import flat_variants
 from description.readings import Declared
-from kept import formers, pieces, starts, titles, variants
+from kept import formers, pieces, starts, titles, variants, views
 
 TOP = Path(__file__).resolve().parent.parent
 DECLARED = Declared.of(TOP)
@@ -59,6 +59,24 @@ class Titles(unittest.TestCase):
         found = titles.titles_of(DECLARED)
         for path, text_of in titles.FILES.items():
             text = read(f"weedle_report/{path}")
+            spoilt = re.sub(r"\n *[^\n]*\b(?:Is|Definition::)Enum\b[^\n,]*,?(?=\n)", "", text)
+            self.assertNotEqual(spoilt, text)
+            self.assertEqual(text_of(spoilt, found), text, path)
+
+
+class Views(unittest.TestCase):
+    def test_what_definitions_have(self):
+        told = {it.variant: it for it in views.kinds_of(DECLARED)}
+        self.assertEqual(told["PartialInterfaceMixin"].list, "MixinMember")
+        self.assertTrue(told["PartialInterfaceMixin"].is_part and told["PartialInterfaceMixin"].is_mixin)
+        self.assertIsNone(told["Enum"].list)
+        whole = [name for name, it in told.items() if not it.is_whole and not it.is_part]
+        self.assertEqual(whole, ["IncludesStatement", "Implements"])
+
+    def test_arms_and_clauses_that_lack_are_added(self):
+        found = views.kinds_of(DECLARED)
+        for path, text_of in views.FILES.items():
+            text = read(f"weedle_view/{path}")
             spoilt = re.sub(r"\n *[^\n]*\b(?:Is|Definition::)Enum\b[^\n,]*,?(?=\n)", "", text)
             self.assertNotEqual(spoilt, text)
             self.assertEqual(text_of(spoilt, found), text, path)

@@ -73,6 +73,24 @@ class Scripts(Repository):
         self.assertEqual(list(pages.of_scripts(self.root)), [])
 
 
+class Kits(Repository):
+    def rows(self, *kits):
+        for page, kit in zip(pages.KIT_PAGES, kits):
+            self.write(page, f"Proved with `rattle-kit-{kit} logic 0a1b` (`rt version`).\n" if kit else "")
+        return list(pages.of_kits(self.root))
+
+    def test_all_name_one(self):
+        self.assertEqual(self.rows("2a", "2a", "2a"), [])
+
+    def test_one_names_another(self):
+        self.assertEqual(self.rows("2a", "1c", "2a"), [
+            "docs/PROVED.md: the kit is rattle-kit-1c logic 0a1b, and rattle-kit-2a logic 0a1b in README.md",
+        ])
+
+    def test_one_names_none(self):
+        self.assertEqual(self.rows("2a", "2a", ""), ["CHANGELOG.md: no kit is named"])
+
+
 class Paths(Repository):
     def rows(self, text):
         self.write("docs/USING.md", text)

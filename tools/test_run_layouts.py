@@ -1,8 +1,10 @@
 """Tests of run_layouts.py."""
 
 import random
+import tomllib
 import unittest
 
+from layout_runs import WORKED
 from run_layouts import SEEDS, has_blanks_at_end, pieces_of, sown
 
 
@@ -31,6 +33,15 @@ class Sown(unittest.TestCase):
         comments = {piece for seed in SEEDS for piece in pieces_of(seed)}
         left = [piece for piece in pieces_of(made) if piece.rstrip("\r") not in comments and piece not in comments]
         self.assertEqual(left, pieces_of(text))
+
+
+class Worked(unittest.TestCase):
+    def test_a_layout_has_the_pieces_of_its_text_and_no_blanks_at_the_ends_of_lines(self):
+        for it in tomllib.loads(WORKED.read_text())["layout"]:
+            with self.subTest(it["what"], text=it["text"]):
+                layout = it.get("laid_out", it["text"])
+                self.assertEqual([piece.rstrip() for piece in pieces_of(layout)], [piece.rstrip() for piece in pieces_of(it["text"])])
+                self.assertFalse("laid_out" in it and has_blanks_at_end(layout))
 
 
 class Blanks(unittest.TestCase):

@@ -105,7 +105,7 @@ fn names_are_read(rt: HostRuntime) {
 """
 FILES = {
     "README.md": README,
-    "crates.txt": "low:\nhigh: low\nweedle: low memchr\nweedle_program_rows: weedle\n",
+    "crates.txt": "low:\nhigh: low\nweedle: low memchr\nweedle_rows: weedle\n",
     "crates/low/src/lib.rt": "//! Low.\n",
     "crates/low/specs/Lib.antt": "specs\n",
     "crates/high/src/lib.rt": "//! High.\n",

@@ -8,7 +8,7 @@ its line of crates.txt, indented, as `    app: weedle`; behind it a ```webidl bl
 input, and a ```text block, what it prints of that. Three things are looked at:
 
 - Each item of the program but its `use` lines and `main` stands, line by line, in
-  crates/weedle_program_rows/src/readme.rt, which the gate proves and whose tests run it.
+  crates/weedle_rows/src/readme.rt, which the gate proves and whose tests run it.
 - The program runs: in a repository of its own, with the crates that its line names and those below
   them, `rt try` ends with status 0 and prints what the README says. --no-run leaves this out.
 - Each other ```rust block, of docs/USING.md too, stands, indentation and blank lines aside, in a file
@@ -35,7 +35,7 @@ TOP = Path(__file__).resolve().parent.parent
 README = "README.md"
 # A page with blocks of Rust and no program.
 PAGE = "docs/USING.md"
-PROVED = "crates/weedle_program_rows/src/readme.rt"
+PROVED = "crates/weedle_rows/src/readme.rt"
 FENCE = re.compile(r"```(.*)")
 LIST_LINE = re.compile(r" {4}[a-z0-9_]+:( [a-z0-9_]+)+")
 MAIN = "fn main(rt: HostRuntime)"

@@ -4,7 +4,7 @@
  *     c/run_tests.sh
  *
  * builds and runs them. The expected nodes are worked out by hand from the rows of tools/description, the expected
- * words are those of docs/USING.md and of the tests of weedle_program_rows. It is linked with
+ * words are those of docs/USING.md and of the tests of weedle_rows. It is linked with
  * `-Wl,--wrap=malloc,--wrap=realloc`, so that requests for memory can be refused.
  */
 #include <pthread.h>

@@ -4,22 +4,29 @@ What is laid out has the values and the comments of the text, and is laid out al
 """
 
 import sys
+import tomllib
 import unittest
 
-from support import TOP  # noqa: F401  (finds the package and the tools)
+from support import TOP
 import weedle
 from case_files import cases_of, folders
 from compare_with_weedle2 import DEPTH
 
 FOLDERS = [name for name in folders() if name != "real"]
-# Each text, and how docs/LAYOUT.md lays it out.
-WORKED = [
-    ("", ""),
-    ("interface A{attribute long x;};", "interface A {\n  attribute long x;\n};\n"),
-    ("A  includes B ;C implements D;", "A includes B;\n\nC implements D;\n"),
-    ("[Exposed=Window]interface A{};", "[Exposed=Window] interface A {};\n"),
-    ("enum E{\"a\",\"b\"};// c", "enum E { \"a\", \"b\" }; // c\n"),
-    ("typedef(long or sequence< any >)?T;\r\n", "typedef (long or sequence<any>)? T;\r\n"),
+# Texts, and how docs/LAYOUT.md lays them out; none where it isn't read whole.
+WORKED = tomllib.loads((TOP / "tests/layouts.toml").read_text())["layout"]
+# Long texts, and their layouts.
+LONG = [
+    ("typedef " + 1_001 * "sequence<" + "long" + 1_001 * ">" + " T;\n", None),
+    ("A includes B;" + 4_000 * " ", "A includes B;\n"),
+    ("A includes B;" + 4_000 * "\n", "A includes B;\n"),
+    ("A includes B;" + 4_000 * "\t", "A includes B;\n"),
+    ("A includes B;" + 4_000 * "\r\n", "A includes B;\r\n"),
+    ("A includes B;\n" + 4_000 * "//\n", None),
+    (
+        "namespace N{undefined f(long a" + 14_300 * ",long a" + ");};",
+        "namespace N {\n  undefined f(\n    long a" + 14_300 * ",\n    long a" + "\n  );\n};\n",
+    ),
 ]
 
 
@@ -30,10 +37,20 @@ def said(text):
 
 class Formatting(unittest.TestCase):
     def test_worked_texts(self):
-        for text, wanted in WORKED:
+        for it in WORKED:
+            text, wanted = it["text"], it.get("laid_out")
             with self.subTest(text):
+                if wanted is None:
+                    self.assertRaises(weedle.Refused, weedle.format, text)
+                    continue
                 self.assertEqual(weedle.format(text), wanted)
+                self.assertEqual(weedle.format(wanted), wanted)
                 self.assertEqual(weedle.format(text.encode()), wanted.encode())
+
+    def test_long_texts(self):
+        for text, wanted in LONG:
+            with self.subTest(text[:20]):
+                self.assertEqual(weedle.format(text), wanted or text)
 
     def test_texts_of_the_cases(self):
         # what is wanted of them, which nests deep too, is read by `json`

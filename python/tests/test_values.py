@@ -124,6 +124,10 @@ class Trees(unittest.TestCase):
             found = definition.value.attributes.body.list[0].value.args.body.separator
             self.assertEqual((type(found), found.text), (term.Comma, separator))
 
+    def test_many_values(self):
+        (definition,) = weedle.parse("enum E {" + 10_000 * '"a",' + "};")
+        self.assertEqual(len(definition.value.values.body.list), 10_000)
+
     def test_docstrings(self):
         (definition,) = weedle.parse("  /// a\n\t///\n///b\ninterface A {};")
         docstring = definition.value.docstring

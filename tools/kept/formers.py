@@ -13,7 +13,7 @@ from description.readings import Declared
 from description.webidl import BY_NAME
 
 ENUM, MODEL = "NonAnyType", "FrozenArrayType"
-TYPES, SPELT = "weedle_types", "weedle_spell_types"
+TYPES, SPELT, VIEWS = "weedle_types", "weedle_spell_types", "weedle_view"
 FUNCTION = r"^/// [^\n]*\n#\[cycle\(group\)\]\n#\[tactic[^\n]*\npub\(crate\) fn {}<.*?^}\n\n?"
 CLAUSE = r"^  {} \(NonAnyType-VARIANT' [^\n]*\n(?:      [^\n]*\n)*"
 FIELD, GIVEN = r"^  pub NAME : [^\n]*\n", r"^  NAME = [^\n]*\n"
@@ -33,6 +33,8 @@ BLOCKS = {
     f"{SPELT}/specs/VariantTrees.antt": [FIELD],
     f"{SPELT}/proofs/VariantFacts.antt": [GIVEN],
     f"{SPELT}/proofs/VariantTreeFacts.antt": [GIVEN],
+    f"{VIEWS}/src/names/types.rt": [r"^        NonAnyType::VARIANT\([^\n]*\n"],
+    f"{VIEWS}/specs/TypeNames.antt": [CLAUSE.replace("{}", "names_in_non_any_type")],
 }
 USE = re.compile(r"^(?:ghost )?use [^;{\n]*(?:\{[^}]*\})?;?\n", re.M)
 

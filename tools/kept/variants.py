@@ -14,7 +14,7 @@ from description.readings import Declared
 from description.webidl import BY_NAME
 
 ENUM = "NonAnyType"
-TYPES, SPELT = "weedle_types", "weedle_spell_types"
+TYPES, SPELT, VIEWS = "weedle_types", "weedle_spell_types", "weedle_view"
 # Each file with the name of its definition, and what it says of a word that may be null.
 CLAUSES = {
     f"{TYPES}/specs/Trees.antt": ("non_any_type_tree", "Alt {number} (may_be_null_tree mark_tree v)"),
@@ -24,6 +24,7 @@ CLAUSES = {
     f"{SPELT}/proofs/RecursiveTypeFacts.antt": (
         "non_any_type", "alternative {number} refl refl refl (null_word refl refl refl refl refl v.q_mark)",
     ),
+    f"{VIEWS}/specs/TypeNames.antt": ("names_in_non_any_type", "[]"),
 }
 NUMBERED = f"{SPELT}/specs/VariantTrees.antt"
 NUMBER = re.compile(r"(?<== Alt )\d+|(?<=alternative )\d+")

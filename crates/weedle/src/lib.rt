@@ -4,7 +4,8 @@
 //! [`parse_counted`] counts what that takes. [`parse_by_descent`] answers the same with little
 //! memory, and [`parse_quick`] takes it where the text lets it; [`nesting`] says how deep a text
 //! nests. [`outline`] gives kinds, names and docstrings, and [`lend`] lends it a list that a
-//! function owns. [`run`] is the program: it reads its input to the end, and writes what the text
+//! function owns. [`members_of`], [`type_names`] and [`parts_named`] say of definitions what many
+//! kinds have. [`run`] is the program: it reads its input to the end, and writes what the text
 //! defines; [`run_outline`] writes an outline of it.
 //!
 //! ```rust
@@ -43,3 +44,8 @@ pub use weedle_idl::{
 pub use weedle_places::{MemberPlace, Name, Place, Role, Span, names, places};
 pub use weedle_term as term;
 pub use weedle_types::{argument, attribute};
+pub use weedle_view::{
+    MemberKind, MemberView, definition_named, docstring_of, extended_attributes_of, included_into,
+    inheritance_of, members_of, parts_named, type_names, type_names_of_arguments,
+    type_names_of_attributes, type_names_of_return,
+};

@@ -81,7 +81,8 @@ fn explain_text(alloc: Global, raw: &str, message: &mut [u8], answer: &mut Weedl
 /// Why the text is refused, or None where it is read whole.
 fn refusal_in(alloc: Global, raw: &str) -> Result<Option<Refusal>, AllocError>
     ensures explains { IfOk result (Explains raw.now) }
-    ensures within { IfOk result (λ answer. IfSome answer (λ refusal. refusal.place ≤ length raw.now)) }
+    ensures within { IfOk result
+        (λ answer. IfSome answer (λ refusal. refusal.place ≤ length raw.now)) }
 {
     let nodes = front(alloc, raw)?;
     let start = rest_of(&nodes);

@@ -13,7 +13,8 @@ ghost use Rattle.weedle_formatter.specs.Words.{
 /// A law, which does nothing: two texts that say the same have the same words, whatever lists of
 /// nodes they have.
 pub fn all_nodes_say_the_same()
-    ensures { (a b : List ℕ) (ns ms : List TheNode) → SaysTheSame a b → IsSyntax a ns → IsSyntax b ms
+    ensures { (a b : List ℕ) (ns ms : List TheNode)
+        → SaysTheSame a b → IsSyntax a ns → IsSyntax b ms
         → words_of a ns ≡ words_of b ms }
 {}
 

@@ -113,7 +113,8 @@ fn same_word(raw: &[u8], nodes: &[Node], i: usize, out: &[u8], others: &[Node], 
     requires raw { i < length nodes.now }
     requires out { j < length others.now }
     ensures { (n m : TheNode) (ns ms : List TheNode) → drop i nodes.now ≡ n ∷ ns
-        → drop j others.now ≡ m ∷ ms → IsTrue result ↔ (word_of raw.now n ns ≡ word_of out.now m ms) }
+        → drop j others.now ≡ m ∷ ms
+        → IsTrue result ↔ (word_of raw.now n ns ≡ word_of out.now m ms) }
 {
     if nodes[i].rule.number() != others[j].rule.number() {
         return false;

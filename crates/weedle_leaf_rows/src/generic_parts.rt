@@ -1,4 +1,4 @@
-//! Brackets, lists with separators and what may be null.
+//! Brackets, lists with separators and what may be null, also where memory is refused.
 //!
 //! The values are those that weedle2 prints, in the port's names.
 
@@ -9,35 +9,215 @@ use weedle_parts::common::{
     Braced, Bracketed, Generics, Identifier, Parenthesized, Punctuated, PunctuatedNonEmpty,
 };
 use weedle_parts::types::MayBeNull;
-use weedle_term::{Comma, Dot, SemiColon};
-use weedle_testing::{fails_at, reads, reads_copied_up_to, reads_up_to, refuses};
+use weedle_term::{Comma, Dot, Or, SemiColon};
+use weedle_testing::{Wanted, fails_at, reads_with_no_memory, refuses};
 
 #[test]
-fn a_separator_that_no_item_follows_is_given_back(rt: HostRuntime) -> Result<(), Fail> {
-    reads_up_to::<Punctuated<Identifier<'_>, Comma>>(
-        rt.alloc(),
+fn no_brackets_take_memory(rt: HostRuntime) -> Result<(), Fail> {
+    let alloc = rt.alloc();
+    reads_with_no_memory::<Parenthesized<Comma>>(
+        alloc,
         &[
+            // Brackets stand round a value.
+            (
+                " ( , ) x",
+                "x",
+                "Parenthesized { open_paren: OpenParen, body: Comma, close_paren: CloseParen }",
+            ),
+        ],
+        &["(,"],
+    )?;
+    reads_with_no_memory::<Parenthesized<Or>>(
+        alloc,
+        &[(
+            "(or)",
+            "",
+            "Parenthesized { open_paren: OpenParen, body: Or, close_paren: CloseParen }",
+        )],
+        &[],
+    )?;
+    reads_with_no_memory::<Bracketed<Comma>>(
+        alloc,
+        &[
+            // Brackets stand round a value.
+            (
+                "[,]x",
+                "x",
+                "Bracketed { open_bracket: OpenBracket, body: Comma, close_bracket: \
+                 CloseBracket }",
+            ),
+        ],
+        &["(,)"],
+    )?;
+    reads_with_no_memory::<Bracketed<Or>>(
+        alloc,
+        &[(
+            "[or]",
+            "",
+            "Bracketed { open_bracket: OpenBracket, body: Or, close_bracket: CloseBracket }",
+        )],
+        &[],
+    )?;
+    reads_with_no_memory::<Braced<Comma>>(
+        alloc,
+        &[
+            // Brackets stand round a value.
+            (
+                "{,}x",
+                "x",
+                "Braced { open_brace: OpenBrace, body: Comma, close_brace: CloseBrace }",
+            ),
+        ],
+        &[],
+    )?;
+    reads_with_no_memory::<Braced<Or>>(
+        alloc,
+        &[(
+            "{or}",
+            "",
+            "Braced { open_brace: OpenBrace, body: Or, close_brace: CloseBrace }",
+        )],
+        &[],
+    )?;
+    reads_with_no_memory::<Generics<Comma>>(
+        alloc,
+        &[
+            // Brackets stand round a value.
+            (
+                "<,>x",
+                "x",
+                "Generics { open_angle: LessThan, body: Comma, close_angle: GreaterThan }",
+            ),
+        ],
+        &[],
+    )?;
+    reads_with_no_memory::<Generics<Or>>(
+        alloc,
+        &[(
+            "<or>",
+            "",
+            "Generics { open_angle: LessThan, body: Or, close_angle: GreaterThan }",
+        )],
+        &[],
+    )?;
+    reads_with_no_memory::<MayBeNull<Dot>>(
+        alloc,
+        &[
+            // A mark may follow.
+            (".?x", "x", "MayBeNull { type_: Dot, q_mark: Some(QMark) }"),
+            (".x", "x", "MayBeNull { type_: Dot, q_mark: None }"),
+        ],
+        &[],
+    )?;
+    assert!(rt; Wanted::new().tell(&rt, alloc));
+    Ok(())
+}
+
+#[test]
+fn lists_are_read_and_copied_or_want_memory(rt: HostRuntime) -> Result<(), Fail> {
+    let alloc = rt.alloc();
+    let mut wanted = Wanted::new();
+    wanted.reads::<Punctuated<Identifier<'_>, Comma>>(
+        alloc,
+        &[
+            // A separator that no item follows is given back.
             (
                 "a, b ,",
                 ",",
                 r#"Punctuated { list: [Identifier("a"), Identifier("b")], separator: Comma }"#,
             ),
             (",", ",", "Punctuated { list: [], separator: Comma }"),
+            (
+                "a, b",
+                "",
+                r#"Punctuated { list: [Identifier("a"), Identifier("b")], separator: Comma }"#,
+            ),
+            ("", "", "Punctuated { list: [], separator: Comma }"),
         ],
+        &[],
     )?;
+    wanted.reads::<PunctuatedNonEmpty<Identifier<'_>, Comma>>(
+        alloc,
+        &[
+            // A list that isn't empty takes one separator more.
+            (
+                "a, b ,",
+                "",
+                "PunctuatedNonEmpty { list: [Identifier(\"a\"), Identifier(\"b\")], separator: \
+                 Comma }",
+            ),
+            (
+                "a, b,",
+                "",
+                "PunctuatedNonEmpty { list: [Identifier(\"a\"), Identifier(\"b\")], separator: \
+                 Comma }",
+            ),
+        ],
+        &[","],
+    )?;
+    wanted.reads::<Braced<Punctuated<Comma, Comma>>>(
+        alloc,
+        &[
+            // A copy of a part equals it.
+            (
+                "{,,,}",
+                "",
+                "Braced { open_brace: OpenBrace, body: Punctuated { list: [Comma, Comma], \
+                 separator: Comma }, close_brace: CloseBrace }",
+            ),
+        ],
+        &[],
+    )?;
+    assert!(rt; wanted.tell(&rt, alloc));
     Ok(())
 }
 
 #[test]
-fn a_list_that_is_not_empty_takes_one_separator_more(rt: HostRuntime) -> Result<(), Fail> {
-    reads::<PunctuatedNonEmpty<Identifier<'_>, Comma>>(
-        rt.alloc(),
+fn brackets_are_read_and_copied_or_want_memory(rt: HostRuntime) -> Result<(), Fail> {
+    let alloc = rt.alloc();
+    let mut wanted = Wanted::new();
+    wanted.reads::<Parenthesized<Vec<Or>>>(
+        alloc,
         &[(
-            "a, b ,",
-            r#"PunctuatedNonEmpty { list: [Identifier("a"), Identifier("b")], separator: Comma }"#,
+            "(or)",
+            "",
+            "Parenthesized { open_paren: OpenParen, body: [Or], close_paren: CloseParen }",
         )],
-    )
-    .and(refuses::<PunctuatedNonEmpty<Identifier<'_>, Comma>>(rt.alloc(), &[","]))?;
+        &[],
+    )?;
+    wanted.reads::<Bracketed<Box<Or>>>(
+        alloc,
+        &[(
+            "[or]",
+            "",
+            "Bracketed { open_bracket: OpenBracket, body: Or, close_bracket: CloseBracket }",
+        )],
+        &[],
+    )?;
+    wanted.reads::<Braced<Vec<Or>>>(
+        alloc,
+        &[(
+            "{or}",
+            "",
+            "Braced { open_brace: OpenBrace, body: [Or], close_brace: CloseBrace }",
+        )],
+        &[],
+    )?;
+    wanted.reads::<Generics<Box<Or>>>(
+        alloc,
+        &[(
+            "<or>",
+            "",
+            "Generics { open_angle: LessThan, body: Or, close_angle: GreaterThan }",
+        )],
+        &[],
+    )?;
+    wanted.reads::<MayBeNull<Box<Or>>>(
+        alloc,
+        &[("or?", "", "MayBeNull { type_: Or, q_mark: Some(QMark) }")],
+        &[],
+    )?;
+    assert!(rt; wanted.tell(&rt, alloc));
     Ok(())
 }
 
@@ -59,86 +239,12 @@ fn a_separator_that_takes_nothing_refuses_the_list(rt: HostRuntime) -> Result<()
 }
 
 #[test]
-fn brackets_stand_round_a_value(rt: HostRuntime) -> Result<(), Fail> {
-    let alloc = rt.alloc();
-    reads_up_to::<Parenthesized<Comma>>(
-        alloc,
-        &[(
-            " ( , ) x",
-            "x",
-            "Parenthesized { open_paren: OpenParen, body: Comma, close_paren: CloseParen }",
-        )],
-    )
-    .and(reads_up_to::<Bracketed<Comma>>(
-        alloc,
-        &[(
-            "[,]x",
-            "x",
-            "Bracketed { open_bracket: OpenBracket, body: Comma, close_bracket: CloseBracket }",
-        )],
-    ))
-    .and(reads_up_to::<Braced<Comma>>(
-        alloc,
-        &[(
-            "{,}x",
-            "x",
-            "Braced { open_brace: OpenBrace, body: Comma, close_brace: CloseBrace }",
-        )],
-    ))
-    .and(reads_up_to::<Generics<Comma>>(
-        alloc,
-        &[(
-            "<,>x",
-            "x",
-            "Generics { open_angle: LessThan, body: Comma, close_angle: GreaterThan }",
-        )],
-    ))
-    .and(refuses::<Bracketed<Comma>>(alloc, &["(,)"]))
-    .and(refuses::<Parenthesized<Comma>>(alloc, &["(,"]))?;
-    Ok(())
-}
-
-#[test]
-fn a_mark_may_follow(rt: HostRuntime) -> Result<(), Fail> {
-    reads_copied_up_to::<MayBeNull<Dot>>(
-        rt.alloc(),
-        &[
-            (".?x", "x", "MayBeNull { type_: Dot, q_mark: Some(QMark) }"),
-            (".x", "x", "MayBeNull { type_: Dot, q_mark: None }"),
-        ],
-    )?;
-    Ok(())
-}
-
-#[test]
 fn a_failure_of_a_part_ends_the_call(rt: HostRuntime) -> Result<(), Fail> {
     let alloc = rt.alloc();
-    fails_at::<MayBeNull<Fuse>>(alloc, "!", "!")
-        .and(fails_at::<Parenthesized<Fuse>>(alloc, "(!)", "!)"))
-        .and(fails_at::<Punctuated<Comma, Fuse>>(alloc, ",!", "!"))
-        .and(fails_at::<PunctuatedNonEmpty<Comma, Fuse>>(alloc, ",!", "!"))
-        .and(fails_at::<Punctuated<Fuse, Comma>>(alloc, "!x", "!x"))?;
-    Ok(())
-}
-
-#[test]
-fn the_default_of_brackets_is_that_of_their_parts(rt: HostRuntime) {
-    assert!(rt; Parenthesized::<Comma>::default().body == Comma);
-    assert!(rt; Generics::<Option<Comma>>::default().body.is_none());
-}
-
-#[test]
-fn a_copy_of_a_part_equals_it(rt: HostRuntime) -> Result<(), Fail> {
-    let alloc = rt.alloc();
-    reads::<Identifier<'_>>(alloc, &[("a", r#"Identifier("a")"#)]).and(reads::<
-        Braced<Punctuated<Comma, Comma>>,
-    >(
-        alloc,
-        &[(
-            "{,,,}",
-            "Braced { open_brace: OpenBrace, \
-             body: Punctuated { list: [Comma, Comma], separator: Comma }, close_brace: CloseBrace }",
-        )],
-    ))?;
+    fails_at::<MayBeNull<Fuse>>(alloc, "!", "!")?;
+    fails_at::<Parenthesized<Fuse>>(alloc, "(!)", "!)")?;
+    fails_at::<Punctuated<Comma, Fuse>>(alloc, ",!", "!")?;
+    fails_at::<PunctuatedNonEmpty<Comma, Fuse>>(alloc, ",!", "!")?;
+    fails_at::<Punctuated<Fuse, Comma>>(alloc, "!x", "!x")?;
     Ok(())
 }

@@ -1,160 +1,219 @@
-//! Names, numbers, strings, docstrings and values.
+//! Names, numbers, strings, docstrings and values, each by its own `parse`, which takes no memory
+//! but for docstrings.
 //!
 //! The values are those that weedle2 prints, in the port's names. Names that begin with a digit and
 //! `0x`, which it reads, are refused here, by hand from the grammar.
 
 use std::test::Fail;
 use weedle_literal::{
-    BooleanLit, ConstValue, DecLit, Default, DefaultValue, EmptyDictionaryLit, FloatLit,
-    FloatValueLit, HexLit, IntegerLit, OctLit, StringLit,
+    BooleanLit, ConstValue, DecLit, Default, DefaultValue, EmptyArrayLit, EmptyDictionaryLit,
+    FloatLit, FloatValueLit, HexLit, IntegerLit, OctLit, StringLit,
 };
-use weedle_parts::common::{Docstring, Identifier};
-use weedle_term::NegInfinity;
-use weedle_testing::{reads, reads_copied, reads_copied_up_to, reads_up_to, refuses};
+use weedle_parts::common::{Docstring, Generics, Identifier, Parenthesized};
+use weedle_term::{Comma, NegInfinity, Null, Or};
+use weedle_testing::{Wanted, reads_with_no_memory};
 
 #[test]
-fn a_name_is_kept_without_its_underscore(rt: HostRuntime) -> Result<(), Fail> {
+fn no_number_takes_memory(rt: HostRuntime) -> Result<(), Fail> {
     let alloc = rt.alloc();
-    reads_up_to::<Identifier<'_>>(alloc, &[("_a9-b c", "c", r#"Identifier("a9-b")"#)])
-        .and(reads::<Identifier<'_>>(alloc, &[("_interface", r#"Identifier("interface")"#)]))
-        .and(refuses::<Identifier<'_>>(alloc, &["__x"]))?;
-    Ok(())
-}
-
-#[test]
-fn a_name_begins_with_a_letter(rt: HostRuntime) -> Result<(), Fail> {
-    refuses::<Identifier<'_>>(rt.alloc(), &["_9a-b c", "9", "-a", "é"])?;
-    Ok(())
-}
-
-#[test]
-fn integers_are_decimal_hexadecimal_or_octal(rt: HostRuntime) -> Result<(), Fail> {
-    let alloc = rt.alloc();
-    reads_copied_up_to::<DecLit<'_>>(alloc, &[(" -12 x", "x", r#"DecLit("-12")"#)])
-        .and(reads_copied::<OctLit<'_>>(alloc, &[("017", r#"OctLit("017")"#)]))
-        .and(reads_copied_up_to::<HexLit<'_>>(alloc, &[("0x1;", ";", r#"HexLit("0x1")"#)]))
-        .and(reads_copied_up_to::<IntegerLit<'_>>(
-            alloc,
-            &[
-                ("45", "", r#"Dec(DecLit("45"))"#),
-                ("08", "8", r#"Oct(OctLit("0"))"#),
-                ("-0", "", r#"Oct(OctLit("-0"))"#),
-                ("0Xff", "", r#"Hex(HexLit("0Xff"))"#),
-            ],
-        ))?;
-    Ok(())
-}
-
-#[test]
-fn a_hexadecimal_number_has_a_digit(rt: HostRuntime) -> Result<(), Fail> {
-    let alloc = rt.alloc();
-    refuses::<HexLit<'_>>(alloc, &["0x;"]).and(reads_copied_up_to::<IntegerLit<'_>>(
+    reads_with_no_memory::<DecLit<'_>>(
         alloc,
         &[
+            // Integers are decimal hexadecimal or octal.
+            (" -12 x", "x", r#"DecLit("-12")"#),
+            ("-12", "", r#"DecLit("-12")"#),
+        ],
+        &[],
+    )?;
+    reads_with_no_memory::<HexLit<'_>>(
+        alloc,
+        &[
+            // Integers are decimal hexadecimal or octal.
+            ("0x1;", ";", r#"HexLit("0x1")"#),
+            ("0x1", "", r#"HexLit("0x1")"#),
+        ],
+        &["0x;"],
+    )?;
+    reads_with_no_memory::<OctLit<'_>>(
+        alloc,
+        &[
+            // Integers are decimal hexadecimal or octal.
+            ("017", "", r#"OctLit("017")"#),
+        ],
+        &[],
+    )?;
+    reads_with_no_memory::<IntegerLit<'_>>(
+        alloc,
+        &[
+            // Integers are decimal hexadecimal or octal.
+            ("45", "", r#"Dec(DecLit("45"))"#),
+            ("08", "8", r#"Oct(OctLit("0"))"#),
+            ("-0", "", r#"Oct(OctLit("-0"))"#),
+            ("0Xff", "", r#"Hex(HexLit("0Xff"))"#),
+            // A hexadecimal number has a digit.
             ("0x;", "x;", r#"Oct(OctLit("0"))"#),
             ("-0x", "x", r#"Oct(OctLit("-0"))"#),
         ],
-    ))?;
-    Ok(())
-}
-
-#[test]
-fn a_float_has_a_point_or_an_exponent(rt: HostRuntime) -> Result<(), Fail> {
-    let alloc = rt.alloc();
-    reads_copied_up_to::<FloatValueLit<'_>>(
+        &[],
+    )?;
+    reads_with_no_memory::<FloatValueLit<'_>>(
         alloc,
         &[
+            // A float has a point or an exponent.
             ("-.5E+3x", "x", r#"FloatValueLit("-.5E+3")"#),
             ("1e3", "", r#"FloatValueLit("1e3")"#),
             ("5.", "", r#"FloatValueLit("5.")"#),
             ("1.5e", "e", r#"FloatValueLit("1.5")"#),
         ],
-    )
-    .and(refuses::<FloatValueLit<'_>>(alloc, &["5", "."]))
-    .and(reads_copied_up_to::<FloatLit<'_>>(
-        alloc,
-        &[("1.5e", "e", r#"Value(FloatValueLit("1.5"))"#)],
-    ))?;
-    Ok(())
-}
-
-#[test]
-fn a_string_is_kept_without_its_quotes(rt: HostRuntime) -> Result<(), Fail> {
-    let alloc = rt.alloc();
-    reads_copied_up_to::<StringLit<'_>>(alloc, &[("\"a\nb\" c", "c", r#"StringLit("a\nb")"#)]).and(
-        refuses::<StringLit<'_>>(alloc, &["\"a"]),
+        &["5", "."],
     )?;
-    Ok(())
-}
-
-#[test]
-fn a_docstring_holds_its_lines(rt: HostRuntime) -> Result<(), Fail> {
-    let alloc = rt.alloc();
-    reads_up_to::<Docstring>(
+    reads_with_no_memory::<FloatLit<'_>>(
         alloc,
         &[
-            ("///a\n ///b\nx", "x", r#"Docstring("a\nb")"#),
-            ("///a\r\nx", "x", r#"Docstring("a\r")"#),
-            ("///a\n y", " y", r#"Docstring("a")"#),
+            // A float has a point or an exponent.
+            ("1.5e", "e", r#"Value(FloatValueLit("1.5"))"#),
+            ("1.5", "", r#"Value(FloatValueLit("1.5"))"#),
+            ("NaN", "", "NaN(NaN)"),
         ],
-    )
-    .and(refuses::<Docstring>(alloc, &["///a"]))?;
+        &[],
+    )?;
+    assert!(rt; Wanted::new().tell(&rt, alloc));
     Ok(())
 }
 
 #[test]
-fn values_are_tried_in_order(rt: HostRuntime) -> Result<(), Fail> {
+fn no_name_and_no_value_takes_memory(rt: HostRuntime) -> Result<(), Fail> {
     let alloc = rt.alloc();
-    reads_copied::<DefaultValue<'_>>(
+    reads_with_no_memory::<Identifier<'_>>(
         alloc,
         &[
-            ("-0x1F", r#"Integer(Hex(HexLit("-0x1F")))"#),
+            // A name is kept without its underscore.
+            ("_a9-b c", "c", r#"Identifier("a9-b")"#),
+            // A name is kept without its underscore.
+            ("_interface", "", r#"Identifier("interface")"#),
+            // A copy of a part equals it.
+            ("a", "", r#"Identifier("a")"#),
+            ("_a", "", r#"Identifier("a")"#),
+        ],
+        &["__x", "_9a-b c", "9", "-a", "é"],
+    )?;
+    reads_with_no_memory::<StringLit<'_>>(
+        alloc,
+        &[
+            // A string is kept without its quotes.
+            ("\"a\nb\" c", "c", "StringLit(\"a\\nb\")"),
+            (r#""a""#, "", r#"StringLit("a")"#),
+        ],
+        &[r#""a"#],
+    )?;
+    reads_with_no_memory::<BooleanLit>(
+        alloc,
+        &[
+            // Values are tried in order.
+            ("false x", "x", "BooleanLit(false)"),
+            ("true", "", "BooleanLit(true)"),
+        ],
+        &[],
+    )?;
+    reads_with_no_memory::<EmptyArrayLit>(
+        alloc,
+        &[(
+            "[ ]",
+            "",
+            "EmptyArrayLit { open_bracket: OpenBracket, close_bracket: CloseBracket }",
+        )],
+        &[],
+    )?;
+    reads_with_no_memory::<EmptyDictionaryLit>(
+        alloc,
+        &[
+            // Values are tried in order.
+            (
+                "{ }x",
+                "x",
+                "EmptyDictionaryLit { open_brace: OpenBrace, close_brace: CloseBrace }",
+            ),
+            (
+                "{ }",
+                "",
+                "EmptyDictionaryLit { open_brace: OpenBrace, close_brace: CloseBrace }",
+            ),
+        ],
+        &[],
+    )?;
+    reads_with_no_memory::<DefaultValue<'_>>(
+        alloc,
+        &[
+            // Values are tried in order.
+            ("-0x1F", "", r#"Integer(Hex(HexLit("-0x1F")))"#),
             (
                 "[ ]",
-                "EmptyArray(EmptyArrayLit { open_bracket: OpenBracket, close_bracket: CloseBracket })",
+                "",
+                "EmptyArray(EmptyArrayLit { open_bracket: OpenBracket, close_bracket: \
+                 CloseBracket })",
             ),
-            ("\"a\"", r#"String(StringLit("a"))"#),
-            ("null", "Null(Null)"),
+            (r#""a""#, "", r#"String(StringLit("a"))"#),
+            ("null", "", "Null(Null)"),
         ],
-    )
-    .and(refuses::<DefaultValue<'_>>(alloc, &["truex"]))
-    .and(reads_copied_up_to::<BooleanLit>(alloc, &[("false x", "x", "BooleanLit(false)")]))
-    .and(reads_copied_up_to::<EmptyDictionaryLit>(
-        alloc,
-        &[(
-            "{ }x",
-            "x",
-            "EmptyDictionaryLit { open_brace: OpenBrace, close_brace: CloseBrace }",
-        )],
-    ))
-    .and(reads_copied::<Default<'_>>(
-        alloc,
-        &[(
-            "= true",
-            "Default { assign: Assign, value: Boolean(BooleanLit(true)) }",
-        )],
-    ))?;
-    Ok(())
-}
-
-#[test]
-fn constants_have_no_plus_infinity(rt: HostRuntime) -> Result<(), Fail> {
-    let alloc = rt.alloc();
-    reads_copied::<ConstValue<'_>>(
+        &["truex"],
+    )?;
+    reads_with_no_memory::<ConstValue<'_>>(
         alloc,
         &[
-            ("-Infinity", "Float(NegInfinity(NegInfinity))"),
-            ("1e3", r#"Float(Value(FloatValueLit("1e3")))"#),
+            // Constants have no plus infinity.
+            ("-Infinity", "", "Float(NegInfinity(NegInfinity))"),
+            ("1e3", "", r#"Float(Value(FloatValueLit("1e3")))"#),
         ],
-    )
-    .and(refuses::<ConstValue<'_>>(alloc, &["+Infinity"]))?;
+        &["+Infinity"],
+    )?;
+    reads_with_no_memory::<Default<'_>>(
+        alloc,
+        &[
+            // Values are tried in order.
+            (
+                "= true",
+                "",
+                "Default { assign: Assign, value: Boolean(BooleanLit(true)) }",
+            ),
+        ],
+        &[],
+    )?;
+    assert!(rt; Wanted::new().tell(&rt, alloc));
     Ok(())
 }
 
 #[test]
-fn a_member_turns_into_its_variant(rt: HostRuntime) {
+fn docstrings_are_read_and_copied_or_want_memory(rt: HostRuntime) -> Result<(), Fail> {
+    let alloc = rt.alloc();
+    let mut wanted = Wanted::new();
+    wanted.reads::<Docstring>(
+        alloc,
+        &[
+            // A docstring holds its lines.
+            ("///a\n ///b\nx", "x", "Docstring(\"a\\nb\")"),
+            ("///a\r\nx", "x", "Docstring(\"a\\r\")"),
+            ("///a\n y", " y", r#"Docstring("a")"#),
+            ("///a\n ///b\n", "", "Docstring(\"a\\nb\")"),
+            ("///\n", "", r#"Docstring("")"#),
+        ],
+        &["///a"],
+    )?;
+    assert!(rt; wanted.tell(&rt, alloc));
+    Ok(())
+}
+
+#[test]
+fn no_default_and_no_conversion_takes_memory(rt: HostRuntime) {
+    assert_eq!(rt; <Comma as std::default::Default>::default(), Comma);
+    assert_eq!(rt;
+        <Parenthesized<Or> as std::default::Default>::default().body,
+        Or
+    );
+    assert_eq!(rt; <Generics<Or> as std::default::Default>::default().body, Or);
     assert!(rt; IntegerLit::from(OctLit("0")) == IntegerLit::Oct(OctLit("0")));
     assert!(rt; FloatLit::from(NegInfinity) == FloatLit::NegInfinity(NegInfinity));
     assert!(rt; DefaultValue::from(StringLit("a")) == DefaultValue::String(StringLit("a")));
+    assert!(rt; DefaultValue::from(Null) == DefaultValue::Null(Null));
     assert!(rt; ConstValue::from(BooleanLit(true)) == ConstValue::Boolean(BooleanLit(true)));
+    assert!(rt; Wanted::new().tell(&rt, rt.alloc()));
 }

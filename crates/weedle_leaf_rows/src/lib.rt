@@ -1,7 +1,11 @@
-//! Tests of the grammar's rows, the table of ends, diagnoses, scanners, terminals, standard
-//! types, generic parts and leaves: worked examples whose answers come from outside.
+//! Tests of what stands below the types: the grammar's rows, the table of ends, diagnoses,
+//! scanners, terminals, standard types, generic parts and leaves, as worked examples whose answers
+//! come from outside; and of syntax trees, names, places, comments, lines and layouts each call
+//! once, since what they say of texts is tested over the built programs and from Python.
 #![tactic(auto)]
 
+#[cfg(test)]
+mod comments;
 #[cfg(test)]
 mod diagnoses;
 #[cfg(test)]
@@ -19,7 +23,7 @@ mod standard;
 #[cfg(test)]
 mod table;
 #[cfg(test)]
-mod types;
+mod trees;
 #[cfg(test)]
 mod users;
 #[cfg(test)]

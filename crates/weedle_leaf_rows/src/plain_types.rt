@@ -1,4 +1,4 @@
-//! Types that hold no others, each alone.
+//! Types of numbers and of constants, each by its own `parse`, which takes no memory.
 //!
 //! The values are those that weedle2 prints, in the port's names.
 
@@ -7,122 +7,204 @@ use weedle_parts::types::{
     ConstType, DoubleType, FloatType, FloatingPointType, IntegerType, LongLongType, LongType,
     MayBeNull, ShortType,
 };
-use weedle_testing::reads_copied;
+use weedle_term::Long;
+use weedle_testing::{Wanted, reads_with_no_memory};
 
 #[test]
-fn a_number_has_its_type(rt: HostRuntime) -> Result<(), Fail> {
+fn no_type_of_integers_takes_memory(rt: HostRuntime) -> Result<(), Fail> {
     let alloc = rt.alloc();
-    reads_copied::<IntegerType>(
+    reads_with_no_memory::<LongLongType>(
         alloc,
         &[
+            // An integer type is read alone.
             (
                 "long long",
-                "LongLong(LongLongType { unsigned: None, long_long: (Long, Long) })",
-            ),
-            ("long", "Long(LongType { unsigned: None, long: Long })"),
-            ("short", "Short(ShortType { unsigned: None, short: Short })"),
-        ],
-    )
-    .and(reads_copied::<FloatingPointType>(
-        alloc,
-        &[
-            (
-                "float",
-                "Float(FloatType { unrestricted: None, float: Float })",
-            ),
-            (
-                "double",
-                "Double(DoubleType { unrestricted: None, double: Double })",
+                "",
+                "LongLongType { unsigned: None, long_long: (Long, Long) }",
             ),
         ],
-    ))?;
-    Ok(())
-}
-
-#[test]
-fn an_integer_type_is_read_alone(rt: HostRuntime) -> Result<(), Fail> {
-    let alloc = rt.alloc();
-    reads_copied::<LongLongType>(
+        &[],
+    )?;
+    reads_with_no_memory::<LongType>(
         alloc,
-        &[(
-            "long long",
-            "LongLongType { unsigned: None, long_long: (Long, Long) }",
-        )],
-    )
-    .and(reads_copied::<LongType>(
-        alloc,
-        &[("long", "LongType { unsigned: None, long: Long }")],
-    ))
-    .and(reads_copied::<ShortType>(
-        alloc,
-        &[("short", "ShortType { unsigned: None, short: Short }")],
-    ))?;
-    Ok(())
-}
-
-#[test]
-fn a_floating_point_type_is_read_alone(rt: HostRuntime) -> Result<(), Fail> {
-    let alloc = rt.alloc();
-    reads_copied::<FloatType>(
-        alloc,
-        &[("float", "FloatType { unrestricted: None, float: Float }")],
-    )
-    .and(reads_copied::<DoubleType>(
-        alloc,
-        &[(
-            "double",
-            "DoubleType { unrestricted: None, double: Double }",
-        )],
-    ))?;
-    Ok(())
-}
-
-#[test]
-fn a_plain_type_may_be_null(rt: HostRuntime) -> Result<(), Fail> {
-    reads_copied::<MayBeNull<IntegerType>>(
-        rt.alloc(),
         &[
+            // An integer type is read alone.
+            ("long", "", "LongType { unsigned: None, long: Long }"),
+        ],
+        &[],
+    )?;
+    reads_with_no_memory::<ShortType>(
+        alloc,
+        &[
+            // An integer type is read alone.
+            ("short", "", "ShortType { unsigned: None, short: Short }"),
+            (
+                "unsigned short",
+                "",
+                "ShortType { unsigned: Some(Unsigned), short: Short }",
+            ),
+        ],
+        &[],
+    )?;
+    reads_with_no_memory::<IntegerType>(
+        alloc,
+        &[
+            // An integer type is the first that fits.
+            (
+                "long longx",
+                "longx",
+                "Long(LongType { unsigned: None, long: Long })",
+            ),
             (
                 "short",
-                "MayBeNull { type_: Short(ShortType { unsigned: None, short: Short }), \
-                 q_mark: None }",
+                "",
+                "Short(ShortType { unsigned: None, short: Short })",
+            ),
+            // A number has its type.
+            (
+                "long long",
+                "",
+                "LongLong(LongLongType { unsigned: None, long_long: (Long, Long) })",
+            ),
+            ("long", "", "Long(LongType { unsigned: None, long: Long })"),
+        ],
+        &["unsigned x"],
+    )?;
+    reads_with_no_memory::<MayBeNull<IntegerType>>(
+        alloc,
+        &[
+            // An integer type is the first that fits.
+            (
+                "unsigned long long ?x",
+                "x",
+                "MayBeNull { type_: LongLong(LongLongType { unsigned: Some(Unsigned), \
+                 long_long: (Long, Long) }), q_mark: Some(QMark) }",
+            ),
+            // A plain type may be null.
+            (
+                "short",
+                "",
+                "MayBeNull { type_: Short(ShortType { unsigned: None, short: Short }), q_mark: \
+                 None }",
             ),
             (
                 "short?",
-                "MayBeNull { type_: Short(ShortType { unsigned: None, short: Short }), \
-                 q_mark: Some(QMark) }",
+                "",
+                "MayBeNull { type_: Short(ShortType { unsigned: None, short: Short }), q_mark: \
+                 Some(QMark) }",
             ),
         ],
+        &[],
     )?;
+    assert!(rt; Wanted::new().tell(&rt, alloc));
     Ok(())
 }
 
 #[test]
-fn a_constant_has_one_of_six_types(rt: HostRuntime) -> Result<(), Fail> {
-    reads_copied::<ConstType<'_>>(
-        rt.alloc(),
+fn no_other_plain_type_takes_memory(rt: HostRuntime) -> Result<(), Fail> {
+    let alloc = rt.alloc();
+    reads_with_no_memory::<FloatType>(
+        alloc,
         &[
+            // A floating point type is read alone.
+            (
+                "float",
+                "",
+                "FloatType { unrestricted: None, float: Float }",
+            ),
+        ],
+        &[],
+    )?;
+    reads_with_no_memory::<DoubleType>(
+        alloc,
+        &[
+            // A floating point type is read alone.
+            (
+                "double",
+                "",
+                "DoubleType { unrestricted: None, double: Double }",
+            ),
+        ],
+        &[],
+    )?;
+    reads_with_no_memory::<FloatingPointType>(
+        alloc,
+        &[
+            // A floating point type may be unrestricted.
+            (
+                "float",
+                "",
+                "Float(FloatType { unrestricted: None, float: Float })",
+            ),
+            (
+                "unrestricted double",
+                "",
+                "Double(DoubleType { unrestricted: Some(Unrestricted), double: Double })",
+            ),
+            // A number has its type.
+            (
+                "double",
+                "",
+                "Double(DoubleType { unrestricted: None, double: Double })",
+            ),
+        ],
+        &[],
+    )?;
+    reads_with_no_memory::<ConstType<'_>>(
+        alloc,
+        &[
+            // A constant has a type that may be null.
+            (
+                "boolean?",
+                "",
+                "Boolean(MayBeNull { type_: Boolean, q_mark: Some(QMark) })",
+            ),
+            (
+                "name",
+                "",
+                r#"Identifier(MayBeNull { type_: Identifier("name"), q_mark: None })"#,
+            ),
+            (
+                "octet",
+                "",
+                "Octet(MayBeNull { type_: Octet, q_mark: None })",
+            ),
+            ("byte", "", "Byte(MayBeNull { type_: Byte, q_mark: None })"),
             (
                 "short",
+                "",
                 "Integer(MayBeNull { type_: Short(ShortType { unsigned: None, short: Short }), \
                  q_mark: None })",
             ),
             (
                 "float",
-                "FloatingPoint(MayBeNull { type_: Float(FloatType { unrestricted: None, \
-                 float: Float }), q_mark: None })",
+                "",
+                "FloatingPoint(MayBeNull { type_: Float(FloatType { unrestricted: None, float: \
+                 Float }), q_mark: None })",
             ),
+            // A constant has one of six types.
             (
                 "boolean",
+                "",
                 "Boolean(MayBeNull { type_: Boolean, q_mark: None })",
             ),
-            ("byte", "Byte(MayBeNull { type_: Byte, q_mark: None })"),
-            ("octet", "Octet(MayBeNull { type_: Octet, q_mark: None })"),
-            (
-                "name",
-                r#"Identifier(MayBeNull { type_: Identifier("name"), q_mark: None })"#,
-            ),
         ],
+        &[],
     )?;
+    assert!(rt; Wanted::new().tell(&rt, alloc));
     Ok(())
+}
+
+#[test]
+fn a_member_turns_into_its_variant(rt: HostRuntime) {
+    let long = LongType {
+        unsigned: None,
+        long: Long,
+    };
+    assert!(rt; IntegerType::from(long) == IntegerType::Long(long));
+    let integer = MayBeNull {
+        type_: IntegerType::Long(long),
+        q_mark: None,
+    };
+    assert!(rt; ConstType::from(integer) == ConstType::Integer(integer));
 }

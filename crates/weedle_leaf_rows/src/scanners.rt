@@ -7,10 +7,11 @@ use std::alloc::Global;
 use std::test::Fail;
 use weedle_base::{Parse, docstring, ident_tag, is_alphanum_underscore_dash, sp};
 use weedle_term::{Dot, Ellipsis, Long, NegInfinity, OpenParen};
-use weedle_testing::{is_mismatch, reads_copied, reads_copied_up_to, refuses};
+use weedle_testing::{Unlike, Wanted, is_mismatch, other_value, reads_with_no_memory};
 
 #[test]
-fn trivia_is_comments_and_blanks(rt: HostRuntime) {
+fn no_scanner_takes_memory(rt: HostRuntime) {
+    // Trivia is comments and blanks.
     for (text, rest, trivia) in [
         ("// a\n/* b */ c", "c", "// a\n/* b */ "),
         ("// a", "", "// a"),
@@ -24,39 +25,66 @@ fn trivia_is_comments_and_blanks(rt: HostRuntime) {
     ] {
         assert!(rt; sp(text) == (rest, trivia), "in {text}");
     }
-}
-
-#[test]
-fn a_tag_ends_where_a_name_ends(rt: HostRuntime) {
+    // A tag ends where a name ends.
     assert!(rt; ident_tag("long", "long") == Some(("", "long")));
     assert!(rt; ident_tag("long", "long-").is_none());
     assert!(rt; ident_tag("or", "oré") == Some(("é", "or")));
-}
-
-#[test]
-fn names_have_ascii_letters_digits_underscores_and_dashes(rt: HostRuntime) {
-    for token in ['a', 'Z', '0', '_', '-'] {
-        assert!(rt; is_alphanum_underscore_dash(token));
-    }
-    for token in [' ', '.', 'é', '\u{1F600}'] {
-        assert!(rt; !is_alphanum_underscore_dash(token));
-    }
-}
-
-#[test]
-fn a_docstring_joins_its_lines(rt: HostRuntime) -> Result<(), Fail> {
-    for (text, rest, value) in [
-        ("  ///\n///b\n", "", "\nb"),
-        ("////x\n", "", "/x"),
-        ("///a\n ///b\nx", "x", "a\nb"),
-        ("///a\r\nx", "x", "a\r"),
-        ("///a\n y", " y", "a"),
+    // Names have ASCII letters, digits, underscores and dashes.
+    for (token, is_one) in [
+        ('a', true),
+        ('Z', true),
+        ('0', true),
+        ('_', true),
+        ('-', true),
+        (' ', false),
+        ('.', false),
+        ('é', false),
+        ('\u{1F600}', false),
     ] {
-        match docstring(rt.alloc(), text) {
-            Ok((left, read)) => assert!(rt; left == rest && read.as_str() == value, "in {text}"),
-            Err(_) => assert!(rt; false, "{text} is not read"),
+        assert_eq!(rt; is_alphanum_underscore_dash(token), is_one);
+    }
+    assert!(rt; Wanted::new().tell(&rt, rt.alloc()));
+}
+
+/// Joins the lines of the text, which are to be this docstring before this rest, or to want memory.
+fn joins<'a>(
+    wanted: &mut Wanted,
+    alloc: Global,
+    text: &'a str,
+    (rest, lines): (&'a str, &'a str),
+) -> Result<(), Unlike<'a>> {
+    match docstring(alloc, text) {
+        Ok((left, read)) => {
+            if left != rest {
+                let wanted = rest;
+                Err(Unlike::Rest { text, wanted, left })
+            } else if read.as_str() != lines {
+                Err(other_value(alloc, text, lines, &read))
+            } else {
+                Ok(())
+            }
+        }
+        Err(fault) => wanted.fault(text, fault),
+    }
+}
+
+#[test]
+fn docstrings_are_joined_or_want_memory(rt: HostRuntime) -> Result<(), Fail> {
+    let alloc = rt.alloc();
+    let mut wanted = Wanted::new();
+    for _ in 0..2 {
+        for (text, rest, lines) in [
+            ("  ///\n///b\n", "", "\nb"),
+            ("////x\n", "", "/x"),
+            ("///a\n ///b\nx", "x", "a\nb"),
+            ("///a\r\nx", "x", "a\r"),
+            ("///a\n y", " y", "a"),
+            ("///\n", "", ""),
+        ] {
+            joins(&mut wanted, alloc, text, (rest, lines))?;
         }
     }
+    assert!(rt; wanted.tell(&rt, alloc));
     Ok(())
 }
 
@@ -67,14 +95,18 @@ fn a_docstring_stands_at_the_front_and_ends_its_line(rt: HostRuntime) {
 }
 
 #[test]
-fn terminals_take_their_bytes_alone(rt: HostRuntime) -> Result<(), Fail> {
+fn no_terminal_takes_more_than_its_bytes(rt: HostRuntime) -> Result<(), Fail> {
     let alloc = rt.alloc();
-    reads_copied_up_to::<OpenParen>(alloc, &[("(  anything", "anything", "OpenParen")])
-        .and(reads_copied::<NegInfinity>(alloc, &[("  -Infinity  ", "NegInfinity")]))
-        .and(reads_copied_up_to::<Dot>(alloc, &[("...", "..", "Dot")]))
-        .and(refuses::<Ellipsis>(alloc, &[".."]))
-        .and(refuses::<NegInfinity>(alloc, &["- Infinity"]))
-        .and(refuses::<Long>(alloc, &["long-x"]))?;
+    reads_with_no_memory::<OpenParen>(alloc, &[("(  anything", "anything", "OpenParen")], &[])?;
+    reads_with_no_memory::<NegInfinity>(
+        alloc,
+        &[("  -Infinity  ", "", "NegInfinity")],
+        &["- Infinity"],
+    )?;
+    reads_with_no_memory::<Dot>(alloc, &[("...", "..", "Dot")], &[])?;
+    reads_with_no_memory::<Ellipsis>(alloc, &[], &[".."])?;
+    reads_with_no_memory::<Long>(alloc, &[], &["long-x"])?;
+    assert!(rt; Wanted::new().tell(&rt, alloc));
     Ok(())
 }
 

@@ -1,36 +1,78 @@
-//! `Parse` and `TryClone` for the standard library's types.
+//! `Parse` and `TryClone` for the standard library's types, also where memory is refused.
 //!
 //! Of weedle2's types the values are those that it prints; of the others they are by hand, from the
 //! contracts.
 
 use crate::users::{Fuse, Nothing};
-use std::alloc::{AllocError, Global};
+use std::alloc::AllocError;
 use std::test::Fail;
-use weedle_base::{Parse, TryClone};
+use weedle_base::{Choice, Parse, TryClone};
+use weedle_parts::common::Identifier;
 use weedle_term::{Comma, Dot, Or};
-use weedle_testing::{fails_at, reads_copied, reads_copied_up_to, reads_up_to, refuses};
+use weedle_testing::{Wanted, fails_at, reads_with_no_memory, refuses};
 
 #[test]
-fn an_option_takes_nothing_where_its_value_is_refused(rt: HostRuntime) -> Result<(), Fail> {
-    reads_up_to::<Option<Comma>>(
-        rt.alloc(),
-        &[(",x", "x", "Some(Comma)"), (" x", " x", "None")],
-    )?;
-    Ok(())
-}
-
-#[test]
-fn a_tuple_reads_its_parts_in_order(rt: HostRuntime) -> Result<(), Fail> {
+fn no_tuple_takes_memory(rt: HostRuntime) -> Result<(), Fail> {
     let alloc = rt.alloc();
-    reads_copied_up_to::<(Comma, Dot)>(alloc, &[(", .x", "x", "(Comma, Dot)")])
-        .and(reads_copied::<(Comma, Dot, Or)>(alloc, &[(",.or", "(Comma, Dot, Or)")]))
-        .and(refuses::<(Comma, Dot)>(alloc, &[",,"]))?;
+    reads_with_no_memory::<(Comma, Dot)>(
+        alloc,
+        &[
+            // A tuple reads its parts in order.
+            (", .x", "x", "(Comma, Dot)"),
+        ],
+        &[",,"],
+    )?;
+    reads_with_no_memory::<(Comma, Option<Dot>)>(
+        alloc,
+        &[(",", "", "(Comma, None)"), (",.", "", "(Comma, Some(Dot))")],
+        &[],
+    )?;
+    reads_with_no_memory::<(Comma, Dot, Or)>(
+        alloc,
+        &[
+            // A tuple reads its parts in order.
+            (",.or", "", "(Comma, Dot, Or)"),
+        ],
+        &[],
+    )?;
+    assert!(rt; Wanted::new().tell(&rt, alloc));
     Ok(())
 }
 
 #[test]
-fn a_box_holds_what_is_read(rt: HostRuntime) -> Result<(), Fail> {
-    reads_up_to::<Box<Comma>>(rt.alloc(), &[(", x", "x", "Comma")])?;
+fn standard_types_are_read_and_copied_or_want_memory(rt: HostRuntime) -> Result<(), Fail> {
+    let alloc = rt.alloc();
+    let mut wanted = Wanted::new();
+    wanted.reads::<Option<Comma>>(
+        alloc,
+        &[
+            // An option takes nothing where its value is refused.
+            (",x", "x", "Some(Comma)"),
+            (" x", " x", "None"),
+        ],
+        &[],
+    )?;
+    wanted.reads::<Box<Comma>>(
+        alloc,
+        &[
+            // A box holds what is read.
+            (", x", "x", "Comma"),
+            (",", "", "Comma"),
+        ],
+        &[],
+    )?;
+    wanted.reads::<Option<Box<Comma>>>(alloc, &[(",", "", "Some(Comma)"), ("", "", "None")], &[])?;
+    wanted.reads::<(Comma, Box<Or>)>(alloc, &[(",or", "", "(Comma, Or)")], &[])?;
+    wanted.reads::<(Comma, Or, Box<Comma>)>(alloc, &[(",or,", "", "(Comma, Or, Comma)")], &[])?;
+    wanted.reads::<Vec<Comma>>(
+        alloc,
+        &[
+            ("", "", "[]"),
+            (",,,,,", "", "[Comma, Comma, Comma, Comma, Comma]"),
+        ],
+        &[],
+    )?;
+    assert!(rt; wanted.tell(&rt, alloc));
     Ok(())
 }
 
@@ -47,44 +89,55 @@ fn a_list_reads_items_until_one_is_refused(rt: HostRuntime) {
 
 #[test]
 fn an_item_that_takes_nothing_refuses_the_list(rt: HostRuntime) -> Result<(), Fail> {
-    refuses::<Vec<Option<Comma>>>(rt.alloc(), &["x", ",x", ""]).and(refuses::<Vec<Nothing>>(
-        rt.alloc(),
-        &["x", ",x", ""],
-    ))?;
+    let alloc = rt.alloc();
+    refuses::<Vec<Option<Comma>>>(alloc, &["x", ",x", ""])?;
+    refuses::<Vec<Nothing>>(alloc, &["x", ",x", ""])?;
     Ok(())
 }
 
 #[test]
 fn a_failure_ends_the_call(rt: HostRuntime) -> Result<(), Fail> {
     let alloc = rt.alloc();
-    fails_at::<Option<Fuse>>(alloc, "!", "!")
-        .and(fails_at::<Box<Fuse>>(alloc, "!", "!"))
-        .and(fails_at::<(Comma, Fuse)>(alloc, ",!", "!"))
-        .and(refuses::<(Dot, Fuse)>(alloc, &[",!"]))
-        .and(fails_at::<Vec<Fuse>>(alloc, "!", "!"))
-        .and(fails_at::<Vec<(Comma, Fuse)>>(alloc, ",!", "!"))?;
-    Ok(())
-}
-
-/// Whether a copy equals the original.
-fn is_copied<T: TryClone + PartialEq>(alloc: Global, original: &T) -> Result<bool, AllocError> {
-    Ok(original.try_clone(alloc)? == *original)
-}
-
-#[test]
-fn a_copy_equals_its_original(rt: HostRuntime) -> Result<(), Fail> {
-    let alloc = rt.alloc();
-    assert!(rt; is_copied(alloc, &Some(Comma))?);
-    assert!(rt; is_copied(alloc, &(Comma, Or))?);
-    assert!(rt; is_copied(alloc, &(Comma, Or, Comma))?);
+    fails_at::<Option<Fuse>>(alloc, "!", "!")?;
+    fails_at::<Box<Fuse>>(alloc, "!", "!")?;
+    fails_at::<(Comma, Fuse)>(alloc, ",!", "!")?;
+    refuses::<(Dot, Fuse)>(alloc, &[",!"])?;
+    fails_at::<Vec<Fuse>>(alloc, "!", "!")?;
+    fails_at::<Vec<(Comma, Fuse)>>(alloc, ",!", "!")?;
     Ok(())
 }
 
 #[test]
-fn a_copy_of_what_is_held_equals_it(rt: HostRuntime) -> Result<(), Fail> {
+fn copies_equal_their_originals_or_want_memory(rt: HostRuntime) -> Result<(), Fail> {
     let alloc = rt.alloc();
-    assert!(rt; String::from_str(alloc, "é")?.try_clone(alloc)?.as_str() == "é");
-    assert!(rt; is_copied(alloc, &Box::new(alloc, Or)?)?);
-    assert!(rt; is_copied(alloc, &[Comma, Comma].to_vec(alloc)?)?);
+    let mut wanted = Wanted::new();
+    for _ in 0..2 {
+        if let Some(text) = wanted.given(String::from_str(alloc, "é")) {
+            assert!(rt; wanted.copies(alloc, &text, "\"é\""));
+        }
+        if let Some(boxed) = wanted.given(Box::new(alloc, Or).map_err(AllocError::from)) {
+            assert!(rt; wanted.copies(alloc, &Some(boxed), "Some(Or)"));
+        }
+        if let Some(list) = wanted.given([Comma, Comma].to_vec(alloc)) {
+            assert!(rt; wanted.copies(alloc, &(Or, list), "(Or, [Comma, Comma])"));
+        }
+    }
+    assert!(rt; wanted.copies(alloc, &(Comma, Or, Comma), "(Comma, Or, Comma)"));
+    assert!(rt; wanted.tell(&rt, alloc));
+    Ok(())
+}
+
+/// A second alternative that is read would ask for memory, also where its value is let go of.
+#[test]
+fn no_choice_reads_on_where_the_first_fits(rt: HostRuntime) -> Result<(), Fail> {
+    let alloc = rt.alloc();
+    match Choice::<Identifier<'_>, Box<Identifier<'_>>>::parse(alloc, "a") {
+        Ok((rest, Choice::First(name))) => {
+            assert_eq!(rt; rest, "");
+            assert_eq!(rt; name, Identifier("a"));
+        }
+        _ => assert!(rt; false),
+    }
+    assert!(rt; Wanted::new().tell(&rt, alloc));
     Ok(())
 }

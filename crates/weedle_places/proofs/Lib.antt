@@ -3,6 +3,7 @@ pub mod KindFacts
 pub mod MemberFacts
 pub mod WithinFacts
 pub mod NumberFacts
+pub mod CommentFacts
 pub mod PartFacts
 pub mod PlaceFacts
 pub mod ValueFacts

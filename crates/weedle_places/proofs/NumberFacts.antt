@@ -1,5 +1,5 @@
 -- Numbers for which a test gives true.
-use Rattle.std.proofs.Common.{◌≡◌, inl, inr, ℕ, zero, suc, ◌+◌, ◌<◌, ◌≤◌, Bool, true, false, List, [], ◌∷◌, ◌++◌, map, refl, sym, subst, ◌∙◌, ap, arith}
+use Rattle.std.proofs.Common.{◌≡◌, inl, inr, ℕ, zero, suc, ◌+◌, ◌<◌, ◌≤◌, Bool, true, false, List, [], ◌∷◌, ◌++◌, map, refl, sym, subst, ◌∙◌, ap, arith, append-nil}
 use Rattle.std.specs.Prelude.{cond}
 use Rattle.std.proofs.lemmas.Bool.{cases_lt}
 use Rattle.weedle_syntax.specs.declared.node.Node.{Node}
@@ -54,3 +54,20 @@ module _ (test : ℕ → Bool) where
       first : (b : Bool) (others : List ℕ) → b ≡ true → Each P (map f (cond b (from ∷ others) others)) → P (f from)
       first true others e k = k.0
       first false others e k = cc
+
+  -- none of so many, where it gives false for each
+  pub numbers_none : (many from : ℕ) → ((i : ℕ) → from ≤ i → i < from + many → test i ≡ false) → numbers_where test from many ≡ []
+  unfolding numbers_where
+  numbers_none zero from h = refl
+  numbers_none (suc many) from h =
+      let rest = numbers_where test (from + 1) many in
+      ap (λ b. cond b (from ∷ rest) rest) (h from (omega arith) (omega arith)) ∙ numbers_none many (from + 1) (λ i l m. h i (omega arith) (omega arith))
+
+  -- the same of more, where it gives false for each of those
+  pub numbers_same : (more many from : ℕ) → ((i : ℕ) → from + many ≤ i → i < from + (many + more) → test i ≡ false) → numbers_where test from (many + more) ≡ numbers_where test from many
+  numbers_same zero many from h = let e : many + 0 ≡ many = omega arith in ap (numbers_where test from) e
+  numbers_same (suc more) many from h =
+      let e : many + suc more ≡ suc (many + more) = omega arith in
+      let last = h (from + (many + more)) (omega arith) (omega arith) in
+      ap (numbers_where test from) e ∙ numbers_more (many + more) from ∙ ap (λ b. numbers_where test from (many + more) ++ cond b ((from + (many + more)) ∷ []) []) last ∙ append-nil (numbers_where test from (many + more))
+      ∙ numbers_same more many from (λ i l m. h i l (omega arith))

@@ -1,4 +1,5 @@
 pub mod Spans
+pub mod Comments
 pub mod Items
 pub mod Members
 pub mod Places

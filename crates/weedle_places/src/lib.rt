@@ -20,6 +20,7 @@
 
 mod above;
 mod around;
+mod comments;
 mod members;
 mod name;
 mod own;
@@ -27,8 +28,9 @@ mod place;
 mod role;
 mod span;
 
+pub use comments::comments_in;
 pub use members::MemberPlace;
 pub use name::{Name, names, names_of};
-pub use place::{Place, places, places_of};
+pub use place::{Place, places, places_in, places_of};
 pub use role::Role;
 pub use span::Span;

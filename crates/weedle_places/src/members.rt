@@ -35,7 +35,7 @@ use weedle_syntax::Syntax;
 pub struct MemberPlace {
     /// The member, as the grammar has it: with the blanks and comments behind it.
     pub span: Span,
-    /// The same without blanks and comments at either end.
+    /// The member without blanks and comments at either end.
     pub core: Span,
     /// The blanks and comments in front of the core, up to what stands before them.
     pub front: Span,

@@ -19,7 +19,7 @@ pub struct Place {
     /// The definition, as the grammar has it: with the blanks and comments behind it. The first
     /// definition has those in front of it too.
     pub span: Span,
-    /// The same without blanks and comments at either end.
+    /// The definition without blanks and comments at either end.
     pub core: Span,
     /// The blanks and comments in front of the core, up to what stands before them.
     pub front: Span,
@@ -32,8 +32,12 @@ pub struct Place {
     pub values: Vec<MemberPlace>,
 }
 
-/// The places of the definitions of a text that is read whole.
-fn definitions(alloc: Global, syntax: &Syntax<'_>) -> Result<Vec<Place>, AllocError>
+/// Where each definition and each of its members stand in a text that is read whole, by its syntax
+/// tree, as [`Syntax::new`] gives it.
+///
+/// So one tree serves this, [`names_of`](crate::names_of) and [`comments_in`](crate::comments_in).
+/// It asks for memory for the answer, and where it is refused, the answer is an error.
+pub fn places_in(alloc: Global, syntax: &Syntax<'_>) -> Result<Vec<Place>, AllocError>
     requires { IsSyntax syntax.now.text syntax.now.nodes }
     ensures { IfOk result (λ found. ArePlaces syntax.now.text 0 found.items) }
 {
@@ -55,7 +59,8 @@ fn definitions(alloc: Global, syntax: &Syntax<'_>) -> Result<Vec<Place>, AllocEr
     Ok(found)
 }
 
-/// The same as `places`, over the table of ends of the whole text.
+/// Where each definition and each of its members stand in a text that is read whole, over its table
+/// of ends; None of one that isn't.
 ///
 /// It asks for memory for the nodes of the text and for the answer.
 pub fn places_of(alloc: Global, ends: &Ends<'_>) -> Result<Option<Vec<Place>>, AllocError>
@@ -65,7 +70,7 @@ pub fn places_of(alloc: Global, ends: &Ends<'_>) -> Result<Option<Vec<Place>>, A
 {
     match Syntax::of_table(alloc, ends)? {
         Some(syntax) => {
-            let found = definitions(alloc, &syntax)?;
+            let found = places_in(alloc, &syntax)?;
             Ok(Some(found))
         }
         None => Ok(None),
@@ -89,7 +94,7 @@ pub fn places(alloc: Global, raw: &str) -> Result<Option<Vec<Place>>, AllocError
 {
     match Syntax::new(alloc, raw)? {
         Some(syntax) => {
-            let found = definitions(alloc, &syntax)?;
+            let found = places_in(alloc, &syntax)?;
             Ok(Some(found))
         }
         None => Ok(None),

@@ -35,7 +35,8 @@ impl Display for Refusal {
 /// follows.
 fn between(at: usize, shown: usize, more: usize) -> &'static str
     requires { at < shown }
-    ensures { result.now ≡ (if at == 0 then [] else (if more == 0 && at + 1 == shown then codes " or " else codes ", ")) }
+    ensures { result.now ≡ (if at == 0 then []
+        else (if more == 0 && at + 1 == shown then codes " or " else codes ", ")) }
 {
     if at == 0 {
         ""

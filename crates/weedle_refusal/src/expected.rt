@@ -9,8 +9,8 @@ use weedle_grammar::Class;
 /// What would have been read at a place.
 #[derive(Clone, Copy, Debug, PartialEq, Eq)]
 pub enum Expected {
-    /// A type. Every start of one is expected; where only some types are read, as behind `const`, every
-    /// start of those.
+    /// A type. Every start of one is expected; where only some types are read, as behind `const`,
+    /// every start of those.
     Type,
     /// A value. Every start of a default's value is expected, or of a constant's.
     Value,

@@ -9,21 +9,22 @@ ghost use Rattle.weedle_refusal.specs.Starts.{AreStarts};
 
 use crate::starts::{CONST_TYPES, CONST_VALUES, DEFAULT_VALUES, NAMES, TYPES, TYPES_BUT_ANY};
 
-/// A law: a name begins by exactly the rules of which 'a name' is said.
+/// A law, which does nothing: a name begins by exactly the rules of which 'a name' is said.
 pub fn names()
     ensures { AreStarts IDENTIFIER NAMES.now }
 {}
 
-/// A law: a type begins by exactly the rules of one list of which 'a type' is said, one that is
-/// neither `any` nor a union by those of another, and a constant's by those of a third.
+/// A law, which does nothing: a type begins by exactly the rules of one list of which 'a type' is
+/// said, one that is neither `any` nor a union by those of another, and a constant's by those of a
+/// third.
 pub fn types()
     ensures any { AreStarts TYPE TYPES.now }
     ensures but_any { AreStarts NON_ANY_TYPE TYPES_BUT_ANY.now }
     ensures of_constants { AreStarts CONST_TYPE CONST_TYPES.now }
 {}
 
-/// A law: the value of a default begins by exactly the rules of one list of which 'a value' is
-/// said, and that of a constant by those of another.
+/// A law, which does nothing: the value of a default begins by exactly the rules of one list of
+/// which 'a value' is said, and that of a constant by those of another.
 pub fn values()
     ensures of_defaults { AreStarts DEFAULT_VALUE DEFAULT_VALUES.now }
     ensures of_constants { AreStarts CONST_VALUE CONST_VALUES.now }

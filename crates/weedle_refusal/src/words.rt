@@ -43,7 +43,8 @@ pub(crate) fn words_of(alloc: Global, rules: &[Rule]) -> Result<Vec<Expected>, A
 /// Adds the word for one of the rules, if it has one that isn't there yet.
 fn add_word(words: &mut Vec<Expected>, rules: &[Rule], rule: Rule) -> Result<(), AllocError>
     ensures { OnOk result ((before : List Word) → IsEachOnce before (map word_view words.old.items)
-        → IsEachOnce (before ++ filter_map (word_for rules.now) (rule ∷ [])) (map word_view words.new.items)) }
+        → IsEachOnce
+        (before ++ filter_map (word_for rules.now) (rule ∷ [])) (map word_view words.new.items)) }
 {
     let Some(word) = word_among(rules, rule) else {
         return Ok(());
@@ -54,8 +55,8 @@ fn add_word(words: &mut Vec<Expected>, rules: &[Rule], rule: Rule) -> Result<(),
     Ok(())
 }
 
-/// The word for a rule among these: that of its kind where all starts of the kind are there, and else its
-/// own.
+/// The word for a rule among these: that of its kind where all starts of the kind are there, and
+/// else its own.
 fn word_among(rules: &[Rule], rule: Rule) -> Option<Expected>
     ensures { option_map word_view result ≡ word_for rules.now rule }
 {

@@ -1,8 +1,7 @@
 //! Definitions and members are taken apart by move: each part is what the text has.
 
 use std::test::Fail;
-use weedle_base::Parse;
-use weedle_idl::{Definition, EnumDefinition, InterfaceDefinition};
+use weedle::{Definition, EnumDefinition, InterfaceDefinition, Parse};
 
 #[test]
 fn an_interface_gives_its_parts(rt: HostRuntime) -> Result<(), Fail> {

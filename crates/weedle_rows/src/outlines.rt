@@ -3,9 +3,7 @@
 use std::alloc::{AllocError, Global};
 use std::process::Abort;
 use std::test::Fail;
-use weedle_base::{Err, Parse};
-use weedle_idl::Definitions;
-use weedle_report::{Entry, lend, outline};
+use weedle::{Definitions, Entry, Err, Parse, lend, outline};
 use weedle_testing::Wanted;
 
 /// What an outline says of a definition: its kind, its name and its docstring.
@@ -68,7 +66,8 @@ fn outlines_are_made_or_want_memory(rt: HostRuntime) -> Result<(), Fail> {
     Ok(())
 }
 
-/// The list of nine definitions grows twice, so it takes three requests. An outline of it takes one, and is made once.
+/// The list of nine definitions grows twice, so it takes three requests. An outline of it takes
+/// one, and is made once.
 #[test]
 fn an_outline_of_nine_definitions_is_made_by_4_requests(rt: HostRuntime) -> Result<(), Fail> {
     let alloc = rt.alloc();
@@ -77,18 +76,9 @@ fn an_outline_of_nine_definitions_is_made_by_4_requests(rt: HostRuntime) -> Resu
         &rt,
         alloc,
         &mut wanted,
-        "A includes B;A includes B;A includes B;A includes B;A includes B;A includes B;A includes B;A includes B;A includes B;",
-        &[
-            ("includes", "A", None),
-            ("includes", "A", None),
-            ("includes", "A", None),
-            ("includes", "A", None),
-            ("includes", "A", None),
-            ("includes", "A", None),
-            ("includes", "A", None),
-            ("includes", "A", None),
-            ("includes", "A", None),
-        ],
+        "A includes B;A includes B;A includes B;A includes B;A includes B;A includes B;\
+         A includes B;A includes B;A includes B;",
+        &[("includes", "A", None); 9],
     );
     assert!(rt; wanted.tell(&rt, alloc));
     Ok(())

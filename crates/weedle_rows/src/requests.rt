@@ -1,4 +1,144 @@
-//! Each request for memory refused in turn.
+//! Each request for memory refused in turn: readers of whole texts, and both passes.
 
-mod definitions;
-mod passes;
+use super::outcomes::{Counts, Outcome, all_workings, assert_bounds, built, by_table, counted};
+use std::alloc::{AllocError, Global};
+use std::process::Abort;
+use std::test::Fail;
+use weedle_rules::Ends;
+use weedle_testing::examples::{KINDS, WINDOW};
+use weedle_testing::{Wanted, nested_text};
+
+/// Texts, and what is read of each with ample memory.
+const TEXTS: [(&str, Outcome<'static>); 6] = [
+    (WINDOW, Outcome::Read(1, "interface", "Window")),
+    (
+        "interface A { ///d\n attribute long x; };",
+        Outcome::Left("interface A { ///d\n attribute long x; };"),
+    ),
+    (
+        "interface A { ///d\n void f(); };",
+        Outcome::Read(1, "interface", "A"),
+    ),
+    ("enum E {\"a\",\"b\",};", Outcome::Read(1, "enum", "E")),
+    ("enum E {};", Outcome::Left("enum E {};")),
+    (KINDS, Outcome::Read(14, "implements", "Q")),
+];
+
+/// The outcome of the nested extended attributes.
+const NESTED: Outcome<'static> = Outcome::Read(1, "interface", "I");
+
+/// Asserts that a reader answers so or wants memory, which is told with the text itself; and says
+/// whether it does.
+fn is_wanted(
+    rt: &impl Abort,
+    wanted: &mut Wanted,
+    text: &str,
+    answer: Outcome<'_>,
+    expected: Outcome<'_>,
+) -> bool {
+    if let Outcome::Memory(input) = answer {
+        assert_eq!(rt; input, text);
+        wanted.count();
+        return true;
+    }
+    assert_eq!(rt; answer, expected, "of {text:?}");
+    false
+}
+
+/// Asserts the counts of an answer: of one that wants memory none where the table was refused, else
+/// those of the table.
+fn assert_counts(rt: &impl Abort, text: &str, counts: Counts, has_none: bool) {
+    if has_none {
+        assert_eq!(rt; counts.visits, 0, "of {text:?}");
+    }
+    if has_none && counts.workings == 0 {
+        assert_eq!(rt; counts.reads, 0, "of {text:?}");
+    } else {
+        assert_bounds(rt, text, counts);
+    }
+}
+
+/// Asserts that the readers answer so or want memory.
+fn assert_read(
+    rt: &impl Abort,
+    alloc: Global,
+    wanted: &mut Wanted,
+    text: &str,
+    expected: Outcome<'_>,
+) {
+    for _ in 0..2 {
+        is_wanted(rt, wanted, text, by_table(alloc, text), expected);
+        let (answer, counts) = counted(alloc, text);
+        let has_none = is_wanted(rt, wanted, text, answer, expected);
+        assert_counts(rt, text, counts, has_none);
+    }
+}
+
+#[test]
+fn texts_are_read_or_want_memory(rt: HostRuntime) -> Result<(), Fail> {
+    let alloc = rt.alloc();
+    let mut wanted = Wanted::new();
+    for (text, expected) in TEXTS {
+        assert_read(&rt, alloc, &mut wanted, text, expected);
+    }
+    let text = nested_text(alloc, &mut wanted)?;
+    assert_read(&rt, alloc, &mut wanted, &text, NESTED);
+    assert!(rt; wanted.tell(&rt, alloc));
+    Ok(())
+}
+
+/// Asserts what a pass gave, or that memory is wanted.
+fn assert_pass(
+    rt: &impl Abort,
+    wanted: &mut Wanted,
+    text: &str,
+    pass: Result<(Outcome<'_>, &str, u128), AllocError>,
+    expected: Outcome<'_>,
+) {
+    if let Some((answer, rest, visits)) = wanted.given(pass) {
+        assert!(rt; visits > 0);
+        match expected {
+            Outcome::Left(left) => assert_eq!(rt; rest, left, "of {text:?}"),
+            _ => assert_eq!(rt; (answer, rest), (expected, ""), "of {text:?}"),
+        }
+    }
+}
+
+/// Asserts that both passes give this or that memory is wanted, the second made twice.
+fn assert_passes(
+    rt: &impl Abort,
+    alloc: Global,
+    wanted: &mut Wanted,
+    text: &str,
+    expected: Outcome<'_>,
+) {
+    if let Some(ends) = wanted.given(Ends::new_wide(alloc, text)) {
+        assert_eq!(rt; ends.workings(), all_workings(text), "of {text:?}");
+    }
+    match Ends::new(alloc, text) {
+        Ok(ends) => {
+            for _ in 0..2 {
+                let pass = built(alloc, &ends, text);
+                assert_pass(rt, wanted, text, pass, expected);
+            }
+        }
+        Err(_) => wanted.count(),
+    }
+}
+
+#[test]
+fn both_passes_are_made_or_want_memory(rt: HostRuntime) -> Result<(), Fail> {
+    let alloc = rt.alloc();
+    let mut wanted = Wanted::new();
+    for _ in 0..2 {
+        for (text, expected) in TEXTS {
+            assert_passes(&rt, alloc, &mut wanted, text, expected);
+        }
+    }
+    let text = nested_text(alloc, &mut wanted)?;
+    for _ in 0..2 {
+        assert_passes(&rt, alloc, &mut wanted, &text, NESTED);
+    }
+    assert!(rt; wanted.tell(&rt, alloc));
+    Ok(())
+}

@@ -31,7 +31,8 @@ pub(crate) fn read(
     requires shallow { depth ≤ length nodes.old.items }
     requires low { rule < rule_count }
     ensures end { IfOk result (λ o. HasEnd text.now rule place o) }
-    ensures lays { IfOk result (λ o. LaysNode text.now rule place depth nodes.old.items nodes.new.items o) }
+    ensures lays { IfOk result
+        (λ o. LaysNode text.now rule place depth nodes.old.items nodes.new.items o) }
 {
     if text.refuses(rule, place) {
         return Ok(None);
@@ -73,7 +74,8 @@ fn read_row(
     requires shallow { depth ≤ length nodes.old.items }
     requires low { rule < rule_count }
     ensures end { IfOk result (λ o. HasEnd text.now rule place o) }
-    ensures lays { IfOk result (λ o. LaysParts text.now rule place depth nodes.old.items nodes.new.items o) }
+    ensures lays { IfOk result
+        (λ o. LaysParts text.now rule place depth nodes.old.items nodes.new.items o) }
 {
     match row_of(rule) {
         Row::Bytes(bytes) => Ok(text.end_of_bytes(bytes, place)),
@@ -107,7 +109,8 @@ fn read_parts(
     requires low { rule < rule_count }
     requires row { the_row_of rule ≡ Seq (numbers_of parts) }
     ensures end { IfOk result (λ o. HasEnd text.now rule place o) }
-    ensures lays { IfOk result (λ o. LaysParts text.now rule place depth nodes.old.items nodes.new.items o) }
+    ensures lays { IfOk result
+        (λ o. LaysParts text.now rule place depth nodes.old.items nodes.new.items o) }
 {
     let mut at = place;
     for i in 0..parts.len() {
@@ -134,7 +137,8 @@ fn read_choice(
     requires low { rule < rule_count }
     requires row { the_row_of rule ≡ First (numbers_of choices) }
     ensures end { IfOk result (λ o. HasEnd text.now rule place o) }
-    ensures lays { IfOk result (λ o. LaysParts text.now rule place depth nodes.old.items nodes.new.items o) }
+    ensures lays { IfOk result
+        (λ o. LaysParts text.now rule place depth nodes.old.items nodes.new.items o) }
 {
     for i in 0..choices.len() {
         match read(nodes, text, choices.rule(i), place, depth)? {
@@ -160,7 +164,8 @@ fn read_optional(
     requires low { rule < rule_count }
     requires row { the_row_of rule ≡ Opt item }
     ensures end { IfOk result (λ o. HasEnd text.now rule place o) }
-    ensures lays { IfOk result (λ o. LaysParts text.now rule place depth nodes.old.items nodes.new.items o) }
+    ensures lays { IfOk result
+        (λ o. LaysParts text.now rule place depth nodes.old.items nodes.new.items o) }
 {
     match read(nodes, text, item, place, depth)? {
         Some(end) => Ok(Some(end)),
@@ -183,7 +188,8 @@ fn read_items(
     requires low { rule < rule_count }
     requires row { the_row_of rule ≡ Many item }
     ensures end { IfOk result (λ o. HasEnd text.now rule place o) }
-    ensures lays { IfOk result (λ o. LaysParts text.now rule place depth nodes.old.items nodes.new.items o) }
+    ensures lays { IfOk result
+        (λ o. LaysParts text.now rule place depth nodes.old.items nodes.new.items o) }
 {
     let mut at = place;
     loop {
@@ -214,7 +220,8 @@ fn read_list(
     requires low { rule < rule_count }
     requires row { the_row_of rule ≡ ListOf item tail }
     ensures end { IfOk result (λ o. HasEnd text.now rule place o) }
-    ensures lays { IfOk result (λ o. LaysParts text.now rule place depth nodes.old.items nodes.new.items o) }
+    ensures lays { IfOk result
+        (λ o. LaysParts text.now rule place depth nodes.old.items nodes.new.items o) }
 {
     match read(nodes, text, item, place, depth)? {
         Some(at) => {
@@ -241,7 +248,8 @@ fn read_list1(
     requires low { rule < rule_count }
     requires row { the_row_of rule ≡ List1 item tail }
     ensures end { IfOk result (λ o. HasEnd text.now rule place o) }
-    ensures lays { IfOk result (λ o. LaysParts text.now rule place depth nodes.old.items nodes.new.items o) }
+    ensures lays { IfOk result
+        (λ o. LaysParts text.now rule place depth nodes.old.items nodes.new.items o) }
 {
     match read(nodes, text, item, place, depth)? {
         Some(at) => {
@@ -268,7 +276,8 @@ fn read_tail(
     requires low { rule < rule_count }
     requires row { the_row_of rule ≡ Tail item separator }
     ensures end { IfOk result (λ o. HasEnd text.now rule place o) }
-    ensures lays { IfOk result (λ o. LaysParts text.now rule place depth nodes.old.items nodes.new.items o) }
+    ensures lays { IfOk result
+        (λ o. LaysParts text.now rule place depth nodes.old.items nodes.new.items o) }
 {
     let mut at = place;
     loop {
@@ -307,7 +316,8 @@ fn read_conditional(
     requires low { rule < rule_count }
     requires row { the_row_of rule ≡ If (numbers_of parts) k y }
     ensures end { IfOk result (λ o. HasEnd text.now rule place o) }
-    ensures lays { IfOk result (λ o. LaysParts text.now rule place depth nodes.old.items nodes.new.items o) }
+    ensures lays { IfOk result
+        (λ o. LaysParts text.now rule place depth nodes.old.items nodes.new.items o) }
 {
     let mut at = place;
     let mut present = false;

@@ -10,12 +10,14 @@ use std::alloc::{AllocError, Global};
 use weedle_nesting::suits_descent;
 use weedle_rules::Ends;
 
-/// The same as [`syntax`], by descent or over the table.
+/// Every rule that was read of a text that is read whole, as [`syntax`] gives them, by descent or
+/// over the table of ends.
 ///
-/// It looks once at the text, past strings and comments. Where extended attributes nest so little that descent
-/// looks at a byte four times on the average, and no more than 1,000 of `(` and `<` are open at once,
-/// it takes [`syntax_by_descent`], and else [`syntax`]. So for what people write it needs little time,
-/// and no memory but the nodes'; for a hostile text it needs what [`syntax`] needs.
+/// It looks once at the text, past strings and comments. Where extended attributes nest so little
+/// that descent looks at a byte four times on the average, and no more than 1,000 of `(` and `<`
+/// are open at once, it takes [`syntax_by_descent`], and else [`syntax`]. So for what people write
+/// it needs little time, and no memory but the nodes'; for a hostile text it needs what [`syntax`]
+/// needs.
 pub fn syntax_quick(alloc: Global, raw: &str) -> Result<Option<Vec<Node>>, AllocError>
     ensures whole { IfOk result (λ found. IsSome found ↔ IsWhole raw.now) }
     ensures are { IfOk result (λ found. IfSome found (λ nodes. IsSyntax raw.now nodes.items)) }
@@ -35,8 +37,8 @@ pub fn syntax_quick(alloc: Global, raw: &str) -> Result<Option<Vec<Node>>, Alloc
 /// behind them.
 ///
 /// The first node ends where the rest begins, which no definition reads. Of `enum E { "a" }; enum`
-/// these are the nodes of the first definition, and the rest begins at 17. Of a text that is read whole
-/// it answers what [`syntax`] answers. So a tool can show a tree while a text is written.
+/// these are the nodes of the first definition, and the rest begins at 17. Of a text that is read
+/// whole it answers what [`syntax`] answers. So a tool can show a tree while a text is written.
 ///
 /// It goes by descent or over the table, as [`syntax_quick`] does, and costs the same.
 pub fn syntax_of_front(alloc: Global, raw: &str) -> Result<Vec<Node>, AllocError>

@@ -16,9 +16,9 @@ use weedle_rules::Ends;
 /// before its own: so what is below a node are the nodes behind it as long as they are deeper. Of
 /// `interface A {` the answer is None.
 ///
-/// It asks for memory for a table of ends, as `Ends::new` says, and for the nodes: about one for each
-/// byte of a text. Where that is refused, the answer is an error. There is no recursion, however deep
-/// the text nests, and the time follows from the length of the text alone.
+/// It asks for memory for a table of ends, as `Ends::new` says, and for the nodes: about one for
+/// each byte of a text. Where that is refused, the answer is an error. There is no recursion,
+/// however deep the text nests, and the time follows from the length of the text alone.
 pub fn syntax(alloc: Global, raw: &str) -> Result<Option<Vec<Node>>, AllocError>
     ensures whole { IfOk result (λ found. IsSome found ↔ IsWhole raw.now) }
     ensures are { IfOk result (λ found. IfSome found (λ nodes. IsSyntax raw.now nodes.items)) }
@@ -35,7 +35,7 @@ pub fn syntax(alloc: Global, raw: &str) -> Result<Option<Vec<Node>>, AllocError>
     syntax_of(alloc, &ends)
 }
 
-/// The same as [`syntax`], over the table of ends of the whole text.
+/// Every rule that was read of a text that is read whole, in preorder, over its table of ends.
 ///
 /// It asks for memory for the nodes alone.
 pub fn syntax_of(alloc: Global, ends: &Ends<'_>) -> Result<Option<Vec<Node>>, AllocError>
@@ -59,12 +59,13 @@ pub fn syntax_of(alloc: Global, ends: &Ends<'_>) -> Result<Option<Vec<Node>>, Al
     }
 }
 
-/// The same as [`syntax`], by descent from the front of the text, without a table.
+/// Every rule that was read of a text that is read whole, in preorder, by descent from its front
+/// and without a table.
 ///
-/// It asks for memory for the nodes alone. Where an attempt fails, its nodes are taken back, and what
-/// is tried again is read again: so a text that nests extended attributes may take a time that grows
-/// exponentially, and one that nests deeply ends the stack. [`syntax_quick`](crate::syntax_quick)
-/// takes it where neither can be.
+/// It asks for memory for the nodes alone. Where an attempt fails, its nodes are taken back, and
+/// what is tried again is read again: so a text that nests extended attributes may take a time that
+/// grows exponentially, and one that nests deeply ends the stack.
+/// [`syntax_quick`](crate::syntax_quick) takes it where neither can be.
 pub fn syntax_by_descent(alloc: Global, raw: &str) -> Result<Option<Vec<Node>>, AllocError>
     ensures whole { IfOk result (λ found. IsSome found ↔ IsWhole raw.now) }
     ensures are { IfOk result (λ found. IfSome found (λ nodes. IsSyntax raw.now nodes.items)) }
@@ -82,7 +83,8 @@ pub fn syntax_by_descent(alloc: Global, raw: &str) -> Result<Option<Vec<Node>>, 
     }
 }
 
-/// The same as [`syntax_of_front`](crate::syntax_of_front), over the table of ends of the whole text.
+/// Every rule that was read of the definitions at the front of a text, in preorder, over the table
+/// of ends of the whole text.
 ///
 /// It asks for memory for the nodes alone.
 pub fn front_of(alloc: Global, ends: &Ends<'_>) -> Result<Vec<Node>, AllocError>

@@ -22,10 +22,10 @@ ghost use Rattle.weedle_syntax.specs.Starts.{
 
 use weedle_grammar::{Class, Parts, RULES, Row, Rule, holds, row_of, rule_of};
 
-/// Of each rule the ASCII bytes that it can begin with, as the bits of a word.
+/// For each rule the ASCII bytes that it can begin with, as the bits of a word.
 pub(crate) type Starts = [u128; RULES];
 
-/// Of each rule whether it takes a byte wherever it doesn't fail.
+/// For each rule whether it takes a byte wherever it doesn't fail.
 type Takes = [bool; RULES];
 
 /// The ASCII bytes of a class.

@@ -98,7 +98,7 @@ impl<'a> Syntax<'a> {
         Ok(Syntax { text, nodes, below })
     }
 
-    /// The same as [`new`](Syntax::new), over the table of ends of the whole text.
+    /// The nodes of a text that is read whole, over its table of ends; None of one that isn't.
     ///
     /// It asks for memory for the nodes, and once for 8 bytes for each.
     pub fn of_table(alloc: Global, ends: &Ends<'a>) -> Result<Option<Syntax<'a>>, AllocError>
@@ -168,7 +168,8 @@ impl<'a> Syntax<'a> {
     pub fn text_of(&self, node: usize) -> &'a str
         requires { node < length self.now.nodes }
         ensures { result.now
-            ≡ between self.now.text (node_at self.now.nodes node).start (node_at self.now.nodes node).end }
+            ≡ between self.now.text
+            (node_at self.now.nodes node).start (node_at self.now.nodes node).end }
     {
         let node = self.nodes[node];
         &self.text[node.start..node.end]

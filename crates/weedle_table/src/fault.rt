@@ -65,7 +65,7 @@ impl Display for Fault {
             Fault::NotUtf8 => "input is not UTF-8",
             Fault::Memory => "out of memory",
             Fault::Output => "cannot write output",
-            Fault::Usage => "usage: weedle_table places | diagnosis",
+            Fault::Usage => "usage: weedle_table places | names | diagnosis",
         })
     }
 }

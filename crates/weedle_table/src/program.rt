@@ -6,19 +6,23 @@ use std::env::{self, Args};
 use std::io::{self, BufWriter, Read, Write};
 use std::rt::Runtime;
 use weedle_diagnose::diagnose_from;
-use weedle_places::{Place, places_of};
+use weedle_places::{MemberPlace, Place, Span, names_of, places_of};
 use weedle_rules::Ends;
+use weedle_syntax::Syntax;
 
 /// What is asked of a text.
 #[derive(Clone, Copy, Debug, PartialEq, Eq)]
 enum Task {
     /// Where its definitions and their members stand.
     Places,
+    /// Its names, and what they stand for.
+    Names,
     /// How far its reading comes.
     Diagnosis,
 }
 
-/// Does what the argument asks for, and gives the exit status. What went wrong it says in a line on standard error.
+/// Does what the argument asks for, and gives the exit status. What went wrong it says in a line on
+/// standard error.
 pub fn run<R: Runtime + AllocGlobal>(rt: &R) -> u8 {
     match answer(rt) {
         Ok(status) => status,
@@ -43,6 +47,7 @@ fn answer<R: Runtime + AllocGlobal>(rt: &R) -> Result<u8, Fault> {
     let mut out = BufWriter::new(rt.alloc(), io::writer(rt))?;
     let status = match task {
         Task::Places => write_places(rt.alloc(), text, &mut out)?,
+        Task::Names => write_names(rt.alloc(), text, &mut out)?,
         Task::Diagnosis => write_diagnosis(rt.alloc(), text, &mut out)?,
     };
     out.flush()?;
@@ -59,37 +64,88 @@ fn task_of(mut arguments: Args) -> Result<Task, Fault> {
     }
     match word.as_str() {
         "places" => Ok(Task::Places),
+        "names" => Ok(Task::Names),
         "diagnosis" => Ok(Task::Diagnosis),
         _ => Err(Fault::Usage),
     }
 }
 
-/// Writes where each definition and each of its members stand.
+/// Writes where each definition, its members and its values stand.
 fn write_places<W: Write>(alloc: Global, text: &str, out: &mut W) -> Result<u8, Fault> {
     let table = Ends::new(alloc, text)?;
     let Some(found) = places_of(alloc, &table)? else {
-        writeln!(out, "refused")?;
-        return Ok(1);
+        return refuse(out);
     };
     for place in &found {
         write_place(place, out)?;
     }
-    let word = if found.len() == 1 {
-        "definition"
-    } else {
-        "definitions"
-    };
-    writeln!(out, "{} {word}", found.len())?;
+    write_count(found.len(), "definition", out)?;
     Ok(0)
 }
 
-/// Writes where a definition stands, and below that its members.
+/// Says that the text isn't read whole.
+fn refuse<W: Write>(out: &mut W) -> Result<u8, Fault> {
+    writeln!(out, "refused")?;
+    Ok(1)
+}
+
+/// Writes how many there are of what has this name.
+fn write_count<W: Write>(many: usize, name: &str, out: &mut W) -> io::Result<()> {
+    let ending = if many == 1 { "" } else { "s" };
+    writeln!(out, "{many} {name}{ending}")
+}
+
+/// Writes where a definition stands, and below that its members and its values.
 fn write_place<W: Write>(place: &Place, out: &mut W) -> io::Result<()> {
-    writeln!(out, "{}..{}", place.span.start, place.span.end)?;
+    let own = MemberPlace {
+        span: place.span,
+        core: place.core,
+        front: place.front,
+        name: place.name,
+    };
+    write_part("definition", &own, out)?;
     for member in &place.members {
-        writeln!(out, "  {}..{}", member.span.start, member.span.end)?;
+        write_part("  member", member, out)?;
+    }
+    for value in &place.values {
+        write_part("  value", value, out)?;
     }
     Ok(())
+}
+
+/// Writes where a part stands: the whole of it, its core, what stands in front of that, and its
+/// name.
+fn write_part<W: Write>(kind: &str, part: &MemberPlace, out: &mut W) -> io::Result<()> {
+    write!(out, "{kind}")?;
+    for span in [part.span, part.core, part.front] {
+        write_span(span, out)?;
+    }
+    match part.name {
+        Some(name) => write_span(name, out)?,
+        None => write!(out, " -")?,
+    }
+    writeln!(out)
+}
+
+/// Writes the first byte of a part, and the place behind its last one.
+fn write_span<W: Write>(span: Span, out: &mut W) -> io::Result<()> {
+    write!(out, " {}..{}", span.start, span.end)
+}
+
+/// Writes where each name stands, what it stands for, and its letters.
+fn write_names<W: Write>(alloc: Global, text: &str, out: &mut W) -> Result<u8, Fault> {
+    let ends = Ends::new(alloc, text)?;
+    let Some(syntax) = Syntax::of_table(alloc, &ends)? else {
+        return refuse(out);
+    };
+    let found = names_of(alloc, &syntax)?;
+    for name in &found {
+        write!(out, "{:?}", name.role)?;
+        write_span(name.span, out)?;
+        writeln!(out, " {}", name.text)?;
+    }
+    write_count(found.len(), "name", out)?;
+    Ok(0)
 }
 
 /// Writes how far the reading of the text comes, and what fails there.

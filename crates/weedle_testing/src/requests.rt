@@ -7,7 +7,7 @@
 //! memory itself: so it tells whether the refused request was a call's.
 
 use crate::printed::is_printed;
-use crate::rows::Unlike;
+use crate::rows::{Row, Unlike, other_value, same_rest};
 use std::alloc::{AllocError, Global};
 use std::fmt::Debug;
 use weedle_base::{Err, Error, ErrorKind, Parse, TryClone};
@@ -60,16 +60,21 @@ impl Wanted {
         }
     }
 
-    /// Reads the whole text of each example, which is to be its value or to want memory, and copies
-    /// what it reads. A copy equals its original, which stays as it is where the copy wants memory.
+    /// Reads each example, which is to be read so or to want memory, and copies what it reads; the
+    /// other texts are to be refused or to want memory. A copy equals its original, which stays as
+    /// it is where the copy wants memory. An error says of which text it isn't so, and how.
     pub fn reads<'a, T: Parse<'a> + TryClone + PartialEq + Debug>(
         &mut self,
         alloc: Global,
-        rows: &[(&'a str, &str)],
+        rows: &[Row<'a>],
+        refused: &[&'a str],
     ) -> Result<(), Unlike<'a>> {
-        for (text, value) in rows {
-            for _ in 0..2 {
-                self.reads_one::<T>(alloc, text, value)?;
+        for _ in 0..2 {
+            for row in rows {
+                self.reads_one::<T>(alloc, *row)?;
+            }
+            for text in refused {
+                self.refuses_one::<T>(alloc, text)?;
             }
         }
         Ok(())
@@ -78,17 +83,36 @@ impl Wanted {
     fn reads_one<'a, T: Parse<'a> + TryClone + PartialEq + Debug>(
         &mut self,
         alloc: Global,
-        text: &'a str,
-        value: &str,
+        (text, rest, value): Row<'a>,
     ) -> Result<(), Unlike<'a>> {
         match T::parse(alloc, text) {
-            Ok((rest, read)) => {
-                if rest.is_empty() && self.copies(alloc, &read, value) {
+            Ok((left, read)) => {
+                same_rest(text, left, rest)?;
+                if self.copies(alloc, &read, value) {
                     Ok(())
                 } else {
-                    Err(Unlike::Otherwise(text))
+                    Err(other_value(alloc, text, value, &read))
                 }
             }
+            Err(fault) => self.fault(text, fault),
+        }
+    }
+
+    fn refuses_one<'a, T: Parse<'a>>(
+        &mut self,
+        alloc: Global,
+        text: &'a str,
+    ) -> Result<(), Unlike<'a>> {
+        match T::parse(alloc, text) {
+            Ok(_) => Err(Unlike::NoMismatch(text)),
+            Err(
+                Err::Error(
+                    Error {
+                        code: ErrorKind::Mismatch,
+                        ..
+                    },
+                ),
+            ) => Ok(()),
             Err(fault) => self.fault(text, fault),
         }
     }
@@ -131,26 +155,4 @@ fn is_refused(alloc: Global) -> bool {
         }
     }
     false
-}
-
-/// Whether the whole text of each example is read as its value with no memory, and the text `#` is
-/// no value.
-pub fn reads_with_no_memory<'a, T: Parse<'a> + Debug>(
-    alloc: Global,
-    rows: &[(&'a str, &str)],
-) -> Result<(), Unlike<'a>> {
-    for (text, value) in rows {
-        match T::parse(alloc, text) {
-            Ok((rest, read)) => {
-                if !rest.is_empty() || !is_printed(&read, value) {
-                    return Err(Unlike::Otherwise(text));
-                }
-            }
-            Err(_) => return Err(Unlike::Refused(text)),
-        }
-    }
-    match T::parse(alloc, "#") {
-        Err(Err::Error(_)) => Ok(()),
-        _ => Err(Unlike::NoMismatch("#")),
-    }
 }

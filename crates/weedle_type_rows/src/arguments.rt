@@ -1,130 +1,124 @@
-//! Arguments.
+//! Arguments, each by its own `parse`, also where memory is refused. One could be read as no other
+//! where its extended attributes were dropped: `[A] long... x`.
 //!
 //! The values are those that weedle2 prints, in the port's names.
 
-use std::alloc::Global;
 use std::test::Fail;
-use weedle_testing::{Unlike, reads, reads_up_to, refuses};
+use weedle_testing::Wanted;
 use weedle_types::argument::{Argument, ArgumentList, SingleArgument};
 
-/// What is read of each text, as one argument.
-fn reads_arguments<'a>(alloc: Global, rows: &[(&'a str, &str, &str)]) -> Result<(), Unlike<'a>> {
-    reads_up_to::<Argument<'_>>(alloc, rows)
-}
-
 #[test]
-fn an_argument_keeps_its_attributes_apart_from_its_types(rt: HostRuntime) -> Result<(), Fail> {
-    reads_arguments(
-        rt.alloc(),
+fn arguments_are_read_and_copied_or_want_memory(rt: HostRuntime) -> Result<(), Fail> {
+    let alloc = rt.alloc();
+    let mut wanted = Wanted::new();
+    wanted.reads::<Argument<'_>>(
+        alloc,
         &[
+            // An argument keeps its attributes apart from its types.
             (
                 "[A] [B] long x",
                 "",
-                "Single(SingleArgument { attributes: Some(Bracketed { open_bracket: OpenBracket, \
-                 body: Punctuated { list: [NoArgs(ExtendedAttributeNoArgs(Identifier(\"A\")))], \
-                 separator: Comma }, close_bracket: CloseBracket }), optional: None, \
-                 type_: AttributedType { attributes: Some(Bracketed { open_bracket: OpenBracket, \
-                 body: Punctuated { list: [NoArgs(ExtendedAttributeNoArgs(Identifier(\"B\")))], \
-                 separator: Comma }, close_bracket: CloseBracket }), \
-                 type_: Single(NonAny(Integer(MayBeNull { \
+                "Single(SingleArgument { attributes: Some(Bracketed { open_bracket: \
+                 OpenBracket, body: Punctuated { list: \
+                 [NoArgs(ExtendedAttributeNoArgs(Identifier(\"A\")))], separator: Comma }, \
+                 close_bracket: CloseBracket }), optional: None, type_: AttributedType { \
+                 attributes: Some(Bracketed { open_bracket: OpenBracket, body: Punctuated { \
+                 list: [NoArgs(ExtendedAttributeNoArgs(Identifier(\"B\")))], separator: Comma \
+                 }, close_bracket: CloseBracket }), type_: Single(NonAny(Integer(MayBeNull { \
                  type_: Long(LongType { unsigned: None, long: Long }), q_mark: None }))) }, \
                  identifier: Identifier(\"x\"), default: None })",
             ),
             (
                 "[A] long x",
                 "",
-                "Single(SingleArgument { attributes: Some(Bracketed { open_bracket: OpenBracket, \
-                 body: Punctuated { list: [NoArgs(ExtendedAttributeNoArgs(Identifier(\"A\")))], \
-                 separator: Comma }, close_bracket: CloseBracket }), optional: None, \
-                 type_: AttributedType { attributes: None, \
-                 type_: Single(NonAny(Integer(MayBeNull { \
-                 type_: Long(LongType { unsigned: None, long: Long }), q_mark: None }))) }, \
+                "Single(SingleArgument { attributes: Some(Bracketed { open_bracket: \
+                 OpenBracket, body: Punctuated { list: \
+                 [NoArgs(ExtendedAttributeNoArgs(Identifier(\"A\")))], separator: Comma }, \
+                 close_bracket: CloseBracket }), optional: None, type_: AttributedType { \
+                 attributes: None, type_: Single(NonAny(Integer(MayBeNull { type_: \
+                 Long(LongType { unsigned: None, long: Long }), q_mark: None }))) }, \
                  identifier: Identifier(\"x\"), default: None })",
             ),
-        ],
-    )?;
-    Ok(())
-}
-
-#[test]
-fn a_default_stands_behind_an_optional_argument(rt: HostRuntime) -> Result<(), Fail> {
-    reads_arguments(
-        rt.alloc(),
-        &[
+            // A default stands behind an optional argument.
             (
                 "long x = 5",
                 "= 5",
-                "Single(SingleArgument { attributes: None, optional: None, \
-                 type_: AttributedType { attributes: None, \
-                 type_: Single(NonAny(Integer(MayBeNull { \
+                "Single(SingleArgument { attributes: None, optional: None, type_: \
+                 AttributedType { attributes: None, type_: Single(NonAny(Integer(MayBeNull { \
                  type_: Long(LongType { unsigned: None, long: Long }), q_mark: None }))) }, \
                  identifier: Identifier(\"x\"), default: None })",
             ),
             (
                 "optional long x = 5",
                 "",
-                "Single(SingleArgument { attributes: None, optional: Some(Optional), \
-                 type_: AttributedType { attributes: None, \
-                 type_: Single(NonAny(Integer(MayBeNull { \
+                "Single(SingleArgument { attributes: None, optional: Some(Optional), type_: \
+                 AttributedType { attributes: None, type_: Single(NonAny(Integer(MayBeNull { \
                  type_: Long(LongType { unsigned: None, long: Long }), q_mark: None }))) }, \
-                 identifier: Identifier(\"x\"), default: Some(Default { assign: Assign, \
-                 value: Integer(Dec(DecLit(\"5\"))) }) })",
+                 identifier: Identifier(\"x\"), default: Some(Default { assign: Assign, value: \
+                 Integer(Dec(DecLit(\"5\"))) }) })",
+            ),
+            // An argument may stand for any number.
+            (
+                "optional... x",
+                "",
+                "Variadic(VariadicArgument { attributes: None, type_: \
+                 Single(NonAny(Identifier(MayBeNull { type_: Identifier(\"optional\"), q_mark: \
+                 None }))), ellipsis: Ellipsis, identifier: Identifier(\"x\") })",
+            ),
+            (
+                "[A] long... x",
+                "",
+                "Variadic(VariadicArgument { attributes: Some(Bracketed { open_bracket: \
+                 OpenBracket, body: Punctuated { list: \
+                 [NoArgs(ExtendedAttributeNoArgs(Identifier(\"A\")))], separator: Comma }, \
+                 close_bracket: CloseBracket }), type_: Single(NonAny(Integer(MayBeNull { \
+                 type_: Long(LongType { unsigned: None, long: Long }), q_mark: None }))), \
+                 ellipsis: Ellipsis, identifier: Identifier(\"x\") })",
             ),
         ],
+        &["optional x"],
     )?;
-    Ok(())
-}
-
-#[test]
-fn an_optional_argument_has_a_type(rt: HostRuntime) -> Result<(), Fail> {
-    refuses::<Argument<'_>>(rt.alloc(), &["optional x"])?;
-    Ok(())
-}
-
-#[test]
-fn a_single_argument_is_read_alone(rt: HostRuntime) -> Result<(), Fail> {
-    reads::<SingleArgument<'_>>(
-        rt.alloc(),
-        &[(
-            "optional long x",
-            "SingleArgument { attributes: None, optional: Some(Optional), \
-             type_: AttributedType { attributes: None, \
-             type_: Single(NonAny(Integer(MayBeNull { \
-             type_: Long(LongType { unsigned: None, long: Long }), q_mark: None }))) }, \
-             identifier: Identifier(\"x\"), default: None }",
-        )],
+    wanted.reads::<SingleArgument<'_>>(
+        alloc,
+        &[
+            // A single argument is read alone.
+            (
+                "optional long x",
+                "",
+                "SingleArgument { attributes: None, optional: Some(Optional), type_: \
+                 AttributedType { attributes: None, type_: Single(NonAny(Integer(MayBeNull { \
+                 type_: Long(LongType { unsigned: None, long: Long }), q_mark: None }))) }, \
+                 identifier: Identifier(\"x\"), default: None }",
+            ),
+        ],
+        &[],
     )?;
-    Ok(())
-}
-
-#[test]
-fn an_argument_may_stand_for_any_number(rt: HostRuntime) -> Result<(), Fail> {
-    reads_arguments(
-        rt.alloc(),
-        &[(
-            "optional... x",
-            "",
-            "Variadic(VariadicArgument { attributes: None, \
-             type_: Single(NonAny(Identifier(MayBeNull { type_: Identifier(\"optional\"), \
-             q_mark: None }))), ellipsis: Ellipsis, identifier: Identifier(\"x\") })",
-        )],
+    wanted.reads::<ArgumentList<'_>>(
+        alloc,
+        &[
+            // A list of arguments gives back a separator.
+            (
+                "long x, long",
+                ", long",
+                "Punctuated { list: [Single(SingleArgument { attributes: None, optional: None, \
+                 type_: AttributedType { attributes: None, type_: \
+                 Single(NonAny(Integer(MayBeNull { type_: Long(LongType { unsigned: None, \
+                 long: Long }), q_mark: None }))) }, identifier: Identifier(\"x\"), default: \
+                 None })], separator: Comma }",
+            ),
+            ("", "", "Punctuated { list: [], separator: Comma }"),
+            (
+                "long x",
+                "",
+                "Punctuated { list: [Single(SingleArgument { attributes: None, optional: None, \
+                 type_: AttributedType { attributes: None, type_: \
+                 Single(NonAny(Integer(MayBeNull { type_: Long(LongType { unsigned: None, \
+                 long: Long }), q_mark: None }))) }, identifier: Identifier(\"x\"), default: \
+                 None })], separator: Comma }",
+            ),
+        ],
+        &[],
     )?;
-    Ok(())
-}
-
-#[test]
-fn a_list_of_arguments_gives_back_a_separator(rt: HostRuntime) -> Result<(), Fail> {
-    reads_up_to::<ArgumentList<'_>>(
-        rt.alloc(),
-        &[(
-            "long x, long",
-            ", long",
-            "Punctuated { list: [Single(SingleArgument { attributes: None, optional: None, \
-             type_: AttributedType { attributes: None, \
-             type_: Single(NonAny(Integer(MayBeNull { \
-             type_: Long(LongType { unsigned: None, long: Long }), q_mark: None }))) }, \
-             identifier: Identifier(\"x\"), default: None })], separator: Comma }",
-        )],
-    )?;
+    assert!(rt; wanted.tell(&rt, alloc));
     Ok(())
 }

@@ -7,14 +7,10 @@ mod arguments;
 #[cfg(test)]
 mod attributes;
 #[cfg(test)]
-mod choices;
-#[cfg(test)]
 mod comparisons;
 #[cfg(test)]
 mod members;
 #[cfg(test)]
-mod recursive_types;
-#[cfg(test)]
-mod requests;
+mod types;
 #[cfg(test)]
 mod word_types;

@@ -116,7 +116,8 @@ fn is_misplaced(
     taken: usize,
 ) -> Result<bool, AllocError>
     requires { place ≤ length raw.now }
-    ensures { IfOk result (λ right. IsTrue right → IsHint raw.now start place (Hint.Docstring at taken)) }
+    ensures { IfOk result
+        (λ right. IsTrue right → IsHint raw.now start place (Hint.Docstring at taken)) }
 {
     if !stand_at(SLASHES, raw.as_bytes(), at) {
         return Ok(false);
@@ -139,7 +140,9 @@ fn comes_further(
     change: Change<'_>,
 ) -> Result<bool, AllocError>
     requires { place ≤ length raw.now }
-    ensures { IfOk result (λ further. IsTrue further → ComesFurther raw.now start place change.entry.at change.entry.taken change.entry.bytes.now) }
+    ensures { IfOk result (λ further. IsTrue further
+        → ComesFurther raw.now start place
+        change.entry.at change.entry.taken change.entry.bytes.now) }
 {
     let Some(changed) = changed(alloc, raw, start, change)? else {
         return Ok(false);
@@ -198,7 +201,10 @@ fn changed(
     start: usize,
     change: Change<'_>,
 ) -> Result<Option<String>, AllocError>
-    ensures { IfOk result (λ text. IfSome text (λ text. IsChanged raw.now start change.entry.at change.entry.taken change.entry.bytes.now (string_bytes text))) }
+    ensures { IfOk result
+        (λ text. IfSome text
+        (λ text. IsChanged raw.now start change.entry.at change.entry.taken change.entry.bytes.now
+        (string_bytes text))) }
 {
     let Change { at, taken, bytes } = change;
     if taken > raw.len() {

@@ -90,7 +90,8 @@ pub(crate) fn past_token(raw: &str, at: usize) -> usize
 /// The first token from a place on, or None where blanks and comments alone follow.
 fn next_token(raw: &str, at: usize) -> Option<Token>
     requires { at ≤ length raw.now }
-    ensures { IfSome result (λ token. (at ≤ token.start) × (token.start < token.end) × (token.end ≤ length raw.now)) }
+    ensures { IfSome result
+        (λ token. (at ≤ token.start) × (token.start < token.end) × (token.end ≤ length raw.now)) }
 {
     let rest = skip_trivia(raw.get(at..)?).as_bytes();
     if rest.is_empty() {

@@ -1,11 +1,11 @@
-use Rattle.std.proofs.Common.{◌≡◌, ℕ, ◌+◌, ◌<◌, ◌++◌, ◌∷◌, [], List, length, true, Some, sym, subst, ◌∙◌, ap, arith, length-append, get_or}
+use Rattle.std.proofs.Common.{◌≡◌, ℕ, ◌+◌, ◌<◌, ◌++◌, ◌∷◌, [], List, length, true, sym, subst, ◌∙◌, ap, arith, length-append, get_or}
 use Rattle.std.proofs.lemmas.List.{get_or_default}
 use Rattle.weedle_syntax.specs.Tree.{node_at}
 use Rattle.weedle_syntax.specs.Syntax.{IsFront, root_to}
 use Rattle.weedle_syntax.specs.declared.node.Node.{Node}
 use Rattle.weedle_places.specs.declared.above.Above.{Above}
 use Rattle.weedle_places.specs.Above.{IsAbove, AreAbove}
-use Rattle.weedle_places.specs.Names.{HasRole, is_name}
+use Rattle.weedle_places.specs.Names.{is_name}
 use Rattle.weedle_places.specs.Roles.{role_of}
 use Rattle.weedle_places.proofs.NameFacts.{child_role, name_is_deep}
 use Rattle.weedle_places.proofs.AboveFacts.{above_of, above_last, above_push, all_still, child_is, now_named}

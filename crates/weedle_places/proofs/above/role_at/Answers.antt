@@ -1,9 +1,7 @@
-use Rattle.std.proofs.Common.{◌≡◌, ◌≤◌, ◌==◌, ◌+◌, ℕ, List, get_or, length, take, true, false, sym, subst, ◌∙◌, ap, arith}
+use Rattle.std.proofs.Common.{◌≡◌, ◌==◌, ◌+◌, get_or, length, false, sym, subst, ◌∙◌, ap, arith}
 use Rattle.std.proofs.lemmas.List.{length-take-le}
 use Rattle.weedle_grammar.specs.written.Table.Leaves.{IDENTIFIER}
-use Rattle.weedle_syntax.specs.declared.node.Node.{Node}
 use Rattle.weedle_syntax.specs.Syntax.{IsFront}
-use Rattle.weedle_syntax.specs.Tree.{node_at}
 use Rattle.weedle_syntax.proofs.BelowFacts.{looked_at}
 use Rattle.weedle_places.specs.Above.{AreAbove}
 use Rattle.weedle_places.specs.Names.{is_name}

@@ -1,6 +1,5 @@
-use Rattle.std.proofs.Common.{◌≡◌, ◌+◌, get_or, refl, sym, subst, ◌∙◌, ap}
-use Rattle.std.specs.Prelude.{unwrap_or}
-use Rattle.weedle_syntax.specs.Tree.{node_at, FindsNext}
+use Rattle.std.proofs.Common.{◌+◌, get_or, refl, subst, ◌∙◌, ap}
+use Rattle.weedle_syntax.specs.Tree.{FindsNext}
 use Rattle.weedle_places.specs.Around.{IsSolid, FindsLast, start_or, end_or}
 use Rattle.weedle_places.proofs.NameFacts.{node_found}
 use Rattle.weedle_places.proofs.around.around.Goals as goal

@@ -1,4 +1,4 @@
-use Rattle.std.proofs.Common.{◌≡◌, ◌<◌, length, sym, subst, ◌∙◌, ap}
+use Rattle.std.proofs.Common.{◌≡◌, subst, ◌∙◌}
 use Rattle.weedle_syntax.specs.Syntax.{IsFront}
 use Rattle.weedle_syntax.specs.Tree.{node_at}
 use Rattle.weedle_places.specs.Items.{AreItems}

@@ -1,4 +1,4 @@
-use Rattle.std.proofs.Common.{◌≡◌, ◌<◌, ◌+◌, ℕ, List, [], ◌∷◌, length, sym, subst, ◌∙◌, ap}
+use Rattle.std.proofs.Common.{◌≡◌, ◌<◌, ◌+◌, ℕ, List, length, sym, subst}
 use Rattle.weedle_grammar.specs.Rows.{Seq}
 use Rattle.weedle_grammar.specs.written.Table.{row_of}
 use Rattle.weedle_syntax.specs.Syntax.{IsFront}

@@ -1,10 +1,10 @@
-use Rattle.std.proofs.Common.{◌≡◌, ◌<◌, ℕ, [], ◌∷◌, Some, length, sym, subst, ◌∙◌, ap}
+use Rattle.std.proofs.Common.{◌≡◌, ◌<◌, ℕ, Some, length, subst}
 use Rattle.weedle_grammar.specs.Rows.{Many}
 use Rattle.weedle_grammar.specs.written.Table.{row_of}
 use Rattle.weedle_grammar.specs.written.Table.Symbols.{OPEN_BRACE}
 use Rattle.weedle_rules.specs.Outcomes.{EndsAt}
 use Rattle.weedle_syntax.specs.Syntax.{IsFront}
-use Rattle.weedle_syntax.specs.Tree.{node_at, children_of}
+use Rattle.weedle_syntax.specs.Tree.{node_at}
 use Rattle.weedle_places.specs.Items.{AreItems}
 use Rattle.weedle_places.specs.Members.{member_of, IsBehindBrace, spans_of}
 use Rattle.weedle_places.proofs.PartFacts.{braces_of, if_ok_so, second_is}

@@ -1,6 +1,5 @@
 use Rattle.std.proofs.Common.{◌≡◌, ◌==◌, ◌+◌, ◌<◌, true, false, length, sym, subst, ◌∙◌, ap, arith}
 use Rattle.weedle_grammar.specs.written.Table.OtherMembers.{ENUM_VARIANT}
-use Rattle.weedle_syntax.specs.Tree.{node_at}
 use Rattle.weedle_places.proofs.NameFacts.{node_found}
 use Rattle.weedle_places.proofs.ValueFacts.{StandTo, is_value, stand_none, stand_one, stand_same}
 use Rattle.weedle_places.proofs.members.values_at.Goals as goal

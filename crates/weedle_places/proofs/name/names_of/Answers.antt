@@ -1,4 +1,4 @@
-use Rattle.std.proofs.Common.{◌≡◌, ◌<◌, ◌+◌, true, false, length, MatchOption, sym, subst, ◌∙◌, ap, arith}
+use Rattle.std.proofs.Common.{◌≡◌, ◌+◌, true, false, MatchOption, sym, subst, ◌∙◌, ap}
 use Rattle.weedle_places.specs.Names.{HasRole, is_name}
 use Rattle.weedle_places.proofs.AboveFacts.{open_none}
 use Rattle.weedle_places.proofs.NameFacts.{AreSaidTo, one_more, no_more, none_yet}

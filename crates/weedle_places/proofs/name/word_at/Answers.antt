@@ -1,4 +1,4 @@
-use Rattle.std.proofs.Common.{◌≡◌, ◌<◌, ℕ, length, sym, subst, ◌∙◌, ap, arith}
+use Rattle.std.proofs.Common.{length, subst, ◌∙◌, ap, arith}
 use Rattle.weedle_grammar.specs.Meaning.{between}
 use Rattle.weedle_syntax.specs.Syntax.{IsFront}
 use Rattle.weedle_syntax.specs.Tree.{node_at}

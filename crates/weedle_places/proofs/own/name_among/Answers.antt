@@ -1,4 +1,4 @@
-use Rattle.std.proofs.Common.{◌≡◌, length, sym, subst, ◌∙◌, ap}
+use Rattle.std.proofs.Common.{length, sym, subst, ◌∙◌, ap}
 use Rattle.weedle_syntax.specs.Syntax.{IsFront}
 use Rattle.weedle_places.specs.Around.{name_among}
 use Rattle.weedle_places.proofs.NameFacts.{children_within}

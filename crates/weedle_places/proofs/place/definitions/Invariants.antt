@@ -1,6 +1,0 @@
-use Rattle.std.proofs.Common.{length}
-use Rattle.weedle_places.proofs.PlaceFacts.{Placing}
-use Rattle.weedle_places.proofs.place.definitions.Given as goal
-
-abbrev pub invariant-loop-definition : goal.invariant-loop-definition
-invariant-loop-definition l = Placing l.syntax.text l.syntax.nodes 1 (length l.syntax.text) l.found.items l.definition-iterator

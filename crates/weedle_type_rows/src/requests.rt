@@ -1,4 +1,0 @@
-//! Each request for memory refused in turn.
-
-mod members;
-mod types;

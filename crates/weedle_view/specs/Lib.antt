@@ -1,0 +1,4 @@
+pub mod Definitions
+pub mod Members
+pub mod Parts
+pub mod TypeNames

@@ -1,0 +1,78 @@
+//! The names that types speak of.
+
+ghost use Rattle.std.specs.Prelude.{◌≡◌, IfOk};
+ghost use Rattle.weedle_view.specs.TypeNames.{
+  names_in_arguments,
+  names_in_attribute_list,
+  names_in_return_type,
+  names_in_type,
+};
+
+mod arguments;
+mod attributes;
+mod types;
+mod unions;
+
+use arguments::push_arguments;
+use attributes::push_attribute_items;
+use std::alloc::{AllocError, Global};
+use types::{push_return_type, push_type};
+use weedle_parts::common::Identifier;
+use weedle_types::argument::ParenthesizedArgumentList;
+use weedle_types::attribute::ExtendedAttributeList;
+use weedle_types::types::{ReturnType, Type};
+
+/// The names that a type speaks of, in the order of the text, each as often as it stands there:
+/// `Node` and `Attr` of `(sequence<Node?> or record<DOMString, Attr>)`, and none of `long`.
+///
+/// A union's members may have extended attributes with arguments, as `[A(Node x)] long`; the names
+/// in the types of these are among them. It takes memory for the list of names, and fails where
+/// that is refused.
+pub fn type_names<'a>(alloc: Global, type_: &Type<'a>) -> Result<Vec<Identifier<'a>>, AllocError>
+    ensures { IfOk result (λ names. names.items ≡ names_in_type type_.now) }
+{
+    let mut names = Vec::new(alloc);
+    push_type(type_, &mut names)?;
+    Ok(names)
+}
+
+/// The names that the type of a result speaks of, as [`type_names`] gives them: `Node` of
+/// `Promise<Node>`, and none of `undefined`.
+pub fn type_names_of_return<'a>(
+    alloc: Global,
+    return_type: &ReturnType<'a>,
+) -> Result<Vec<Identifier<'a>>, AllocError>
+    ensures { IfOk result (λ names. names.items ≡ names_in_return_type return_type.now) }
+{
+    let mut names = Vec::new(alloc);
+    push_return_type(return_type, &mut names)?;
+    Ok(names)
+}
+
+/// The names that the types of arguments speak of, as [`type_names`] gives them: `Node` and `Attr`
+/// of `(optional Node node, Attr... attrs)`. The names of the arguments aren't among them, those in
+/// the types within their extended attributes are.
+pub fn type_names_of_arguments<'a>(
+    alloc: Global,
+    arguments: &ParenthesizedArgumentList<'a>,
+) -> Result<Vec<Identifier<'a>>, AllocError>
+    ensures { IfOk result (λ names. names.items ≡ names_in_arguments arguments.now) }
+{
+    let mut names = Vec::new(alloc);
+    push_arguments(arguments, &mut names)?;
+    Ok(names)
+}
+
+/// The names that the types of the arguments in extended attributes speak of, as [`type_names`]
+/// gives them: `Node` of `[Exposed=Window, NamedConstructor=Image(Node node)]`. The names of the
+/// extended attributes, and what stands behind their `=`, aren't among them.
+pub fn type_names_of_attributes<'a>(
+    alloc: Global,
+    attributes: &ExtendedAttributeList<'a>,
+) -> Result<Vec<Identifier<'a>>, AllocError>
+    ensures { IfOk result (λ names. names.items ≡ names_in_attribute_list attributes.now) }
+{
+    let mut names = Vec::new(alloc);
+    push_attribute_items(&attributes.body.list, &mut names)?;
+    Ok(names)
+}
