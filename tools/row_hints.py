@@ -131,21 +131,34 @@ def gaps(text, tokens):
 
 
 def helps(text, start, place, change):
-    """Whether the rest is read further with a change: a definition, or so that fewer bytes are left behind the furthest place.
+    """Whether the definition is read further with a change: to its end, or so that fewer bytes are left behind the
+    furthest place. It is read up to the next `;` alone.
 
     It must come past what was changed too, and without a docstring past the token at the place: an unknown word behind a
     docstring isn't laid to that.
     """
     at, taken, put, said = change
-    changed = text[start:at] + put + text[at + taken:]
-    if not is_read_again(changed):
-        return False
     if said == MISPLACED:
         place = past_token(text, place)
-    left = len(text) - max(place, at + taken)
+    past = max(place, at + taken)
+    until = past_semicolon(text, past)
+    changed = text[start:at] + put + text[at + taken:until]
+    if not is_read_again(changed):
+        return False
     NOW.take(changed)
     end = NOW.ends_at()
-    return len(changed) - NOW.unmet()[0] < left if left else end > 0
+    return len(changed) - NOW.unmet()[0] < until - past if until > past else end > 0
+
+
+def past_semicolon(text, place):
+    """Where the first `;` from a place on ends that stands in no string and no comment, or the text."""
+    NOW.take(text)
+    while (place := NOW.at["TRIVIA"](place)) < len(text):
+        kind, match = kind_at(text, place)
+        place = match.end()
+        if match[0] == b";":
+            break
+    return place
 
 
 def past_token(text, place):

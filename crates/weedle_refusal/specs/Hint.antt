@@ -12,11 +12,12 @@ use Rattle.weedle_rules.specs.Outcomes.{EndsAt}
 use Rattle.weedle_syntax.specs.Kinds.{has_letter}
 use Rattle.weedle_syntax.specs.Syntax.{RestBegins}
 
--- it is the text from `start` on, with these bytes in place of `taken` bytes from `at` on
-pub record IsChanged (raw : List ℕ) (start at taken : ℕ) (bytes text : List ℕ) : Type 0 where
+-- it is the text from `start` up to `end`, with these bytes in place of `taken` bytes from `at` on
+pub record IsChanged (raw : List ℕ) (start end at taken : ℕ) (bytes text : List ℕ) : Type 0 where
   pub after : start ≤ at
-  pub within : at + taken ≤ length raw
-  pub is : text ≡ slice_range raw start at ++ bytes ++ drop (at + taken) raw
+  pub before : at + taken ≤ end
+  pub within : end ≤ length raw
+  pub is : text ≡ slice_range raw start at ++ bytes ++ slice_range raw (at + taken) end
 
 -- a definition is read at the front of the text
 abbrev pub HasDefinition : List ℕ → Type 0
@@ -29,11 +30,13 @@ pub record LeavesLess (text : List ℕ) (left : ℕ) : Type 0 where
   pub diagnosed : IsDiagnosis text 0 place rules
   pub less : length text - place < left
 
--- with this change the reading comes further than to `place`: to the end of a definition, or to a place that leaves fewer bytes behind it than `place` does, and than what was changed does
+-- with this change the definition at `start` is read further than to `place`, and past what was changed: of the text up to some end behind both a definition is read, or it is read up to a place that leaves fewer bytes in front of that end
 pub record ComesFurther (raw : List ℕ) (start place at taken : ℕ) (bytes : List ℕ) : Type 0 where
+  pub end : ℕ
   pub text : List ℕ
-  pub changed : IsChanged raw start at taken bytes text
-  pub further : HasDefinition text ⊎ LeavesLess text (length raw - max place (at + taken))
+  pub past : max place (at + taken) ≤ end
+  pub changed : IsChanged raw start end at taken bytes text
+  pub further : HasDefinition text ⊎ LeavesLess text (end - max place (at + taken))
 
 -- the bytes of a keyword: some rule reads just them, and a letter is among them
 abbrev pub IsKeyword : List ℕ → Type 0

@@ -85,11 +85,11 @@ impl Hint {
 /// Of `interface A { atribute long x; };` the definition at 0 is read up to 28, and `attribute` at
 /// 14 would mend it.
 ///
-/// A change is told only where it was tried: the text from `start` on is read again with it, and
-/// comes further. At most eight are tried, the first that helps is told, and where the text doesn't
-/// suit descent, or nests more than 64 levels deep, none is tried. Each costs a copy of the text
-/// from `start` on, and the time of descent over the definition; a table is filled of no more than
-/// 10,000 bytes. Where memory is refused, the answer is an error.
+/// A change is told only where it was tried: the definition is read again with it, up to the `;`
+/// that follows, and comes further. At most eight are tried, the first that helps is told, and
+/// where the definition doesn't suit descent, or nests more than 64 levels deep, none is tried.
+/// Each costs a copy of the definition so far, and the time of descent over it; a table is filled
+/// of no more than 10,000 bytes. Where memory is refused, the answer is an error.
 pub fn hint_of(
     alloc: Global,
     raw: &str,

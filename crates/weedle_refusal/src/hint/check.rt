@@ -1,6 +1,18 @@
 //! Whether a hint is right: each that is told was checked.
 
-ghost use Rattle.std.specs.Prelude.{◌≡◌, ◌==◌, ◌≤◌, ◌<◌, false, IfOk, IfSome, IsTrue, length, slice_index};
+ghost use Rattle.std.specs.Prelude.{
+  ◌≡◌,
+  ◌==◌,
+  ◌≤◌,
+  ◌<◌,
+  ◌+◌,
+  false,
+  IfOk,
+  IfSome,
+  IsTrue,
+  length,
+  slice_index,
+};
 ghost use Rattle.std.specs.List.{list_any};
 ghost use Rattle.std.specs.String.{string_bytes};
 ghost use Rattle.weedle_grammar.specs.Rows.{is_in};
@@ -21,7 +33,7 @@ ghost use Rattle.weedle_rules.specs.Outcomes.{EndsAt};
 
 use crate::hint::Hint;
 use crate::hint::keywords::is_keyword;
-use crate::hint::tokens::past_token;
+use crate::hint::tokens::{past_semicolon, past_token};
 use crate::refusal::rest_of;
 use std::alloc::{AllocError, Global};
 use weedle_base::scan::{run, skip_trivia};
@@ -130,8 +142,9 @@ fn is_misplaced(
     comes_further(alloc, raw, start, past_token(raw, place), change)
 }
 
-/// Whether the text from `start` on is read further with a change than up to `place`, and past
-/// what was changed. Where the changed text doesn't suit descent, or nests deep, it isn't read.
+/// Whether the definition at `start` is read further with a change than up to `place`, and past what
+/// was changed. It is read up to the next `;` alone. Where that doesn't suit descent, or nests deep,
+/// it isn't read.
 fn comes_further(
     alloc: Global,
     raw: &str,
@@ -144,18 +157,23 @@ fn comes_further(
         → ComesFurther raw.now start place
         change.entry.at change.entry.taken change.entry.bytes.now) }
 {
-    let Some(changed) = changed(alloc, raw, start, change)? else {
+    let Change { at, taken, .. } = change;
+    if at > raw.len() || taken > raw.len() - at {
+        return Ok(false);
+    }
+    let past = place.max(at + taken);
+    let end = past_semicolon(raw, past);
+    let Some(changed) = changed(alloc, raw, start, end, change)? else {
         return Ok(false);
     };
     let text = changed.as_str();
     if !suits_descent(text) || !nests_little(text) {
         return Ok(false);
     }
-    let left = raw.len() - place.max(change.at + change.taken);
-    if left == 0 {
+    if end == past {
         has_definition(alloc, text)
     } else {
-        leaves_less(alloc, text, left)
+        leaves_less(alloc, text, end - past)
     }
 }
 
@@ -194,26 +212,27 @@ fn leaves_less(alloc: Global, text: &str, left: usize) -> Result<bool, AllocErro
     }
 }
 
-/// The text from `start` on with a change, or None where that takes out what isn't there.
+/// The text from `start` up to `end` with a change, or None where one of them stands within a
+/// character, or the change in front of the start.
 fn changed(
     alloc: Global,
     raw: &str,
     start: usize,
+    end: usize,
     change: Change<'_>,
 ) -> Result<Option<String>, AllocError>
+    requires before { change.at + change.taken ≤ end }
+    requires within { end ≤ length raw.now }
     ensures { IfOk result
         (λ text. IfSome text
-        (λ text. IsChanged raw.now start change.entry.at change.entry.taken change.entry.bytes.now
-        (string_bytes text))) }
+        (λ text. IsChanged raw.now start end
+        change.entry.at change.entry.taken change.entry.bytes.now (string_bytes text))) }
 {
     let Change { at, taken, bytes } = change;
-    if taken > raw.len() {
-        return Ok(None);
-    }
     let Some(before) = raw.get(start..at) else {
         return Ok(None);
     };
-    let Some(behind) = raw.get(at + taken..) else {
+    let Some(behind) = raw.get(at + taken..end) else {
         return Ok(None);
     };
     let mut text = String::new(alloc);

@@ -87,6 +87,22 @@ pub(crate) fn past_token(raw: &str, at: usize) -> usize
     }
 }
 
+/// Where the first `;` from a place on ends that stands in no string and no comment, or the text.
+pub(crate) fn past_semicolon(raw: &str, at: usize) -> usize
+    requires { at ≤ length raw.now }
+    ensures after { at ≤ result }
+    ensures within { result ≤ length raw.now }
+{
+    let mut end = at;
+    while let Some(token) = next_token(raw, end) {
+        end = token.end;
+        if token.of(raw) == b";".as_slice() {
+            return end;
+        }
+    }
+    raw.len()
+}
+
 /// The first token from a place on, or None where blanks and comments alone follow.
 fn next_token(raw: &str, at: usize) -> Option<Token>
     requires { at ≤ length raw.now }

@@ -1,4 +1,4 @@
-use Rattle.std.proofs.Common.{◌≡◌, ◌≤◌, ◌<◌, length, sym, subst, ap, arith}
+use Rattle.std.proofs.Common.{◌≤◌, ◌<◌, subst, arith}
 use Rattle.std.proofs.lemmas.List.{get_or_read}
 use Rattle.weedle_refusal.proofs.LineFacts.{Halving, halving_starts, halve_up, halve_down, feeds_few}
 use Rattle.weedle_refusal.proofs.lines.Lines.feeds_before.Goals as goal
