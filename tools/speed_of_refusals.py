@@ -3,13 +3,17 @@
 
     python3 tools/speed_of_refusals.py [--size BYTES] [--rounds N]
 
-Build first python/weedle/libweedle.so (python/build.sh). Each text is one definition of so many bytes, with
-a slip at its end, which descent has to read to say where it stops; the last one is many interfaces, the
-first of them with a slip. Of each it prints nanoseconds of processor time for each byte of the definition
-that isn't read, the median of N readings and the least, with the hint that is looked for.
+Build first python/weedle/libweedle.so (python/build.sh). Each text is one definition of so many bytes, which is
+refused at its end. It prints nanoseconds of processor time for each byte, the least of N times each:
+
+- `read`: to find that it is refused;
+- `diagnosed`: beyond that to say how far the reading comes and what would go on, where a byte order mark
+  stands, so that no change has to be tried;
+- `with hints`: the same of a slip of which changes are tried, up to eight.
+
+The last line is of many interfaces of so many bytes, the first of them with a slip.
 """
 
-import statistics
 import sys
 import time
 from pathlib import Path
@@ -18,7 +22,7 @@ from command_line import parser_of
 
 TOP = Path(__file__).resolve().parent.parent
 sys.path.insert(0, str(TOP / "python"))
-# What a definition begins with, what it repeats, and how it ends: with a slip.
+# What a definition begins with, what it repeats, and a slip at its end.
 TEXTS = {
     "an interface": ("interface A {\n", "  readonly attribute unsigned long length{};\n", "  attribute long\n};\n"),
     "operations": ("interface A {\n", "  undefined send{}(DOMString data, optional long mode = 0);\n", "  void f(;\n};\n"),
@@ -27,6 +31,8 @@ TEXTS = {
     "an enum": ("enum A {\n", "  \"value{}\",\n", "  ,\n};\n"),
     "a callback": ("callback A = undefined (\n", "  optional (long or Node) argument{},\n", "  long\n);\n"),
 }
+# A byte order mark: where one stands no change is tried.
+MARK = "\ufeff"
 # An interface that is read, and one that isn't.
 WHOLE, SLIP = "interface A{} {{ attribute long x; void f(long y, long z); }};\n", "interface B { atribute long x; };\n"
 
@@ -40,28 +46,37 @@ def text_of(front, part, end, size):
     return "".join([*parts, end]).encode()
 
 
-def nanoseconds(explain, data, rounds):
-    """What each of so many readings took."""
+def nanoseconds(call, data, rounds):
+    """What the quickest of so many calls took, a byte."""
     taken = []
     for _ in range(rounds):
         began = time.process_time_ns()
-        explain(data)
+        call(data)
         taken.append(time.process_time_ns() - began)
-    return taken
+    return min(taken) / len(data)
 
 
-def tell(name, taken, size):
-    middle, least = statistics.median(taken) / size, min(taken) / size
-    print(f"{name}, {size} bytes: {middle:.0f} ns a byte, {least:.0f} at the least", flush=True)
+def read_only(library):
+    """A reading that keeps no nodes, and finds that the text is refused."""
+    def read(data):
+        try:
+            library.read_nodes(data)
+        except library.Unread:
+            pass
+    return read
 
 
-def measure(explain, size, rounds):
-    for name, parts in TEXTS.items():
-        data = text_of(*parts, size)
-        tell(name, nanoseconds(explain, data, rounds), len(data))
-    many = SLIP + "".join(WHOLE.format(number) for number in range(size // 40))
-    taken = nanoseconds(explain, many.encode(), rounds)
-    print(f"a slip in front of {len(many)} bytes: {statistics.median(taken) / 1e6:.2f} ms")
+def measure(library, size, rounds):
+    for name, (front, part, end) in TEXTS.items():
+        marked, slipped = (text_of(front, part, it, size) for it in (MARK, end))
+        read = nanoseconds(read_only(library), marked, rounds)
+        diagnosed = nanoseconds(library.explain, marked, rounds) - read
+        hinted = nanoseconds(library.explain, slipped, rounds) - read
+        print(f"{name}, {len(marked)} bytes: read {read:.0f} ns a byte, "
+              f"diagnosed {diagnosed:.0f}, with hints {hinted:.0f}", flush=True)
+    many = (SLIP + "".join(WHOLE.format(number) for number in range(size // 40))).encode()
+    taken = nanoseconds(library.explain, many, rounds) * len(many)
+    print(f"a slip in front of {len(many)} bytes: {taken / 1e6:.2f} ms")
 
 
 def main():
@@ -70,11 +85,11 @@ def main():
     words.add_argument("--rounds", type=int, default=15)
     wanted = words.parse_args()
     try:
-        from weedle._library import explain
+        from weedle import _library
     except ImportError as fault:
         print(fault, file=sys.stderr)
         return 2
-    measure(explain, wanted.size, wanted.rounds)
+    measure(_library, wanted.size, wanted.rounds)
     return 0
 
 
