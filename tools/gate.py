@@ -8,7 +8,7 @@ module, puts one function in the place of its scheduler, and calls its `ci`. By 
 processor only where hardly anything else is ready. So the longest chain of proofs, which decides how long the
 gate takes, is walked by one processor while others idle. Here it goes by the times of docs/gate_times.json:
 what has the longest chain of times behind it begins first, and a proof of four minutes or more on the longest
-chain gets two processors, or three where it takes half an hour, if memory holds that.
+chain, of a crate or of its tests, gets two processors, or three where it takes half an hour, if memory holds that.
 
 Where `rt` has another scheduler than the one that is known here, or can't be read as Python, it is plain `rt ci`,
 and a line says so. The status is that of `rt ci`. `rt ci` itself gives the same verdict, later.
@@ -36,6 +36,8 @@ SECONDS_OF_A_LINE = 0.3
 SLACK = 300
 # From how many seconds on a proof on the longest chain gets two processors, and from how many three.
 LONG, LONGEST = 240, 1800
+# What is proved, and may be by several processors.
+PROOFS = ("proof", "tests")
 # What is done of a crate once its wrong bodies were tried: whether it is still proved, and that their results are kept.
 LAST = ("sound", "again")
 # With fewer processors than these none is idle for long, and each task gets one.
@@ -50,7 +52,8 @@ TYPES = "weedle_types"
 
 
 class Task:
-    """A task of rt: what it waits for, whether it is a proof, its seconds, its bytes, and the call that does it."""
+    """A task of rt: what it waits for, whether it is a proof (of a crate or of its tests), its seconds, its bytes, and the
+    call that does it."""
 
     def __init__(self, waits, is_proof, seconds, needs, call=None):
         self.waits, self.is_proof, self.seconds = waits, is_proof, seconds
@@ -74,7 +77,7 @@ def known(tasks, times):
         name, kind = key[:2]
         seconds = times.get((name, kind), SECONDS_OF_A_LINE * lines)
         memory = needs * part_of(name, tasks[name, "proof"][0])
-        found[key] = Task(waits, kind == "proof", seconds, memory, call)
+        found[key] = Task(waits, kind in PROOFS, seconds, memory, call)
     return found
 
 

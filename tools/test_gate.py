@@ -65,6 +65,11 @@ class Ran(unittest.TestCase):
         self.assertEqual({jobs for key, jobs in run.jobs.items() if key[0] in ("low", "side")}, {1})
         self.assertEqual(run.jobs["top", "proof"], 2)
 
+    def test_long_tests_at_the_end_of_the_longest_chain_get_two_jobs(self):
+        run = Run()
+        run_all(Order(known(rows_of(run.call), TIMES | {("top", "tests"): 600}), 4, 20 * GB))
+        self.assertEqual(run.jobs["top", "tests"], 2)
+
     def test_what_a_call_raises_is_raised(self):
         def raises(key, given, jobs):
             raise ValueError(key)
