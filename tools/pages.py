@@ -33,7 +33,7 @@ BRACES = re.compile(r"\{([^{}]*)\}")
 CRATE = re.compile(r"`(weedle\w*)`")
 SCRIPTS = (".py", ".sh", ".c")
 # What is there only once it was built, as crates/weedle_list/out; and names that stand for any name,
-# as that of README's program.
+# as those of the programs of README and of the worked pages.
 BUILT = {"out", "target"}
 ANY = {"NAME", "CRATE", "FOLDER", "app", "validator", "documentation"}
 # The line of `rt version`, and the pages of which the first such line counts.
