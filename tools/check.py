@@ -17,8 +17,9 @@ each link of the pages leads somewhere (tools/links.py), whether what they name 
 there (tools/pages.py), whether the cases of tests/ are those that are listed, of the texts that are
 made now (tools/make_cases.py --check), whether the table of docs/GATE.md is that of the times that
 were measured last (tools/gate_page.py --check), whether docs/SLIPS.md says what the rows say of the
-slips of tests/ (tools/run_slips.py --page --check), and whether the pieces of Rust in README.md and
-docs/USING.md stand where the gate proves and runs them (tools/try_readme.py --no-run).
+slips of tests/ (tools/run_slips.py --page --check), whether the pieces of Rust in README.md and
+docs/USING.md stand where the gate proves and runs them (tools/try_readme.py --no-run), and whether
+what the programs of the worked pages name is there (tools/try_pages.py --no-run).
 
 It prints a line for each file that is stale, for each that no script writes though it says so, and
 for whatever else was found. It changes nothing. It needs the toolchain's command `rt` on PATH, and
@@ -51,6 +52,7 @@ LOOKS = (
     ["gate_page.py", "--check"],
     ["run_slips.py", "--page", "--check"],
     ["try_readme.py", "--no-run"],
+    ["try_pages.py", "--no-run"],
 )
 
 

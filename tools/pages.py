@@ -33,9 +33,9 @@ BRACES = re.compile(r"\{([^{}]*)\}")
 CRATE = re.compile(r"`(weedle\w*)`")
 SCRIPTS = (".py", ".sh", ".c")
 # What is there only once it was built, as crates/weedle_list/out; and names that stand for any name,
-# as that of README's program.
+# as those of the programs of README and of the worked pages.
 BUILT = {"out", "target"}
-ANY = {"NAME", "CRATE", "FOLDER", "app"}
+ANY = {"NAME", "CRATE", "FOLDER", "app", "validator", "documentation"}
 # The line of `rt version`, and the pages of which the first such line counts.
 KIT = re.compile(r"`(rattle-kit-\w+ logic [0-9a-f]+)`")
 KIT_PAGES = ("README.md", "docs/PROVED.md", "CHANGELOG.md")

@@ -81,6 +81,18 @@ class Hints(unittest.TestCase):
     def test_docstrings(self):
         self.assertEqual(told("/// a\n/// b\ntypedef long T;"), "1:1: no docstring here")
         self.assertEqual(told("dictionary D {\n/// a\n};"), "2:1: no docstring here")
+        for text in ("typedef long T;", "interface mixin M {};", "callback F = undefined ();", "partial interface A {};",
+                     "partial interface mixin A {};", "partial dictionary A {};", "partial namespace A {};",
+                     "A includes B;", "A implements B;"):
+            self.assertEqual(told(f"/// a\n{text}"), "1:1: no docstring here", text)
+        for text in ("attribute long x;", "readonly attribute long x;", "const long X = 1;", "iterable<long>;",
+                     "maplike<long, long>;", "static attribute long x;", "stringifier;"):
+            self.assertEqual(told(f"interface A {{\n/// a\n{text} }};"), "2:1: no docstring here", text)
+        for text in ("undefined f();", "attribute long x;"):
+            self.assertEqual(told(f"interface mixin A {{\n/// a\n{text} }};"), "2:1: no docstring here", text)
+        # Behind extended attributes, and behind a comment at the front of the text.
+        self.assertEqual(told("[A]\n/// a\ninterface B {};"), "2:1: no docstring here")
+        self.assertEqual(told("// a\n/// a\ninterface B {};"), "2:1: no docstring here")
         # That nothing reads `struct` isn't the docstring's fault.
         self.assertIsNone(told("/// a\nstruct A {};"))
 
