@@ -10,8 +10,10 @@ folder at most; N random ones, made of the seed by the grammar's rows; and with 
 - is read as the same definitions: `weedle_check --tree` prints the same values of both;
 - is written by --print as it is;
 - is laid out already: `weedle_format --check` doesn't name it;
-- with --weedle2, the program of compare/, is read by weedle2 as the same values; it isn't asked of the folder `deep`,
-  nor where the text itself is read by it as other values, as COMPARED says.
+- with --weedle2, the program of compare/, is read by weedle2 as the same values, where it reads the text whole; it isn't
+  asked of the folder `deep`.
+
+Of the worked texts in tests/prints.toml it is what stands there by hand.
 
 It prints a line for each kind of texts, `KIND: N written, K not read, M failed`, and of each failure the text and what
 is wrong, ten at most of a kind. The last line is the sum.
@@ -23,13 +25,16 @@ import re
 import subprocess
 import sys
 import tempfile
+import tomllib
 from pathlib import Path
 
-from case_files import cases_of, folders
+from case_files import TESTS, cases_of, folders
 from command_line import parser_of, runnable
 from compare_with_weedle2 import DEPTH, NoUse, Weedle2, files_of
 from random_texts import Maker
 
+# The worked texts, and what they are called.
+WORKED, BY_HAND = TESTS / "prints.toml", "worked texts"
 # The folder that takes weedle2 too long.
 DEEP = "deep"
 # How many texts a process is given, how many failures of a kind are shown, and how much of each.
@@ -144,8 +149,24 @@ def failures_of(programs, texts):
     return count, failures
 
 
+def worked():
+    """The worked texts, each with what is written of it by hand."""
+    return [(it["text"], it["written"]) for it in tomllib.loads(WORKED.read_text(encoding="utf-8"))["print"]]
+
+
+def failures_of_worked(programs):
+    """The worked texts of which something else is written, each with what that is."""
+    with tempfile.TemporaryDirectory() as folder:
+        room = Path(folder)
+        (room / "between").write_text(BETWEEN, encoding="utf-8")
+        texts, wanted = zip(*worked())
+        written = programs.written(laid(texts, "text", room), room)
+    return [(text, f"by hand {by_hand!r}, written {came!r}") for text, by_hand, came in zip(texts, wanted, written) if came != by_hand]
+
+
 def kinds(wanted):
     """The texts, by their kinds."""
+    yield BY_HAND, [text for text, _ in worked()]
     for folder in folders():
         texts = [case.text for case in cases_of(folder) if case.text is not None and case.is_read][:wanted.most]
         if texts:
@@ -175,7 +196,10 @@ def main(wanted):
     total, failed = 0, 0
     try:
         for kind, texts in kinds(wanted):
-            count, failures = failures_of(Programs(check, layout, None if kind == DEEP else weedle2), texts)
+            programs = Programs(check, layout, None if kind == DEEP else weedle2)
+            count, failures = failures_of(programs, texts)
+            if kind == BY_HAND:
+                failures += failures_of_worked(programs)
             for text, what in failures[:SHOWN]:
                 print(f"FAILED: {text[:LENGTH]!r}\n  {what[:LENGTH]!r}")
             print(f"{kind}: {count} written, {len(texts) - count} not read, {len(failures)} failed", flush=True)

@@ -9,7 +9,9 @@ import unittest
 from pathlib import Path
 
 from compare_with_weedle2 import Answer, NoUse
-from run_prints import BETWEEN, Programs, failures_of, one_wrong, other_values
+from run_layouts import has_blanks_at_end
+from run_prints import BETWEEN, Programs, failures_of, failures_of_worked, one_wrong, other_values, worked
+from table_reader import Table
 
 WORD = "between_two_texts"
 
@@ -79,6 +81,26 @@ class Failures(unittest.TestCase):
         self.assertEqual(failures_of(Fake(weedle2=Asked()), ["a  b;\n"]), (1, []))
         self.assertIsNone(other_values(None, ["a"], "a"))
         self.assertEqual(other_values(["a"], ["b"], "b"), "weedle2 reads other values: b")
+
+
+class Worked(unittest.TestCase):
+    def test_the_rows_read_both_as_the_same_values(self):
+        table = Table(())
+        for text, written in worked():
+            with self.subTest(text=text):
+                (end, values), (end_anew, values_anew) = table.read(text), table.read(written)
+                self.assertEqual((end, end_anew), (len(text.encode()), len(written.encode())))
+                self.assertEqual(values, values_anew)
+
+    def test_no_line_ends_with_blanks(self):
+        self.assertFalse([written for _, written in worked() if has_blanks_at_end(written)])
+
+    def test_what_is_written_otherwise(self):
+        fake = Fake()
+        fake.written = lambda names, room: [written for _, written in worked()]
+        self.assertEqual(failures_of_worked(fake), [])
+        fake.written = lambda names, room: [written.replace("enum", "Enum") for _, written in worked()]
+        self.assertTrue(failures_of_worked(fake))
 
 
 class Between(unittest.TestCase):
