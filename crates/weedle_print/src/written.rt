@@ -3,3 +3,4 @@
 //! Written by tools/modules.py, and not edited by hand.
 
 pub mod terminals;
+pub mod written;

@@ -1,0 +1,5 @@
+//! What scripts write.
+//!
+//! Written by tools/modules.py, and not edited by hand.
+
+pub mod reserved;
