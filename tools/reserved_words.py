@@ -19,7 +19,7 @@ from description.webidl import RULES
 from written_places import put
 
 TOP = Path(__file__).resolve().parent.parent
-OUT = "weedle_print/src/written/reserved.rt"
+OUT = "weedle_print/src/reserved.rt"
 # What the layout keeps as the word before, where that is a name.
 NAME_BEFORE = "a"
 

@@ -2,5 +2,5 @@
 //!
 //! Written by tools/modules.py, and not edited by hand.
 
+pub mod reserved;
 pub mod terminals;
-pub mod written;
