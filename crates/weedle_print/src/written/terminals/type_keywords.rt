@@ -1,0 +1,336 @@
+//! Keywords of types, arguments and values.
+//!
+//! Written by tools/terminals.py, and not edited by hand.
+
+ghost use Rattle.std.specs.Prelude.{codes};
+ghost use Rattle.weedle_spell.specs.Leaves.{terminal};
+
+use crate::error::PrintError;
+use crate::layout::Layout;
+use crate::print::Print;
+use crate::push::word;
+use crate::words::Words;
+use weedle_term::{
+    Any, Boolean, Byte, Double, False, Float, Long, Null, Object, Octet, Optional, Or, Record,
+    Sequence, Short, Symbol, True, Undefined, Unrestricted, Unsigned,
+};
+
+impl Words for Or {
+    ghost words = { λ v. codes "or" };
+
+    fn as_str(&self) -> &'static str {
+        "or"
+    }
+}
+
+impl Print for Or {
+    ghost spelling = { λ v. terminal (codes "or") v };
+
+    fn print(&self, out: &mut String, layout: &mut Layout) -> Result<(), PrintError> {
+        word(out, layout, "or")
+    }
+}
+
+impl Words for Optional {
+    ghost words = { λ v. codes "optional" };
+
+    fn as_str(&self) -> &'static str {
+        "optional"
+    }
+}
+
+impl Print for Optional {
+    ghost spelling = { λ v. terminal (codes "optional") v };
+
+    fn print(&self, out: &mut String, layout: &mut Layout) -> Result<(), PrintError> {
+        word(out, layout, "optional")
+    }
+}
+
+impl Words for Unrestricted {
+    ghost words = { λ v. codes "unrestricted" };
+
+    fn as_str(&self) -> &'static str {
+        "unrestricted"
+    }
+}
+
+impl Print for Unrestricted {
+    ghost spelling = { λ v. terminal (codes "unrestricted") v };
+
+    fn print(&self, out: &mut String, layout: &mut Layout) -> Result<(), PrintError> {
+        word(out, layout, "unrestricted")
+    }
+}
+
+impl Words for Symbol {
+    ghost words = { λ v. codes "symbol" };
+
+    fn as_str(&self) -> &'static str {
+        "symbol"
+    }
+}
+
+impl Print for Symbol {
+    ghost spelling = { λ v. terminal (codes "symbol") v };
+
+    fn print(&self, out: &mut String, layout: &mut Layout) -> Result<(), PrintError> {
+        word(out, layout, "symbol")
+    }
+}
+
+impl Words for Any {
+    ghost words = { λ v. codes "any" };
+
+    fn as_str(&self) -> &'static str {
+        "any"
+    }
+}
+
+impl Print for Any {
+    ghost spelling = { λ v. terminal (codes "any") v };
+
+    fn print(&self, out: &mut String, layout: &mut Layout) -> Result<(), PrintError> {
+        word(out, layout, "any")
+    }
+}
+
+impl Words for Boolean {
+    ghost words = { λ v. codes "boolean" };
+
+    fn as_str(&self) -> &'static str {
+        "boolean"
+    }
+}
+
+impl Print for Boolean {
+    ghost spelling = { λ v. terminal (codes "boolean") v };
+
+    fn print(&self, out: &mut String, layout: &mut Layout) -> Result<(), PrintError> {
+        word(out, layout, "boolean")
+    }
+}
+
+impl Words for Byte {
+    ghost words = { λ v. codes "byte" };
+
+    fn as_str(&self) -> &'static str {
+        "byte"
+    }
+}
+
+impl Print for Byte {
+    ghost spelling = { λ v. terminal (codes "byte") v };
+
+    fn print(&self, out: &mut String, layout: &mut Layout) -> Result<(), PrintError> {
+        word(out, layout, "byte")
+    }
+}
+
+impl Words for Double {
+    ghost words = { λ v. codes "double" };
+
+    fn as_str(&self) -> &'static str {
+        "double"
+    }
+}
+
+impl Print for Double {
+    ghost spelling = { λ v. terminal (codes "double") v };
+
+    fn print(&self, out: &mut String, layout: &mut Layout) -> Result<(), PrintError> {
+        word(out, layout, "double")
+    }
+}
+
+impl Words for False {
+    ghost words = { λ v. codes "false" };
+
+    fn as_str(&self) -> &'static str {
+        "false"
+    }
+}
+
+impl Print for False {
+    ghost spelling = { λ v. terminal (codes "false") v };
+
+    fn print(&self, out: &mut String, layout: &mut Layout) -> Result<(), PrintError> {
+        word(out, layout, "false")
+    }
+}
+
+impl Words for Float {
+    ghost words = { λ v. codes "float" };
+
+    fn as_str(&self) -> &'static str {
+        "float"
+    }
+}
+
+impl Print for Float {
+    ghost spelling = { λ v. terminal (codes "float") v };
+
+    fn print(&self, out: &mut String, layout: &mut Layout) -> Result<(), PrintError> {
+        word(out, layout, "float")
+    }
+}
+
+impl Words for Long {
+    ghost words = { λ v. codes "long" };
+
+    fn as_str(&self) -> &'static str {
+        "long"
+    }
+}
+
+impl Print for Long {
+    ghost spelling = { λ v. terminal (codes "long") v };
+
+    fn print(&self, out: &mut String, layout: &mut Layout) -> Result<(), PrintError> {
+        word(out, layout, "long")
+    }
+}
+
+impl Words for Null {
+    ghost words = { λ v. codes "null" };
+
+    fn as_str(&self) -> &'static str {
+        "null"
+    }
+}
+
+impl Print for Null {
+    ghost spelling = { λ v. terminal (codes "null") v };
+
+    fn print(&self, out: &mut String, layout: &mut Layout) -> Result<(), PrintError> {
+        word(out, layout, "null")
+    }
+}
+
+impl Words for Object {
+    ghost words = { λ v. codes "object" };
+
+    fn as_str(&self) -> &'static str {
+        "object"
+    }
+}
+
+impl Print for Object {
+    ghost spelling = { λ v. terminal (codes "object") v };
+
+    fn print(&self, out: &mut String, layout: &mut Layout) -> Result<(), PrintError> {
+        word(out, layout, "object")
+    }
+}
+
+impl Words for Octet {
+    ghost words = { λ v. codes "octet" };
+
+    fn as_str(&self) -> &'static str {
+        "octet"
+    }
+}
+
+impl Print for Octet {
+    ghost spelling = { λ v. terminal (codes "octet") v };
+
+    fn print(&self, out: &mut String, layout: &mut Layout) -> Result<(), PrintError> {
+        word(out, layout, "octet")
+    }
+}
+
+impl Words for Sequence {
+    ghost words = { λ v. codes "sequence" };
+
+    fn as_str(&self) -> &'static str {
+        "sequence"
+    }
+}
+
+impl Print for Sequence {
+    ghost spelling = { λ v. terminal (codes "sequence") v };
+
+    fn print(&self, out: &mut String, layout: &mut Layout) -> Result<(), PrintError> {
+        word(out, layout, "sequence")
+    }
+}
+
+impl Words for Short {
+    ghost words = { λ v. codes "short" };
+
+    fn as_str(&self) -> &'static str {
+        "short"
+    }
+}
+
+impl Print for Short {
+    ghost spelling = { λ v. terminal (codes "short") v };
+
+    fn print(&self, out: &mut String, layout: &mut Layout) -> Result<(), PrintError> {
+        word(out, layout, "short")
+    }
+}
+
+impl Words for True {
+    ghost words = { λ v. codes "true" };
+
+    fn as_str(&self) -> &'static str {
+        "true"
+    }
+}
+
+impl Print for True {
+    ghost spelling = { λ v. terminal (codes "true") v };
+
+    fn print(&self, out: &mut String, layout: &mut Layout) -> Result<(), PrintError> {
+        word(out, layout, "true")
+    }
+}
+
+impl Words for Unsigned {
+    ghost words = { λ v. codes "unsigned" };
+
+    fn as_str(&self) -> &'static str {
+        "unsigned"
+    }
+}
+
+impl Print for Unsigned {
+    ghost spelling = { λ v. terminal (codes "unsigned") v };
+
+    fn print(&self, out: &mut String, layout: &mut Layout) -> Result<(), PrintError> {
+        word(out, layout, "unsigned")
+    }
+}
+
+impl Words for Undefined {
+    ghost words = { λ v. codes "undefined" };
+
+    fn as_str(&self) -> &'static str {
+        "undefined"
+    }
+}
+
+impl Print for Undefined {
+    ghost spelling = { λ v. terminal (codes "undefined") v };
+
+    fn print(&self, out: &mut String, layout: &mut Layout) -> Result<(), PrintError> {
+        word(out, layout, "undefined")
+    }
+}
+
+impl Words for Record {
+    ghost words = { λ v. codes "record" };
+
+    fn as_str(&self) -> &'static str {
+        "record"
+    }
+}
+
+impl Print for Record {
+    ghost spelling = { λ v. terminal (codes "record") v };
+
+    fn print(&self, out: &mut String, layout: &mut Layout) -> Result<(), PrintError> {
+        word(out, layout, "record")
+    }
+}
