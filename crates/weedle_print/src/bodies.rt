@@ -30,11 +30,17 @@ fn open_body(is_empty: bool, out: &mut String, layout: &mut Layout) -> Result<()
 /// Members in braces, as `{ stringifier; }`: each takes a line, and none is `{}`.
 #[tactic(auto, using(crate::proofs::AddsFacts::adds_then))]
 impl<T: Print> Print for Braced<Vec<T>> {
+    type Value = Braced<Vec<T::Value>>;
+
     ghost spelling = { braced_spelling (λ v. each T.spelling v.items) };
 
-    fn print(&self, out: &mut String, layout: &mut Layout) -> Result<(), PrintError> {
-        open_body(self.body.is_empty(), out, layout)?;
-        self.body.print(out, layout)?;
+    fn print(
+        value: &Braced<Vec<T::Value>>,
+        out: &mut String,
+        layout: &mut Layout,
+    ) -> Result<(), PrintError> {
+        open_body(value.body.is_empty(), out, layout)?;
+        Vec::<T>::print(&value.body, out, layout)?;
         layout.close_body();
         word(out, layout, "}")
     }
@@ -43,7 +49,7 @@ impl<T: Print> Print for Braced<Vec<T>> {
 /// Writes values with commas between them, and the brace behind them.
 #[tactic(auto, using(crate::proofs::AddsFacts::adds_then, crate::proofs::SeparatedFacts::separated_steps))]
 fn push_values<T: Print>(
-    values: &[T],
+    values: &[T::Value],
     out: &mut String,
     layout: &mut Layout,
 ) -> Result<(), PrintError>
@@ -53,7 +59,7 @@ fn push_values<T: Print>(
     for value in values {
         separate(is_first, out, layout, ",")?;
         layout.begin_item();
-        value.print(out, layout)?;
+        T::print(value, out, layout)?;
         is_first = false;
     }
     close_list(out, layout, "}")
@@ -62,7 +68,7 @@ fn push_values<T: Print>(
 /// Writes values as [`push_values`], on the line where they fit, else each on a line of its own.
 #[tactic(auto, using(crate::proofs::AddsFacts::adds_copied))]
 fn push_fitting<T: Print>(
-    values: &[T],
+    values: &[T::Value],
     out: &mut String,
     layout: &mut Layout,
 ) -> Result<(), PrintError>
@@ -71,14 +77,14 @@ fn push_fitting<T: Print>(
     let start = *layout;
     let mut text = String::new(*out.allocator());
     layout.try_flat();
-    push_values(values, &mut text, layout)?;
+    push_values::<T>(values, &mut text, layout)?;
     if layout.fits(&start, 1) {
         layout.end_try(&start);
         return push(out, text.as_str());
     }
     *layout = start;
     layout.break_list();
-    push_values(values, out, layout)?;
+    push_values::<T>(values, out, layout)?;
     layout.end_list(&start);
     Ok(())
 }
@@ -87,13 +93,19 @@ fn push_fitting<T: Print>(
 /// on a line. A list without values has no text.
 #[tactic(auto, using(crate::proofs::SeparatedFacts::adds_values))]
 impl<T: Print> Print for Braced<PunctuatedNonEmpty<T, Comma>> {
+    type Value = Braced<PunctuatedNonEmpty<T::Value, Comma>>;
+
     ghost spelling = { braced_spelling (punctuated_non_empty_spelling T.spelling (the_word (codes ","))) };
 
-    fn print(&self, out: &mut String, layout: &mut Layout) -> Result<(), PrintError> {
-        if self.body.list.is_empty() {
+    fn print(
+        value: &Braced<PunctuatedNonEmpty<T::Value, Comma>>,
+        out: &mut String,
+        layout: &mut Layout,
+    ) -> Result<(), PrintError> {
+        if value.body.list.is_empty() {
             return Err(PrintError::NoText);
         }
         word(out, layout, "{")?;
-        push_fitting(&self.body.list, out, layout)
+        push_fitting::<T>(&value.body.list, out, layout)
     }
 }

@@ -13,7 +13,7 @@
 //! use weedle_print::printed;
 //!
 //! let mut out = String::new(rt.alloc());
-//! assert!(rt; printed(&Identifier("interface"), &mut out).is_ok());
+//! assert!(rt; printed::<Identifier<'_>>(&Identifier("interface"), &mut out).is_ok());
 //! assert!(rt; out.as_str() == "_interface");
 //! ```
 #![tactic(auto)]
@@ -26,6 +26,7 @@ mod generic;
 mod layout;
 mod list;
 mod literals;
+mod modifier_words;
 mod name;
 mod null;
 mod number;

@@ -29,7 +29,7 @@ pub enum Statement {
 /// whether it takes one line.
 #[tactic(auto, using(crate::proofs::AddsFacts::adds_copied))]
 pub fn statement<T: Print>(
-    value: &T,
+    value: &T::Value,
     kind: Statement,
     out: &mut String,
     layout: &mut Layout,
@@ -39,14 +39,14 @@ pub fn statement<T: Print>(
     let start = *layout;
     if layout.may_follow(kind) {
         let mut text = String::new(*out.allocator());
-        value.print(&mut text, layout)?;
+        T::print(value, &mut text, layout)?;
         if layout.is_one_line(&start) {
             return push(out, text.as_str());
         }
         *layout = start;
     }
     layout.skip_line();
-    value.print(out, layout)?;
+    T::print(value, out, layout)?;
     layout.end_statement(kind, &start);
     Ok(())
 }

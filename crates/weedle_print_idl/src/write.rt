@@ -8,7 +8,7 @@ use crate::part::IdlPart;
 use weedle_print::{Layout, PrintError, printed};
 
 /// A value that is written as WebIDL. `spelling` says which texts spell it.
-pub trait WriteIdl {
+pub trait WriteIdl: Sized {
     ghost spelling: { Self → Form };
 
     /// Writes the value at the end of `out` as a part of a text, where `layout` says how the line
