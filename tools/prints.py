@@ -117,6 +117,12 @@ def named_in(type_):
         yield from named_in(part)
 
 
+def call_of(type_, value):
+    """The call that writes a value by the part of its type."""
+    name, sign, rest = part_of(type_).partition("<")
+    return f"{name}{sign and '::<'}{rest}::print({value}, out, layout)"
+
+
 class Own:
     """The `impl` of a struct, an enum or a list of members or definitions."""
 
@@ -138,7 +144,7 @@ class Own:
     @property
     def calls(self):
         """The paths of the functions that its `impl` calls, and of what it hands them."""
-        if self.is_list:
+        if self.is_list or self.item.is_enum and "::print(" in self.body:
             return {"weedle_print::Print"}
         if self.type.name == WHOLE:
             return {"weedle_print::Statement", "weedle_print::statement"}
@@ -147,7 +153,7 @@ class Own:
     @property
     def body(self):
         if self.is_list:
-            return f"{part_of(self.type)}::print(self, out, layout)".replace("Vec<", "Vec::<", 1)
+            return call_of(self.type, "self")
         if not self.item.is_enum:
             values = "".join(f", &self.{name}" for name, _ in self.fields)
             return f"{self.call}::<{', '.join(part_of(it) for _, it in self.fields)}>(out, layout{values})"
@@ -156,6 +162,8 @@ class Own:
 
     def arm(self, type_):
         """How the value of a variant is written."""
+        if declaration_of(type_).crate not in IDL:
+            return call_of(type_, "value")
         if self.type.name != WHOLE:
             return "value.write_part(out, layout)"
         kind = STATEMENTS.get(type_.name, "Other")
@@ -172,9 +180,7 @@ class HandedOn:
 
     @property
     def body(self):
-        part = part_of(self.type)
-        name, _, rest = part.partition("<")
-        return f"{name}::<{rest}::print(self, out, layout)" if rest else f"{name}::print(self, out, layout)"
+        return call_of(self.type, "self")
 
 
 def term_of(it):

@@ -13,8 +13,8 @@ use crate::write::WriteIdl;
 use weedle_modifier::{Inheritance, Special, StringifierOrInheritOrStatic, StringifierOrStatic};
 use weedle_parts::common::Identifier;
 use weedle_print::fields::two;
-use weedle_print::{Layout, PrintError};
-use weedle_term::Colon;
+use weedle_print::{Layout, Print, PrintError};
+use weedle_term::{Colon, Deleter, Getter, Inherit, LegacyCaller, Setter, Static, Stringifier};
 
 impl<'a> WriteIdl for Inheritance<'a> {
     ghost spelling = { inheritance_spelling };
@@ -29,10 +29,10 @@ impl WriteIdl for Special {
 
     fn write_part(&self, out: &mut String, layout: &mut Layout) -> Result<(), PrintError> {
         match self {
-            Special::Getter(value) => value.write_part(out, layout),
-            Special::Setter(value) => value.write_part(out, layout),
-            Special::Deleter(value) => value.write_part(out, layout),
-            Special::LegacyCaller(value) => value.write_part(out, layout),
+            Special::Getter(value) => Getter::print(value, out, layout),
+            Special::Setter(value) => Setter::print(value, out, layout),
+            Special::Deleter(value) => Deleter::print(value, out, layout),
+            Special::LegacyCaller(value) => LegacyCaller::print(value, out, layout),
         }
     }
 }
@@ -42,9 +42,11 @@ impl WriteIdl for StringifierOrInheritOrStatic {
 
     fn write_part(&self, out: &mut String, layout: &mut Layout) -> Result<(), PrintError> {
         match self {
-            StringifierOrInheritOrStatic::Stringifier(value) => value.write_part(out, layout),
-            StringifierOrInheritOrStatic::Inherit(value) => value.write_part(out, layout),
-            StringifierOrInheritOrStatic::Static(value) => value.write_part(out, layout),
+            StringifierOrInheritOrStatic::Stringifier(value) => Stringifier::print(
+                value, out, layout,
+            ),
+            StringifierOrInheritOrStatic::Inherit(value) => Inherit::print(value, out, layout),
+            StringifierOrInheritOrStatic::Static(value) => Static::print(value, out, layout),
         }
     }
 }
@@ -54,8 +56,8 @@ impl WriteIdl for StringifierOrStatic {
 
     fn write_part(&self, out: &mut String, layout: &mut Layout) -> Result<(), PrintError> {
         match self {
-            StringifierOrStatic::Stringifier(value) => value.write_part(out, layout),
-            StringifierOrStatic::Static(value) => value.write_part(out, layout),
+            StringifierOrStatic::Stringifier(value) => Stringifier::print(value, out, layout),
+            StringifierOrStatic::Static(value) => Static::print(value, out, layout),
         }
     }
 }
