@@ -4,8 +4,7 @@ ghost use Rattle.std.specs.Prelude.{◌≡◌, OnErr, OnOk, string_bytes};
 ghost use Rattle.weedle_spell.specs.Forms.{Form};
 ghost use Rattle.weedle_print.specs.Adds.{Adds};
 
-use crate::part::IdlPart;
-use weedle_print::{Layout, PrintError, printed};
+use weedle_print::{Layout, PrintError, push};
 
 /// A value that is written as WebIDL. `spelling` says which texts spell it.
 pub trait WriteIdl: Sized {
@@ -27,10 +26,14 @@ pub trait WriteIdl: Sized {
     /// written. It answers [`PrintError::Memory`] where `out` or the text beside it can't grow. It
     /// asks for twice the text, and writes a list that takes more than a line twice for each list
     /// that it stands in.
+    #[tactic(auto, using(weedle_print::proofs::AddsFacts::adds_copied))]
     fn write_idl(&self, out: &mut String) -> Result<(), PrintError>
         ensures spells { OnOk result (Adds (spelling self.now) (string_bytes out.old) (string_bytes out.new)) }
         ensures unchanged { OnErr result (string_bytes out.new ≡ string_bytes out.old) }
     {
-        printed::<IdlPart<Self>>(self, out)
+        let mut text = String::new(*out.allocator());
+        let mut layout = Layout::new();
+        self.write_part(&mut text, &mut layout)?;
+        push(out, text.as_str())
     }
 }
