@@ -29,10 +29,12 @@ fn push_doc_line(line: &str, out: &mut String, layout: &mut Layout) -> Result<()
 
 /// A docstring: each of its lines behind `///`, on a line of its own.
 impl Print for Docstring {
+    type Value = Self;
+
     ghost spelling = { docstring_spelling };
 
-    fn print(&self, out: &mut String, layout: &mut Layout) -> Result<(), PrintError> {
-        for line in self.0.as_str().split('\n') {
+    fn print(value: &Docstring, out: &mut String, layout: &mut Layout) -> Result<(), PrintError> {
+        for line in value.0.as_str().split('\n') {
             push_doc_line(line, out, layout)?;
         }
         Ok(())

@@ -54,17 +54,23 @@ fn push_underscore(is_wanted: bool, out: &mut String) -> Result<(), PrintError>
 /// underscore.
 #[tactic(auto, using(crate::proofs::LeafFacts::adds_name))]
 impl<'a> Print for Identifier<'a> {
+    type Value = Self;
+
     ghost spelling = { identifier_spelling };
 
-    fn print(&self, out: &mut String, layout: &mut Layout) -> Result<(), PrintError> {
-        if !is_name(*out.allocator(), self.0) {
+    fn print(
+        value: &Identifier<'a>,
+        out: &mut String,
+        layout: &mut Layout,
+    ) -> Result<(), PrintError> {
+        if !is_name(*out.allocator(), value.0) {
             return Err(PrintError::NoText);
         }
-        space(out, layout, self.0)?;
-        let is_wanted = layout.is_read_as_word(self.0);
+        space(out, layout, value.0)?;
+        let is_wanted = layout.is_read_as_word(value.0);
         push_underscore(is_wanted, out)?;
-        push(out, self.0)?;
-        layout.wrote_name(self.0, is_wanted);
+        push(out, value.0)?;
+        layout.wrote_name(value.0, is_wanted);
         Ok(())
     }
 }

@@ -42,13 +42,15 @@ fn is_decimal(alloc: Global, text: &str) -> bool
 
 #[tactic(auto, using(crate::proofs::LeafFacts::adds_number))]
 impl<'a> Print for DecLit<'a> {
+    type Value = Self;
+
     ghost spelling = { dec_spelling };
 
-    fn print(&self, out: &mut String, layout: &mut Layout) -> Result<(), PrintError> {
-        if !is_decimal(*out.allocator(), self.0) {
+    fn print(value: &DecLit<'a>, out: &mut String, layout: &mut Layout) -> Result<(), PrintError> {
+        if !is_decimal(*out.allocator(), value.0) {
             return Err(PrintError::NoText);
         }
-        push_number(out, layout, self.0)
+        push_number(out, layout, value.0)
     }
 }
 
@@ -65,13 +67,15 @@ fn is_hexadecimal(alloc: Global, text: &str) -> bool
 
 #[tactic(auto, using(crate::proofs::LeafFacts::adds_number))]
 impl<'a> Print for HexLit<'a> {
+    type Value = Self;
+
     ghost spelling = { hex_spelling };
 
-    fn print(&self, out: &mut String, layout: &mut Layout) -> Result<(), PrintError> {
-        if !is_hexadecimal(*out.allocator(), self.0) {
+    fn print(value: &HexLit<'a>, out: &mut String, layout: &mut Layout) -> Result<(), PrintError> {
+        if !is_hexadecimal(*out.allocator(), value.0) {
             return Err(PrintError::NoText);
         }
-        push_number(out, layout, self.0)
+        push_number(out, layout, value.0)
     }
 }
 
@@ -88,13 +92,15 @@ fn is_octal(alloc: Global, text: &str) -> bool
 
 #[tactic(auto, using(crate::proofs::LeafFacts::adds_number))]
 impl<'a> Print for OctLit<'a> {
+    type Value = Self;
+
     ghost spelling = { oct_spelling };
 
-    fn print(&self, out: &mut String, layout: &mut Layout) -> Result<(), PrintError> {
-        if !is_octal(*out.allocator(), self.0) {
+    fn print(value: &OctLit<'a>, out: &mut String, layout: &mut Layout) -> Result<(), PrintError> {
+        if !is_octal(*out.allocator(), value.0) {
             return Err(PrintError::NoText);
         }
-        push_number(out, layout, self.0)
+        push_number(out, layout, value.0)
     }
 }
 
@@ -111,12 +117,18 @@ fn is_floating(alloc: Global, text: &str) -> bool
 
 #[tactic(auto, using(crate::proofs::LeafFacts::adds_number))]
 impl<'a> Print for FloatValueLit<'a> {
+    type Value = Self;
+
     ghost spelling = { float_value_spelling };
 
-    fn print(&self, out: &mut String, layout: &mut Layout) -> Result<(), PrintError> {
-        if !is_floating(*out.allocator(), self.0) {
+    fn print(
+        value: &FloatValueLit<'a>,
+        out: &mut String,
+        layout: &mut Layout,
+    ) -> Result<(), PrintError> {
+        if !is_floating(*out.allocator(), value.0) {
             return Err(PrintError::NoText);
         }
-        push_number(out, layout, self.0)
+        push_number(out, layout, value.0)
     }
 }

@@ -8,17 +8,23 @@ use crate::error::PrintError;
 use crate::layout::Layout;
 use crate::push::push;
 
-/// A value that is written as WebIDL. `spelling` says which texts spell a value.
+/// How values of a type are written as WebIDL. `spelling` says which texts spell a value.
+///
+/// It is the type itself, as `Identifier`, or a struct that stands for it: a trait can't be had by
+/// the types of other crates.
 pub trait Print {
-    ghost spelling: { Self → Form };
+    /// What is written.
+    type Value;
 
-    /// Writes the value at the end of `out`, where `layout` says how the line stands there. Where
-    /// it fails, a part of the value may have been written: so [`printed`] is for callers.
+    ghost spelling: { Self.Value → Form };
+
+    /// Writes a value at the end of `out`, where `layout` says how the line stands there. Where it
+    /// fails, a part of the value may have been written: so [`printed`] is for callers.
     ///
     /// It fails with `Memory` where `out` can't grow, and with `NoText` where no text spells the
     /// value.
-    fn print(&self, out: &mut String, layout: &mut Layout) -> Result<(), PrintError>
-        ensures { OnOk result (Adds (spelling self.now) (string_bytes out.old) (string_bytes out.new)) };
+    fn print(value: &Self::Value, out: &mut String, layout: &mut Layout) -> Result<(), PrintError>
+        ensures { OnOk result (Adds (spelling value.now) (string_bytes out.old) (string_bytes out.new)) };
 }
 
 /// Writes a value at the end of `out`, as `long long? a` of an argument, in the one layout. It
@@ -29,12 +35,12 @@ pub trait Print {
 /// value; then `out` is as it was. It writes the text once into a text of its own, which is copied,
 /// and so takes twice the memory for a while.
 #[tactic(auto, using(crate::proofs::AddsFacts::adds_copied))]
-pub fn printed<T: Print>(value: &T, out: &mut String) -> Result<(), PrintError>
-    ensures spells { OnOk result (Adds (T.spelling value.now) (string_bytes out.old) (string_bytes out.new)) }
+pub fn printed<P: Print>(value: &P::Value, out: &mut String) -> Result<(), PrintError>
+    ensures spells { OnOk result (Adds (P.spelling value.now) (string_bytes out.old) (string_bytes out.new)) }
     ensures unchanged { OnErr result (string_bytes out.new ≡ string_bytes out.old) }
 {
     let mut text = String::new(*out.allocator());
     let mut layout = Layout::new();
-    value.print(&mut text, &mut layout)?;
+    P::print(value, &mut text, &mut layout)?;
     push(out, text.as_str())
 }

@@ -26,17 +26,23 @@ fn is_without_quote(text: &str) -> bool
 /// A string in quotes, as `"a"`. One with a quote in it has no text.
 #[tactic(auto, using(crate::proofs::LeafFacts::adds_string))]
 impl<'a> Print for StringLit<'a> {
+    type Value = Self;
+
     ghost spelling = { string_spelling };
 
-    fn print(&self, out: &mut String, layout: &mut Layout) -> Result<(), PrintError> {
-        if !is_without_quote(self.0) {
+    fn print(
+        value: &StringLit<'a>,
+        out: &mut String,
+        layout: &mut Layout,
+    ) -> Result<(), PrintError> {
+        if !is_without_quote(value.0) {
             return Err(PrintError::NoText);
         }
         space(out, layout, "\"")?;
         push(out, "\"")?;
-        push(out, self.0)?;
+        push(out, value.0)?;
         push(out, "\"")?;
-        layout.wrote_string(self.0);
+        layout.wrote_string(value.0);
         Ok(())
     }
 }

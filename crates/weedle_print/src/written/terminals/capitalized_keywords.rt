@@ -25,9 +25,11 @@ impl Words for ByteString {
 }
 
 impl Print for ByteString {
+    type Value = Self;
+
     ghost spelling = { λ v. terminal (codes "ByteString") v };
 
-    fn print(&self, out: &mut String, layout: &mut Layout) -> Result<(), PrintError> {
+    fn print(_value: &ByteString, out: &mut String, layout: &mut Layout) -> Result<(), PrintError> {
         word(out, layout, "ByteString")
     }
 }
@@ -41,9 +43,11 @@ impl Words for DOMString {
 }
 
 impl Print for DOMString {
+    type Value = Self;
+
     ghost spelling = { λ v. terminal (codes "DOMString") v };
 
-    fn print(&self, out: &mut String, layout: &mut Layout) -> Result<(), PrintError> {
+    fn print(_value: &DOMString, out: &mut String, layout: &mut Layout) -> Result<(), PrintError> {
         word(out, layout, "DOMString")
     }
 }
@@ -57,9 +61,15 @@ impl Words for FrozenArray {
 }
 
 impl Print for FrozenArray {
+    type Value = Self;
+
     ghost spelling = { λ v. terminal (codes "FrozenArray") v };
 
-    fn print(&self, out: &mut String, layout: &mut Layout) -> Result<(), PrintError> {
+    fn print(
+        _value: &FrozenArray,
+        out: &mut String,
+        layout: &mut Layout,
+    ) -> Result<(), PrintError> {
         word(out, layout, "FrozenArray")
     }
 }
@@ -73,9 +83,11 @@ impl Words for Infinity {
 }
 
 impl Print for Infinity {
+    type Value = Self;
+
     ghost spelling = { λ v. terminal (codes "Infinity") v };
 
-    fn print(&self, out: &mut String, layout: &mut Layout) -> Result<(), PrintError> {
+    fn print(_value: &Infinity, out: &mut String, layout: &mut Layout) -> Result<(), PrintError> {
         word(out, layout, "Infinity")
     }
 }
@@ -89,9 +101,11 @@ impl Words for NaN {
 }
 
 impl Print for NaN {
+    type Value = Self;
+
     ghost spelling = { λ v. terminal (codes "NaN") v };
 
-    fn print(&self, out: &mut String, layout: &mut Layout) -> Result<(), PrintError> {
+    fn print(_value: &NaN, out: &mut String, layout: &mut Layout) -> Result<(), PrintError> {
         word(out, layout, "NaN")
     }
 }
@@ -105,9 +119,11 @@ impl Words for USVString {
 }
 
 impl Print for USVString {
+    type Value = Self;
+
     ghost spelling = { λ v. terminal (codes "USVString") v };
 
-    fn print(&self, out: &mut String, layout: &mut Layout) -> Result<(), PrintError> {
+    fn print(_value: &USVString, out: &mut String, layout: &mut Layout) -> Result<(), PrintError> {
         word(out, layout, "USVString")
     }
 }
@@ -121,9 +137,15 @@ impl Words for ArrayBuffer {
 }
 
 impl Print for ArrayBuffer {
+    type Value = Self;
+
     ghost spelling = { λ v. terminal (codes "ArrayBuffer") v };
 
-    fn print(&self, out: &mut String, layout: &mut Layout) -> Result<(), PrintError> {
+    fn print(
+        _value: &ArrayBuffer,
+        out: &mut String,
+        layout: &mut Layout,
+    ) -> Result<(), PrintError> {
         word(out, layout, "ArrayBuffer")
     }
 }
@@ -137,9 +159,11 @@ impl Words for DataView {
 }
 
 impl Print for DataView {
+    type Value = Self;
+
     ghost spelling = { λ v. terminal (codes "DataView") v };
 
-    fn print(&self, out: &mut String, layout: &mut Layout) -> Result<(), PrintError> {
+    fn print(_value: &DataView, out: &mut String, layout: &mut Layout) -> Result<(), PrintError> {
         word(out, layout, "DataView")
     }
 }
@@ -153,9 +177,11 @@ impl Words for Int8Array {
 }
 
 impl Print for Int8Array {
+    type Value = Self;
+
     ghost spelling = { λ v. terminal (codes "Int8Array") v };
 
-    fn print(&self, out: &mut String, layout: &mut Layout) -> Result<(), PrintError> {
+    fn print(_value: &Int8Array, out: &mut String, layout: &mut Layout) -> Result<(), PrintError> {
         word(out, layout, "Int8Array")
     }
 }
@@ -169,9 +195,11 @@ impl Words for Int16Array {
 }
 
 impl Print for Int16Array {
+    type Value = Self;
+
     ghost spelling = { λ v. terminal (codes "Int16Array") v };
 
-    fn print(&self, out: &mut String, layout: &mut Layout) -> Result<(), PrintError> {
+    fn print(_value: &Int16Array, out: &mut String, layout: &mut Layout) -> Result<(), PrintError> {
         word(out, layout, "Int16Array")
     }
 }
@@ -185,9 +213,11 @@ impl Words for Int32Array {
 }
 
 impl Print for Int32Array {
+    type Value = Self;
+
     ghost spelling = { λ v. terminal (codes "Int32Array") v };
 
-    fn print(&self, out: &mut String, layout: &mut Layout) -> Result<(), PrintError> {
+    fn print(_value: &Int32Array, out: &mut String, layout: &mut Layout) -> Result<(), PrintError> {
         word(out, layout, "Int32Array")
     }
 }
@@ -201,9 +231,11 @@ impl Words for Uint8Array {
 }
 
 impl Print for Uint8Array {
+    type Value = Self;
+
     ghost spelling = { λ v. terminal (codes "Uint8Array") v };
 
-    fn print(&self, out: &mut String, layout: &mut Layout) -> Result<(), PrintError> {
+    fn print(_value: &Uint8Array, out: &mut String, layout: &mut Layout) -> Result<(), PrintError> {
         word(out, layout, "Uint8Array")
     }
 }
@@ -217,9 +249,15 @@ impl Words for Uint16Array {
 }
 
 impl Print for Uint16Array {
+    type Value = Self;
+
     ghost spelling = { λ v. terminal (codes "Uint16Array") v };
 
-    fn print(&self, out: &mut String, layout: &mut Layout) -> Result<(), PrintError> {
+    fn print(
+        _value: &Uint16Array,
+        out: &mut String,
+        layout: &mut Layout,
+    ) -> Result<(), PrintError> {
         word(out, layout, "Uint16Array")
     }
 }
@@ -233,9 +271,15 @@ impl Words for Uint32Array {
 }
 
 impl Print for Uint32Array {
+    type Value = Self;
+
     ghost spelling = { λ v. terminal (codes "Uint32Array") v };
 
-    fn print(&self, out: &mut String, layout: &mut Layout) -> Result<(), PrintError> {
+    fn print(
+        _value: &Uint32Array,
+        out: &mut String,
+        layout: &mut Layout,
+    ) -> Result<(), PrintError> {
         word(out, layout, "Uint32Array")
     }
 }
@@ -249,9 +293,15 @@ impl Words for Uint8ClampedArray {
 }
 
 impl Print for Uint8ClampedArray {
+    type Value = Self;
+
     ghost spelling = { λ v. terminal (codes "Uint8ClampedArray") v };
 
-    fn print(&self, out: &mut String, layout: &mut Layout) -> Result<(), PrintError> {
+    fn print(
+        _value: &Uint8ClampedArray,
+        out: &mut String,
+        layout: &mut Layout,
+    ) -> Result<(), PrintError> {
         word(out, layout, "Uint8ClampedArray")
     }
 }
@@ -265,9 +315,15 @@ impl Words for Float32Array {
 }
 
 impl Print for Float32Array {
+    type Value = Self;
+
     ghost spelling = { λ v. terminal (codes "Float32Array") v };
 
-    fn print(&self, out: &mut String, layout: &mut Layout) -> Result<(), PrintError> {
+    fn print(
+        _value: &Float32Array,
+        out: &mut String,
+        layout: &mut Layout,
+    ) -> Result<(), PrintError> {
         word(out, layout, "Float32Array")
     }
 }
@@ -281,9 +337,15 @@ impl Words for Float64Array {
 }
 
 impl Print for Float64Array {
+    type Value = Self;
+
     ghost spelling = { λ v. terminal (codes "Float64Array") v };
 
-    fn print(&self, out: &mut String, layout: &mut Layout) -> Result<(), PrintError> {
+    fn print(
+        _value: &Float64Array,
+        out: &mut String,
+        layout: &mut Layout,
+    ) -> Result<(), PrintError> {
         word(out, layout, "Float64Array")
     }
 }
@@ -297,9 +359,15 @@ impl Words for ArrayBufferView {
 }
 
 impl Print for ArrayBufferView {
+    type Value = Self;
+
     ghost spelling = { λ v. terminal (codes "ArrayBufferView") v };
 
-    fn print(&self, out: &mut String, layout: &mut Layout) -> Result<(), PrintError> {
+    fn print(
+        _value: &ArrayBufferView,
+        out: &mut String,
+        layout: &mut Layout,
+    ) -> Result<(), PrintError> {
         word(out, layout, "ArrayBufferView")
     }
 }
@@ -313,9 +381,15 @@ impl Words for BufferSource {
 }
 
 impl Print for BufferSource {
+    type Value = Self;
+
     ghost spelling = { λ v. terminal (codes "BufferSource") v };
 
-    fn print(&self, out: &mut String, layout: &mut Layout) -> Result<(), PrintError> {
+    fn print(
+        _value: &BufferSource,
+        out: &mut String,
+        layout: &mut Layout,
+    ) -> Result<(), PrintError> {
         word(out, layout, "BufferSource")
     }
 }
@@ -329,9 +403,11 @@ impl Words for Promise {
 }
 
 impl Print for Promise {
+    type Value = Self;
+
     ghost spelling = { λ v. terminal (codes "Promise") v };
 
-    fn print(&self, out: &mut String, layout: &mut Layout) -> Result<(), PrintError> {
+    fn print(_value: &Promise, out: &mut String, layout: &mut Layout) -> Result<(), PrintError> {
         word(out, layout, "Promise")
     }
 }
@@ -345,9 +421,11 @@ impl Words for Error {
 }
 
 impl Print for Error {
+    type Value = Self;
+
     ghost spelling = { λ v. terminal (codes "Error") v };
 
-    fn print(&self, out: &mut String, layout: &mut Layout) -> Result<(), PrintError> {
+    fn print(_value: &Error, out: &mut String, layout: &mut Layout) -> Result<(), PrintError> {
         word(out, layout, "Error")
     }
 }
@@ -361,9 +439,15 @@ impl Words for NegInfinity {
 }
 
 impl Print for NegInfinity {
+    type Value = Self;
+
     ghost spelling = { λ v. terminal (codes "-Infinity") v };
 
-    fn print(&self, out: &mut String, layout: &mut Layout) -> Result<(), PrintError> {
+    fn print(
+        _value: &NegInfinity,
+        out: &mut String,
+        layout: &mut Layout,
+    ) -> Result<(), PrintError> {
         word(out, layout, "-Infinity")
     }
 }

@@ -25,9 +25,11 @@ impl Words for Async {
 }
 
 impl Print for Async {
+    type Value = Self;
+
     ghost spelling = { λ v. terminal (codes "async") v };
 
-    fn print(&self, out: &mut String, layout: &mut Layout) -> Result<(), PrintError> {
+    fn print(_value: &Async, out: &mut String, layout: &mut Layout) -> Result<(), PrintError> {
         word(out, layout, "async")
     }
 }
@@ -41,9 +43,11 @@ impl Words for Attribute {
 }
 
 impl Print for Attribute {
+    type Value = Self;
+
     ghost spelling = { λ v. terminal (codes "attribute") v };
 
-    fn print(&self, out: &mut String, layout: &mut Layout) -> Result<(), PrintError> {
+    fn print(_value: &Attribute, out: &mut String, layout: &mut Layout) -> Result<(), PrintError> {
         word(out, layout, "attribute")
     }
 }
@@ -57,9 +61,11 @@ impl Words for Callback {
 }
 
 impl Print for Callback {
+    type Value = Self;
+
     ghost spelling = { λ v. terminal (codes "callback") v };
 
-    fn print(&self, out: &mut String, layout: &mut Layout) -> Result<(), PrintError> {
+    fn print(_value: &Callback, out: &mut String, layout: &mut Layout) -> Result<(), PrintError> {
         word(out, layout, "callback")
     }
 }
@@ -73,9 +79,11 @@ impl Words for Const {
 }
 
 impl Print for Const {
+    type Value = Self;
+
     ghost spelling = { λ v. terminal (codes "const") v };
 
-    fn print(&self, out: &mut String, layout: &mut Layout) -> Result<(), PrintError> {
+    fn print(_value: &Const, out: &mut String, layout: &mut Layout) -> Result<(), PrintError> {
         word(out, layout, "const")
     }
 }
@@ -89,9 +97,11 @@ impl Words for Deleter {
 }
 
 impl Print for Deleter {
+    type Value = Self;
+
     ghost spelling = { λ v. terminal (codes "deleter") v };
 
-    fn print(&self, out: &mut String, layout: &mut Layout) -> Result<(), PrintError> {
+    fn print(_value: &Deleter, out: &mut String, layout: &mut Layout) -> Result<(), PrintError> {
         word(out, layout, "deleter")
     }
 }
@@ -105,9 +115,11 @@ impl Words for Dictionary {
 }
 
 impl Print for Dictionary {
+    type Value = Self;
+
     ghost spelling = { λ v. terminal (codes "dictionary") v };
 
-    fn print(&self, out: &mut String, layout: &mut Layout) -> Result<(), PrintError> {
+    fn print(_value: &Dictionary, out: &mut String, layout: &mut Layout) -> Result<(), PrintError> {
         word(out, layout, "dictionary")
     }
 }
@@ -121,9 +133,11 @@ impl Words for Enum {
 }
 
 impl Print for Enum {
+    type Value = Self;
+
     ghost spelling = { λ v. terminal (codes "enum") v };
 
-    fn print(&self, out: &mut String, layout: &mut Layout) -> Result<(), PrintError> {
+    fn print(_value: &Enum, out: &mut String, layout: &mut Layout) -> Result<(), PrintError> {
         word(out, layout, "enum")
     }
 }
@@ -137,9 +151,11 @@ impl Words for Getter {
 }
 
 impl Print for Getter {
+    type Value = Self;
+
     ghost spelling = { λ v. terminal (codes "getter") v };
 
-    fn print(&self, out: &mut String, layout: &mut Layout) -> Result<(), PrintError> {
+    fn print(_value: &Getter, out: &mut String, layout: &mut Layout) -> Result<(), PrintError> {
         word(out, layout, "getter")
     }
 }
@@ -153,9 +169,11 @@ impl Words for Includes {
 }
 
 impl Print for Includes {
+    type Value = Self;
+
     ghost spelling = { λ v. terminal (codes "includes") v };
 
-    fn print(&self, out: &mut String, layout: &mut Layout) -> Result<(), PrintError> {
+    fn print(_value: &Includes, out: &mut String, layout: &mut Layout) -> Result<(), PrintError> {
         word(out, layout, "includes")
     }
 }
@@ -169,9 +187,11 @@ impl Words for Inherit {
 }
 
 impl Print for Inherit {
+    type Value = Self;
+
     ghost spelling = { λ v. terminal (codes "inherit") v };
 
-    fn print(&self, out: &mut String, layout: &mut Layout) -> Result<(), PrintError> {
+    fn print(_value: &Inherit, out: &mut String, layout: &mut Layout) -> Result<(), PrintError> {
         word(out, layout, "inherit")
     }
 }
@@ -185,9 +205,11 @@ impl Words for Interface {
 }
 
 impl Print for Interface {
+    type Value = Self;
+
     ghost spelling = { λ v. terminal (codes "interface") v };
 
-    fn print(&self, out: &mut String, layout: &mut Layout) -> Result<(), PrintError> {
+    fn print(_value: &Interface, out: &mut String, layout: &mut Layout) -> Result<(), PrintError> {
         word(out, layout, "interface")
     }
 }
@@ -201,9 +223,11 @@ impl Words for Iterable {
 }
 
 impl Print for Iterable {
+    type Value = Self;
+
     ghost spelling = { λ v. terminal (codes "iterable") v };
 
-    fn print(&self, out: &mut String, layout: &mut Layout) -> Result<(), PrintError> {
+    fn print(_value: &Iterable, out: &mut String, layout: &mut Layout) -> Result<(), PrintError> {
         word(out, layout, "iterable")
     }
 }
@@ -217,9 +241,11 @@ impl Words for Maplike {
 }
 
 impl Print for Maplike {
+    type Value = Self;
+
     ghost spelling = { λ v. terminal (codes "maplike") v };
 
-    fn print(&self, out: &mut String, layout: &mut Layout) -> Result<(), PrintError> {
+    fn print(_value: &Maplike, out: &mut String, layout: &mut Layout) -> Result<(), PrintError> {
         word(out, layout, "maplike")
     }
 }
@@ -233,9 +259,11 @@ impl Words for Namespace {
 }
 
 impl Print for Namespace {
+    type Value = Self;
+
     ghost spelling = { λ v. terminal (codes "namespace") v };
 
-    fn print(&self, out: &mut String, layout: &mut Layout) -> Result<(), PrintError> {
+    fn print(_value: &Namespace, out: &mut String, layout: &mut Layout) -> Result<(), PrintError> {
         word(out, layout, "namespace")
     }
 }
@@ -249,9 +277,11 @@ impl Words for Partial {
 }
 
 impl Print for Partial {
+    type Value = Self;
+
     ghost spelling = { λ v. terminal (codes "partial") v };
 
-    fn print(&self, out: &mut String, layout: &mut Layout) -> Result<(), PrintError> {
+    fn print(_value: &Partial, out: &mut String, layout: &mut Layout) -> Result<(), PrintError> {
         word(out, layout, "partial")
     }
 }
@@ -265,9 +295,11 @@ impl Words for Required {
 }
 
 impl Print for Required {
+    type Value = Self;
+
     ghost spelling = { λ v. terminal (codes "required") v };
 
-    fn print(&self, out: &mut String, layout: &mut Layout) -> Result<(), PrintError> {
+    fn print(_value: &Required, out: &mut String, layout: &mut Layout) -> Result<(), PrintError> {
         word(out, layout, "required")
     }
 }
@@ -281,9 +313,11 @@ impl Words for Setlike {
 }
 
 impl Print for Setlike {
+    type Value = Self;
+
     ghost spelling = { λ v. terminal (codes "setlike") v };
 
-    fn print(&self, out: &mut String, layout: &mut Layout) -> Result<(), PrintError> {
+    fn print(_value: &Setlike, out: &mut String, layout: &mut Layout) -> Result<(), PrintError> {
         word(out, layout, "setlike")
     }
 }
@@ -297,9 +331,11 @@ impl Words for Setter {
 }
 
 impl Print for Setter {
+    type Value = Self;
+
     ghost spelling = { λ v. terminal (codes "setter") v };
 
-    fn print(&self, out: &mut String, layout: &mut Layout) -> Result<(), PrintError> {
+    fn print(_value: &Setter, out: &mut String, layout: &mut Layout) -> Result<(), PrintError> {
         word(out, layout, "setter")
     }
 }
@@ -313,9 +349,11 @@ impl Words for Static {
 }
 
 impl Print for Static {
+    type Value = Self;
+
     ghost spelling = { λ v. terminal (codes "static") v };
 
-    fn print(&self, out: &mut String, layout: &mut Layout) -> Result<(), PrintError> {
+    fn print(_value: &Static, out: &mut String, layout: &mut Layout) -> Result<(), PrintError> {
         word(out, layout, "static")
     }
 }
@@ -329,9 +367,15 @@ impl Words for Stringifier {
 }
 
 impl Print for Stringifier {
+    type Value = Self;
+
     ghost spelling = { λ v. terminal (codes "stringifier") v };
 
-    fn print(&self, out: &mut String, layout: &mut Layout) -> Result<(), PrintError> {
+    fn print(
+        _value: &Stringifier,
+        out: &mut String,
+        layout: &mut Layout,
+    ) -> Result<(), PrintError> {
         word(out, layout, "stringifier")
     }
 }
@@ -345,9 +389,11 @@ impl Words for Typedef {
 }
 
 impl Print for Typedef {
+    type Value = Self;
+
     ghost spelling = { λ v. terminal (codes "typedef") v };
 
-    fn print(&self, out: &mut String, layout: &mut Layout) -> Result<(), PrintError> {
+    fn print(_value: &Typedef, out: &mut String, layout: &mut Layout) -> Result<(), PrintError> {
         word(out, layout, "typedef")
     }
 }
@@ -361,9 +407,11 @@ impl Words for ReadOnly {
 }
 
 impl Print for ReadOnly {
+    type Value = Self;
+
     ghost spelling = { λ v. terminal (codes "readonly") v };
 
-    fn print(&self, out: &mut String, layout: &mut Layout) -> Result<(), PrintError> {
+    fn print(_value: &ReadOnly, out: &mut String, layout: &mut Layout) -> Result<(), PrintError> {
         word(out, layout, "readonly")
     }
 }
@@ -377,9 +425,11 @@ impl Words for Mixin {
 }
 
 impl Print for Mixin {
+    type Value = Self;
+
     ghost spelling = { λ v. terminal (codes "mixin") v };
 
-    fn print(&self, out: &mut String, layout: &mut Layout) -> Result<(), PrintError> {
+    fn print(_value: &Mixin, out: &mut String, layout: &mut Layout) -> Result<(), PrintError> {
         word(out, layout, "mixin")
     }
 }
@@ -393,9 +443,11 @@ impl Words for Implements {
 }
 
 impl Print for Implements {
+    type Value = Self;
+
     ghost spelling = { λ v. terminal (codes "implements") v };
 
-    fn print(&self, out: &mut String, layout: &mut Layout) -> Result<(), PrintError> {
+    fn print(_value: &Implements, out: &mut String, layout: &mut Layout) -> Result<(), PrintError> {
         word(out, layout, "implements")
     }
 }
@@ -409,9 +461,15 @@ impl Words for LegacyCaller {
 }
 
 impl Print for LegacyCaller {
+    type Value = Self;
+
     ghost spelling = { λ v. terminal (codes "legacycaller") v };
 
-    fn print(&self, out: &mut String, layout: &mut Layout) -> Result<(), PrintError> {
+    fn print(
+        _value: &LegacyCaller,
+        out: &mut String,
+        layout: &mut Layout,
+    ) -> Result<(), PrintError> {
         word(out, layout, "legacycaller")
     }
 }
@@ -425,9 +483,15 @@ impl Words for Constructor {
 }
 
 impl Print for Constructor {
+    type Value = Self;
+
     ghost spelling = { λ v. terminal (codes "constructor") v };
 
-    fn print(&self, out: &mut String, layout: &mut Layout) -> Result<(), PrintError> {
+    fn print(
+        _value: &Constructor,
+        out: &mut String,
+        layout: &mut Layout,
+    ) -> Result<(), PrintError> {
         word(out, layout, "constructor")
     }
 }

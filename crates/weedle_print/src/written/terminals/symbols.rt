@@ -24,9 +24,11 @@ impl Words for OpenParen {
 }
 
 impl Print for OpenParen {
+    type Value = Self;
+
     ghost spelling = { λ v. terminal (codes "(") v };
 
-    fn print(&self, out: &mut String, layout: &mut Layout) -> Result<(), PrintError> {
+    fn print(_value: &OpenParen, out: &mut String, layout: &mut Layout) -> Result<(), PrintError> {
         word(out, layout, "(")
     }
 }
@@ -40,9 +42,11 @@ impl Words for CloseParen {
 }
 
 impl Print for CloseParen {
+    type Value = Self;
+
     ghost spelling = { λ v. terminal (codes ")") v };
 
-    fn print(&self, out: &mut String, layout: &mut Layout) -> Result<(), PrintError> {
+    fn print(_value: &CloseParen, out: &mut String, layout: &mut Layout) -> Result<(), PrintError> {
         word(out, layout, ")")
     }
 }
@@ -56,9 +60,15 @@ impl Words for OpenBracket {
 }
 
 impl Print for OpenBracket {
+    type Value = Self;
+
     ghost spelling = { λ v. terminal (codes "[") v };
 
-    fn print(&self, out: &mut String, layout: &mut Layout) -> Result<(), PrintError> {
+    fn print(
+        _value: &OpenBracket,
+        out: &mut String,
+        layout: &mut Layout,
+    ) -> Result<(), PrintError> {
         word(out, layout, "[")
     }
 }
@@ -72,9 +82,15 @@ impl Words for CloseBracket {
 }
 
 impl Print for CloseBracket {
+    type Value = Self;
+
     ghost spelling = { λ v. terminal (codes "]") v };
 
-    fn print(&self, out: &mut String, layout: &mut Layout) -> Result<(), PrintError> {
+    fn print(
+        _value: &CloseBracket,
+        out: &mut String,
+        layout: &mut Layout,
+    ) -> Result<(), PrintError> {
         word(out, layout, "]")
     }
 }
@@ -88,9 +104,11 @@ impl Words for OpenBrace {
 }
 
 impl Print for OpenBrace {
+    type Value = Self;
+
     ghost spelling = { λ v. terminal (codes "{") v };
 
-    fn print(&self, out: &mut String, layout: &mut Layout) -> Result<(), PrintError> {
+    fn print(_value: &OpenBrace, out: &mut String, layout: &mut Layout) -> Result<(), PrintError> {
         word(out, layout, "{")
     }
 }
@@ -104,9 +122,11 @@ impl Words for CloseBrace {
 }
 
 impl Print for CloseBrace {
+    type Value = Self;
+
     ghost spelling = { λ v. terminal (codes "}") v };
 
-    fn print(&self, out: &mut String, layout: &mut Layout) -> Result<(), PrintError> {
+    fn print(_value: &CloseBrace, out: &mut String, layout: &mut Layout) -> Result<(), PrintError> {
         word(out, layout, "}")
     }
 }
@@ -120,9 +140,11 @@ impl Words for Comma {
 }
 
 impl Print for Comma {
+    type Value = Self;
+
     ghost spelling = { λ v. terminal (codes ",") v };
 
-    fn print(&self, out: &mut String, layout: &mut Layout) -> Result<(), PrintError> {
+    fn print(_value: &Comma, out: &mut String, layout: &mut Layout) -> Result<(), PrintError> {
         word(out, layout, ",")
     }
 }
@@ -136,9 +158,11 @@ impl Words for Minus {
 }
 
 impl Print for Minus {
+    type Value = Self;
+
     ghost spelling = { λ v. terminal (codes "-") v };
 
-    fn print(&self, out: &mut String, layout: &mut Layout) -> Result<(), PrintError> {
+    fn print(_value: &Minus, out: &mut String, layout: &mut Layout) -> Result<(), PrintError> {
         word(out, layout, "-")
     }
 }
@@ -152,9 +176,11 @@ impl Words for Dot {
 }
 
 impl Print for Dot {
+    type Value = Self;
+
     ghost spelling = { λ v. terminal (codes ".") v };
 
-    fn print(&self, out: &mut String, layout: &mut Layout) -> Result<(), PrintError> {
+    fn print(_value: &Dot, out: &mut String, layout: &mut Layout) -> Result<(), PrintError> {
         word(out, layout, ".")
     }
 }
@@ -168,9 +194,11 @@ impl Words for Ellipsis {
 }
 
 impl Print for Ellipsis {
+    type Value = Self;
+
     ghost spelling = { λ v. terminal (codes "...") v };
 
-    fn print(&self, out: &mut String, layout: &mut Layout) -> Result<(), PrintError> {
+    fn print(_value: &Ellipsis, out: &mut String, layout: &mut Layout) -> Result<(), PrintError> {
         word(out, layout, "...")
     }
 }
@@ -184,9 +212,11 @@ impl Words for Colon {
 }
 
 impl Print for Colon {
+    type Value = Self;
+
     ghost spelling = { λ v. terminal (codes ":") v };
 
-    fn print(&self, out: &mut String, layout: &mut Layout) -> Result<(), PrintError> {
+    fn print(_value: &Colon, out: &mut String, layout: &mut Layout) -> Result<(), PrintError> {
         word(out, layout, ":")
     }
 }
@@ -200,9 +230,11 @@ impl Words for SemiColon {
 }
 
 impl Print for SemiColon {
+    type Value = Self;
+
     ghost spelling = { λ v. terminal (codes ";") v };
 
-    fn print(&self, out: &mut String, layout: &mut Layout) -> Result<(), PrintError> {
+    fn print(_value: &SemiColon, out: &mut String, layout: &mut Layout) -> Result<(), PrintError> {
         last_word(out, layout, ";")
     }
 }
@@ -216,9 +248,11 @@ impl Words for LessThan {
 }
 
 impl Print for LessThan {
+    type Value = Self;
+
     ghost spelling = { λ v. terminal (codes "<") v };
 
-    fn print(&self, out: &mut String, layout: &mut Layout) -> Result<(), PrintError> {
+    fn print(_value: &LessThan, out: &mut String, layout: &mut Layout) -> Result<(), PrintError> {
         word(out, layout, "<")
     }
 }
@@ -232,9 +266,11 @@ impl Words for Assign {
 }
 
 impl Print for Assign {
+    type Value = Self;
+
     ghost spelling = { λ v. terminal (codes "=") v };
 
-    fn print(&self, out: &mut String, layout: &mut Layout) -> Result<(), PrintError> {
+    fn print(_value: &Assign, out: &mut String, layout: &mut Layout) -> Result<(), PrintError> {
         word(out, layout, "=")
     }
 }
@@ -248,9 +284,15 @@ impl Words for GreaterThan {
 }
 
 impl Print for GreaterThan {
+    type Value = Self;
+
     ghost spelling = { λ v. terminal (codes ">") v };
 
-    fn print(&self, out: &mut String, layout: &mut Layout) -> Result<(), PrintError> {
+    fn print(
+        _value: &GreaterThan,
+        out: &mut String,
+        layout: &mut Layout,
+    ) -> Result<(), PrintError> {
         word(out, layout, ">")
     }
 }
@@ -264,9 +306,11 @@ impl Words for QMark {
 }
 
 impl Print for QMark {
+    type Value = Self;
+
     ghost spelling = { λ v. terminal (codes "?") v };
 
-    fn print(&self, out: &mut String, layout: &mut Layout) -> Result<(), PrintError> {
+    fn print(_value: &QMark, out: &mut String, layout: &mut Layout) -> Result<(), PrintError> {
         word(out, layout, "?")
     }
 }

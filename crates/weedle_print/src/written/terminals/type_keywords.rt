@@ -24,9 +24,11 @@ impl Words for Or {
 }
 
 impl Print for Or {
+    type Value = Self;
+
     ghost spelling = { λ v. terminal (codes "or") v };
 
-    fn print(&self, out: &mut String, layout: &mut Layout) -> Result<(), PrintError> {
+    fn print(_value: &Or, out: &mut String, layout: &mut Layout) -> Result<(), PrintError> {
         word(out, layout, "or")
     }
 }
@@ -40,9 +42,11 @@ impl Words for Optional {
 }
 
 impl Print for Optional {
+    type Value = Self;
+
     ghost spelling = { λ v. terminal (codes "optional") v };
 
-    fn print(&self, out: &mut String, layout: &mut Layout) -> Result<(), PrintError> {
+    fn print(_value: &Optional, out: &mut String, layout: &mut Layout) -> Result<(), PrintError> {
         word(out, layout, "optional")
     }
 }
@@ -56,9 +60,15 @@ impl Words for Unrestricted {
 }
 
 impl Print for Unrestricted {
+    type Value = Self;
+
     ghost spelling = { λ v. terminal (codes "unrestricted") v };
 
-    fn print(&self, out: &mut String, layout: &mut Layout) -> Result<(), PrintError> {
+    fn print(
+        _value: &Unrestricted,
+        out: &mut String,
+        layout: &mut Layout,
+    ) -> Result<(), PrintError> {
         word(out, layout, "unrestricted")
     }
 }
@@ -72,9 +82,11 @@ impl Words for Symbol {
 }
 
 impl Print for Symbol {
+    type Value = Self;
+
     ghost spelling = { λ v. terminal (codes "symbol") v };
 
-    fn print(&self, out: &mut String, layout: &mut Layout) -> Result<(), PrintError> {
+    fn print(_value: &Symbol, out: &mut String, layout: &mut Layout) -> Result<(), PrintError> {
         word(out, layout, "symbol")
     }
 }
@@ -88,9 +100,11 @@ impl Words for Any {
 }
 
 impl Print for Any {
+    type Value = Self;
+
     ghost spelling = { λ v. terminal (codes "any") v };
 
-    fn print(&self, out: &mut String, layout: &mut Layout) -> Result<(), PrintError> {
+    fn print(_value: &Any, out: &mut String, layout: &mut Layout) -> Result<(), PrintError> {
         word(out, layout, "any")
     }
 }
@@ -104,9 +118,11 @@ impl Words for Boolean {
 }
 
 impl Print for Boolean {
+    type Value = Self;
+
     ghost spelling = { λ v. terminal (codes "boolean") v };
 
-    fn print(&self, out: &mut String, layout: &mut Layout) -> Result<(), PrintError> {
+    fn print(_value: &Boolean, out: &mut String, layout: &mut Layout) -> Result<(), PrintError> {
         word(out, layout, "boolean")
     }
 }
@@ -120,9 +136,11 @@ impl Words for Byte {
 }
 
 impl Print for Byte {
+    type Value = Self;
+
     ghost spelling = { λ v. terminal (codes "byte") v };
 
-    fn print(&self, out: &mut String, layout: &mut Layout) -> Result<(), PrintError> {
+    fn print(_value: &Byte, out: &mut String, layout: &mut Layout) -> Result<(), PrintError> {
         word(out, layout, "byte")
     }
 }
@@ -136,9 +154,11 @@ impl Words for Double {
 }
 
 impl Print for Double {
+    type Value = Self;
+
     ghost spelling = { λ v. terminal (codes "double") v };
 
-    fn print(&self, out: &mut String, layout: &mut Layout) -> Result<(), PrintError> {
+    fn print(_value: &Double, out: &mut String, layout: &mut Layout) -> Result<(), PrintError> {
         word(out, layout, "double")
     }
 }
@@ -152,9 +172,11 @@ impl Words for False {
 }
 
 impl Print for False {
+    type Value = Self;
+
     ghost spelling = { λ v. terminal (codes "false") v };
 
-    fn print(&self, out: &mut String, layout: &mut Layout) -> Result<(), PrintError> {
+    fn print(_value: &False, out: &mut String, layout: &mut Layout) -> Result<(), PrintError> {
         word(out, layout, "false")
     }
 }
@@ -168,9 +190,11 @@ impl Words for Float {
 }
 
 impl Print for Float {
+    type Value = Self;
+
     ghost spelling = { λ v. terminal (codes "float") v };
 
-    fn print(&self, out: &mut String, layout: &mut Layout) -> Result<(), PrintError> {
+    fn print(_value: &Float, out: &mut String, layout: &mut Layout) -> Result<(), PrintError> {
         word(out, layout, "float")
     }
 }
@@ -184,9 +208,11 @@ impl Words for Long {
 }
 
 impl Print for Long {
+    type Value = Self;
+
     ghost spelling = { λ v. terminal (codes "long") v };
 
-    fn print(&self, out: &mut String, layout: &mut Layout) -> Result<(), PrintError> {
+    fn print(_value: &Long, out: &mut String, layout: &mut Layout) -> Result<(), PrintError> {
         word(out, layout, "long")
     }
 }
@@ -200,9 +226,11 @@ impl Words for Null {
 }
 
 impl Print for Null {
+    type Value = Self;
+
     ghost spelling = { λ v. terminal (codes "null") v };
 
-    fn print(&self, out: &mut String, layout: &mut Layout) -> Result<(), PrintError> {
+    fn print(_value: &Null, out: &mut String, layout: &mut Layout) -> Result<(), PrintError> {
         word(out, layout, "null")
     }
 }
@@ -216,9 +244,11 @@ impl Words for Object {
 }
 
 impl Print for Object {
+    type Value = Self;
+
     ghost spelling = { λ v. terminal (codes "object") v };
 
-    fn print(&self, out: &mut String, layout: &mut Layout) -> Result<(), PrintError> {
+    fn print(_value: &Object, out: &mut String, layout: &mut Layout) -> Result<(), PrintError> {
         word(out, layout, "object")
     }
 }
@@ -232,9 +262,11 @@ impl Words for Octet {
 }
 
 impl Print for Octet {
+    type Value = Self;
+
     ghost spelling = { λ v. terminal (codes "octet") v };
 
-    fn print(&self, out: &mut String, layout: &mut Layout) -> Result<(), PrintError> {
+    fn print(_value: &Octet, out: &mut String, layout: &mut Layout) -> Result<(), PrintError> {
         word(out, layout, "octet")
     }
 }
@@ -248,9 +280,11 @@ impl Words for Sequence {
 }
 
 impl Print for Sequence {
+    type Value = Self;
+
     ghost spelling = { λ v. terminal (codes "sequence") v };
 
-    fn print(&self, out: &mut String, layout: &mut Layout) -> Result<(), PrintError> {
+    fn print(_value: &Sequence, out: &mut String, layout: &mut Layout) -> Result<(), PrintError> {
         word(out, layout, "sequence")
     }
 }
@@ -264,9 +298,11 @@ impl Words for Short {
 }
 
 impl Print for Short {
+    type Value = Self;
+
     ghost spelling = { λ v. terminal (codes "short") v };
 
-    fn print(&self, out: &mut String, layout: &mut Layout) -> Result<(), PrintError> {
+    fn print(_value: &Short, out: &mut String, layout: &mut Layout) -> Result<(), PrintError> {
         word(out, layout, "short")
     }
 }
@@ -280,9 +316,11 @@ impl Words for True {
 }
 
 impl Print for True {
+    type Value = Self;
+
     ghost spelling = { λ v. terminal (codes "true") v };
 
-    fn print(&self, out: &mut String, layout: &mut Layout) -> Result<(), PrintError> {
+    fn print(_value: &True, out: &mut String, layout: &mut Layout) -> Result<(), PrintError> {
         word(out, layout, "true")
     }
 }
@@ -296,9 +334,11 @@ impl Words for Unsigned {
 }
 
 impl Print for Unsigned {
+    type Value = Self;
+
     ghost spelling = { λ v. terminal (codes "unsigned") v };
 
-    fn print(&self, out: &mut String, layout: &mut Layout) -> Result<(), PrintError> {
+    fn print(_value: &Unsigned, out: &mut String, layout: &mut Layout) -> Result<(), PrintError> {
         word(out, layout, "unsigned")
     }
 }
@@ -312,9 +352,11 @@ impl Words for Undefined {
 }
 
 impl Print for Undefined {
+    type Value = Self;
+
     ghost spelling = { λ v. terminal (codes "undefined") v };
 
-    fn print(&self, out: &mut String, layout: &mut Layout) -> Result<(), PrintError> {
+    fn print(_value: &Undefined, out: &mut String, layout: &mut Layout) -> Result<(), PrintError> {
         word(out, layout, "undefined")
     }
 }
@@ -328,9 +370,11 @@ impl Words for Record {
 }
 
 impl Print for Record {
+    type Value = Self;
+
     ghost spelling = { λ v. terminal (codes "record") v };
 
-    fn print(&self, out: &mut String, layout: &mut Layout) -> Result<(), PrintError> {
+    fn print(_value: &Record, out: &mut String, layout: &mut Layout) -> Result<(), PrintError> {
         word(out, layout, "record")
     }
 }
