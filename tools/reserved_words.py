@@ -14,7 +14,7 @@ import sys
 from pathlib import Path
 
 from command_line import refuse_writer
-from description.layout import filled
+from description.layout import COLUMNS, filled
 from description.webidl import RULES
 from written_places import put
 
@@ -120,15 +120,12 @@ def read_behind(rules):
     return found
 
 
-def arms(texts):
-    """A pattern of these texts."""
-    return " | ".join(f'"{it}"' for it in texts)
-
-
-def test(name, about, read):
-    """A function that says whether a name is one of these words."""
-    doc = filled(about.split(), "", "/// ")
-    return f"{doc}fn {name}(name: &str) -> bool {{\n    match name {{\n        {arms(read)} => true,\n        _ => false,\n    }}\n}}\n"
+def constant(name, doc, texts):
+    """A constant of these texts with a blank between two, in lines that aren't too long."""
+    lines = filled(list(texts), "", columns=COLUMNS - 6).rstrip("\n").split("\n")
+    value = " \\\n    ".join(lines)
+    start = "\n    " if lines[1:] else " "
+    return filled(doc.split(), "", "/// ") + f'const {name}: &str ={start}"{value}";\n'
 
 
 def told(before):
@@ -136,25 +133,50 @@ def told(before):
     return "a name" if before == NAME_BEFORE else f"`{before}`"
 
 
+CALLS = """/// Whether a text is one of these.
+fn is_among(text: &str, texts: &str) -> bool {
+    for one in texts.split(' ') {
+        if one == text {
+            return true;
+        }
+    }
+    false
+}
+
+/// Whether a name is a word of the grammar.
+pub(crate) fn is_word(name: &str) -> bool {
+    is_among(name, WORDS)
+}
+
+/// Whether a name is read as a word of the grammar behind this word. What stands there is `a` for
+/// any name, and nothing for the front of a text, a docstring, a string and a number.
+pub(crate) fn is_read_behind(before: &str, name: &str) -> bool {
+    if before.is_empty() || !is_word(name) {
+        return is_word(name);
+    }
+"""
+
+
 def table(rules):
     """The file."""
     found = read_behind(rules)
-    rule_of = {NAME_BEFORE: "name"} | {text: rule.lower() for rule, text in texts_of(rules).items() if text}
+    rule_of = {NAME_BEFORE: "NAME"} | {text: rule.strip("_") for rule, text in texts_of(rules).items() if text}
     grouped = {}
     for before, read in found.items():
         grouped.setdefault(tuple(read), []).append(before)
-    out = ["//! Which names are read as words of the grammar.\n//!", "//! Written by tools/reserved_words.py, and not edited by hand.\n",
-           test("is_word", "Whether a name is a word of the grammar.", words(rules)).replace("\nfn ", "\npub(crate) fn ", 1)]
-    arms_of = ['        "" => is_word(name),']
+    out = ["//! Which names are read as words of the grammar.\n//!\n//! Written by tools/reserved_words.py, and not edited by hand.\n",
+           constant("WORDS", "The words of the grammar that have the letters of a name.", words(rules))]
+    calls = []
     for read, befores in grouped.items():
-        name = f"is_read_behind_{rule_of[befores[0]].strip('_')}"
-        also = f", as behind {told(befores[1])}" if befores[1:] else ""
-        out.append(test(name, f"Whether a name is read as a word behind {told(befores[0])}{also}.", read))
-        arms_of.append(f"        {arms(befores)} => {name}(name),")
-    doc = "Whether a name is read as a word behind this one. What stands there is `a` for any name, and nothing for the front of a text, a docstring, a string and a number."
-    out.append(filled(doc.split(), "", "/// ") + "pub(crate) fn is_read_behind(before: &str, name: &str) -> bool {\n    match before {\n"
-               + "\n".join(arms_of) + "\n        _ => false,\n    }\n}\n")
-    return "\n".join(out)
+        first = rule_of[befores[0]]
+        behind = f"BEHIND_{first}"
+        out.append(constant(behind, f"What is read behind {told(befores[0])}" + (" and its like." if befores[1:] else "."), read))
+        one = f'"{befores[0]}"'
+        if befores[1:]:
+            one = f"AS_{first}"
+            out.append(constant(one, f"Behind what the same is read as behind {told(befores[0])}.", befores))
+        calls.append(f"(is_among(before, {one}) && is_among(name, {behind}))")
+    return "\n".join(out) + "\n" + CALLS + "    " + "\n        || ".join(calls) + "\n}\n"
 
 
 def main():

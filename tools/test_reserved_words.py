@@ -49,10 +49,15 @@ class ReservedWordsTest(unittest.TestCase):
         self.assertIn("optional", found["("])
         self.assertNotIn("optional", found["typedef"])
 
-    def test_the_table_names_each_list_once(self):
-        text = reserved_words.table(RULES)
-        self.assertEqual(text.count("fn is_read_behind_open_paren("), 1)
-        self.assertIn('"" => is_word(name),', text)
+    def test_the_table_has_each_list_once(self):
+        text = reserved_words.table(MADE_UP)
+        self.assertIn('const WORDS: &str = "long";', text)
+        self.assertIn('const BEHIND_LONG: &str = "long";', text)
+        self.assertIn('    (is_among(before, "long") && is_among(name, BEHIND_LONG))', text)
+        self.assertEqual(reserved_words.table(RULES).count("const BEHIND_OPEN_PAREN: "), 1)
+
+    def test_no_line_is_too_long(self):
+        self.assertLess(max(map(len, reserved_words.table(RULES).split("\n"))), 101)
 
 
 if __name__ == "__main__":

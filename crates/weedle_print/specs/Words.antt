@@ -1,11 +1,5 @@
 -- The words of values that are one word, or some.
 use Rattle.std.specs.Prelude.{ℕ, List, codes, ◌++◌, Option, None, Some}
-use Rattle.weedle_modifier.specs.declared.modifier.Special.{Special}
-use Rattle.weedle_modifier.specs.declared.modifier.Special.TheVariants.{Getter, Setter, Deleter, LegacyCaller}
-use Rattle.weedle_modifier.specs.declared.modifier.StringifierOrInheritOrStatic.{StringifierOrInheritOrStatic}
-use Rattle.weedle_modifier.specs.declared.modifier.StringifierOrInheritOrStatic.TheVariants.{Stringifier as OneOfThree-Stringifier, Inherit, Static as OneOfThree-Static}
-use Rattle.weedle_modifier.specs.declared.modifier.StringifierOrStatic.{StringifierOrStatic}
-use Rattle.weedle_modifier.specs.declared.modifier.StringifierOrStatic.TheVariants.{Stringifier as OneOfTwo-Stringifier, Static as OneOfTwo-Static}
 use Rattle.weedle_parts.specs.declared.types.floating_point.DoubleType.{DoubleType}
 use Rattle.weedle_parts.specs.declared.types.floating_point.FloatType.{FloatType}
 use Rattle.weedle_parts.specs.declared.types.floating_point.FloatingPointType.{FloatingPointType}
@@ -51,21 +45,3 @@ double_words v = behind (codes "unrestricted ") (codes "double") v.unrestricted
 abbrev pub floating_point_words : FloatingPointType → List ℕ
 floating_point_words (Float v) = float_words v
 floating_point_words (Double v) = double_words v
-
--- the word of a special operation
-abbrev pub special_words : Special → List ℕ
-special_words (Getter v) = codes "getter"
-special_words (Setter v) = codes "setter"
-special_words (Deleter v) = codes "deleter"
-special_words (LegacyCaller v) = codes "legacycaller"
-
--- the word before an attribute
-abbrev pub stringifier_or_inherit_or_static_words : StringifierOrInheritOrStatic → List ℕ
-stringifier_or_inherit_or_static_words (OneOfThree-Stringifier v) = codes "stringifier"
-stringifier_or_inherit_or_static_words (Inherit v) = codes "inherit"
-stringifier_or_inherit_or_static_words (OneOfThree-Static v) = codes "static"
-
--- the word before an operation
-abbrev pub stringifier_or_static_words : StringifierOrStatic → List ℕ
-stringifier_or_static_words (OneOfTwo-Stringifier v) = codes "stringifier"
-stringifier_or_static_words (OneOfTwo-Static v) = codes "static"

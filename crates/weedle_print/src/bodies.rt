@@ -29,18 +29,18 @@ fn open_body(is_empty: bool, out: &mut String, layout: &mut Layout) -> Result<()
 
 /// Members in braces, as `{ stringifier; }`: each takes a line, and none is `{}`.
 #[tactic(auto, using(crate::proofs::AddsFacts::adds_then))]
-impl<T: Print> Print for Braced<Vec<T>> {
-    type Value = Braced<Vec<T::Value>>;
+impl<P: Print> Print for Braced<Vec<P>> {
+    type Value = Braced<Vec<P::Value>>;
 
-    ghost spelling = { braced_spelling (λ v. each T.spelling v.items) };
+    ghost spelling = { braced_spelling (λ v. each P.spelling v.items) };
 
     fn print(
-        value: &Braced<Vec<T::Value>>,
+        value: &Braced<Vec<P::Value>>,
         out: &mut String,
         layout: &mut Layout,
     ) -> Result<(), PrintError> {
         open_body(value.body.is_empty(), out, layout)?;
-        Vec::<T>::print(&value.body, out, layout)?;
+        Vec::<P>::print(&value.body, out, layout)?;
         layout.close_body();
         word(out, layout, "}")
     }
@@ -48,18 +48,18 @@ impl<T: Print> Print for Braced<Vec<T>> {
 
 /// Writes values with commas between them, and the brace behind them.
 #[tactic(auto, using(crate::proofs::AddsFacts::adds_then, crate::proofs::SeparatedFacts::separated_steps))]
-fn push_values<T: Print>(
-    values: &[T::Value],
+fn push_values<P: Print>(
+    values: &[P::Value],
     out: &mut String,
     layout: &mut Layout,
 ) -> Result<(), PrintError>
-    ensures { OnOk result (Adds (separated_by T.spelling (the_word (codes ",")) values.now then the_word (codes "}")) (string_bytes out.old) (string_bytes out.new)) }
+    ensures { OnOk result (Adds (separated_by P.spelling (the_word (codes ",")) values.now then the_word (codes "}")) (string_bytes out.old) (string_bytes out.new)) }
 {
     let mut is_first = true;
     for value in values {
         separate(is_first, out, layout, ",")?;
         layout.begin_item();
-        T::print(value, out, layout)?;
+        P::print(value, out, layout)?;
         is_first = false;
     }
     close_list(out, layout, "}")
@@ -67,24 +67,24 @@ fn push_values<T: Print>(
 
 /// Writes values as [`push_values`], on the line where they fit, else each on a line of its own.
 #[tactic(auto, using(crate::proofs::AddsFacts::adds_copied))]
-fn push_fitting<T: Print>(
-    values: &[T::Value],
+fn push_fitting<P: Print>(
+    values: &[P::Value],
     out: &mut String,
     layout: &mut Layout,
 ) -> Result<(), PrintError>
-    ensures { OnOk result (Adds (separated_by T.spelling (the_word (codes ",")) values.now then the_word (codes "}")) (string_bytes out.old) (string_bytes out.new)) }
+    ensures { OnOk result (Adds (separated_by P.spelling (the_word (codes ",")) values.now then the_word (codes "}")) (string_bytes out.old) (string_bytes out.new)) }
 {
     let start = *layout;
     let mut text = String::new(*out.allocator());
     layout.try_flat();
-    push_values::<T>(values, &mut text, layout)?;
+    push_values::<P>(values, &mut text, layout)?;
     if layout.fits(&start, 1) {
         layout.end_try(&start);
         return push(out, text.as_str());
     }
     *layout = start;
     layout.break_list();
-    push_values::<T>(values, out, layout)?;
+    push_values::<P>(values, out, layout)?;
     layout.end_list(&start);
     Ok(())
 }
@@ -92,13 +92,13 @@ fn push_fitting<T: Print>(
 /// The values of an enum, as `{ "a", "b" }`: on one line where they fit into 80 columns, else each
 /// on a line. A list without values has no text.
 #[tactic(auto, using(crate::proofs::SeparatedFacts::adds_values))]
-impl<T: Print> Print for Braced<PunctuatedNonEmpty<T, Comma>> {
-    type Value = Braced<PunctuatedNonEmpty<T::Value, Comma>>;
+impl<P: Print> Print for Braced<PunctuatedNonEmpty<P, Comma>> {
+    type Value = Braced<PunctuatedNonEmpty<P::Value, Comma>>;
 
-    ghost spelling = { braced_spelling (punctuated_non_empty_spelling T.spelling (the_word (codes ","))) };
+    ghost spelling = { braced_spelling (punctuated_non_empty_spelling P.spelling (the_word (codes ","))) };
 
     fn print(
-        value: &Braced<PunctuatedNonEmpty<T::Value, Comma>>,
+        value: &Braced<PunctuatedNonEmpty<P::Value, Comma>>,
         out: &mut String,
         layout: &mut Layout,
     ) -> Result<(), PrintError> {
@@ -106,6 +106,6 @@ impl<T: Print> Print for Braced<PunctuatedNonEmpty<T, Comma>> {
             return Err(PrintError::NoText);
         }
         word(out, layout, "{")?;
-        push_fitting::<T>(&value.body.list, out, layout)
+        push_fitting::<P>(&value.body.list, out, layout)
     }
 }

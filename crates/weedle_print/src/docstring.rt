@@ -29,7 +29,7 @@ fn push_doc_line(line: &str, out: &mut String, layout: &mut Layout) -> Result<()
 
 /// A docstring: each of its lines behind `///`, on a line of its own.
 impl Print for Docstring {
-    type Value = Docstring;
+    type Value = Self;
 
     ghost spelling = { docstring_spelling };
 

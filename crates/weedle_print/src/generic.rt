@@ -1,5 +1,5 @@
 //! Options, lists, boxes, tuples, angle brackets and what may be null.
-#![tactic(auto, using(crate::proofs::AddsFacts::adds_then, crate::proofs::AddsFacts::adds_none, crate::proofs::EachFacts::each_steps))]
+#![tactic(auto, using(crate::proofs::AddsFacts::adds_none, crate::proofs::EachFacts::each_steps))]
 
 ghost use Rattle.weedle_spell.specs.Forms.{◌then◌, each, optional};
 ghost use Rattle.weedle_spell.specs.GenericParts.{generics_spelling, may_be_null_spelling};
@@ -12,51 +12,51 @@ use weedle_parts::common::Generics;
 use weedle_parts::types::MayBeNull;
 use weedle_term::{GreaterThan, LessThan, QMark};
 
-impl<T: Print> Print for Option<T> {
-    type Value = Option<T::Value>;
+impl<P: Print> Print for Option<P> {
+    type Value = Option<P::Value>;
 
-    ghost spelling = { optional T.spelling };
+    ghost spelling = { optional P.spelling };
 
     fn print(
-        value: &Option<T::Value>,
+        value: &Option<P::Value>,
         out: &mut String,
         layout: &mut Layout,
     ) -> Result<(), PrintError> {
         match value {
-            Some(value) => T::print(value, out, layout),
+            Some(value) => P::print(value, out, layout),
             None => Ok(()),
         }
     }
 }
 
-impl<T: Print> Print for Vec<T> {
-    type Value = Vec<T::Value>;
+impl<P: Print> Print for Vec<P> {
+    type Value = Vec<P::Value>;
 
-    ghost spelling = { λ v. each T.spelling v.items };
+    ghost spelling = { λ v. each P.spelling v.items };
 
     fn print(
-        value: &Vec<T::Value>,
+        value: &Vec<P::Value>,
         out: &mut String,
         layout: &mut Layout,
     ) -> Result<(), PrintError> {
         for item in value {
-            T::print(item, out, layout)?;
+            P::print(item, out, layout)?;
         }
         Ok(())
     }
 }
 
-impl<T: Print> Print for Box<T> {
-    type Value = Box<T::Value>;
+impl<P: Print> Print for Box<P> {
+    type Value = Box<P::Value>;
 
-    ghost spelling = { λ b. T.spelling b.value };
+    ghost spelling = { λ b. P.spelling b.value };
 
     fn print(
-        value: &Box<T::Value>,
+        value: &Box<P::Value>,
         out: &mut String,
         layout: &mut Layout,
     ) -> Result<(), PrintError> {
-        T::print(value.as_ref(), out, layout)
+        P::print(value.as_ref(), out, layout)
     }
 }
 
@@ -88,17 +88,17 @@ impl<A: Print, B: Print, C: Print> Print for (A, B, C) {
     }
 }
 
-impl<T: Print> Print for Generics<T> {
-    type Value = Generics<T::Value>;
+impl<P: Print> Print for Generics<P> {
+    type Value = Generics<P::Value>;
 
-    ghost spelling = { generics_spelling T.spelling };
+    ghost spelling = { generics_spelling P.spelling };
 
     fn print(
-        value: &Generics<T::Value>,
+        value: &Generics<P::Value>,
         out: &mut String,
         layout: &mut Layout,
     ) -> Result<(), PrintError> {
-        three::<LessThan, T, GreaterThan>(
+        three::<LessThan, P, GreaterThan>(
             out,
             layout,
             &value.open_angle,
@@ -108,16 +108,16 @@ impl<T: Print> Print for Generics<T> {
     }
 }
 
-impl<T: Print> Print for MayBeNull<T> {
-    type Value = MayBeNull<T::Value>;
+impl<P: Print> Print for MayBeNull<P> {
+    type Value = MayBeNull<P::Value>;
 
-    ghost spelling = { may_be_null_spelling T.spelling };
+    ghost spelling = { may_be_null_spelling P.spelling };
 
     fn print(
-        value: &MayBeNull<T::Value>,
+        value: &MayBeNull<P::Value>,
         out: &mut String,
         layout: &mut Layout,
     ) -> Result<(), PrintError> {
-        two::<T, Option<QMark>>(out, layout, &value.type_, &value.q_mark)
+        two::<P, Option<QMark>>(out, layout, &value.type_, &value.q_mark)
     }
 }

@@ -13,7 +13,7 @@
 //! use weedle_print::printed;
 //!
 //! let mut out = String::new(rt.alloc());
-//! assert!(rt; printed::<Identifier<'_>>(&Identifier("interface"), &mut out).is_ok());
+//! assert!(rt; printed::<Identifier>(&Identifier("interface"), &mut out).is_ok());
 //! assert!(rt; out.as_str() == "_interface");
 //! ```
 #![tactic(auto)]
@@ -26,7 +26,6 @@ mod generic;
 mod layout;
 mod list;
 mod literals;
-mod modifier_words;
 mod name;
 mod null;
 mod number;
@@ -46,5 +45,5 @@ pub use name::Reserved;
 pub use null::Nullable;
 pub use print::{Print, printed};
 pub use push::{last_word, push, word};
-pub use statement::{Statement, statement};
+pub use statement::{Statement, print_statement};
 pub use words::Words;

@@ -25,7 +25,7 @@ use weedle_term::{
 };
 
 impl<'a> Print for IntegerLit<'a> {
-    type Value = IntegerLit<'a>;
+    type Value = Self;
 
     ghost spelling = { integer_spelling };
 
@@ -35,15 +35,15 @@ impl<'a> Print for IntegerLit<'a> {
         layout: &mut Layout,
     ) -> Result<(), PrintError> {
         match value {
-            IntegerLit::Dec(number) => DecLit::<'a>::print(number, out, layout),
-            IntegerLit::Hex(number) => HexLit::<'a>::print(number, out, layout),
-            IntegerLit::Oct(number) => OctLit::<'a>::print(number, out, layout),
+            IntegerLit::Dec(number) => DecLit::print(number, out, layout),
+            IntegerLit::Hex(number) => HexLit::print(number, out, layout),
+            IntegerLit::Oct(number) => OctLit::print(number, out, layout),
         }
     }
 }
 
 impl<'a> Print for FloatLit<'a> {
-    type Value = FloatLit<'a>;
+    type Value = Self;
 
     ghost spelling = { float_spelling };
 
@@ -53,7 +53,7 @@ impl<'a> Print for FloatLit<'a> {
         layout: &mut Layout,
     ) -> Result<(), PrintError> {
         match value {
-            FloatLit::Value(number) => FloatValueLit::<'a>::print(number, out, layout),
+            FloatLit::Value(number) => FloatValueLit::print(number, out, layout),
             FloatLit::NegInfinity(number) => NegInfinity::print(number, out, layout),
             FloatLit::Infinity(number) => Infinity::print(number, out, layout),
             FloatLit::NaN(number) => NaN::print(number, out, layout),
@@ -62,7 +62,7 @@ impl<'a> Print for FloatLit<'a> {
 }
 
 impl Print for BooleanLit {
-    type Value = BooleanLit;
+    type Value = Self;
 
     ghost spelling = { boolean_spelling };
 
@@ -76,7 +76,7 @@ impl Print for BooleanLit {
 }
 
 impl Print for EmptyArrayLit {
-    type Value = EmptyArrayLit;
+    type Value = Self;
 
     ghost spelling = { empty_array_spelling };
 
@@ -91,7 +91,7 @@ impl Print for EmptyArrayLit {
 
 #[tactic(auto, using(crate::proofs::AddsFacts::adds_then))]
 impl Print for EmptyDictionaryLit {
-    type Value = EmptyDictionaryLit;
+    type Value = Self;
 
     ghost spelling = { empty_dictionary_spelling };
 
@@ -107,7 +107,7 @@ impl Print for EmptyDictionaryLit {
 }
 
 impl<'a> Print for DefaultValue<'a> {
-    type Value = DefaultValue<'a>;
+    type Value = Self;
 
     ghost spelling = { default_value_spelling };
 
@@ -120,16 +120,16 @@ impl<'a> Print for DefaultValue<'a> {
             DefaultValue::Boolean(value) => BooleanLit::print(value, out, layout),
             DefaultValue::EmptyArray(value) => EmptyArrayLit::print(value, out, layout),
             DefaultValue::EmptyDictionary(value) => EmptyDictionaryLit::print(value, out, layout),
-            DefaultValue::Float(value) => FloatLit::<'a>::print(value, out, layout),
-            DefaultValue::Integer(value) => IntegerLit::<'a>::print(value, out, layout),
+            DefaultValue::Float(value) => FloatLit::print(value, out, layout),
+            DefaultValue::Integer(value) => IntegerLit::print(value, out, layout),
             DefaultValue::Null(value) => Null::print(value, out, layout),
-            DefaultValue::String(value) => StringLit::<'a>::print(value, out, layout),
+            DefaultValue::String(value) => StringLit::print(value, out, layout),
         }
     }
 }
 
 impl<'a> Print for ConstValue<'a> {
-    type Value = ConstValue<'a>;
+    type Value = Self;
 
     ghost spelling = { const_value_spelling };
 
@@ -140,19 +140,19 @@ impl<'a> Print for ConstValue<'a> {
     ) -> Result<(), PrintError> {
         match value {
             ConstValue::Boolean(value) => BooleanLit::print(value, out, layout),
-            ConstValue::Float(value) => FloatLit::<'a>::print(value, out, layout),
-            ConstValue::Integer(value) => IntegerLit::<'a>::print(value, out, layout),
+            ConstValue::Float(value) => FloatLit::print(value, out, layout),
+            ConstValue::Integer(value) => IntegerLit::print(value, out, layout),
             ConstValue::Null(value) => Null::print(value, out, layout),
         }
     }
 }
 
 impl<'a> Print for Default<'a> {
-    type Value = Default<'a>;
+    type Value = Self;
 
     ghost spelling = { default_spelling };
 
     fn print(value: &Default<'a>, out: &mut String, layout: &mut Layout) -> Result<(), PrintError> {
-        two::<Assign, DefaultValue<'a>>(out, layout, &value.assign, &value.value)
+        two::<Assign, DefaultValue>(out, layout, &value.assign, &value.value)
     }
 }

@@ -54,7 +54,7 @@ fn push_underscore(is_wanted: bool, out: &mut String) -> Result<(), PrintError>
 /// underscore.
 #[tactic(auto, using(crate::proofs::LeafFacts::adds_name))]
 impl<'a> Print for Identifier<'a> {
-    type Value = Identifier<'a>;
+    type Value = Self;
 
     ghost spelling = { identifier_spelling };
 

@@ -42,7 +42,7 @@ fn is_decimal(alloc: Global, text: &str) -> bool
 
 #[tactic(auto, using(crate::proofs::LeafFacts::adds_number))]
 impl<'a> Print for DecLit<'a> {
-    type Value = DecLit<'a>;
+    type Value = Self;
 
     ghost spelling = { dec_spelling };
 
@@ -67,7 +67,7 @@ fn is_hexadecimal(alloc: Global, text: &str) -> bool
 
 #[tactic(auto, using(crate::proofs::LeafFacts::adds_number))]
 impl<'a> Print for HexLit<'a> {
-    type Value = HexLit<'a>;
+    type Value = Self;
 
     ghost spelling = { hex_spelling };
 
@@ -92,7 +92,7 @@ fn is_octal(alloc: Global, text: &str) -> bool
 
 #[tactic(auto, using(crate::proofs::LeafFacts::adds_number))]
 impl<'a> Print for OctLit<'a> {
-    type Value = OctLit<'a>;
+    type Value = Self;
 
     ghost spelling = { oct_spelling };
 
@@ -117,7 +117,7 @@ fn is_floating(alloc: Global, text: &str) -> bool
 
 #[tactic(auto, using(crate::proofs::LeafFacts::adds_number))]
 impl<'a> Print for FloatValueLit<'a> {
-    type Value = FloatValueLit<'a>;
+    type Value = Self;
 
     ghost spelling = { float_value_spelling };
 

@@ -8,19 +8,18 @@ use crate::error::PrintError;
 use crate::layout::Layout;
 use crate::push::push;
 
-/// How values are written as WebIDL. `spelling` says which texts spell a value.
+/// How values of a type are written as WebIDL. `spelling` says which texts spell a value.
 ///
-/// A type of the crates below has it for its own values, an `Option` or a list for those of its
-/// items. A crate above gives it to a type of its own and names the value's type as `Value`, since
-/// only this crate can give it to a type that stands elsewhere.
+/// It is the type itself, as `Identifier`, or a struct that stands for it: a trait can't be had by
+/// the types of other crates.
 pub trait Print {
     /// What is written.
     type Value;
 
     ghost spelling: { Self.Value → Form };
 
-    /// Writes the value at the end of `out`, where `layout` says how the line stands there. Where
-    /// it fails, a part of the value may have been written: so [`printed`] is for callers.
+    /// Writes a value at the end of `out`, where `layout` says how the line stands there. Where it
+    /// fails, a part of the value may have been written: so [`printed`] is for callers.
     ///
     /// It fails with `Memory` where `out` can't grow, and with `NoText` where no text spells the
     /// value.
@@ -36,12 +35,12 @@ pub trait Print {
 /// value; then `out` is as it was. It writes the text once into a text of its own, which is copied,
 /// and so takes twice the memory for a while.
 #[tactic(auto, using(crate::proofs::AddsFacts::adds_copied))]
-pub fn printed<T: Print>(value: &T::Value, out: &mut String) -> Result<(), PrintError>
-    ensures spells { OnOk result (Adds (T.spelling value.now) (string_bytes out.old) (string_bytes out.new)) }
+pub fn printed<P: Print>(value: &P::Value, out: &mut String) -> Result<(), PrintError>
+    ensures spells { OnOk result (Adds (P.spelling value.now) (string_bytes out.old) (string_bytes out.new)) }
     ensures unchanged { OnErr result (string_bytes out.new ≡ string_bytes out.old) }
 {
     let mut text = String::new(*out.allocator());
     let mut layout = Layout::new();
-    T::print(value, &mut text, &mut layout)?;
+    P::print(value, &mut text, &mut layout)?;
     push(out, text.as_str())
 }

@@ -24,7 +24,7 @@ use weedle_parts::types::{
 use weedle_term::{Boolean, Byte, Double, Float, Long, Octet, Short, Unrestricted, Unsigned};
 
 impl Print for LongLongType {
-    type Value = LongLongType;
+    type Value = Self;
 
     ghost spelling = { long_long_type_spelling };
 
@@ -38,7 +38,7 @@ impl Print for LongLongType {
 }
 
 impl Print for LongType {
-    type Value = LongType;
+    type Value = Self;
 
     ghost spelling = { long_type_spelling };
 
@@ -48,7 +48,7 @@ impl Print for LongType {
 }
 
 impl Print for ShortType {
-    type Value = ShortType;
+    type Value = Self;
 
     ghost spelling = { short_type_spelling };
 
@@ -58,7 +58,7 @@ impl Print for ShortType {
 }
 
 impl Print for IntegerType {
-    type Value = IntegerType;
+    type Value = Self;
 
     ghost spelling = { integer_type_spelling };
 
@@ -72,7 +72,7 @@ impl Print for IntegerType {
 }
 
 impl Print for FloatType {
-    type Value = FloatType;
+    type Value = Self;
 
     ghost spelling = { float_type_spelling };
 
@@ -82,7 +82,7 @@ impl Print for FloatType {
 }
 
 impl Print for DoubleType {
-    type Value = DoubleType;
+    type Value = Self;
 
     ghost spelling = { double_type_spelling };
 
@@ -92,7 +92,7 @@ impl Print for DoubleType {
 }
 
 impl Print for FloatingPointType {
-    type Value = FloatingPointType;
+    type Value = Self;
 
     ghost spelling = { floating_point_type_spelling };
 
@@ -109,7 +109,7 @@ impl Print for FloatingPointType {
 }
 
 impl<'a> Print for ConstType<'a> {
-    type Value = ConstType<'a>;
+    type Value = Self;
 
     ghost spelling = { const_type_spelling };
 
@@ -126,7 +126,7 @@ impl<'a> Print for ConstType<'a> {
             ConstType::Boolean(type_) => MayBeNull::<Boolean>::print(type_, out, layout),
             ConstType::Byte(type_) => MayBeNull::<Byte>::print(type_, out, layout),
             ConstType::Octet(type_) => MayBeNull::<Octet>::print(type_, out, layout),
-            ConstType::Identifier(type_) => MayBeNull::<Identifier<'a>>::print(type_, out, layout),
+            ConstType::Identifier(type_) => MayBeNull::<Identifier>::print(type_, out, layout),
         }
     }
 }

@@ -28,25 +28,25 @@ pub enum Statement {
 /// that may stand right below the one before is written into a text of its own first, to see
 /// whether it takes one line.
 #[tactic(auto, using(crate::proofs::AddsFacts::adds_copied))]
-pub fn statement<T: Print>(
-    value: &T::Value,
+pub fn print_statement<P: Print>(
+    value: &P::Value,
     kind: Statement,
     out: &mut String,
     layout: &mut Layout,
 ) -> Result<(), PrintError>
-    ensures { OnOk result (Adds (T.spelling value.now) (string_bytes out.old) (string_bytes out.new)) }
+    ensures { OnOk result (Adds (P.spelling value.now) (string_bytes out.old) (string_bytes out.new)) }
 {
     let start = *layout;
     if layout.may_follow(kind) {
         let mut text = String::new(*out.allocator());
-        T::print(value, &mut text, layout)?;
+        P::print(value, &mut text, layout)?;
         if layout.is_one_line(&start) {
             return push(out, text.as_str());
         }
         *layout = start;
     }
     layout.skip_line();
-    T::print(value, out, layout)?;
+    P::print(value, out, layout)?;
     layout.end_statement(kind, &start);
     Ok(())
 }

@@ -26,7 +26,7 @@ fn is_without_quote(text: &str) -> bool
 /// A string in quotes, as `"a"`. One with a quote in it has no text.
 #[tactic(auto, using(crate::proofs::LeafFacts::adds_string))]
 impl<'a> Print for StringLit<'a> {
-    type Value = StringLit<'a>;
+    type Value = Self;
 
     ghost spelling = { string_spelling };
 

@@ -5,4 +5,4 @@ use Rattle.weedle_spell.specs.Tokens.{word}
 
 -- the values before were put there
 abbrev pub invariant-loop-value : goal.invariant-loop-value
-invariant-loop-value g l = SeparatedSoFar g.T.Print.spelling (word (codes ",")) l.values l.value-index l.is_first (string_bytes l.fn.out) (string_bytes l.out)
+invariant-loop-value g l = SeparatedSoFar g.P.Print.spelling (word (codes ",")) l.values l.value-index l.is_first (string_bytes l.fn.out) (string_bytes l.out)

@@ -25,7 +25,7 @@ impl Words for ByteString {
 }
 
 impl Print for ByteString {
-    type Value = ByteString;
+    type Value = Self;
 
     ghost spelling = { λ v. terminal (codes "ByteString") v };
 
@@ -43,7 +43,7 @@ impl Words for DOMString {
 }
 
 impl Print for DOMString {
-    type Value = DOMString;
+    type Value = Self;
 
     ghost spelling = { λ v. terminal (codes "DOMString") v };
 
@@ -61,7 +61,7 @@ impl Words for FrozenArray {
 }
 
 impl Print for FrozenArray {
-    type Value = FrozenArray;
+    type Value = Self;
 
     ghost spelling = { λ v. terminal (codes "FrozenArray") v };
 
@@ -83,7 +83,7 @@ impl Words for Infinity {
 }
 
 impl Print for Infinity {
-    type Value = Infinity;
+    type Value = Self;
 
     ghost spelling = { λ v. terminal (codes "Infinity") v };
 
@@ -101,7 +101,7 @@ impl Words for NaN {
 }
 
 impl Print for NaN {
-    type Value = NaN;
+    type Value = Self;
 
     ghost spelling = { λ v. terminal (codes "NaN") v };
 
@@ -119,7 +119,7 @@ impl Words for USVString {
 }
 
 impl Print for USVString {
-    type Value = USVString;
+    type Value = Self;
 
     ghost spelling = { λ v. terminal (codes "USVString") v };
 
@@ -137,7 +137,7 @@ impl Words for ArrayBuffer {
 }
 
 impl Print for ArrayBuffer {
-    type Value = ArrayBuffer;
+    type Value = Self;
 
     ghost spelling = { λ v. terminal (codes "ArrayBuffer") v };
 
@@ -159,7 +159,7 @@ impl Words for DataView {
 }
 
 impl Print for DataView {
-    type Value = DataView;
+    type Value = Self;
 
     ghost spelling = { λ v. terminal (codes "DataView") v };
 
@@ -177,7 +177,7 @@ impl Words for Int8Array {
 }
 
 impl Print for Int8Array {
-    type Value = Int8Array;
+    type Value = Self;
 
     ghost spelling = { λ v. terminal (codes "Int8Array") v };
 
@@ -195,7 +195,7 @@ impl Words for Int16Array {
 }
 
 impl Print for Int16Array {
-    type Value = Int16Array;
+    type Value = Self;
 
     ghost spelling = { λ v. terminal (codes "Int16Array") v };
 
@@ -213,7 +213,7 @@ impl Words for Int32Array {
 }
 
 impl Print for Int32Array {
-    type Value = Int32Array;
+    type Value = Self;
 
     ghost spelling = { λ v. terminal (codes "Int32Array") v };
 
@@ -231,7 +231,7 @@ impl Words for Uint8Array {
 }
 
 impl Print for Uint8Array {
-    type Value = Uint8Array;
+    type Value = Self;
 
     ghost spelling = { λ v. terminal (codes "Uint8Array") v };
 
@@ -249,7 +249,7 @@ impl Words for Uint16Array {
 }
 
 impl Print for Uint16Array {
-    type Value = Uint16Array;
+    type Value = Self;
 
     ghost spelling = { λ v. terminal (codes "Uint16Array") v };
 
@@ -271,7 +271,7 @@ impl Words for Uint32Array {
 }
 
 impl Print for Uint32Array {
-    type Value = Uint32Array;
+    type Value = Self;
 
     ghost spelling = { λ v. terminal (codes "Uint32Array") v };
 
@@ -293,7 +293,7 @@ impl Words for Uint8ClampedArray {
 }
 
 impl Print for Uint8ClampedArray {
-    type Value = Uint8ClampedArray;
+    type Value = Self;
 
     ghost spelling = { λ v. terminal (codes "Uint8ClampedArray") v };
 
@@ -315,7 +315,7 @@ impl Words for Float32Array {
 }
 
 impl Print for Float32Array {
-    type Value = Float32Array;
+    type Value = Self;
 
     ghost spelling = { λ v. terminal (codes "Float32Array") v };
 
@@ -337,7 +337,7 @@ impl Words for Float64Array {
 }
 
 impl Print for Float64Array {
-    type Value = Float64Array;
+    type Value = Self;
 
     ghost spelling = { λ v. terminal (codes "Float64Array") v };
 
@@ -359,7 +359,7 @@ impl Words for ArrayBufferView {
 }
 
 impl Print for ArrayBufferView {
-    type Value = ArrayBufferView;
+    type Value = Self;
 
     ghost spelling = { λ v. terminal (codes "ArrayBufferView") v };
 
@@ -381,7 +381,7 @@ impl Words for BufferSource {
 }
 
 impl Print for BufferSource {
-    type Value = BufferSource;
+    type Value = Self;
 
     ghost spelling = { λ v. terminal (codes "BufferSource") v };
 
@@ -403,7 +403,7 @@ impl Words for Promise {
 }
 
 impl Print for Promise {
-    type Value = Promise;
+    type Value = Self;
 
     ghost spelling = { λ v. terminal (codes "Promise") v };
 
@@ -421,7 +421,7 @@ impl Words for Error {
 }
 
 impl Print for Error {
-    type Value = Error;
+    type Value = Self;
 
     ghost spelling = { λ v. terminal (codes "Error") v };
 
@@ -439,7 +439,7 @@ impl Words for NegInfinity {
 }
 
 impl Print for NegInfinity {
-    type Value = NegInfinity;
+    type Value = Self;
 
     ghost spelling = { λ v. terminal (codes "-Infinity") v };
 

@@ -25,7 +25,7 @@ impl Words for Async {
 }
 
 impl Print for Async {
-    type Value = Async;
+    type Value = Self;
 
     ghost spelling = { λ v. terminal (codes "async") v };
 
@@ -43,7 +43,7 @@ impl Words for Attribute {
 }
 
 impl Print for Attribute {
-    type Value = Attribute;
+    type Value = Self;
 
     ghost spelling = { λ v. terminal (codes "attribute") v };
 
@@ -61,7 +61,7 @@ impl Words for Callback {
 }
 
 impl Print for Callback {
-    type Value = Callback;
+    type Value = Self;
 
     ghost spelling = { λ v. terminal (codes "callback") v };
 
@@ -79,7 +79,7 @@ impl Words for Const {
 }
 
 impl Print for Const {
-    type Value = Const;
+    type Value = Self;
 
     ghost spelling = { λ v. terminal (codes "const") v };
 
@@ -97,7 +97,7 @@ impl Words for Deleter {
 }
 
 impl Print for Deleter {
-    type Value = Deleter;
+    type Value = Self;
 
     ghost spelling = { λ v. terminal (codes "deleter") v };
 
@@ -115,7 +115,7 @@ impl Words for Dictionary {
 }
 
 impl Print for Dictionary {
-    type Value = Dictionary;
+    type Value = Self;
 
     ghost spelling = { λ v. terminal (codes "dictionary") v };
 
@@ -133,7 +133,7 @@ impl Words for Enum {
 }
 
 impl Print for Enum {
-    type Value = Enum;
+    type Value = Self;
 
     ghost spelling = { λ v. terminal (codes "enum") v };
 
@@ -151,7 +151,7 @@ impl Words for Getter {
 }
 
 impl Print for Getter {
-    type Value = Getter;
+    type Value = Self;
 
     ghost spelling = { λ v. terminal (codes "getter") v };
 
@@ -169,7 +169,7 @@ impl Words for Includes {
 }
 
 impl Print for Includes {
-    type Value = Includes;
+    type Value = Self;
 
     ghost spelling = { λ v. terminal (codes "includes") v };
 
@@ -187,7 +187,7 @@ impl Words for Inherit {
 }
 
 impl Print for Inherit {
-    type Value = Inherit;
+    type Value = Self;
 
     ghost spelling = { λ v. terminal (codes "inherit") v };
 
@@ -205,7 +205,7 @@ impl Words for Interface {
 }
 
 impl Print for Interface {
-    type Value = Interface;
+    type Value = Self;
 
     ghost spelling = { λ v. terminal (codes "interface") v };
 
@@ -223,7 +223,7 @@ impl Words for Iterable {
 }
 
 impl Print for Iterable {
-    type Value = Iterable;
+    type Value = Self;
 
     ghost spelling = { λ v. terminal (codes "iterable") v };
 
@@ -241,7 +241,7 @@ impl Words for Maplike {
 }
 
 impl Print for Maplike {
-    type Value = Maplike;
+    type Value = Self;
 
     ghost spelling = { λ v. terminal (codes "maplike") v };
 
@@ -259,7 +259,7 @@ impl Words for Namespace {
 }
 
 impl Print for Namespace {
-    type Value = Namespace;
+    type Value = Self;
 
     ghost spelling = { λ v. terminal (codes "namespace") v };
 
@@ -277,7 +277,7 @@ impl Words for Partial {
 }
 
 impl Print for Partial {
-    type Value = Partial;
+    type Value = Self;
 
     ghost spelling = { λ v. terminal (codes "partial") v };
 
@@ -295,7 +295,7 @@ impl Words for Required {
 }
 
 impl Print for Required {
-    type Value = Required;
+    type Value = Self;
 
     ghost spelling = { λ v. terminal (codes "required") v };
 
@@ -313,7 +313,7 @@ impl Words for Setlike {
 }
 
 impl Print for Setlike {
-    type Value = Setlike;
+    type Value = Self;
 
     ghost spelling = { λ v. terminal (codes "setlike") v };
 
@@ -331,7 +331,7 @@ impl Words for Setter {
 }
 
 impl Print for Setter {
-    type Value = Setter;
+    type Value = Self;
 
     ghost spelling = { λ v. terminal (codes "setter") v };
 
@@ -349,7 +349,7 @@ impl Words for Static {
 }
 
 impl Print for Static {
-    type Value = Static;
+    type Value = Self;
 
     ghost spelling = { λ v. terminal (codes "static") v };
 
@@ -367,7 +367,7 @@ impl Words for Stringifier {
 }
 
 impl Print for Stringifier {
-    type Value = Stringifier;
+    type Value = Self;
 
     ghost spelling = { λ v. terminal (codes "stringifier") v };
 
@@ -389,7 +389,7 @@ impl Words for Typedef {
 }
 
 impl Print for Typedef {
-    type Value = Typedef;
+    type Value = Self;
 
     ghost spelling = { λ v. terminal (codes "typedef") v };
 
@@ -407,7 +407,7 @@ impl Words for ReadOnly {
 }
 
 impl Print for ReadOnly {
-    type Value = ReadOnly;
+    type Value = Self;
 
     ghost spelling = { λ v. terminal (codes "readonly") v };
 
@@ -425,7 +425,7 @@ impl Words for Mixin {
 }
 
 impl Print for Mixin {
-    type Value = Mixin;
+    type Value = Self;
 
     ghost spelling = { λ v. terminal (codes "mixin") v };
 
@@ -443,7 +443,7 @@ impl Words for Implements {
 }
 
 impl Print for Implements {
-    type Value = Implements;
+    type Value = Self;
 
     ghost spelling = { λ v. terminal (codes "implements") v };
 
@@ -461,7 +461,7 @@ impl Words for LegacyCaller {
 }
 
 impl Print for LegacyCaller {
-    type Value = LegacyCaller;
+    type Value = Self;
 
     ghost spelling = { λ v. terminal (codes "legacycaller") v };
 
@@ -483,7 +483,7 @@ impl Words for Constructor {
 }
 
 impl Print for Constructor {
-    type Value = Constructor;
+    type Value = Self;
 
     ghost spelling = { λ v. terminal (codes "constructor") v };
 

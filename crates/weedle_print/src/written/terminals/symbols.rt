@@ -24,7 +24,7 @@ impl Words for OpenParen {
 }
 
 impl Print for OpenParen {
-    type Value = OpenParen;
+    type Value = Self;
 
     ghost spelling = { λ v. terminal (codes "(") v };
 
@@ -42,7 +42,7 @@ impl Words for CloseParen {
 }
 
 impl Print for CloseParen {
-    type Value = CloseParen;
+    type Value = Self;
 
     ghost spelling = { λ v. terminal (codes ")") v };
 
@@ -60,7 +60,7 @@ impl Words for OpenBracket {
 }
 
 impl Print for OpenBracket {
-    type Value = OpenBracket;
+    type Value = Self;
 
     ghost spelling = { λ v. terminal (codes "[") v };
 
@@ -82,7 +82,7 @@ impl Words for CloseBracket {
 }
 
 impl Print for CloseBracket {
-    type Value = CloseBracket;
+    type Value = Self;
 
     ghost spelling = { λ v. terminal (codes "]") v };
 
@@ -104,7 +104,7 @@ impl Words for OpenBrace {
 }
 
 impl Print for OpenBrace {
-    type Value = OpenBrace;
+    type Value = Self;
 
     ghost spelling = { λ v. terminal (codes "{") v };
 
@@ -122,7 +122,7 @@ impl Words for CloseBrace {
 }
 
 impl Print for CloseBrace {
-    type Value = CloseBrace;
+    type Value = Self;
 
     ghost spelling = { λ v. terminal (codes "}") v };
 
@@ -140,7 +140,7 @@ impl Words for Comma {
 }
 
 impl Print for Comma {
-    type Value = Comma;
+    type Value = Self;
 
     ghost spelling = { λ v. terminal (codes ",") v };
 
@@ -158,7 +158,7 @@ impl Words for Minus {
 }
 
 impl Print for Minus {
-    type Value = Minus;
+    type Value = Self;
 
     ghost spelling = { λ v. terminal (codes "-") v };
 
@@ -176,7 +176,7 @@ impl Words for Dot {
 }
 
 impl Print for Dot {
-    type Value = Dot;
+    type Value = Self;
 
     ghost spelling = { λ v. terminal (codes ".") v };
 
@@ -194,7 +194,7 @@ impl Words for Ellipsis {
 }
 
 impl Print for Ellipsis {
-    type Value = Ellipsis;
+    type Value = Self;
 
     ghost spelling = { λ v. terminal (codes "...") v };
 
@@ -212,7 +212,7 @@ impl Words for Colon {
 }
 
 impl Print for Colon {
-    type Value = Colon;
+    type Value = Self;
 
     ghost spelling = { λ v. terminal (codes ":") v };
 
@@ -230,7 +230,7 @@ impl Words for SemiColon {
 }
 
 impl Print for SemiColon {
-    type Value = SemiColon;
+    type Value = Self;
 
     ghost spelling = { λ v. terminal (codes ";") v };
 
@@ -248,7 +248,7 @@ impl Words for LessThan {
 }
 
 impl Print for LessThan {
-    type Value = LessThan;
+    type Value = Self;
 
     ghost spelling = { λ v. terminal (codes "<") v };
 
@@ -266,7 +266,7 @@ impl Words for Assign {
 }
 
 impl Print for Assign {
-    type Value = Assign;
+    type Value = Self;
 
     ghost spelling = { λ v. terminal (codes "=") v };
 
@@ -284,7 +284,7 @@ impl Words for GreaterThan {
 }
 
 impl Print for GreaterThan {
-    type Value = GreaterThan;
+    type Value = Self;
 
     ghost spelling = { λ v. terminal (codes ">") v };
 
@@ -306,7 +306,7 @@ impl Words for QMark {
 }
 
 impl Print for QMark {
-    type Value = QMark;
+    type Value = Self;
 
     ghost spelling = { λ v. terminal (codes "?") v };
 

@@ -24,7 +24,7 @@ impl Words for Or {
 }
 
 impl Print for Or {
-    type Value = Or;
+    type Value = Self;
 
     ghost spelling = { λ v. terminal (codes "or") v };
 
@@ -42,7 +42,7 @@ impl Words for Optional {
 }
 
 impl Print for Optional {
-    type Value = Optional;
+    type Value = Self;
 
     ghost spelling = { λ v. terminal (codes "optional") v };
 
@@ -60,7 +60,7 @@ impl Words for Unrestricted {
 }
 
 impl Print for Unrestricted {
-    type Value = Unrestricted;
+    type Value = Self;
 
     ghost spelling = { λ v. terminal (codes "unrestricted") v };
 
@@ -82,7 +82,7 @@ impl Words for Symbol {
 }
 
 impl Print for Symbol {
-    type Value = Symbol;
+    type Value = Self;
 
     ghost spelling = { λ v. terminal (codes "symbol") v };
 
@@ -100,7 +100,7 @@ impl Words for Any {
 }
 
 impl Print for Any {
-    type Value = Any;
+    type Value = Self;
 
     ghost spelling = { λ v. terminal (codes "any") v };
 
@@ -118,7 +118,7 @@ impl Words for Boolean {
 }
 
 impl Print for Boolean {
-    type Value = Boolean;
+    type Value = Self;
 
     ghost spelling = { λ v. terminal (codes "boolean") v };
 
@@ -136,7 +136,7 @@ impl Words for Byte {
 }
 
 impl Print for Byte {
-    type Value = Byte;
+    type Value = Self;
 
     ghost spelling = { λ v. terminal (codes "byte") v };
 
@@ -154,7 +154,7 @@ impl Words for Double {
 }
 
 impl Print for Double {
-    type Value = Double;
+    type Value = Self;
 
     ghost spelling = { λ v. terminal (codes "double") v };
 
@@ -172,7 +172,7 @@ impl Words for False {
 }
 
 impl Print for False {
-    type Value = False;
+    type Value = Self;
 
     ghost spelling = { λ v. terminal (codes "false") v };
 
@@ -190,7 +190,7 @@ impl Words for Float {
 }
 
 impl Print for Float {
-    type Value = Float;
+    type Value = Self;
 
     ghost spelling = { λ v. terminal (codes "float") v };
 
@@ -208,7 +208,7 @@ impl Words for Long {
 }
 
 impl Print for Long {
-    type Value = Long;
+    type Value = Self;
 
     ghost spelling = { λ v. terminal (codes "long") v };
 
@@ -226,7 +226,7 @@ impl Words for Null {
 }
 
 impl Print for Null {
-    type Value = Null;
+    type Value = Self;
 
     ghost spelling = { λ v. terminal (codes "null") v };
 
@@ -244,7 +244,7 @@ impl Words for Object {
 }
 
 impl Print for Object {
-    type Value = Object;
+    type Value = Self;
 
     ghost spelling = { λ v. terminal (codes "object") v };
 
@@ -262,7 +262,7 @@ impl Words for Octet {
 }
 
 impl Print for Octet {
-    type Value = Octet;
+    type Value = Self;
 
     ghost spelling = { λ v. terminal (codes "octet") v };
 
@@ -280,7 +280,7 @@ impl Words for Sequence {
 }
 
 impl Print for Sequence {
-    type Value = Sequence;
+    type Value = Self;
 
     ghost spelling = { λ v. terminal (codes "sequence") v };
 
@@ -298,7 +298,7 @@ impl Words for Short {
 }
 
 impl Print for Short {
-    type Value = Short;
+    type Value = Self;
 
     ghost spelling = { λ v. terminal (codes "short") v };
 
@@ -316,7 +316,7 @@ impl Words for True {
 }
 
 impl Print for True {
-    type Value = True;
+    type Value = Self;
 
     ghost spelling = { λ v. terminal (codes "true") v };
 
@@ -334,7 +334,7 @@ impl Words for Unsigned {
 }
 
 impl Print for Unsigned {
-    type Value = Unsigned;
+    type Value = Self;
 
     ghost spelling = { λ v. terminal (codes "unsigned") v };
 
@@ -352,7 +352,7 @@ impl Words for Undefined {
 }
 
 impl Print for Undefined {
-    type Value = Undefined;
+    type Value = Self;
 
     ghost spelling = { λ v. terminal (codes "undefined") v };
 
@@ -370,7 +370,7 @@ impl Words for Record {
 }
 
 impl Print for Record {
-    type Value = Record;
+    type Value = Self;
 
     ghost spelling = { λ v. terminal (codes "record") v };
 

@@ -5,4 +5,4 @@ use Rattle.weedle_spell.specs.Forms.{each}
 
 -- the items before were put there
 abbrev pub invariant-loop-item : goal.invariant-loop-item
-invariant-loop-item g l = Adds (each g.T.Print.spelling (take l.item-index l.value.items)) (string_bytes l.fn.out) (string_bytes l.out)
+invariant-loop-item g l = Adds (each g.P.Print.spelling (take l.item-index l.value.items)) (string_bytes l.fn.out) (string_bytes l.out)
