@@ -34,7 +34,7 @@ from written_places import files_in, module_in, put
 
 CRATE = "weedle_print_idl"
 # What stands for a type of these crates as a part of others, with the crate that has it.
-PARTS = {TYPES: ("TypePart", "weedle_print_types")} | dict.fromkeys(IDL, ("IdlPart", CRATE))
+PARTS = {TYPES: ("Held", "weedle_print_types")} | dict.fromkeys(IDL, ("IdlPart", CRATE))
 # How many fields one call writes, by the name of the function.
 COUNTS = dict(enumerate("two three four five six seven eight".split(), start=2))
 FIELDS = "weedle_print::fields"
@@ -50,12 +50,12 @@ HEAD = "//!\n//! Written by tools/prints.py, and not edited by hand.\n\n"
 # What each file brings in, and the names by which code knows what it calls.
 ALWAYS = ("crate::write::WriteIdl", "weedle_print::Layout", "weedle_print::PrintError")
 PART_PATHS = {
-    "TypePart": "weedle_print_types::TypePart",
+    "Held": "weedle_print_types::Held",
     "IdlPart": "crate::part::IdlPart",
     "Attributes": "crate::part::Attributes",
 }
 # A part that the crate has a `type` for.
-NAMED = {"Option<TypePart<ExtendedAttributeList<'a>>>": "Attributes<'a>"}
+NAMED = {"Option<Held<ExtendedAttributeList<'a>>>": "Attributes<'a>"}
 # The files of types that others write: what they are about, and the crates that declare them.
 HANDED_ON = {
     "leaves": ("Names, docstrings, literals and types that hold no other.", [it for it in LEAVES if it != TERMINALS]),
@@ -147,7 +147,7 @@ class Own:
         if self.is_list or self.item.is_enum and "::print(" in self.body:
             return {"weedle_print::Print"}
         if self.type.name == WHOLE:
-            return {"weedle_print::Statement", "weedle_print::statement"}
+            return {"weedle_print::Statement", "weedle_print::print_statement"}
         return set() if self.item.is_enum else {f"{FIELDS}::{self.call}"}
 
     @property
@@ -167,7 +167,7 @@ class Own:
         if self.type.name != WHOLE:
             return "value.write_part(out, layout)"
         kind = STATEMENTS.get(type_.name, "Other")
-        return f"statement::<{part_of(type_)}>(value, Statement::{kind}, out, layout)"
+        return f"print_statement::<{part_of(type_)}>(value, Statement::{kind}, out, layout)"
 
 
 class HandedOn:

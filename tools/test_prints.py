@@ -65,13 +65,13 @@ class Parts(unittest.TestCase):
                          ["Comma", "Identifier<'a>", "Option<ReadOnly>"])
 
     def test_types_and_members_by_their_parts(self):
-        self.assertEqual(part("ReturnType"), "TypePart<ReturnType<'a>>")
+        self.assertEqual(part("ReturnType"), "Held<ReturnType<'a>>")
         self.assertEqual(part("Option<Special>"), "Option<IdlPart<Special>>")
         self.assertEqual(part("Option<ExtendedAttributeList>"), "Attributes<'a>")
 
     def test_what_is_made_of_them_by_theirs(self):
         self.assertEqual(part("Generics<(AttributedType, Comma, AttributedType)>"),
-                         "Generics<(TypePart<AttributedType<'a>>, Comma, TypePart<AttributedType<'a>>)>")
+                         "Generics<(Held<AttributedType<'a>>, Comma, Held<AttributedType<'a>>)>")
         self.assertEqual(part("Braced<InterfaceMembers>"), "Braced<Vec<IdlPart<InterfaceMember<'a>>>>")
         self.assertEqual(part("Braced<EnumValueList>"),
                          "Braced<PunctuatedNonEmpty<IdlPart<EnumVariant<'a>>, Comma>>")
@@ -92,7 +92,7 @@ class Impls(unittest.TestCase):
 
     def test_definitions_of_one_line_have_their_kind(self):
         arms = own("Definition").body.split("\n")
-        self.assertIn("Definition::Typedef(value) => statement::<IdlPart<TypedefDefinition<'a>>>"
+        self.assertIn("Definition::Typedef(value) => print_statement::<IdlPart<TypedefDefinition<'a>>>"
                       "(value, Statement::Typedef, out, layout),", arms)
         self.assertEqual(sum("Statement::Other" in arm for arm in arms), 14 - len(prints.STATEMENTS))
 

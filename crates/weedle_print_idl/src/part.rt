@@ -5,7 +5,7 @@ ghost use Rattle.weedle_print.specs.Adds.{Adds};
 
 use crate::write::WriteIdl;
 use weedle_print::{Layout, Print, PrintError};
-use weedle_print_types::TypePart;
+use weedle_print_types::Held;
 use weedle_types::attribute::ExtendedAttributeList;
 
 /// How a `T` is written as a part of another value: as by itself. A type of another crate has no
@@ -13,7 +13,7 @@ use weedle_types::attribute::ExtendedAttributeList;
 pub struct IdlPart<T>(T);
 
 /// Extended attributes in front of a member or a definition, or none.
-pub(crate) type Attributes<'a> = Option<TypePart<ExtendedAttributeList<'a>>>;
+pub(crate) type Attributes<'a> = Option<Held<ExtendedAttributeList<'a>>>;
 
 impl<T: WriteIdl> Print for IdlPart<T> {
     type Value = T;

@@ -18,7 +18,7 @@ use weedle_namespaces::{
     DictionaryDefinition, NamespaceDefinition, PartialDictionaryDefinition,
     PartialNamespaceDefinition,
 };
-use weedle_print::{Layout, Print, PrintError, Statement, statement};
+use weedle_print::{Layout, Print, PrintError, Statement, print_statement};
 use weedle_statements::{
     CallbackDefinition, EnumDefinition, ImplementsDefinition, IncludesStatementDefinition,
     TypedefDefinition,
@@ -29,67 +29,64 @@ impl<'a> WriteIdl for Definition<'a> {
 
     fn write_part(&self, out: &mut String, layout: &mut Layout) -> Result<(), PrintError> {
         match self {
-            Definition::Callback(value) => statement::<IdlPart<CallbackDefinition<'a>>>(
+            Definition::Callback(value) => print_statement::<IdlPart<CallbackDefinition<'a>>>(
                 value,
                 Statement::Callback,
                 out,
                 layout,
             ),
-            Definition::CallbackInterface(value) => statement::<
+            Definition::CallbackInterface(value) => print_statement::<
                 IdlPart<CallbackInterfaceDefinition<'a>>,
             >(value, Statement::Other, out, layout),
-            Definition::Interface(value) => statement::<IdlPart<InterfaceDefinition<'a>>>(
+            Definition::Interface(value) => print_statement::<IdlPart<InterfaceDefinition<'a>>>(
                 value,
                 Statement::Other,
                 out,
                 layout,
             ),
-            Definition::InterfaceMixin(value) => statement::<IdlPart<InterfaceMixinDefinition<'a>>>(
+            Definition::InterfaceMixin(value) => print_statement::<
+                IdlPart<InterfaceMixinDefinition<'a>>,
+            >(value, Statement::Other, out, layout),
+            Definition::Namespace(value) => print_statement::<IdlPart<NamespaceDefinition<'a>>>(
                 value,
                 Statement::Other,
                 out,
                 layout,
             ),
-            Definition::Namespace(value) => statement::<IdlPart<NamespaceDefinition<'a>>>(
+            Definition::Dictionary(value) => print_statement::<IdlPart<DictionaryDefinition<'a>>>(
                 value,
                 Statement::Other,
                 out,
                 layout,
             ),
-            Definition::Dictionary(value) => statement::<IdlPart<DictionaryDefinition<'a>>>(
-                value,
-                Statement::Other,
-                out,
-                layout,
-            ),
-            Definition::PartialInterface(value) => statement::<
+            Definition::PartialInterface(value) => print_statement::<
                 IdlPart<PartialInterfaceDefinition<'a>>,
             >(value, Statement::Other, out, layout),
-            Definition::PartialInterfaceMixin(value) => statement::<
+            Definition::PartialInterfaceMixin(value) => print_statement::<
                 IdlPart<PartialInterfaceMixinDefinition<'a>>,
             >(value, Statement::Other, out, layout),
-            Definition::PartialDictionary(value) => statement::<
+            Definition::PartialDictionary(value) => print_statement::<
                 IdlPart<PartialDictionaryDefinition<'a>>,
             >(value, Statement::Other, out, layout),
-            Definition::PartialNamespace(value) => statement::<
+            Definition::PartialNamespace(value) => print_statement::<
                 IdlPart<PartialNamespaceDefinition<'a>>,
             >(value, Statement::Other, out, layout),
-            Definition::Enum(value) => statement::<IdlPart<EnumDefinition<'a>>>(
+            Definition::Enum(value) => print_statement::<IdlPart<EnumDefinition<'a>>>(
                 value,
                 Statement::Other,
                 out,
                 layout,
             ),
-            Definition::Typedef(value) => statement::<IdlPart<TypedefDefinition<'a>>>(
+            Definition::Typedef(value) => print_statement::<IdlPart<TypedefDefinition<'a>>>(
                 value,
                 Statement::Typedef,
                 out,
                 layout,
             ),
-            Definition::IncludesStatement(value) => statement::<
+            Definition::IncludesStatement(value) => print_statement::<
                 IdlPart<IncludesStatementDefinition<'a>>,
             >(value, Statement::Includes, out, layout),
-            Definition::Implements(value) => statement::<IdlPart<ImplementsDefinition<'a>>>(
+            Definition::Implements(value) => print_statement::<IdlPart<ImplementsDefinition<'a>>>(
                 value,
                 Statement::Implements,
                 out,

@@ -25,7 +25,7 @@ use weedle_iterables::{
 use weedle_parts::common::Generics;
 use weedle_print::fields::{five, four};
 use weedle_print::{Layout, PrintError};
-use weedle_print_types::TypePart;
+use weedle_print_types::Held;
 use weedle_term::{Async, Comma, Iterable, Maplike, ReadOnly, SemiColon, Setlike};
 use weedle_types::argument::ParenthesizedArgumentList;
 use weedle_types::types::AttributedType;
@@ -38,13 +38,7 @@ impl<'a> WriteIdl for MaplikeInterfaceMember<'a> {
             Attributes<'a>,
             Option<ReadOnly>,
             Maplike,
-            Generics<
-                (
-                    TypePart<AttributedType<'a>>,
-                    Comma,
-                    TypePart<AttributedType<'a>>,
-                ),
-            >,
+            Generics<(Held<AttributedType<'a>>, Comma, Held<AttributedType<'a>>)>,
             SemiColon,
         >(
             out,
@@ -66,7 +60,7 @@ impl<'a> WriteIdl for SetlikeInterfaceMember<'a> {
             Attributes<'a>,
             Option<ReadOnly>,
             Setlike,
-            Generics<TypePart<AttributedType<'a>>>,
+            Generics<Held<AttributedType<'a>>>,
             SemiColon,
         >(
             out,
@@ -84,7 +78,7 @@ impl<'a> WriteIdl for SingleTypedIterable<'a> {
     ghost spelling = { single_typed_iterable_spelling };
 
     fn write_part(&self, out: &mut String, layout: &mut Layout) -> Result<(), PrintError> {
-        four::<Attributes<'a>, Iterable, Generics<TypePart<AttributedType<'a>>>, SemiColon>(
+        four::<Attributes<'a>, Iterable, Generics<Held<AttributedType<'a>>>, SemiColon>(
             out,
             layout,
             &self.attributes,
@@ -102,13 +96,7 @@ impl<'a> WriteIdl for DoubleTypedIterable<'a> {
         four::<
             Attributes<'a>,
             Iterable,
-            Generics<
-                (
-                    TypePart<AttributedType<'a>>,
-                    Comma,
-                    TypePart<AttributedType<'a>>,
-                ),
-            >,
+            Generics<(Held<AttributedType<'a>>, Comma, Held<AttributedType<'a>>)>,
             SemiColon,
         >(
             out,
@@ -139,8 +127,8 @@ impl<'a> WriteIdl for SingleTypedAsyncIterable<'a> {
         five::<
             Attributes<'a>,
             (Async, Iterable),
-            Generics<TypePart<AttributedType<'a>>>,
-            Option<TypePart<ParenthesizedArgumentList<'a>>>,
+            Generics<Held<AttributedType<'a>>>,
+            Option<Held<ParenthesizedArgumentList<'a>>>,
             SemiColon,
         >(
             out,
@@ -161,14 +149,8 @@ impl<'a> WriteIdl for DoubleTypedAsyncIterable<'a> {
         five::<
             Attributes<'a>,
             (Async, Iterable),
-            Generics<
-                (
-                    TypePart<AttributedType<'a>>,
-                    Comma,
-                    TypePart<AttributedType<'a>>,
-                ),
-            >,
-            Option<TypePart<ParenthesizedArgumentList<'a>>>,
+            Generics<(Held<AttributedType<'a>>, Comma, Held<AttributedType<'a>>)>,
+            Option<Held<ParenthesizedArgumentList<'a>>>,
             SemiColon,
         >(
             out,

@@ -28,7 +28,7 @@ use weedle_parts::common::{Docstring, Identifier};
 use weedle_parts::types::ConstType;
 use weedle_print::fields::{eight, five, seven, six, three};
 use weedle_print::{Layout, Print, PrintError};
-use weedle_print_types::TypePart;
+use weedle_print_types::Held;
 use weedle_term::{Assign, Attribute, Const, Constructor, ReadOnly, SemiColon, Stringifier};
 use weedle_types::argument::ParenthesizedArgumentList;
 use weedle_types::types::{AttributedType, ReturnType};
@@ -42,7 +42,7 @@ impl<'a> WriteIdl for AttributeInterfaceMember<'a> {
             Option<IdlPart<StringifierOrInheritOrStatic>>,
             Option<ReadOnly>,
             Attribute,
-            TypePart<AttributedType<'a>>,
+            Held<AttributedType<'a>>,
             Identifier<'a>,
             SemiColon,
         >(
@@ -93,7 +93,7 @@ impl<'a> WriteIdl for ConstructorInterfaceMember<'a> {
             Option<Docstring>,
             Attributes<'a>,
             Constructor,
-            TypePart<ParenthesizedArgumentList<'a>>,
+            Held<ParenthesizedArgumentList<'a>>,
             SemiColon,
         >(
             out,
@@ -116,9 +116,9 @@ impl<'a> WriteIdl for OperationInterfaceMember<'a> {
             Attributes<'a>,
             Option<IdlPart<StringifierOrStatic>>,
             Option<IdlPart<Special>>,
-            TypePart<ReturnType<'a>>,
+            Held<ReturnType<'a>>,
             Option<Identifier<'a>>,
-            TypePart<ParenthesizedArgumentList<'a>>,
+            Held<ParenthesizedArgumentList<'a>>,
             SemiColon,
         >(
             out,
@@ -156,9 +156,9 @@ impl<'a> WriteIdl for OperationMixinMember<'a> {
         six::<
             Attributes<'a>,
             Option<Stringifier>,
-            TypePart<ReturnType<'a>>,
+            Held<ReturnType<'a>>,
             Option<Identifier<'a>>,
-            TypePart<ParenthesizedArgumentList<'a>>,
+            Held<ParenthesizedArgumentList<'a>>,
             SemiColon,
         >(
             out,
@@ -182,7 +182,7 @@ impl<'a> WriteIdl for AttributeMixinMember<'a> {
             Option<Stringifier>,
             Option<ReadOnly>,
             Attribute,
-            TypePart<AttributedType<'a>>,
+            Held<AttributedType<'a>>,
             Identifier<'a>,
             SemiColon,
         >(

@@ -30,7 +30,7 @@ use weedle_namespaces::{
 use weedle_parts::common::{Braced, Docstring, Identifier};
 use weedle_print::fields::{seven, six};
 use weedle_print::{Layout, Print, PrintError};
-use weedle_print_types::TypePart;
+use weedle_print_types::Held;
 use weedle_term::{Attribute, Dictionary, Namespace, Partial, ReadOnly, Required, SemiColon};
 use weedle_types::argument::ParenthesizedArgumentList;
 use weedle_types::types::{AttributedType, ReturnType, Type};
@@ -43,7 +43,7 @@ impl<'a> WriteIdl for DictionaryMember<'a> {
             Option<Docstring>,
             Attributes<'a>,
             Option<Required>,
-            TypePart<Type<'a>>,
+            Held<Type<'a>>,
             Identifier<'a>,
             Option<Default<'a>>,
             SemiColon,
@@ -126,9 +126,9 @@ impl<'a> WriteIdl for OperationNamespaceMember<'a> {
         six::<
             Option<Docstring>,
             Attributes<'a>,
-            TypePart<ReturnType<'a>>,
+            Held<ReturnType<'a>>,
             Option<Identifier<'a>>,
-            TypePart<ParenthesizedArgumentList<'a>>,
+            Held<ParenthesizedArgumentList<'a>>,
             SemiColon,
         >(
             out,
@@ -152,7 +152,7 @@ impl<'a> WriteIdl for AttributeNamespaceMember<'a> {
             Attributes<'a>,
             ReadOnly,
             Attribute,
-            TypePart<AttributedType<'a>>,
+            Held<AttributedType<'a>>,
             Identifier<'a>,
             SemiColon,
         >(

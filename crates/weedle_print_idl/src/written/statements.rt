@@ -17,7 +17,7 @@ use weedle_literal::StringLit;
 use weedle_parts::common::{Braced, Docstring, Identifier, PunctuatedNonEmpty};
 use weedle_print::fields::{five, seven, six, two};
 use weedle_print::{Layout, PrintError};
-use weedle_print_types::TypePart;
+use weedle_print_types::Held;
 use weedle_statements::{
     CallbackDefinition, EnumDefinition, EnumVariant, ImplementsDefinition,
     IncludesStatementDefinition, TypedefDefinition,
@@ -35,8 +35,8 @@ impl<'a> WriteIdl for CallbackDefinition<'a> {
             Callback,
             Identifier<'a>,
             Assign,
-            TypePart<ReturnType<'a>>,
-            TypePart<ParenthesizedArgumentList<'a>>,
+            Held<ReturnType<'a>>,
+            Held<ParenthesizedArgumentList<'a>>,
             SemiColon,
         >(
             out,
@@ -120,7 +120,7 @@ impl<'a> WriteIdl for TypedefDefinition<'a> {
     ghost spelling = { typedef_definition_spelling };
 
     fn write_part(&self, out: &mut String, layout: &mut Layout) -> Result<(), PrintError> {
-        five::<Attributes<'a>, Typedef, TypePart<AttributedType<'a>>, Identifier<'a>, SemiColon>(
+        five::<Attributes<'a>, Typedef, Held<AttributedType<'a>>, Identifier<'a>, SemiColon>(
             out,
             layout,
             &self.attributes,

@@ -41,7 +41,7 @@ ghost use Rattle.weedle_spell_types.specs.written.Types.{
 
 use crate::write::WriteIdl;
 use weedle_print::{Layout, Print, PrintError};
-use weedle_print_types::TypePart;
+use weedle_print_types::Held;
 use weedle_types::argument::{
     Argument, ArgumentList, ParenthesizedArgumentList, SingleArgument, VariadicArgument,
 };
@@ -60,7 +60,7 @@ impl<'a> WriteIdl for ParenthesizedArgumentList<'a> {
     ghost spelling = { arguments_spelling };
 
     fn write_part(&self, out: &mut String, layout: &mut Layout) -> Result<(), PrintError> {
-        TypePart::<ParenthesizedArgumentList<'a>>::print(self, out, layout)
+        Held::<ParenthesizedArgumentList<'a>>::print(self, out, layout)
     }
 }
 
@@ -68,7 +68,7 @@ impl<'a> WriteIdl for Argument<'a> {
     ghost spelling = { argument_spelling };
 
     fn write_part(&self, out: &mut String, layout: &mut Layout) -> Result<(), PrintError> {
-        TypePart::<Argument<'a>>::print(self, out, layout)
+        Held::<Argument<'a>>::print(self, out, layout)
     }
 }
 
@@ -76,7 +76,7 @@ impl<'a> WriteIdl for SingleArgument<'a> {
     ghost spelling = { single_argument_spelling };
 
     fn write_part(&self, out: &mut String, layout: &mut Layout) -> Result<(), PrintError> {
-        TypePart::<SingleArgument<'a>>::print(self, out, layout)
+        Held::<SingleArgument<'a>>::print(self, out, layout)
     }
 }
 
@@ -84,7 +84,7 @@ impl<'a> WriteIdl for VariadicArgument<'a> {
     ghost spelling = { variadic_argument_spelling };
 
     fn write_part(&self, out: &mut String, layout: &mut Layout) -> Result<(), PrintError> {
-        TypePart::<VariadicArgument<'a>>::print(self, out, layout)
+        Held::<VariadicArgument<'a>>::print(self, out, layout)
     }
 }
 
@@ -92,7 +92,7 @@ impl<'a> WriteIdl for ExtendedAttribute<'a> {
     ghost spelling = { extended_attribute_spelling };
 
     fn write_part(&self, out: &mut String, layout: &mut Layout) -> Result<(), PrintError> {
-        TypePart::<ExtendedAttribute<'a>>::print(self, out, layout)
+        Held::<ExtendedAttribute<'a>>::print(self, out, layout)
     }
 }
 
@@ -100,7 +100,7 @@ impl<'a> WriteIdl for ExtendedAttributeArgList<'a> {
     ghost spelling = { extended_attribute_arg_list_spelling };
 
     fn write_part(&self, out: &mut String, layout: &mut Layout) -> Result<(), PrintError> {
-        TypePart::<ExtendedAttributeArgList<'a>>::print(self, out, layout)
+        Held::<ExtendedAttributeArgList<'a>>::print(self, out, layout)
     }
 }
 
@@ -108,7 +108,7 @@ impl<'a> WriteIdl for ExtendedAttributeNamedArgList<'a> {
     ghost spelling = { extended_attribute_named_arg_list_spelling };
 
     fn write_part(&self, out: &mut String, layout: &mut Layout) -> Result<(), PrintError> {
-        TypePart::<ExtendedAttributeNamedArgList<'a>>::print(self, out, layout)
+        Held::<ExtendedAttributeNamedArgList<'a>>::print(self, out, layout)
     }
 }
 
@@ -116,7 +116,7 @@ impl<'a> WriteIdl for ExtendedAttributeIdentList<'a> {
     ghost spelling = { extended_attribute_ident_list_spelling };
 
     fn write_part(&self, out: &mut String, layout: &mut Layout) -> Result<(), PrintError> {
-        TypePart::<ExtendedAttributeIdentList<'a>>::print(self, out, layout)
+        Held::<ExtendedAttributeIdentList<'a>>::print(self, out, layout)
     }
 }
 
@@ -124,7 +124,7 @@ impl<'a> WriteIdl for ExtendedAttributeIdent<'a> {
     ghost spelling = { extended_attribute_ident_spelling };
 
     fn write_part(&self, out: &mut String, layout: &mut Layout) -> Result<(), PrintError> {
-        TypePart::<ExtendedAttributeIdent<'a>>::print(self, out, layout)
+        Held::<ExtendedAttributeIdent<'a>>::print(self, out, layout)
     }
 }
 
@@ -132,7 +132,7 @@ impl<'a> WriteIdl for ExtendedAttributeNoArgs<'a> {
     ghost spelling = { extended_attribute_no_args_spelling };
 
     fn write_part(&self, out: &mut String, layout: &mut Layout) -> Result<(), PrintError> {
-        TypePart::<ExtendedAttributeNoArgs<'a>>::print(self, out, layout)
+        Held::<ExtendedAttributeNoArgs<'a>>::print(self, out, layout)
     }
 }
 
@@ -140,7 +140,7 @@ impl<'a> WriteIdl for IdentifierOrString<'a> {
     ghost spelling = { identifier_or_string_spelling };
 
     fn write_part(&self, out: &mut String, layout: &mut Layout) -> Result<(), PrintError> {
-        TypePart::<IdentifierOrString<'a>>::print(self, out, layout)
+        Held::<IdentifierOrString<'a>>::print(self, out, layout)
     }
 }
 
@@ -148,7 +148,7 @@ impl<'a> WriteIdl for Type<'a> {
     ghost spelling = { type_spelling };
 
     fn write_part(&self, out: &mut String, layout: &mut Layout) -> Result<(), PrintError> {
-        TypePart::<Type<'a>>::print(self, out, layout)
+        Held::<Type<'a>>::print(self, out, layout)
     }
 }
 
@@ -156,7 +156,7 @@ impl<'a> WriteIdl for NonAnyType<'a> {
     ghost spelling = { non_any_type_spelling };
 
     fn write_part(&self, out: &mut String, layout: &mut Layout) -> Result<(), PrintError> {
-        TypePart::<NonAnyType<'a>>::print(self, out, layout)
+        Held::<NonAnyType<'a>>::print(self, out, layout)
     }
 }
 
@@ -164,7 +164,7 @@ impl<'a> WriteIdl for RecordTypes<'a> {
     ghost spelling = { record_types_spelling };
 
     fn write_part(&self, out: &mut String, layout: &mut Layout) -> Result<(), PrintError> {
-        TypePart::<RecordTypes<'a>>::print(self, out, layout)
+        Held::<RecordTypes<'a>>::print(self, out, layout)
     }
 }
 
@@ -172,7 +172,7 @@ impl<'a> WriteIdl for UnionMemberType<'a> {
     ghost spelling = { union_member_type_spelling };
 
     fn write_part(&self, out: &mut String, layout: &mut Layout) -> Result<(), PrintError> {
-        TypePart::<UnionMemberType<'a>>::print(self, out, layout)
+        Held::<UnionMemberType<'a>>::print(self, out, layout)
     }
 }
 
@@ -180,7 +180,7 @@ impl<'a> WriteIdl for AttributedType<'a> {
     ghost spelling = { attributed_type_spelling };
 
     fn write_part(&self, out: &mut String, layout: &mut Layout) -> Result<(), PrintError> {
-        TypePart::<AttributedType<'a>>::print(self, out, layout)
+        Held::<AttributedType<'a>>::print(self, out, layout)
     }
 }
 
@@ -188,7 +188,7 @@ impl<'a> WriteIdl for AttributedNonAnyType<'a> {
     ghost spelling = { attributed_non_any_type_spelling };
 
     fn write_part(&self, out: &mut String, layout: &mut Layout) -> Result<(), PrintError> {
-        TypePart::<AttributedNonAnyType<'a>>::print(self, out, layout)
+        Held::<AttributedNonAnyType<'a>>::print(self, out, layout)
     }
 }
 
@@ -196,7 +196,7 @@ impl<'a> WriteIdl for ArgumentList<'a> {
     ghost spelling = { argument_list_spelling };
 
     fn write_part(&self, out: &mut String, layout: &mut Layout) -> Result<(), PrintError> {
-        TypePart::<ArgumentList<'a>>::print(self, out, layout)
+        Held::<ArgumentList<'a>>::print(self, out, layout)
     }
 }
 
@@ -204,7 +204,7 @@ impl<'a> WriteIdl for ExtendedAttributeList<'a> {
     ghost spelling = { extended_attribute_list_spelling };
 
     fn write_part(&self, out: &mut String, layout: &mut Layout) -> Result<(), PrintError> {
-        TypePart::<ExtendedAttributeList<'a>>::print(self, out, layout)
+        Held::<ExtendedAttributeList<'a>>::print(self, out, layout)
     }
 }
 
@@ -212,7 +212,7 @@ impl<'a> WriteIdl for IdentifierList<'a> {
     ghost spelling = { identifier_list_spelling };
 
     fn write_part(&self, out: &mut String, layout: &mut Layout) -> Result<(), PrintError> {
-        TypePart::<IdentifierList<'a>>::print(self, out, layout)
+        Held::<IdentifierList<'a>>::print(self, out, layout)
     }
 }
 
@@ -220,7 +220,7 @@ impl<'a> WriteIdl for SingleType<'a> {
     ghost spelling = { single_type_spelling };
 
     fn write_part(&self, out: &mut String, layout: &mut Layout) -> Result<(), PrintError> {
-        TypePart::<SingleType<'a>>::print(self, out, layout)
+        Held::<SingleType<'a>>::print(self, out, layout)
     }
 }
 
@@ -228,7 +228,7 @@ impl<'a> WriteIdl for SequenceType<'a> {
     ghost spelling = { sequence_type_spelling };
 
     fn write_part(&self, out: &mut String, layout: &mut Layout) -> Result<(), PrintError> {
-        TypePart::<SequenceType<'a>>::print(self, out, layout)
+        Held::<SequenceType<'a>>::print(self, out, layout)
     }
 }
 
@@ -236,7 +236,7 @@ impl<'a> WriteIdl for FrozenArrayType<'a> {
     ghost spelling = { frozen_array_type_spelling };
 
     fn write_part(&self, out: &mut String, layout: &mut Layout) -> Result<(), PrintError> {
-        TypePart::<FrozenArrayType<'a>>::print(self, out, layout)
+        Held::<FrozenArrayType<'a>>::print(self, out, layout)
     }
 }
 
@@ -244,7 +244,7 @@ impl<'a> WriteIdl for PromiseType<'a> {
     ghost spelling = { promise_type_spelling };
 
     fn write_part(&self, out: &mut String, layout: &mut Layout) -> Result<(), PrintError> {
-        TypePart::<PromiseType<'a>>::print(self, out, layout)
+        Held::<PromiseType<'a>>::print(self, out, layout)
     }
 }
 
@@ -252,7 +252,7 @@ impl<'a> WriteIdl for RecordType<'a> {
     ghost spelling = { record_type_spelling };
 
     fn write_part(&self, out: &mut String, layout: &mut Layout) -> Result<(), PrintError> {
-        TypePart::<RecordType<'a>>::print(self, out, layout)
+        Held::<RecordType<'a>>::print(self, out, layout)
     }
 }
 
@@ -260,7 +260,7 @@ impl<'a> WriteIdl for RecordKeyType<'a> {
     ghost spelling = { record_key_type_spelling };
 
     fn write_part(&self, out: &mut String, layout: &mut Layout) -> Result<(), PrintError> {
-        TypePart::<RecordKeyType<'a>>::print(self, out, layout)
+        Held::<RecordKeyType<'a>>::print(self, out, layout)
     }
 }
 
@@ -268,7 +268,7 @@ impl<'a> WriteIdl for ReturnType<'a> {
     ghost spelling = { return_type_spelling };
 
     fn write_part(&self, out: &mut String, layout: &mut Layout) -> Result<(), PrintError> {
-        TypePart::<ReturnType<'a>>::print(self, out, layout)
+        Held::<ReturnType<'a>>::print(self, out, layout)
     }
 }
 
@@ -276,6 +276,6 @@ impl<'a> WriteIdl for UnionType<'a> {
     ghost spelling = { union_type_spelling };
 
     fn write_part(&self, out: &mut String, layout: &mut Layout) -> Result<(), PrintError> {
-        TypePart::<UnionType<'a>>::print(self, out, layout)
+        Held::<UnionType<'a>>::print(self, out, layout)
     }
 }
