@@ -27,7 +27,7 @@ pub trait WriteIdl: Sized {
     /// asks for twice the text, and writes a list that takes more than a line twice for each list
     /// that it stands in.
     #[tactic(auto, using(weedle_print::proofs::AddsFacts::adds_copied))]
-    fn write_idl(&self, out: &mut String) -> Result<(), PrintError>
+    final fn write_idl(&self, out: &mut String) -> Result<(), PrintError>
         ensures spells { OnOk result (Adds (spelling self.now) (string_bytes out.old) (string_bytes out.new)) }
         ensures unchanged { OnErr result (string_bytes out.new ≡ string_bytes out.old) }
     {
