@@ -61,6 +61,8 @@ HANDED_ON = {
     "leaves": ("Names, docstrings, literals and types that hold no other.", [it for it in LEAVES if it != TERMINALS]),
     "types": ("Types, extended attributes and arguments.", [TYPES]),
 }
+# A list that is written with its brackets alone.
+BARE = "ArgumentList"
 # The crates that state spellings, lowest first.
 SPELLINGS = ("weedle_spell", "weedle_spell_types", "weedle_spell_idl")
 # What no `use` brings in.
@@ -287,7 +289,7 @@ def handed_on():
 
 def is_written(declaration):
     """Whether a declared type has an `impl` of its own: what it is made of has, where it is generic."""
-    return not declaration.parameters and declaration.module != FORMERS
+    return not declaration.parameters and declaration.module != FORMERS and declaration.name != BARE
 
 
 def run():

@@ -10,7 +10,6 @@ ghost use Rattle.weedle_spell_types.specs.RecursiveTypes.{
   union_member_type_spelling,
 };
 ghost use Rattle.weedle_spell_types.specs.written.Arguments.{
-  argument_list_spelling,
   arguments_spelling,
   extended_attribute_arg_list_spelling,
   extended_attribute_list_spelling,
@@ -43,7 +42,7 @@ use crate::write::WriteIdl;
 use weedle_print::{Layout, Print, PrintError};
 use weedle_print_types::Held;
 use weedle_types::argument::{
-    Argument, ArgumentList, ParenthesizedArgumentList, SingleArgument, VariadicArgument,
+    Argument, ParenthesizedArgumentList, SingleArgument, VariadicArgument,
 };
 use weedle_types::attribute::{
     ExtendedAttribute, ExtendedAttributeArgList, ExtendedAttributeIdent,
@@ -189,14 +188,6 @@ impl<'a> WriteIdl for AttributedNonAnyType<'a> {
 
     fn write_part(&self, out: &mut String, layout: &mut Layout) -> Result<(), PrintError> {
         Held::<AttributedNonAnyType<'a>>::print(self, out, layout)
-    }
-}
-
-impl<'a> WriteIdl for ArgumentList<'a> {
-    ghost spelling = { argument_list_spelling };
-
-    fn write_part(&self, out: &mut String, layout: &mut Layout) -> Result<(), PrintError> {
-        Held::<ArgumentList<'a>>::print(self, out, layout)
     }
 }
 
