@@ -78,14 +78,13 @@ fn push_fitting<P: Print>(
     let mut text = String::new(*out.allocator());
     layout.try_flat();
     push_values::<P>(values, &mut text, layout)?;
+    layout.end_try(&start);
     if layout.fits(&start, 1) {
-        layout.end_try(&start);
         return push(out, text.as_str());
     }
-    *layout = start;
-    layout.break_list();
+    let width = layout.break_list(&start);
     push_values::<P>(values, out, layout)?;
-    layout.end_list(&start);
+    layout.end_list(&start, width);
     Ok(())
 }
 
