@@ -10,7 +10,7 @@ use crate::error::PrintError;
 use crate::layout::Layout;
 use crate::list::{close_list, separate};
 use crate::print::Print;
-use crate::push::{last_word, push, word};
+use crate::texts::{last_word, push, word};
 use weedle_parts::common::{Braced, PunctuatedNonEmpty};
 use weedle_term::Comma;
 

@@ -1,6 +1,6 @@
 use Rattle.std.proofs.Common.{string_bytes}
 use Rattle.weedle_grammar.specs.declared.class.Class.TheVariants.{Blank}
-use Rattle.weedle_print.proofs.push.push_blanks.Given as goal
+use Rattle.weedle_print.proofs.texts.push_blanks.Given as goal
 use Rattle.weedle_print.specs.Adds.{Adds}
 use Rattle.weedle_spell.specs.Forms.{any}
 
