@@ -5,5 +5,5 @@ use Rattle.weedle_print.specs.Adds.{Adds}
 use Rattle.weedle_spell.specs.Forms.{any}
 
 -- blanks were put there so far
-abbrev pub invariant-loop-i : goal.invariant-loop-i
-invariant-loop-i l = Adds (any Blank) (string_bytes l.fn.out) (string_bytes l.out)
+abbrev pub invariant-blanks : goal.invariant-blanks
+invariant-blanks l = Adds (any Blank) (string_bytes l.fn.out) (string_bytes l.out)
