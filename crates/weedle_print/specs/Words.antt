@@ -1,5 +1,11 @@
 -- The words of values that are one word, or some.
 use Rattle.std.specs.Prelude.{ℕ, List, codes, ◌++◌, Option, None, Some}
+use Rattle.weedle_modifier.specs.declared.modifier.Special.TheVariants.{Getter, Setter, Deleter, LegacyCaller}
+use Rattle.weedle_modifier.specs.declared.modifier.Special.{Special}
+use Rattle.weedle_modifier.specs.declared.modifier.StringifierOrInheritOrStatic.TheVariants.{Stringifier as OrInheritOrStatic-Stringifier, Inherit, Static as OrInheritOrStatic-Static}
+use Rattle.weedle_modifier.specs.declared.modifier.StringifierOrInheritOrStatic.{StringifierOrInheritOrStatic}
+use Rattle.weedle_modifier.specs.declared.modifier.StringifierOrStatic.TheVariants.{Stringifier as OrStatic-Stringifier, Static as OrStatic-Static}
+use Rattle.weedle_modifier.specs.declared.modifier.StringifierOrStatic.{StringifierOrStatic}
 use Rattle.weedle_parts.specs.declared.types.floating_point.DoubleType.{DoubleType}
 use Rattle.weedle_parts.specs.declared.types.floating_point.FloatType.{FloatType}
 use Rattle.weedle_parts.specs.declared.types.floating_point.FloatingPointType.{FloatingPointType}
@@ -45,3 +51,21 @@ double_words v = behind (codes "unrestricted ") (codes "double") v.unrestricted
 abbrev pub floating_point_words : FloatingPointType → List ℕ
 floating_point_words (Float v) = float_words v
 floating_point_words (Double v) = double_words v
+
+-- the word of a special operation
+abbrev pub special_word : Special → List ℕ
+special_word (Getter v) = codes "getter"
+special_word (Setter v) = codes "setter"
+special_word (Deleter v) = codes "deleter"
+special_word (LegacyCaller v) = codes "legacycaller"
+
+-- the word before an attribute of an interface
+abbrev pub stringifier_or_inherit_or_static_word : StringifierOrInheritOrStatic → List ℕ
+stringifier_or_inherit_or_static_word (OrInheritOrStatic-Stringifier v) = codes "stringifier"
+stringifier_or_inherit_or_static_word (Inherit v) = codes "inherit"
+stringifier_or_inherit_or_static_word (OrInheritOrStatic-Static v) = codes "static"
+
+-- the word before an operation
+abbrev pub stringifier_or_static_word : StringifierOrStatic → List ℕ
+stringifier_or_static_word (OrStatic-Stringifier v) = codes "stringifier"
+stringifier_or_static_word (OrStatic-Static v) = codes "static"

@@ -10,7 +10,7 @@ use crate::error::PrintError;
 use crate::layout::Layout;
 use crate::list::{close_list, separate};
 use crate::print::Print;
-use crate::push::{last_word, push, word};
+use crate::texts::{last_word, push, word};
 use weedle_parts::common::{Braced, PunctuatedNonEmpty};
 use weedle_term::Comma;
 
@@ -78,14 +78,13 @@ fn push_fitting<P: Print>(
     let mut text = String::new(*out.allocator());
     layout.try_flat();
     push_values::<P>(values, &mut text, layout)?;
+    layout.end_try(&start);
     if layout.fits(&start, 1) {
-        layout.end_try(&start);
         return push(out, text.as_str());
     }
-    *layout = start;
-    layout.break_list();
+    let width = layout.break_list(&start);
     push_values::<P>(values, out, layout)?;
-    layout.end_list(&start);
+    layout.end_list(&start, width);
     Ok(())
 }
 

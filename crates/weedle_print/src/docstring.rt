@@ -9,7 +9,7 @@ ghost use Rattle.weedle_print.specs.Adds.{Adds};
 use crate::error::PrintError;
 use crate::layout::Layout;
 use crate::print::Print;
-use crate::push::{push, space};
+use crate::texts::{push, space};
 use weedle_parts::common::Docstring;
 
 /// Writes a line of a docstring, on a line of its own.

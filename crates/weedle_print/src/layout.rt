@@ -51,6 +51,8 @@ pub struct Layout {
     is_flat: bool,
     /// Whether the innermost open list has a line for each item.
     is_broken: bool,
+    /// How many characters the last list has on one line, with its brackets.
+    listed: usize,
     /// Whether a type ended with the word before, behind which arguments stand apart.
     is_behind_type: bool,
     front: Front,
@@ -123,6 +125,7 @@ impl Layout {
             is_line_begun: true,
             is_flat: false,
             is_broken: false,
+            listed: 0,
             is_behind_type: false,
             front: Front::Line,
             statement: Statement::Other,
@@ -276,22 +279,31 @@ impl Layout {
         self.is_broken = false;
     }
 
-    /// Whether a list that was tried fits on its line with a sign of so many characters behind it.
-    /// `start` is the layout in front of its items.
+    /// Ends a list that was tried. `start` is the layout behind its bracket.
+    pub fn end_try(&mut self, start: &Layout) {
+        self.is_flat = start.is_flat;
+        self.is_broken = start.is_broken;
+        self.listed = if self.lines == start.lines {
+            self.column.saturating_sub(start.column).saturating_add(1)
+        } else {
+            usize::MAX
+        };
+    }
+
+    /// Whether the list that was tried fits on its line with a sign of so many characters behind
+    /// it.
     pub fn fits(&self, start: &Layout, sign: usize) -> bool {
         self.lines == start.lines && self.column.saturating_add(sign) <= COLUMNS
     }
 
-    /// Ends a list that fits.
-    pub fn end_try(&mut self, start: &Layout) {
-        self.is_flat = start.is_flat;
-        self.is_broken = start.is_broken;
-    }
-
-    /// Opens a list with a line for each item.
-    pub fn break_list(&mut self) {
+    /// Opens the list anew, with a line for each item. The answer is how many characters it had on
+    /// one line.
+    pub fn break_list(&mut self, start: &Layout) -> usize {
+        let width = self.listed;
+        *self = *start;
         self.is_broken = true;
         self.level = self.level.saturating_add(1);
+        width
     }
 
     /// Begins an item of a list.
@@ -310,20 +322,15 @@ impl Layout {
         }
     }
 
-    /// Ends the list that was broken within what this layout was.
-    pub fn end_list(&mut self, start: &Layout) {
+    /// Ends a list with a line for each item, which had so many characters on one line.
+    pub fn end_list(&mut self, start: &Layout, width: usize) {
         self.is_broken = start.is_broken;
+        self.listed = width;
     }
 
-    /// How many characters the line has.
-    pub fn column(&self) -> usize {
-        self.column
-    }
-
-    /// Has what follows extended attributes of so many characters take a line of its own where they
-    /// are long.
-    pub fn end_attributes(&mut self, width: usize) {
-        if width > MOST_IN_FRONT {
+    /// Has what follows extended attributes take a line of its own where they are long.
+    pub fn end_attributes(&mut self) {
+        if self.listed > MOST_IN_FRONT {
             self.front = Front::Line;
         }
     }

@@ -7,7 +7,7 @@ ghost use Rattle.weedle_print.specs.Separators.{in_front_of};
 
 use crate::error::PrintError;
 use crate::layout::Layout;
-use crate::push::word;
+use crate::texts::word;
 
 /// Writes what separates an item of a list from the one before it, as `,`; nothing in front of the
 /// first.

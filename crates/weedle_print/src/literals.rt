@@ -15,7 +15,7 @@ use crate::error::PrintError;
 use crate::fields::two;
 use crate::layout::Layout;
 use crate::print::Print;
-use crate::push::word;
+use crate::texts::word;
 use weedle_literal::{
     BooleanLit, ConstValue, DecLit, Default, DefaultValue, EmptyArrayLit, EmptyDictionaryLit,
     FloatLit, FloatValueLit, HexLit, IntegerLit, OctLit, StringLit,

@@ -9,7 +9,7 @@ ghost use Rattle.weedle_print.specs.Adds.{Adds};
 use crate::error::PrintError;
 use crate::layout::Layout;
 use crate::print::Print;
-use crate::push::{push, space};
+use crate::texts::{push, space};
 use crate::written::reserved::is_word;
 use std::alloc::Global;
 use weedle_base::Parse;

@@ -13,7 +13,7 @@ ghost use Rattle.weedle_print.specs.Adds.{Adds};
 use crate::error::PrintError;
 use crate::layout::Layout;
 use crate::print::Print;
-use crate::push::{push, space};
+use crate::texts::{push, space};
 use std::alloc::Global;
 use weedle_base::Parse;
 use weedle_literal::{DecLit, FloatValueLit, HexLit, OctLit};

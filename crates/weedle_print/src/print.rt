@@ -6,7 +6,7 @@ ghost use Rattle.weedle_print.specs.Adds.{Adds};
 
 use crate::error::PrintError;
 use crate::layout::Layout;
-use crate::push::push;
+use crate::texts::push;
 
 /// How values of a type are written as WebIDL. `spelling` says which texts spell a value.
 ///

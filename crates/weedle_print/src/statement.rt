@@ -6,7 +6,7 @@ ghost use Rattle.weedle_print.specs.Adds.{Adds};
 use crate::error::PrintError;
 use crate::layout::Layout;
 use crate::print::Print;
-use crate::push::push;
+use crate::texts::push;
 
 /// What a definition is for the layout: statements of one kind that take one line each stand below
 /// one another, and an empty line stands between all other definitions.

@@ -8,7 +8,7 @@ ghost use Rattle.weedle_spell.specs.Leaves.{string_spelling};
 use crate::error::PrintError;
 use crate::layout::Layout;
 use crate::print::Print;
-use crate::push::{push, space};
+use crate::texts::{push, space};
 use memchr::memchr;
 use weedle_literal::StringLit;
 

@@ -8,7 +8,7 @@ ghost use Rattle.weedle_spell.specs.Leaves.{terminal};
 use crate::error::PrintError;
 use crate::layout::Layout;
 use crate::print::Print;
-use crate::push::word;
+use crate::texts::word;
 use crate::words::Words;
 use weedle_term::{
     Async, Attribute, Callback, Const, Constructor, Deleter, Dictionary, Enum, Getter, Implements,

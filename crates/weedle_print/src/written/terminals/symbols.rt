@@ -8,7 +8,7 @@ ghost use Rattle.weedle_spell.specs.Leaves.{terminal};
 use crate::error::PrintError;
 use crate::layout::Layout;
 use crate::print::Print;
-use crate::push::{last_word, word};
+use crate::texts::{last_word, word};
 use crate::words::Words;
 use weedle_term::{
     Assign, CloseBrace, CloseBracket, CloseParen, Colon, Comma, Dot, Ellipsis, GreaterThan,

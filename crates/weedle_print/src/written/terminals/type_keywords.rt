@@ -8,7 +8,7 @@ ghost use Rattle.weedle_spell.specs.Leaves.{terminal};
 use crate::error::PrintError;
 use crate::layout::Layout;
 use crate::print::Print;
-use crate::push::word;
+use crate::texts::word;
 use crate::words::Words;
 use weedle_term::{
     Any, Boolean, Byte, Double, False, Float, Long, Null, Object, Octet, Optional, Or, Record,

@@ -25,7 +25,7 @@ pub fn push(out: &mut String, text: &str) -> Result<(), PrintError>
 fn push_blanks(out: &mut String, many: usize) -> Result<(), PrintError>
     ensures { OnOk result (Adds (any Blank) (string_bytes out.old) (string_bytes out.new)) }
 {
-    for _i in 0..many {
+    'blanks: for _ in 0..many {
         push(out, " ")?;
     }
     Ok(())
@@ -35,7 +35,7 @@ fn push_blanks(out: &mut String, many: usize) -> Result<(), PrintError>
 fn push_line_ends(out: &mut String, many: usize) -> Result<(), PrintError>
     ensures { OnOk result (Adds (any Blank) (string_bytes out.old) (string_bytes out.new)) }
 {
-    for _i in 0..many {
+    'ends: for _ in 0..many {
         push(out, "\n")?;
     }
     Ok(())
