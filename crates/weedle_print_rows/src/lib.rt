@@ -8,6 +8,4 @@ mod answers;
 #[cfg(test)]
 mod definitions;
 #[cfg(test)]
-mod leaves;
-#[cfg(test)]
 mod types;
