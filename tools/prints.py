@@ -18,16 +18,18 @@ where something is named that nothing brings in.
 
 import re
 import sys
+from collections.abc import Iterable, Iterator
 from functools import cache
 
 from command_line import refuse_writer
 from crates import Unfit
 from declared import public_part
-from description.declarations import type_of
+from description.declarations import Declaration, Type, type_of
 from description.docs import comment
 from description.layout import use_line
 from description.readings import IDL, LEAVES, TYPES
 from description.uses import ghost_line
+from proofs.spelling_terms import Item
 from proofs.spelt import TERMINALS, function
 from spellings import DECLARED, FILES, FORMERS, IDL as SPELT_IDL, TOP, items_of
 from written_places import files_in, module_in, put
@@ -72,12 +74,12 @@ STATED = re.compile(r"^ *(?:abbrev )?pub (\w+_spelling) : (?:«?(\w+)»? → For
 PART = re.compile(rf"\b({'|'.join(PART_PATHS)})(?:::)?<")
 
 
-def declaration_of(type_):
+def declaration_of(type_: Type) -> Declaration | None:
     """The declaration by which a type is named: that of a `type`, where one has its name too."""
     return DECLARED.aliases.get(type_.name) or DECLARED.types.get(type_.name)
 
 
-def text_of(type_):
+def text_of(type_: Type) -> str:
     """A type in code, by the name that is declared."""
     if type_.name == "()":
         return f"({', '.join(map(text_of, type_.arguments))})"
@@ -87,7 +89,7 @@ def text_of(type_):
     return f"{type_.name}<{', '.join(words)}>" if words else type_.name
 
 
-def part_of(type_):
+def part_of(type_: Type) -> str:
     """By what a value of a type is written, in code."""
     if type_.name == "()":
         return f"({', '.join(map(part_of, type_.arguments))})"
@@ -102,12 +104,12 @@ def part_of(type_):
     return NAMED.get(text, text)
 
 
-def is_list(declaration):
+def is_list(declaration: Declaration) -> bool:
     """Whether it is a name for a list of members, of definitions or of an enum's values."""
     return declaration.kind == "type" and declaration.crate in IDL
 
 
-def named_in(type_):
+def named_in(type_: Type) -> Iterator[str]:
     """The names of types that stand in the code of a part."""
     it = declaration_of(type_)
     if it and is_list(it):
@@ -119,7 +121,7 @@ def named_in(type_):
         yield from named_in(part)
 
 
-def call_of(type_, value):
+def call_of(type_: Type, value: str) -> str:
     """The call that writes a value by the part of its type."""
     name, sign, rest = part_of(type_).partition("<")
     return f"{name}{sign and '::<'}{rest}::print({value}, out, layout)"
@@ -128,13 +130,13 @@ def call_of(type_, value):
 class Own:
     """The `impl` of a struct, an enum or a list of members or definitions."""
 
-    def __init__(self, item):
+    def __init__(self, item: Item) -> None:
         self.item, self.type, self.spelling = item, item.type, item.name
         self.is_list = item.declaration is None
         self.fields = item.parts
 
     @property
-    def call(self):
+    def call(self) -> str:
         """The function that writes the fields of a struct."""
         if len(self.fields) not in COUNTS:
             raise Unfit(
@@ -144,7 +146,7 @@ class Own:
         return COUNTS[len(self.fields)]
 
     @property
-    def calls(self):
+    def calls(self) -> set[str]:
         """The paths of the functions that its `impl` calls, and of what it hands them."""
         if self.is_list or self.item.is_enum and "::print(" in self.body:
             return {"weedle_print::Print"}
@@ -153,7 +155,7 @@ class Own:
         return set() if self.item.is_enum else {f"{FIELDS}::{self.call}"}
 
     @property
-    def body(self):
+    def body(self) -> str:
         if self.is_list:
             return call_of(self.type, "self")
         if not self.item.is_enum:
@@ -162,7 +164,7 @@ class Own:
         rows = "".join(f"{self.type.name}::{name}(value) => {self.arm(it)},\n" for name, it in self.fields)
         return f"match self {{\n{rows}}}"
 
-    def arm(self, type_):
+    def arm(self, type_: Type) -> str:
         """How the value of a variant is written."""
         if declaration_of(type_).crate not in IDL:
             return call_of(type_, "value")
@@ -175,22 +177,22 @@ class Own:
 class HandedOn:
     """The `impl` of a type that another crate writes."""
 
-    calls = {"weedle_print::Print"}
+    calls = frozenset({"weedle_print::Print"})
 
-    def __init__(self, type_):
+    def __init__(self, type_: Type) -> None:
         self.type, self.spelling = type_, spelling_of(type_)
 
     @property
-    def body(self):
+    def body(self) -> str:
         return call_of(self.type, "self")
 
 
-def term_of(it):
+def term_of(it: Own | HandedOn) -> str:
     """The spelling of a value: that of all definitions is one of their list."""
     return f"λ v. {it.spelling} v.items" if it.type.name == LIST else it.spelling
 
 
-def impl(it):
+def impl(it: Own | HandedOn) -> str:
     """The text of an `impl WriteIdl`."""
     is_list = isinstance(it, Own) and it.is_list
     type_ = text_of(DECLARED.expanded(it.type) if is_list else it.type)
@@ -204,7 +206,7 @@ def impl(it):
 """
 
 
-def path_of(name):
+def path_of(name: str) -> str:
     """The path by which the crate names a declared type."""
     it = declaration_of(type_of(name))
     if not it:
@@ -213,7 +215,7 @@ def path_of(name):
     return "::".join([it.crate, *public_part(source, it.module.split(".")), name])
 
 
-def paths_of(it):
+def paths_of(it: Own | HandedOn) -> set[str]:
     """The paths of all that an `impl` names."""
     code = impl(it)
     types = {name for _, part in getattr(it, "fields", ()) for name in named_in(part)}
@@ -222,7 +224,7 @@ def paths_of(it):
     return paths | it.calls | {PART_PATHS[name] for name in PART.findall(code)}
 
 
-def use_lines(paths):
+def use_lines(paths: Iterable[str]) -> str:
     """The lines that bring these in."""
     found = {}
     for path in paths:
@@ -233,7 +235,7 @@ def use_lines(paths):
 
 
 @cache
-def stated():
+def stated() -> tuple[dict[str, str], dict[str, str]]:
     """The modules that state spellings, by their names; and the spellings of types, by theirs."""
     homes, names = {}, {}
     for crate in SPELLINGS:
@@ -246,14 +248,14 @@ def stated():
     return homes, names
 
 
-def spelling_of(type_):
+def spelling_of(type_: Type) -> str:
     """The name of a type's spelling."""
     homes, names = stated()
     name = function(type_)
     return name if name in homes else names.get(type_.name, name)
 
 
-def ghost_lines(impls):
+def ghost_lines(impls: Iterable[Own | HandedOn]) -> str:
     """The lines that bring in the spellings that these name."""
     found, homes = {}, stated()[0]
     for it in impls:
@@ -263,14 +265,14 @@ def ghost_lines(impls):
     return "".join(ghost_line(module, sorted(names)) for module, names in sorted(found.items()))
 
 
-def text(about, impls):
+def text(about: str, impls: list[Own | HandedOn]) -> str:
     """The text of a file."""
     lines = use_lines(set(ALWAYS).union(*map(paths_of, impls)))
     head = f"{comment(about, '//! ')}\n{HEAD}"
     return "\n".join([head + ghost_lines(impls), lines, *map(impl, impls)])
 
 
-def families():
+def families() -> Iterator[tuple[str, str, list[Own]]]:
     """The files of members and definitions, each with what it is about and its `impl`s."""
     done = set()
     for file in FILES:
@@ -280,19 +282,19 @@ def families():
             yield file.law_module, f"How {file.spelt.replace('spelt', 'written')}.", own
 
 
-def handed_on():
+def handed_on() -> Iterator[tuple[str, str, list[HandedOn]]]:
     """The files of types that others write, each with what it is about and its `impl`s."""
     for name, (about, crates) in HANDED_ON.items():
         found = [it for it in [*DECLARED.types.values(), *DECLARED.aliases.values()] if it.crate in crates]
         yield name, about, [HandedOn(type_of(it.name)) for it in found if is_written(it)]
 
 
-def is_written(declaration):
+def is_written(declaration: Declaration) -> bool:
     """Whether a declared type has an `impl` of its own: what it is made of has, where it is generic."""
     return not declaration.parameters and declaration.module != FORMERS and declaration.name != BARE
 
 
-def run():
+def run() -> int:
     """Writes the files, and gives how many `impl`s they have."""
     count = 0
     for name, about, impls in [*handed_on(), *families()]:
@@ -301,7 +303,7 @@ def run():
     return count
 
 
-def main():
+def main() -> None:
     try:
         print(f"{run()} types")
     except Unfit as why:

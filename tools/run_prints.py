@@ -26,6 +26,8 @@ import subprocess
 import sys
 import tempfile
 import tomllib
+from argparse import Namespace
+from collections.abc import Iterable, Iterator
 from pathlib import Path
 
 from case_files import TESTS, cases_of, folders
@@ -51,22 +53,22 @@ COUNT = re.compile(r"\d+ files?, \d+ refused\n\Z")
 class Programs:
     """The programs that are run: weedle_check, weedle_format, and weedle2 or None."""
 
-    def __init__(self, check, layout, weedle2=None):
+    def __init__(self, check: str, layout: str, weedle2: Weedle2 | None = None) -> None:
         self.check, self.layout, self.weedle2 = check, layout, weedle2
 
-    def output(self, words, room):
+    def output(self, words: list[str], room: Path) -> str:
         """What a program writes with these arguments, in this folder."""
         done = subprocess.run(words, cwd=room, capture_output=True, check=False, timeout=SECONDS)
         if done.returncode not in (0, 1) or done.stderr:
             raise NoUse(f"{words[0]} {words[1]}: status {done.returncode}: {done.stderr.decode(errors='replace')[:500]}")
         return done.stdout.decode()
 
-    def refused(self, names, room):
+    def refused(self, names: list[str], room: Path) -> set[str]:
         """The names of the files that aren't read whole."""
         lines = self.output([self.check, *names], room).splitlines()
         return {name for name in names if any(line.startswith(f"{name}:") for line in lines)}
 
-    def between(self, option, names, separator, room):
+    def between(self, option: str, names: list[str], separator: re.Pattern[str], room: Path) -> list[str]:
         """What weedle_check writes with an option of each of these files."""
         words = [word for name in names for word in (name, "between")]
         parts = re.split(separator, COUNT.sub("", self.output([self.check, option, *words], room)))
@@ -74,32 +76,33 @@ class Programs:
             raise NoUse(f"{self.check} {option}: {len(parts) - 1} answers of {len(names)} texts")
         return parts[:-1]
 
-    def trees(self, names, room):
+    def trees(self, names: list[str], room: Path) -> list[str]:
         """The definitions of each file, as they are printed, without their places."""
         return [PLACE.sub("", part) for part in self.between("--tree", names, TREE_BETWEEN, room)]
 
-    def written(self, names, room):
+    def written(self, names: list[str], room: Path) -> list[str]:
         """What is written of each file."""
         return self.between("--print", names, re.compile(f"^{re.escape(BETWEEN)}", re.M), room)
 
-    def laid_out_otherwise(self, names, room):
+    def laid_out_otherwise(self, names: list[str], room: Path) -> set[str]:
         """The names of the files that the formatter would change."""
         return set(self.output([self.layout, "--check", *names], room).splitlines())
 
-    def values(self, names, room):
+    def values(self, names: list[str], room: Path) -> list[list | None]:
         """What weedle2 reads of each file."""
         return [answer.values for answer in self.weedle2.answers([str(room / name) for name in names])]
 
 
-def laid(texts, kind, room):
+def laid(texts: Iterable[str], kind: str, room: Path) -> list[str]:
     """The names of files with these texts."""
-    names = [f"{kind}{number:05}" for number in range(len(texts))]
-    for name, text in zip(names, texts):
-        (room / name).write_bytes(text.encode())
+    names = []
+    for number, text in enumerate(texts):
+        names.append(f"{kind}{number:05}")
+        (room / names[-1]).write_bytes(text.encode())
     return names
 
 
-def wrong_of(programs, texts, names, room):
+def wrong_of(programs: Programs, names: list[str], room: Path) -> list[str | None]:
     """What is wrong with what is written of each text, or None."""
     written = programs.written(names, room)
     anew = laid(written, "anew", room)
@@ -115,7 +118,7 @@ def wrong_of(programs, texts, names, room):
     return wrong
 
 
-def one_wrong(tree, tree_anew, text, text_anew, is_otherwise):
+def one_wrong(tree: str, tree_anew: str, text: str, text_anew: str, is_otherwise: bool) -> str | None:
     """What is wrong with what is written of a text, or None."""
     if tree_anew != tree:
         return f"it says other definitions: {text}"
@@ -126,14 +129,14 @@ def one_wrong(tree, tree_anew, text, text_anew, is_otherwise):
     return None
 
 
-def other_values(values, values_anew, text):
+def other_values(values: list | None, values_anew: list | None, text: str) -> str | None:
     """That weedle2 reads other values of what is written, where it reads the text."""
     if values is not None and values_anew != values:
         return f"weedle2 reads other values: {text}"
     return None
 
 
-def failures_of(programs, texts):
+def failures_of(programs: Programs, texts: list[str]) -> tuple[int, list[tuple[str, str]]]:
     """How many texts were written, and the failures: pairs of a text and what is wrong."""
     count, failures = 0, []
     for start in range(0, len(texts), TOGETHER):
@@ -143,28 +146,29 @@ def failures_of(programs, texts):
             part = dict(zip(laid(texts[start:start + TOGETHER], "text", room), texts[start:]))
             for name in programs.refused([*part], room):
                 del part[name]
-            wrong = wrong_of(programs, [*part.values()], [*part], room) if part else []
+            wrong = wrong_of(programs, [*part], room) if part else []
             failures += [(text, what) for text, what in zip(part.values(), wrong) if what]
             count += len(part)
     return count, failures
 
 
-def worked():
+def worked() -> list[tuple[str, str]]:
     """The worked texts, each with what is written of it by hand."""
     return [(it["text"], it["written"]) for it in tomllib.loads(WORKED.read_text(encoding="utf-8"))["print"]]
 
 
-def failures_of_worked(programs):
+def failures_of_worked(programs: Programs) -> list[tuple[str, str]]:
     """The worked texts of which something else is written, each with what that is."""
     with tempfile.TemporaryDirectory() as folder:
         room = Path(folder)
         (room / "between").write_text(BETWEEN, encoding="utf-8")
         texts, wanted = zip(*worked())
         written = programs.written(laid(texts, "text", room), room)
-    return [(text, f"by hand {by_hand!r}, written {came!r}") for text, by_hand, came in zip(texts, wanted, written) if came != by_hand]
+    found = zip(texts, wanted, written)
+    return [(text, f"by hand {by_hand!r}, written {came!r}") for text, by_hand, came in found if came != by_hand]
 
 
-def kinds(wanted):
+def kinds(wanted: Namespace) -> Iterator[tuple[str, list[str]]]:
     """The texts, by their kinds."""
     yield BY_HAND, [text for text, _ in worked()]
     for folder in folders():
@@ -177,7 +181,7 @@ def kinds(wanted):
         yield "real files", [file.read_bytes().decode() for file in files_of(wanted.real)][:wanted.most]
 
 
-def arguments():
+def arguments() -> Namespace:
     parser = parser_of(__doc__)
     parser.add_argument("check", type=runnable)
     parser.add_argument("format", type=runnable)
@@ -189,7 +193,7 @@ def arguments():
     return parser.parse_args()
 
 
-def main(wanted):
+def main(wanted: Namespace) -> int:
     weedle2 = Weedle2(wanted.weedle2) if wanted.weedle2 else None
     check, layout = (str(Path(it).resolve()) for it in (wanted.check, wanted.format))
     sys.setrecursionlimit(DEPTH)
