@@ -30,7 +30,10 @@ fn writes<P: Print>(
         return;
     };
     match printed::<P>(value, &mut out) {
-        Ok(()) => assert!(rt; out.as_str().strip_prefix("a ") == Some(text), "{out} is {text}"),
+        Ok(()) => assert!(rt;
+            out.as_str().strip_prefix("a ") == Some(text),
+            "{out} is {text}"
+        ),
         Err(PrintError::Memory) => {
             wanted.count();
             assert!(rt; out.as_str() == "a ");
@@ -277,7 +280,11 @@ fn values_take_lines_where_one_is_too_short(rt: HostRuntime) {
 fn members_have_a_line_each(rt: HostRuntime) {
     let alloc = rt.alloc();
     let mut wanted = Wanted::new();
-    for (many, text) in [(0, "{}"), (1, "{\n  long;\n}"), (2, "{\n  long;\n  long;\n}")] {
+    for (many, text) in [
+        (0, "{}"),
+        (1, "{\n  long;\n}"),
+        (2, "{\n  long;\n  long;\n}"),
+    ] {
         let mut body = Vec::new(alloc);
         for _ in 0..many {
             let _ = wanted.given(body.push((Long, SemiColon)));

@@ -27,6 +27,10 @@ adds_copied {A} none a same b = record {
   of = subst A (sym (b.of ∙ same ∙ a.is ∙ ap (λ (s : List ℕ). s ++ a.added) none)) a.of;
 }
 
+-- a text that was put behind
+pub adds_pushed : {x y t : List ℕ} → y ≡ x ++ t → Adds (exactly t) x y
+adds_pushed {t = t} e = record { added = t; is = e; of = refl }
+
 -- nothing
 pub adds_none : {x : List ℕ} → Adds empty x x
 adds_none {x} = record { added = []; is = sym (append-nil x); of = refl }
@@ -76,4 +80,4 @@ module _ {a b c : List ℕ} {t : List ℕ} (blank : Adds (any Blank) a b) (text 
   adds_last_word end = adds_then (adds_trivia blank) (adds_then text (adds_trivia (adds_line_end adds_no_blank end)))
 
 -- what the search for the proof of what is put uses
-pub ruleset adds_steps = (adds_blanks, adds_blank, adds_line_end, adds_no_blank, adds_word, adds_last_word)
+pub ruleset adds_steps = (adds_pushed, adds_blanks, adds_blank, adds_line_end, adds_no_blank, adds_word, adds_last_word)

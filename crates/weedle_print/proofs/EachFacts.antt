@@ -1,6 +1,6 @@
 -- Values put behind one another, as loops put them.
-use Rattle.std.proofs.Common.{◌≡◌, ℕ, ◌+◌, ◌<◌, List, [], ◌∷◌, ◌++◌, length, take, get_or, refl, sym, ap, ◌∙◌, subst, append-nil, append_assoc}
-use Rattle.std.proofs.lemmas.List.{take_more}
+use Rattle.std.proofs.Common.{◌≡◌, ℕ, ◌+◌, ◌<◌, ◌≤◌, List, [], ◌∷◌, ◌++◌, length, take, get_or, refl, sym, ap, ◌∙◌, subst, append-nil, append_assoc}
+use Rattle.std.proofs.lemmas.List.{take_more, take_all}
 use Rattle.weedle_print.proofs.AddsFacts.{adds_as, adds_then, adds_none}
 use Rattle.weedle_print.specs.Adds.{Adds}
 use Rattle.weedle_spell.specs.Forms.{Form, ◌then◌, empty, each, each_behind, separated_by, separated_non_empty, perhaps}
@@ -72,4 +72,8 @@ module _ {V : Type 0} (S : V → Form) where
 pub each_none : {V : Type 0} {S : V → Form} {x : List ℕ} → Adds (each S []) x x
 each_none = adds_none
 
-pub ruleset each_steps = (each_none, each_more)
+-- all of them
+pub each_all : {V : Type 0} {S : V → Form} {vs : List V} {i : ℕ} {x y : List ℕ} → length vs ≤ i → Adds (each S (take i vs)) x y → Adds (each S vs) x y
+each_all {V} {S} {vs} {i} {x} {y} past a = subst (λ (us : List V). Adds (each S us) x y) (take_all i vs past) a
+
+pub ruleset each_steps = (each_none, each_more, each_all)

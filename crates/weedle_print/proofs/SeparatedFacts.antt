@@ -1,5 +1,5 @@
 -- Values put with separators between them, as loops put them.
-use Rattle.std.proofs.Common.{◌≡◌, ℕ, zero, suc, ◌+◌, ◌<◌, Bool, true, false, List, [], ◌∷◌, ◌++◌, length, take, get_or, codes, refl, sym, ap, ◌∙◌, subst, inl, inr, append-nil, append_assoc, arith, add-one}
+use Rattle.std.proofs.Common.{◌≡◌, ℕ, zero, suc, ◌+◌, ◌<◌, ◌≤◌, Bool, true, false, List, [], ◌∷◌, ◌++◌, length, take, get_or, codes, refl, sym, ap, ◌∙◌, subst, inl, inr, append-nil, append_assoc, arith}
 use Rattle.std.proofs.lemmas.List.{take_more, take_all}
 use Rattle.std.specs.Prelude.{◌==◌}
 use Rattle.weedle_print.proofs.AddsFacts.{adds_as, adds_then, adds_none}
@@ -9,14 +9,19 @@ use Rattle.weedle_print.specs.Separators.{in_front_of}
 use Rattle.weedle_spell.specs.Forms.{Form, ◌then◌, empty, perhaps, separated_by, separated_non_empty}
 use Rattle.weedle_spell.specs.Tokens.{word}
 
+-- as many values stand before, and it says whether none does
+abbrev pub Counts : Bool → ℕ → Type 0
+Counts true i = i ≡ 0
+Counts false i = 0 < i
+
 module _ {V : Type 0} (S : V → Form) (sep : Form) where
   -- one more value, behind what stands in front of it
-  item_snoc : (vs : List V) (v : V) (is_first : Bool) → is_first ≡ (length vs == 0) → (s : List ℕ)
+  item_snoc : (vs : List V) (v : V) (is_first : Bool) → Counts is_first (length vs) → (s : List ℕ)
       → ((separated_by S sep vs then in_front_of is_first sep) then S v) s → separated_by S sep (vs ++ v ∷ []) s
   item_snoc [] v true e s h =
       first_snoc S sep v s (subst (S v) (sym (h.is ∙ ap (λ (t : List ℕ). t ++ h.rest) (h.of_first.is ∙ ap (λ (t : List ℕ). t ++ h.of_first.rest) h.of_first.of_first ∙ h.of_first.of_rest))) h.of_rest)
-  item_snoc [] v false e s h = cc
-  item_snoc (w ∷ vs) v true e s h = cc
+  item_snoc [] v false e s h = absurd (omega (arith, e))
+  item_snoc (w ∷ vs) v true e s h = absurd (omega (arith, e))
   item_snoc (w ∷ vs) v false e s h =
       let front = h.of_first in
       separated_snoc S sep w vs v s (record {
@@ -30,7 +35,7 @@ module _ {V : Type 0} (S : V → Form) (sep : Form) where
 -- where a loop stands in a list: what was put, and whether it is at the first value
 pub record SeparatedSoFar {V : Type 0} (S : V → Form) (sep : Form) (vs : List V) (i : ℕ) (is_first : Bool) (before after : List ℕ) : Type 0 where
   pub put : Adds (separated_by S sep (take i vs)) before after
-  pub first : is_first ≡ (i == 0)
+  pub first : Counts is_first i
 
 -- before the first value
 pub separated_none : {V : Type 0} {S : V → Form} {sep : Form} {vs : List V} {x : List ℕ} → SeparatedSoFar S sep vs 0 true x x
@@ -47,10 +52,10 @@ pub separated_more : {V : Type 0} {S : V → Form} {sep : Form} {vs : List V} {i
     → SeparatedSoFar S sep vs (i + 1) false w z
 separated_more {V} {S} {sep} {vs} {i} {is_first} {v} {w} {x} {y} {z} is below so_far front item =
     let more : take (i + 1) vs ≡ take i vs ++ v ∷ [] = take_more vs i v below ∙ ap (λ (u : V). take i vs ++ u ∷ []) (sym is) in
-    let at : is_first ≡ (length (take i vs) == 0) = so_far.first ∙ ap (λ (n : ℕ). n == 0) (sym (length_taken vs i below)) in
+    let counted : Counts is_first (length (take i vs)) = subst (Counts is_first) (sym (length_taken vs i below)) so_far.first in
     record {
-      put = subst (λ (us : List V). Adds (separated_by S sep us) w z) (sym more) (adds_as (item_snoc S sep (take i vs) v is_first at) (adds_then (adds_then so_far.put front) item));
-      first = rw add-one refl;
+      put = subst (λ (us : List V). Adds (separated_by S sep us) w z) (sym more) (adds_as (item_snoc S sep (take i vs) v is_first counted) (adds_then (adds_then so_far.put front) item));
+      first = omega arith;
     }
 
 -- all values

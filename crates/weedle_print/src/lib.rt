@@ -45,6 +45,6 @@ pub use list::{close_list, separate};
 pub use name::Reserved;
 pub use null::Nullable;
 pub use print::{Print, printed};
-pub use texts::{last_word, push, word};
 pub use statement::{Statement, print_statement};
+pub use texts::{last_word, push, word};
 pub use words::Words;

@@ -19,9 +19,11 @@ pub(crate) fn print_default(
 ) -> Result<(), PrintError>
     ensures { OnOk result (Adds (default_where_optional optional.now default.now) (string_bytes out.old) (string_bytes out.new)) }
 {
-    match (optional, default) {
-        (_, None) => Ok(()),
-        (Some(_), Some(default)) => Default::print(default, out, layout),
-        (None, Some(_)) => Err(PrintError::NoText),
+    match optional {
+        Some(_) => Option::<Default<'_>>::print(default, out, layout),
+        None => match default {
+            Some(_) => Err(PrintError::NoText),
+            None => Ok(()),
+        },
     }
 }

@@ -46,7 +46,11 @@ impl<'a> Print for Held<Argument<'a>> {
 
     ghost spelling = { argument_spelling };
 
-    fn print(value: &Argument<'a>, out: &mut String, layout: &mut Layout) -> Result<(), PrintError> {
+    fn print(
+        value: &Argument<'a>,
+        out: &mut String,
+        layout: &mut Layout,
+    ) -> Result<(), PrintError> {
         print_argument(value, out, layout)
     }
 }
@@ -56,7 +60,11 @@ impl<'a> Print for Held<SingleArgument<'a>> {
 
     ghost spelling = { single_argument_spelling };
 
-    fn print(value: &SingleArgument<'a>, out: &mut String, layout: &mut Layout) -> Result<(), PrintError> {
+    fn print(
+        value: &SingleArgument<'a>,
+        out: &mut String,
+        layout: &mut Layout,
+    ) -> Result<(), PrintError> {
         print_single_argument(value, out, layout)
     }
 }
@@ -66,7 +74,11 @@ impl<'a> Print for Held<VariadicArgument<'a>> {
 
     ghost spelling = { variadic_argument_spelling };
 
-    fn print(value: &VariadicArgument<'a>, out: &mut String, layout: &mut Layout) -> Result<(), PrintError> {
+    fn print(
+        value: &VariadicArgument<'a>,
+        out: &mut String,
+        layout: &mut Layout,
+    ) -> Result<(), PrintError> {
         print_variadic_argument(value, out, layout)
     }
 }
@@ -76,7 +88,11 @@ impl<'a> Print for Held<ParenthesizedArgumentList<'a>> {
 
     ghost spelling = { arguments_spelling };
 
-    fn print(value: &ParenthesizedArgumentList<'a>, out: &mut String, layout: &mut Layout) -> Result<(), PrintError> {
+    fn print(
+        value: &ParenthesizedArgumentList<'a>,
+        out: &mut String,
+        layout: &mut Layout,
+    ) -> Result<(), PrintError> {
         print_arguments(value, out, layout)
     }
 }
@@ -86,7 +102,11 @@ impl<'a> Print for Held<ExtendedAttribute<'a>> {
 
     ghost spelling = { extended_attribute_spelling };
 
-    fn print(value: &ExtendedAttribute<'a>, out: &mut String, layout: &mut Layout) -> Result<(), PrintError> {
+    fn print(
+        value: &ExtendedAttribute<'a>,
+        out: &mut String,
+        layout: &mut Layout,
+    ) -> Result<(), PrintError> {
         print_extended_attribute(value, out, layout)
     }
 }
@@ -96,7 +116,11 @@ impl<'a> Print for Held<ExtendedAttributeArgList<'a>> {
 
     ghost spelling = { extended_attribute_arg_list_spelling };
 
-    fn print(value: &ExtendedAttributeArgList<'a>, out: &mut String, layout: &mut Layout) -> Result<(), PrintError> {
+    fn print(
+        value: &ExtendedAttributeArgList<'a>,
+        out: &mut String,
+        layout: &mut Layout,
+    ) -> Result<(), PrintError> {
         print_arg_list(value, out, layout)
     }
 }
@@ -106,7 +130,11 @@ impl<'a> Print for Held<ExtendedAttributeNamedArgList<'a>> {
 
     ghost spelling = { extended_attribute_named_arg_list_spelling };
 
-    fn print(value: &ExtendedAttributeNamedArgList<'a>, out: &mut String, layout: &mut Layout) -> Result<(), PrintError> {
+    fn print(
+        value: &ExtendedAttributeNamedArgList<'a>,
+        out: &mut String,
+        layout: &mut Layout,
+    ) -> Result<(), PrintError> {
         print_named_arg_list(value, out, layout)
     }
 }
@@ -116,7 +144,11 @@ impl<'a> Print for Held<ExtendedAttributeIdentList<'a>> {
 
     ghost spelling = { extended_attribute_ident_list_spelling };
 
-    fn print(value: &ExtendedAttributeIdentList<'a>, out: &mut String, layout: &mut Layout) -> Result<(), PrintError> {
+    fn print(
+        value: &ExtendedAttributeIdentList<'a>,
+        out: &mut String,
+        layout: &mut Layout,
+    ) -> Result<(), PrintError> {
         print_ident_list(value, out, layout)
     }
 }
@@ -126,7 +158,11 @@ impl<'a> Print for Held<ExtendedAttributeIdent<'a>> {
 
     ghost spelling = { extended_attribute_ident_spelling };
 
-    fn print(value: &ExtendedAttributeIdent<'a>, out: &mut String, layout: &mut Layout) -> Result<(), PrintError> {
+    fn print(
+        value: &ExtendedAttributeIdent<'a>,
+        out: &mut String,
+        layout: &mut Layout,
+    ) -> Result<(), PrintError> {
         print_ident(value, out, layout)
     }
 }
@@ -136,7 +172,11 @@ impl<'a> Print for Held<IdentifierOrString<'a>> {
 
     ghost spelling = { identifier_or_string_spelling };
 
-    fn print(value: &IdentifierOrString<'a>, out: &mut String, layout: &mut Layout) -> Result<(), PrintError> {
+    fn print(
+        value: &IdentifierOrString<'a>,
+        out: &mut String,
+        layout: &mut Layout,
+    ) -> Result<(), PrintError> {
         print_identifier_or_string(value, out, layout)
     }
 }
@@ -146,7 +186,11 @@ impl<'a> Print for Held<IdentifierList<'a>> {
 
     ghost spelling = { identifier_list_spelling };
 
-    fn print(value: &IdentifierList<'a>, out: &mut String, layout: &mut Layout) -> Result<(), PrintError> {
+    fn print(
+        value: &IdentifierList<'a>,
+        out: &mut String,
+        layout: &mut Layout,
+    ) -> Result<(), PrintError> {
         print_identifier_list(value, out, layout)
     }
 }
@@ -156,7 +200,11 @@ impl<'a> Print for Held<ExtendedAttributeNoArgs<'a>> {
 
     ghost spelling = { extended_attribute_no_args_spelling };
 
-    fn print(value: &ExtendedAttributeNoArgs<'a>, out: &mut String, layout: &mut Layout) -> Result<(), PrintError> {
+    fn print(
+        value: &ExtendedAttributeNoArgs<'a>,
+        out: &mut String,
+        layout: &mut Layout,
+    ) -> Result<(), PrintError> {
         Identifier::print(&value.0, out, layout)
     }
 }
@@ -168,7 +216,11 @@ impl<'a> Print for Held<ExtendedAttributeList<'a>> {
 
     ghost spelling = { extended_attribute_list_spelling };
 
-    fn print(value: &ExtendedAttributeList<'a>, out: &mut String, layout: &mut Layout) -> Result<(), PrintError> {
+    fn print(
+        value: &ExtendedAttributeList<'a>,
+        out: &mut String,
+        layout: &mut Layout,
+    ) -> Result<(), PrintError> {
         print_attribute_list(value, out, layout)?;
         layout.end_attributes();
         Ok(())

@@ -51,7 +51,11 @@ impl<'a> Print for Held<SingleType<'a>> {
 
     ghost spelling = { single_type_spelling };
 
-    fn print(value: &SingleType<'a>, out: &mut String, layout: &mut Layout) -> Result<(), PrintError> {
+    fn print(
+        value: &SingleType<'a>,
+        out: &mut String,
+        layout: &mut Layout,
+    ) -> Result<(), PrintError> {
         print_single_type(value, out, layout)
     }
 }
@@ -61,7 +65,11 @@ impl<'a> Print for Held<NonAnyType<'a>> {
 
     ghost spelling = { non_any_type_spelling };
 
-    fn print(value: &NonAnyType<'a>, out: &mut String, layout: &mut Layout) -> Result<(), PrintError> {
+    fn print(
+        value: &NonAnyType<'a>,
+        out: &mut String,
+        layout: &mut Layout,
+    ) -> Result<(), PrintError> {
         print_non_any_type(value, out, layout)
     }
 }
@@ -71,7 +79,11 @@ impl<'a> Print for Held<RecordKeyType<'a>> {
 
     ghost spelling = { record_key_type_spelling };
 
-    fn print(value: &RecordKeyType<'a>, out: &mut String, layout: &mut Layout) -> Result<(), PrintError> {
+    fn print(
+        value: &RecordKeyType<'a>,
+        out: &mut String,
+        layout: &mut Layout,
+    ) -> Result<(), PrintError> {
         print_record_key_type(value, out, layout)
     }
 }
@@ -81,7 +93,11 @@ impl<'a> Print for Held<RecordTypes<'a>> {
 
     ghost spelling = { record_types_spelling };
 
-    fn print(value: &RecordTypes<'a>, out: &mut String, layout: &mut Layout) -> Result<(), PrintError> {
+    fn print(
+        value: &RecordTypes<'a>,
+        out: &mut String,
+        layout: &mut Layout,
+    ) -> Result<(), PrintError> {
         print_record_types(value, out, layout)
     }
 }
@@ -91,7 +107,11 @@ impl<'a> Print for Held<SequenceType<'a>> {
 
     ghost spelling = { sequence_type_spelling };
 
-    fn print(value: &SequenceType<'a>, out: &mut String, layout: &mut Layout) -> Result<(), PrintError> {
+    fn print(
+        value: &SequenceType<'a>,
+        out: &mut String,
+        layout: &mut Layout,
+    ) -> Result<(), PrintError> {
         print_sequence_type(value, out, layout)
     }
 }
@@ -101,7 +121,11 @@ impl<'a> Print for Held<FrozenArrayType<'a>> {
 
     ghost spelling = { frozen_array_type_spelling };
 
-    fn print(value: &FrozenArrayType<'a>, out: &mut String, layout: &mut Layout) -> Result<(), PrintError> {
+    fn print(
+        value: &FrozenArrayType<'a>,
+        out: &mut String,
+        layout: &mut Layout,
+    ) -> Result<(), PrintError> {
         print_frozen_array_type(value, out, layout)
     }
 }
@@ -111,7 +135,11 @@ impl<'a> Print for Held<PromiseType<'a>> {
 
     ghost spelling = { promise_type_spelling };
 
-    fn print(value: &PromiseType<'a>, out: &mut String, layout: &mut Layout) -> Result<(), PrintError> {
+    fn print(
+        value: &PromiseType<'a>,
+        out: &mut String,
+        layout: &mut Layout,
+    ) -> Result<(), PrintError> {
         print_promise_type(value, out, layout)
     }
 }
@@ -121,7 +149,11 @@ impl<'a> Print for Held<RecordType<'a>> {
 
     ghost spelling = { record_type_spelling };
 
-    fn print(value: &RecordType<'a>, out: &mut String, layout: &mut Layout) -> Result<(), PrintError> {
+    fn print(
+        value: &RecordType<'a>,
+        out: &mut String,
+        layout: &mut Layout,
+    ) -> Result<(), PrintError> {
         print_record_type(value, out, layout)
     }
 }
@@ -131,7 +163,11 @@ impl<'a> Print for Held<UnionType<'a>> {
 
     ghost spelling = { union_type_spelling };
 
-    fn print(value: &UnionType<'a>, out: &mut String, layout: &mut Layout) -> Result<(), PrintError> {
+    fn print(
+        value: &UnionType<'a>,
+        out: &mut String,
+        layout: &mut Layout,
+    ) -> Result<(), PrintError> {
         print_union_type(value, out, layout)
     }
 }
@@ -141,7 +177,11 @@ impl<'a> Print for Held<UnionMemberType<'a>> {
 
     ghost spelling = { union_member_type_spelling };
 
-    fn print(value: &UnionMemberType<'a>, out: &mut String, layout: &mut Layout) -> Result<(), PrintError> {
+    fn print(
+        value: &UnionMemberType<'a>,
+        out: &mut String,
+        layout: &mut Layout,
+    ) -> Result<(), PrintError> {
         print_union_member_type(value, out, layout)
     }
 }
@@ -151,7 +191,11 @@ impl<'a> Print for Held<AttributedType<'a>> {
 
     ghost spelling = { attributed_type_spelling };
 
-    fn print(value: &AttributedType<'a>, out: &mut String, layout: &mut Layout) -> Result<(), PrintError> {
+    fn print(
+        value: &AttributedType<'a>,
+        out: &mut String,
+        layout: &mut Layout,
+    ) -> Result<(), PrintError> {
         print_attributed_type(value, out, layout)
     }
 }
@@ -161,7 +205,11 @@ impl<'a> Print for Held<AttributedNonAnyType<'a>> {
 
     ghost spelling = { attributed_non_any_type_spelling };
 
-    fn print(value: &AttributedNonAnyType<'a>, out: &mut String, layout: &mut Layout) -> Result<(), PrintError> {
+    fn print(
+        value: &AttributedNonAnyType<'a>,
+        out: &mut String,
+        layout: &mut Layout,
+    ) -> Result<(), PrintError> {
         print_attributed_non_any_type(value, out, layout)
     }
 }
@@ -171,7 +219,11 @@ impl<'a> Print for Held<ReturnType<'a>> {
 
     ghost spelling = { return_type_spelling };
 
-    fn print(value: &ReturnType<'a>, out: &mut String, layout: &mut Layout) -> Result<(), PrintError> {
+    fn print(
+        value: &ReturnType<'a>,
+        out: &mut String,
+        layout: &mut Layout,
+    ) -> Result<(), PrintError> {
         print_return_type(value, out, layout)?;
         layout.end_type();
         Ok(())

@@ -24,7 +24,9 @@ pub(crate) fn print_plain_type(
 {
     match type_ {
         NonAnyType::Integer(type_) => MayBeNull::<IntegerType>::print(type_, out, layout),
-        NonAnyType::FloatingPoint(type_) => MayBeNull::<FloatingPointType>::print(type_, out, layout),
+        NonAnyType::FloatingPoint(type_) => MayBeNull::<FloatingPointType>::print(
+            type_, out, layout,
+        ),
         NonAnyType::Boolean(type_) => MayBeNull::<Boolean>::print(type_, out, layout),
         NonAnyType::Byte(type_) => MayBeNull::<Byte>::print(type_, out, layout),
         NonAnyType::Octet(type_) => MayBeNull::<Octet>::print(type_, out, layout),
@@ -56,10 +58,14 @@ fn print_buffer_type(
         NonAnyType::Uint8Array(type_) => MayBeNull::<Uint8Array>::print(type_, out, layout),
         NonAnyType::Uint16Array(type_) => MayBeNull::<Uint16Array>::print(type_, out, layout),
         NonAnyType::Uint32Array(type_) => MayBeNull::<Uint32Array>::print(type_, out, layout),
-        NonAnyType::Uint8ClampedArray(type_) => MayBeNull::<Uint8ClampedArray>::print(type_, out, layout),
+        NonAnyType::Uint8ClampedArray(type_) => MayBeNull::<Uint8ClampedArray>::print(
+            type_, out, layout,
+        ),
         NonAnyType::Float32Array(type_) => MayBeNull::<Float32Array>::print(type_, out, layout),
         NonAnyType::Float64Array(type_) => MayBeNull::<Float64Array>::print(type_, out, layout),
-        NonAnyType::ArrayBufferView(type_) => MayBeNull::<ArrayBufferView>::print(type_, out, layout),
+        NonAnyType::ArrayBufferView(type_) => MayBeNull::<ArrayBufferView>::print(
+            type_, out, layout,
+        ),
         NonAnyType::BufferSource(type_) => MayBeNull::<BufferSource>::print(type_, out, layout),
         _ => Err(PrintError::NoText),
     }

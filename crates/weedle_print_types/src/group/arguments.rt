@@ -1,5 +1,5 @@
 //! Arguments.
-#![tactic(auto, using(weedle_print::proofs::AddsFacts::adds_then, crate::proofs::VariantFacts::variant_steps))]
+#![tactic(auto, using(weedle_print::proofs::AddsFacts::adds_then, crate::proofs::VariantFacts::variant_steps, weedle_types::proofs::TreeLaws::clone_steps))]
 
 ghost use Rattle.std.specs.Prelude.{codes, OnOk, string_bytes};
 ghost use Rattle.weedle_print.specs.Adds.{Adds};
@@ -25,7 +25,7 @@ use weedle_types::argument::{
 /// Writes arguments in parentheses, as `(long x, long y)`: on the line where they fit, else each on a
 /// line.
 #[cycle(prints)]
-#[tactic(auto, using(weedle_print::proofs::AddsFacts::adds_then, weedle_print::proofs::AddsFacts::adds_copied))]
+#[tactic(auto, using(weedle_print::proofs::AddsFacts::adds_then, weedle_print::proofs::AddsFacts::adds_copied, weedle_types::proofs::TreeLaws::clone_steps))]
 pub(crate) fn print_arguments(
     arguments: &ParenthesizedArgumentList<'_>,
     out: &mut String,
@@ -56,7 +56,7 @@ pub(crate) fn print_arguments(
 
 /// Writes arguments with commas between them, and the parenthesis behind them.
 #[cycle(prints)]
-#[tactic(auto, using(weedle_print::proofs::AddsFacts::adds_then, weedle_print::proofs::SeparatedFacts::separated_steps, weedle_types::proofs::Smaller::argument_smaller))]
+#[tactic(auto, using(weedle_print::proofs::AddsFacts::adds_then, weedle_print::proofs::SeparatedFacts::separated_steps, weedle_types::proofs::TreeLaws::clone_steps, weedle_types::proofs::Smaller::argument_smaller))]
 pub(crate) fn push_arguments(
     arguments: &Vec<Argument<'_>>,
     out: &mut String,

@@ -1,5 +1,5 @@
 //! Extended attributes.
-#![tactic(auto, using(weedle_print::proofs::AddsFacts::adds_then, crate::proofs::VariantFacts::variant_steps))]
+#![tactic(auto, using(weedle_print::proofs::AddsFacts::adds_then, crate::proofs::VariantFacts::variant_steps, weedle_types::proofs::TreeLaws::clone_steps))]
 
 ghost use Rattle.std.specs.Prelude.{codes, OnOk, string_bytes};
 ghost use Rattle.weedle_print.specs.Adds.{Adds};
@@ -24,7 +24,7 @@ use weedle_types::attribute::{
 
 /// Writes extended attributes, where there are some.
 #[cycle(prints)]
-#[tactic(auto, using(weedle_print::proofs::AddsFacts::adds_none))]
+#[tactic(auto, using(weedle_print::proofs::AddsFacts::adds_none, weedle_types::proofs::TreeLaws::clone_steps))]
 pub(crate) fn print_attributes(
     attributes: &Option<ExtendedAttributeList<'_>>,
     out: &mut String,
@@ -41,7 +41,7 @@ pub(crate) fn print_attributes(
 /// Writes extended attributes in brackets, as `[Clamp, Exposed=Window]`: on the line where they fit,
 /// else each on a line.
 #[cycle(prints)]
-#[tactic(auto, using(weedle_print::proofs::AddsFacts::adds_then, weedle_print::proofs::AddsFacts::adds_copied))]
+#[tactic(auto, using(weedle_print::proofs::AddsFacts::adds_then, weedle_print::proofs::AddsFacts::adds_copied, weedle_types::proofs::TreeLaws::clone_steps))]
 pub(crate) fn print_attribute_list(
     attributes: &ExtendedAttributeList<'_>,
     out: &mut String,
@@ -71,7 +71,7 @@ pub(crate) fn print_attribute_list(
 
 /// Writes extended attributes with commas between them, and the bracket behind them.
 #[cycle(prints)]
-#[tactic(auto, using(weedle_print::proofs::AddsFacts::adds_then, weedle_print::proofs::SeparatedFacts::separated_steps, weedle_types::proofs::Smaller::attribute_smaller))]
+#[tactic(auto, using(weedle_print::proofs::AddsFacts::adds_then, weedle_print::proofs::SeparatedFacts::separated_steps, weedle_types::proofs::TreeLaws::clone_steps, weedle_types::proofs::Smaller::attribute_smaller))]
 pub(crate) fn push_attributes(
     attributes: &Vec<ExtendedAttribute<'_>>,
     out: &mut String,

@@ -1,5 +1,5 @@
 //! Types over others.
-#![tactic(auto, using(weedle_print::proofs::AddsFacts::adds_then, crate::proofs::VariantFacts::variant_steps))]
+#![tactic(auto, using(weedle_print::proofs::AddsFacts::adds_then, crate::proofs::VariantFacts::variant_steps, weedle_types::proofs::TreeLaws::clone_steps))]
 
 ghost use Rattle.std.specs.Prelude.{OnOk, string_bytes};
 ghost use Rattle.weedle_print.specs.Adds.{Adds};

@@ -1,5 +1,5 @@
 //! Unions.
-#![tactic(auto, using(weedle_print::proofs::AddsFacts::adds_then, crate::proofs::VariantFacts::variant_steps))]
+#![tactic(auto, using(weedle_print::proofs::AddsFacts::adds_then, crate::proofs::VariantFacts::variant_steps, weedle_types::proofs::TreeLaws::clone_steps))]
 
 ghost use Rattle.std.specs.Prelude.{codes, OnOk, string_bytes};
 ghost use Rattle.weedle_print.specs.Adds.{Adds};
@@ -44,7 +44,7 @@ pub(crate) fn print_union_type(
 
 /// Writes members of a union with `or` between them.
 #[cycle(prints)]
-#[tactic(auto, using(weedle_print::proofs::AddsFacts::adds_then, weedle_print::proofs::SeparatedFacts::separated_steps, weedle_types::proofs::Smaller::member_smaller))]
+#[tactic(auto, using(weedle_print::proofs::AddsFacts::adds_then, weedle_print::proofs::SeparatedFacts::separated_steps, weedle_types::proofs::TreeLaws::clone_steps, weedle_types::proofs::Smaller::member_smaller))]
 pub(crate) fn push_members(
     members: &Vec<UnionMemberType<'_>>,
     out: &mut String,
