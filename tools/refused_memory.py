@@ -6,8 +6,8 @@
 
 PROGRAMS is the folder in which weedle_check and weedle_list were built, each in out/ of its own folder; crates/ where
 none is named: a gate, or `rt run` in their folders, builds them. Without --cases weedle_check checks a file that is
-read and one that isn't, and prints the definitions. With it weedle_check prints the definitions of each text of that
-folder of tests/, as worked, and weedle_list lists them.
+read and one that isn't, and prints the definitions, as values and anew. With it weedle_check prints the definitions of
+each text of that folder of tests/, as worked, in both ways, and weedle_list lists them.
 
 A run that ends otherwise than with all its memory has to say so: with status 3 and `out of memory`, weedle_list with
 nothing written; or weedle_check, where memory ran out for more than the place of a slip, with the status that it has
