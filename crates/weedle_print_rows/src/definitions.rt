@@ -57,12 +57,9 @@ const LONG_TEXT: &str = "/// d\nenum E {\n  \"aaaaaaaaaaaaaaaaaaaaaaaaaaaa\",\n 
 fn an_enum_is_written_or_want_memory(rt: HostRuntime) -> Result<(), Fail> {
     let alloc = rt.alloc();
     let mut wanted = Wanted::new();
-    let text = wanted.given(String::from_str(alloc, " d"));
-    let docstring = text.map(Docstring);
-    let has_docstring = docstring.is_some();
-    if let Some(it) = wanted.given(enum_of(alloc, "E", docstring, &LONG)) {
-        for _ in 0..2 {
-            if has_docstring {
+    if let Some(text) = wanted.given(String::from_str(alloc, " d")) {
+        if let Some(it) = wanted.given(enum_of(alloc, "E", Some(Docstring(text)), &LONG)) {
+            for _ in 0..2 {
                 assert_written(&rt, alloc, &mut wanted, &it, LONG_TEXT);
             }
         }

@@ -7,6 +7,7 @@ use weedle_parts::common::{Bracketed, Identifier, Punctuated};
 use weedle_term::{Any, Assign, CloseBracket, CloseParen, Comma, OpenBracket, OpenParen, Optional};
 use weedle_testing::Wanted;
 use weedle_types::argument::{ParenthesizedArgumentList, SingleArgument};
+use weedle_types::attribute::ExtendedAttributeList;
 use weedle_types::types::{AttributedType, SingleType, Type};
 
 /// An argument of this name, `any` of type, with a default.
@@ -51,7 +52,7 @@ fn empty_lists_are_written(rt: HostRuntime) -> Result<(), Fail> {
         close_paren: CloseParen,
     };
     assert_written(&rt, alloc, &mut wanted, &arguments, "()");
-    let attributes = Bracketed {
+    let attributes: ExtendedAttributeList<'_> = Bracketed {
         open_bracket: OpenBracket,
         body: Punctuated {
             list: Vec::new(alloc),
