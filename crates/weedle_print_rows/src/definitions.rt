@@ -92,11 +92,8 @@ fn values_are_written_behind_one_another(rt: HostRuntime) -> Result<(), Fail> {
     let alloc = rt.alloc();
     let mut out = String::new(alloc);
     for name in ["E", "F"] {
-        assert!(rt;
-            enum_of(alloc, name, None, &["a"])?
-                .write_idl(&mut out)
-                .is_ok()
-        );
+        let it = enum_of(alloc, name, None, &["a"])?;
+        assert!(rt; it.write_idl(&mut out).is_ok());
     }
     assert_eq!(rt; out.as_str(), "enum E { \"a\" };\nenum F { \"a\" };\n");
     Ok(())
