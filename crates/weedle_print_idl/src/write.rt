@@ -24,8 +24,8 @@ pub trait WriteIdl: Sized {
     /// by hand: where a name isn't one, as `a b`, a string has a quote in it, a number is none, an
     /// enum has no value, or an argument that isn't optional has a default. What was read is
     /// written. It answers [`PrintError::Memory`] where `out` or the text beside it can't grow. It
-    /// asks for twice the text, and writes a list that takes more than a line twice for each list
-    /// that it stands in.
+    /// asks for twice the text, and writes what stands in lists once more for each of them that
+    /// doesn't fit on its line.
     #[tactic(auto, using(weedle_print::proofs::AddsFacts::adds_copied))]
     final fn write_idl(&self, out: &mut String) -> Result<(), PrintError>
         ensures spells { OnOk result (Adds (spelling self.now) (string_bytes out.old) (string_bytes out.new)) }
