@@ -24,5 +24,5 @@ mod write;
 mod written;
 
 pub use part::IdlPart;
-pub use weedle_print::{Nullable, PrintError, Reserved, Words};
+pub use weedle_print::{Layout, Nullable, PrintError, Reserved, Words};
 pub use write::WriteIdl;
