@@ -61,7 +61,7 @@ pub use weedle_idl::{
     PartialNamespaceDefinition, TypedefDefinition, dictionary, interface, mixin, namespace,
 };
 pub use weedle_places::{MemberPlace, Name, Place, Role, Span, names, places};
-pub use weedle_print_idl::{Layout, Nullable, PrintError, Reserved, Words, WriteIdl};
+pub use weedle_print_idl::{Nullable, PrintError, Reserved, Words, WriteIdl};
 pub use weedle_term as term;
 pub use weedle_types::{argument, attribute};
 pub use weedle_view::{
