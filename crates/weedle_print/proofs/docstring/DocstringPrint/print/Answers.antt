@@ -7,6 +7,6 @@ use Rattle.weedle_print.proofs.docstring.DocstringPrint.print.Goals as goal
 -- after the loop each line was put there
 pub returns : goal.returns
 returns c =
-    let parts = YieldsList-from_str_split 10 (string_bytes c.args.self.now.0) (lit< tt) (cc) (cc) (cc) in
+    let parts = YieldsList-from_str_split 10 (string_bytes c.args.value.now.0) (lit< tt) (cc) (cc) (cc) in
     let end = YieldsList-end parts c.loop-line.yielded _ c.loop-line.yielded_by _ _ c.in-None.is c.next.ensures.steps in
-    lines_all end.0 c.loop-line.invariant
+    lines_all _ end.0 c.loop-line.invariant
