@@ -6,6 +6,10 @@ use Rattle.weedle_print.specs.Adds.{Adds}
 use Rattle.weedle_spell.specs.Forms.{Form, Chain, chain_ends, chain_goes_on, ◌then◌, empty, exactly, perhaps, that, any}
 use Rattle.weedle_spell.specs.Tokens.{IsTrivia, blanks, word}
 
+-- what is of the one form is of the other
+pub adds_as : {A B : Form} {x y : List ℕ} → ((s : List ℕ) → A s → B s) → Adds A x y → Adds B x y
+adds_as f a = record { added = a.added; is = a.is; of = f a.added a.of }
+
 module _ {x y z : List ℕ} where
   -- one text, and then another
   pub adds_then : {A B : Form} → Adds A x y → Adds B y z → Adds (A then B) x z
@@ -14,10 +18,6 @@ module _ {x y z : List ℕ} where
     is = b.is ∙ ap (λ (s : List ℕ). s ++ b.added) a.is ∙ append_assoc x a.added b.added;
     of = record { first = a.added; rest = b.added; is = refl; of_first = a.of; of_rest = b.of };
   }
-
-  -- what is of the one form is of the other
-  pub adds_as : {A B : Form} → ((s : List ℕ) → A s → B s) → Adds A x y → Adds B x y
-  adds_as f a = record { added = a.added; is = a.is; of = f a.added a.of }
 
 -- a text that was put into an empty one is put here
 pub adds_copied : {A : Form} {e y r x z : List ℕ} → e ≡ [] → Adds A e y → r ≡ y → Adds (exactly r) x z → Adds A x z

@@ -71,6 +71,6 @@ line_more f lines line {x} {y} {z} a b =
     subst (λ (texts : List (List ℕ)). Adds (each put_line texts) x z) (sym (map-append f lines (line ∷ []))) (adds_as (each_snoc put_line (map f lines) (f line)) (adds_then a b))
 
 -- all lines of a docstring
-pub lines_all : {text : List ℕ} {lines : List (List ℕ)} {x y : List ℕ} → lines ≡ slice_split (λ b. b == 10) text → Adds (each put_line lines) x y → Adds (documented text) x y
-lines_all {text} {lines} {x} {y} e a =
+pub lines_all : (text : List ℕ) {lines : List (List ℕ)} {x y : List ℕ} → lines ≡ slice_split (λ b. b == 10) text → Adds (each put_line lines) x y → Adds (documented text) x y
+lines_all text {lines} {x} {y} e a =
     adds_as (as_lines (cut text) (cut_lines text)) (subst (λ (all : List (List ℕ)). Adds (each put_line all) x y) (e ∙ sym (cut_is text)) a)

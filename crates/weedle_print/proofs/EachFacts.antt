@@ -69,11 +69,11 @@ module _ {V : Type 0} (S : V → Form) where
         subst (λ (ws : List V). Adds (each S ws) x z) (sym more) (adds_as (each_snoc (take i vs) v) (adds_then a b))
 
 -- none of them yet
-pub each_none : {V : Type 0} {S : V → Form} {x : List ℕ} → Adds (each S []) x x
-each_none = adds_none
+pub each_none : {V : Type 0} (S : V → Form) {x : List ℕ} → Adds (each S []) x x
+each_none S = adds_none
 
 -- all of them
-pub each_all : {V : Type 0} {S : V → Form} {vs : List V} {i : ℕ} {x y : List ℕ} → length vs ≤ i → Adds (each S (take i vs)) x y → Adds (each S vs) x y
-each_all {V} {S} {vs} {i} {x} {y} past a = subst (λ (us : List V). Adds (each S us) x y) (take_all i vs past) a
+pub each_all : {V : Type 0} (S : V → Form) (vs : List V) (i : ℕ) {x y : List ℕ} → length vs ≤ i → Adds (each S (take i vs)) x y → Adds (each S vs) x y
+each_all {V} S vs i {x} {y} past a = subst (λ (us : List V). Adds (each S us) x y) (take_all i vs past) a
 
 pub ruleset each_steps = (each_none, each_more, each_all)

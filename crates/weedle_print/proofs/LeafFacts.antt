@@ -65,11 +65,9 @@ floating_is {s} {rest} {v} g e = subst floating e (elim (float_value_law.spells 
   | inr h ↦ number_kept floating v.0.now _ h
 ])
 
-pub ruleset leaf_steps = (name_is, decimal_is, hexadecimal_is, octal_is, floating_is)
-
 -- a text without a quote
-pub no_quote : {s : List ℕ} → IsFirstByte (is_byte 34) s None → any NotQuote s
-no_quote {s} p =
+pub no_quote : (s : List ℕ) → IsFirstByte (is_byte 34) s None → any NotQuote s
+no_quote s p =
     let whole : length s ≡ run_length NotQuote s = run_whole NotQuote 34 (λ b. refl) s p in
     subst (any NotQuote) (ap (λ (n : ℕ). take n s) (sym whole) ∙ take_all (length s) s (omega arith)) (run_form NotQuote s)
 

@@ -77,9 +77,9 @@ regrouped : (A B P C : Form) (s : List ℕ) → (C then A then B) s → (C then 
 regrouped A B P C s h = record { first = h.first; rest = h.rest; is = h.is; of_first = h.of_first; of_rest = with_none_behind A B P h.rest h.of_rest }
 
 -- a list that isn't empty, between brackets
-pub adds_values : {V : Type 0} {S : V → Form} {sep front end : Form} {vs : List V} {x y z : List ℕ}
+pub adds_values : {V : Type 0} (S : V → Form) (sep : Form) {front end : Form} (vs : List V) {x y z : List ℕ}
     → (length vs == 0) ≡ false → Adds front x y → Adds (separated_by S sep vs then end) y z → Adds (front then separated_non_empty S sep vs then end) x z
-adds_values {vs = []} some a b = cc
-adds_values {S = S} {sep} {front} {end} {vs = v ∷ vs} some a b = adds_as (regrouped (separated_by S sep (v ∷ vs)) end sep front) (adds_then a b)
+adds_values S sep [] some a b = cc
+adds_values S sep {front} {end} (v ∷ vs) some a b = adds_as (regrouped (separated_by S sep (v ∷ vs)) end sep front) (adds_then a b)
 
 pub ruleset separated_steps = (separated_none, separated_more, separated_all)

@@ -90,7 +90,6 @@ fn push_fitting<P: Print>(
 
 /// The values of an enum, as `{ "a", "b" }`: on one line where they fit into 80 columns, else each
 /// on a line. A list without values has no text.
-#[tactic(auto, using(crate::proofs::SeparatedFacts::adds_values))]
 impl<P: Print> Print for Braced<PunctuatedNonEmpty<P, Comma>> {
     type Value = Braced<PunctuatedNonEmpty<P::Value, Comma>>;
 
@@ -101,10 +100,12 @@ impl<P: Print> Print for Braced<PunctuatedNonEmpty<P, Comma>> {
         out: &mut String,
         layout: &mut Layout,
     ) -> Result<(), PrintError> {
-        if value.body.list.is_empty() {
+        let values = value.body.list.as_slice();
+        if values.is_empty() {
             return Err(PrintError::NoText);
         }
         word(out, layout, "{")?;
-        push_fitting::<P>(&value.body.list, out, layout)
+        push_fitting::<P>(values, out, layout)?;
+        Ok(())
     }
 }

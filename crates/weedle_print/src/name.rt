@@ -29,7 +29,6 @@ impl<'a> Reserved for Identifier<'a> {
 }
 
 /// Whether a text is a name: a letter, and any letters, digits, `_` and `-`.
-#[tactic(auto, using(crate::proofs::LeafFacts::leaf_steps))]
 fn is_name(alloc: Global, text: &str) -> bool
     ensures { IsTrue result → the_name text.now }
 {

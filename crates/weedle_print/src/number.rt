@@ -30,7 +30,6 @@ fn push_number(out: &mut String, layout: &mut Layout, text: &str) -> Result<(), 
 }
 
 /// Whether a text is a decimal number, as `-12`.
-#[tactic(auto, using(crate::proofs::LeafFacts::leaf_steps))]
 fn is_decimal(alloc: Global, text: &str) -> bool
     ensures { IsTrue result → decimal text.now }
 {
@@ -55,7 +54,6 @@ impl<'a> Print for DecLit<'a> {
 }
 
 /// Whether a text is a hexadecimal number, as `0x1F`.
-#[tactic(auto, using(crate::proofs::LeafFacts::leaf_steps))]
 fn is_hexadecimal(alloc: Global, text: &str) -> bool
     ensures { IsTrue result → hexadecimal text.now }
 {
@@ -80,7 +78,6 @@ impl<'a> Print for HexLit<'a> {
 }
 
 /// Whether a text is an octal number, as `017`.
-#[tactic(auto, using(crate::proofs::LeafFacts::leaf_steps))]
 fn is_octal(alloc: Global, text: &str) -> bool
     ensures { IsTrue result → octal text.now }
 {
@@ -105,7 +102,6 @@ impl<'a> Print for OctLit<'a> {
 }
 
 /// Whether a text is a number with a point or an exponent, as `-1.5e3`.
-#[tactic(auto, using(crate::proofs::LeafFacts::leaf_steps))]
 fn is_floating(alloc: Global, text: &str) -> bool
     ensures { IsTrue result → floating text.now }
 {

@@ -13,7 +13,6 @@ use memchr::memchr;
 use weedle_literal::StringLit;
 
 /// Whether no quote stands in a text.
-#[tactic(auto, using(crate::proofs::LeafFacts::no_quote))]
 fn is_without_quote(text: &str) -> bool
     ensures { IsTrue result → any NotQuote text.now }
 {
