@@ -3,10 +3,8 @@
 
 ghost use Rattle.std.specs.Prelude.{codes, OnOk, string_bytes};
 ghost use Rattle.weedle_print.specs.Adds.{Adds};
-ghost use Rattle.weedle_spell.specs.Forms.{separated_by};
 ghost use Rattle.weedle_spell.specs.GenericParts.{parenthesized_spelling};
-ghost use Rattle.weedle_spell.specs.Leaves.{identifier_spelling, terminal};
-ghost use Rattle.weedle_spell.specs.Tokens.{word as the_word};
+ghost use Rattle.weedle_spell.specs.Leaves.{terminal};
 ghost use Rattle.weedle_spell_types.specs.written.PlainAttributes.{
   extended_attribute_ident_list_spelling,
   extended_attribute_ident_spelling,
