@@ -57,7 +57,7 @@ fn has_no_text<P: Print>(rt: &impl Abort, alloc: Global, wanted: &mut Wanted, va
 
 /// Asserts that each name is written as the text beside it.
 fn writes_names(rt: &impl Abort, alloc: Global, wanted: &mut Wanted, names: &[(&str, &str)]) {
-    for (name, text) in names {
+    for &(name, text) in names {
         writes::<Identifier<'_>>(rt, alloc, wanted, &Identifier(name), text);
     }
 }
