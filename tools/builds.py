@@ -45,16 +45,16 @@ FILES = {
         "Iterations, maps and sets.", "weedle_iterables", "weedle_async_iterables",
     ),
     "weedle_build_interfaces/interfaces": ("Interfaces and their members.", "weedle_interfaces"),
-    "weedle_build_mixins/mixins": ("Mixins and their members.", "weedle_mixins"),
-    "weedle_build_namespaces/namespaces": (
+    "weedle_build_definitions/mixins": ("Mixins and their members.", "weedle_mixins"),
+    "weedle_build_definitions/namespaces": (
         "Namespaces and their members.",
         "weedle_namespaces::namespace", "weedle_namespaces::namespace_definition",
     ),
-    "weedle_build_namespaces/dictionaries": (
+    "weedle_build_definitions/dictionaries": (
         "Dictionaries and their members.",
         "weedle_namespaces::dictionary", "weedle_namespaces::dictionary_definition",
     ),
-    "weedle_build_statements/statements": ("The definitions without members.", "weedle_statements"),
+    "weedle_build_definitions/statements": ("The definitions without members.", "weedle_statements"),
     "weedle_build/definition": ("A definition of any kind.", "weedle_idl"),
 }
 BASE = "weedle_build_base"

@@ -2,4 +2,7 @@
 //!
 //! Written by tools/modules.py, and not edited by hand.
 
+pub mod dictionaries;
+pub mod mixins;
+pub mod namespaces;
 pub mod statements;

@@ -21,7 +21,7 @@ ghost use Rattle.weedle_mixins.specs.written.Trees.{
   partial_interface_mixin_definition_tree,
 };
 
-use crate::part::MixinPart;
+use crate::part::DefinitionPart;
 use std::alloc::Global;
 use weedle_build_base::{At, Build, BuildResult, alternative, choice, seven_fields, six_fields};
 use weedle_build_members::MemberPart;
@@ -34,7 +34,7 @@ use weedle_rules::{Ends, Rule};
 use weedle_term::{Attribute, Interface, Mixin, Partial, ReadOnly, SemiColon, Stringifier};
 use weedle_types::types::{AttributedType, ReturnType};
 
-impl<'a> Build<'a> for MixinPart<OperationMixinMember<'a>> {
+impl<'a> Build<'a> for DefinitionPart<OperationMixinMember<'a>> {
     type Value = OperationMixinMember<'a>;
 
     ghost fits = { λ r. r ≡ OPERATION_MIXIN_MEMBER };
@@ -72,7 +72,7 @@ impl<'a> Build<'a> for MixinPart<OperationMixinMember<'a>> {
     }
 }
 
-impl<'a> Build<'a> for MixinPart<AttributeMixinMember<'a>> {
+impl<'a> Build<'a> for DefinitionPart<AttributeMixinMember<'a>> {
     type Value = AttributeMixinMember<'a>;
 
     ghost fits = { λ r. r ≡ ATTRIBUTE_MIXIN_MEMBER };
@@ -114,7 +114,7 @@ impl<'a> Build<'a> for MixinPart<AttributeMixinMember<'a>> {
     }
 }
 
-impl<'a> Build<'a> for MixinPart<MixinMember<'a>> {
+impl<'a> Build<'a> for DefinitionPart<MixinMember<'a>> {
     type Value = MixinMember<'a>;
 
     ghost fits = { λ r. r ≡ MIXIN_MEMBER };
@@ -131,13 +131,13 @@ impl<'a> Build<'a> for MixinPart<MixinMember<'a>> {
                 Ok((MixinMember::Const(member), at))
             }
             1 => {
-                let (member, at) = alternative::<MixinPart<OperationMixinMember<'a>>>(
+                let (member, at) = alternative::<DefinitionPart<OperationMixinMember<'a>>>(
                     alloc, table, rule, 1, at,
                 )?;
                 Ok((MixinMember::Operation(member), at))
             }
             2 => {
-                let (member, at) = alternative::<MixinPart<AttributeMixinMember<'a>>>(
+                let (member, at) = alternative::<DefinitionPart<AttributeMixinMember<'a>>>(
                     alloc, table, rule, 2, at,
                 )?;
                 Ok((MixinMember::Attribute(member), at))
@@ -153,7 +153,7 @@ impl<'a> Build<'a> for MixinPart<MixinMember<'a>> {
     }
 }
 
-impl<'a> Build<'a> for MixinPart<InterfaceMixinDefinition<'a>> {
+impl<'a> Build<'a> for DefinitionPart<InterfaceMixinDefinition<'a>> {
     type Value = InterfaceMixinDefinition<'a>;
 
     ghost fits = { λ r. r ≡ INTERFACE_MIXIN_DEFINITION };
@@ -171,7 +171,7 @@ impl<'a> Build<'a> for MixinPart<InterfaceMixinDefinition<'a>> {
             Interface,
             Mixin,
             Identifier<'a>,
-            Braced<Vec<MixinPart<MixinMember<'a>>>>,
+            Braced<Vec<DefinitionPart<MixinMember<'a>>>>,
             SemiColon,
         >(alloc, table, Rule::INTERFACE_MIXIN_DEFINITION, at)
         {
@@ -191,7 +191,7 @@ impl<'a> Build<'a> for MixinPart<InterfaceMixinDefinition<'a>> {
     }
 }
 
-impl<'a> Build<'a> for MixinPart<PartialInterfaceMixinDefinition<'a>> {
+impl<'a> Build<'a> for DefinitionPart<PartialInterfaceMixinDefinition<'a>> {
     type Value = PartialInterfaceMixinDefinition<'a>;
 
     ghost fits = { λ r. r ≡ PARTIAL_INTERFACE_MIXIN_DEFINITION };
@@ -210,7 +210,7 @@ impl<'a> Build<'a> for MixinPart<PartialInterfaceMixinDefinition<'a>> {
             Interface,
             Mixin,
             Identifier<'a>,
-            Braced<Vec<MixinPart<MixinMember<'a>>>>,
+            Braced<Vec<DefinitionPart<MixinMember<'a>>>>,
             SemiColon,
         >(alloc, table, Rule::PARTIAL_INTERFACE_MIXIN_DEFINITION, at)
         {

@@ -21,7 +21,7 @@ ghost use Rattle.weedle_statements.specs.written.Trees.{
   typedef_definition_tree,
 };
 
-use crate::part::{EnumValues, StatementPart};
+use crate::part::{DefinitionPart, EnumValues};
 use std::alloc::Global;
 use weedle_build_base::{
     At, Build, BuildResult, five_fields, seven_fields, six_fields, two_fields,
@@ -37,7 +37,7 @@ use weedle_statements::{
 use weedle_term::{Assign, Callback, Enum, Implements, Includes, SemiColon, Typedef};
 use weedle_types::types::{AttributedType, ReturnType};
 
-impl<'a> Build<'a> for StatementPart<EnumVariant<'a>> {
+impl<'a> Build<'a> for DefinitionPart<EnumVariant<'a>> {
     type Value = EnumVariant<'a>;
 
     ghost fits = { λ r. r ≡ ENUM_VARIANT };
@@ -55,7 +55,7 @@ impl<'a> Build<'a> for StatementPart<EnumVariant<'a>> {
     }
 }
 
-impl<'a> Build<'a> for StatementPart<CallbackDefinition<'a>> {
+impl<'a> Build<'a> for DefinitionPart<CallbackDefinition<'a>> {
     type Value = CallbackDefinition<'a>;
 
     ghost fits = { λ r. r ≡ CALLBACK_DEFINITION };
@@ -100,7 +100,7 @@ impl<'a> Build<'a> for StatementPart<CallbackDefinition<'a>> {
     }
 }
 
-impl<'a> Build<'a> for StatementPart<EnumDefinition<'a>> {
+impl<'a> Build<'a> for DefinitionPart<EnumDefinition<'a>> {
     type Value = EnumDefinition<'a>;
 
     ghost fits = { λ r. r ≡ ENUM_DEFINITION };
@@ -138,7 +138,7 @@ impl<'a> Build<'a> for StatementPart<EnumDefinition<'a>> {
     }
 }
 
-impl<'a> Build<'a> for StatementPart<TypedefDefinition<'a>> {
+impl<'a> Build<'a> for DefinitionPart<TypedefDefinition<'a>> {
     type Value = TypedefDefinition<'a>;
 
     ghost fits = { λ r. r ≡ TYPEDEF_DEFINITION };
@@ -174,7 +174,7 @@ impl<'a> Build<'a> for StatementPart<TypedefDefinition<'a>> {
     }
 }
 
-impl<'a> Build<'a> for StatementPart<IncludesStatementDefinition<'a>> {
+impl<'a> Build<'a> for DefinitionPart<IncludesStatementDefinition<'a>> {
     type Value = IncludesStatementDefinition<'a>;
 
     ghost fits = { λ r. r ≡ INCLUDES_STATEMENT_DEFINITION };
@@ -208,7 +208,7 @@ impl<'a> Build<'a> for StatementPart<IncludesStatementDefinition<'a>> {
     }
 }
 
-impl<'a> Build<'a> for StatementPart<ImplementsDefinition<'a>> {
+impl<'a> Build<'a> for DefinitionPart<ImplementsDefinition<'a>> {
     type Value = ImplementsDefinition<'a>;
 
     ghost fits = { λ r. r ≡ IMPLEMENTS_DEFINITION };
