@@ -13,7 +13,7 @@ from description.readings import Declared
 from description.webidl import BY_NAME
 
 ENUM, MODEL = "NonAnyType", "FrozenArrayType"
-TYPES, SPELT, VIEWS = "weedle_types", "weedle_spell_types", "weedle_view"
+TYPES, SPELT, VIEWS = "weedle_types", "weedle_spell", "weedle_view"
 FUNCTION = r"^/// [^\n]*\n#\[cycle\(group\)\]\n#\[tactic[^\n]*\npub\(crate\) fn {}<.*?^}\n\n?"
 CLAUSE = r"^  {} \(NonAnyType-VARIANT' [^\n]*\n(?:      [^\n]*\n)*"
 FIELD, GIVEN = r"^  pub NAME : [^\n]*\n", r"^  NAME = [^\n]*\n"
