@@ -25,7 +25,6 @@ FOLDERS = """
     weedle_build_types/src/types
     weedle_comparisons/proofs/orders
     weedle_comparisons/src/orders
-    weedle_laws/src/orders
     weedle_rules/src/fill
     weedle_spell/src/laws
     weedle_types/proofs/clones

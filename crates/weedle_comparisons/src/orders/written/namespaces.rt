@@ -4,7 +4,7 @@
 
 ghost use Rattle.std.specs.Prelude.{◌≡◌, ◌<◌};
 ghost use Rattle.std.specs.Ordering.{ordering_then};
-ghost use Rattle.weedle_laws.specs.written.Places.{namespace_member_place};
+ghost use Rattle.weedle_comparisons.specs.written.Places.{namespace_member_place};
 
 use std::cmp::Ordering;
 use weedle_literal::Default;

@@ -4,7 +4,7 @@
 
 ghost use Rattle.std.specs.Prelude.{◌≡◌, ◌<◌};
 ghost use Rattle.std.specs.Ordering.{ordering_then};
-ghost use Rattle.weedle_laws.specs.written.Places.{
+ghost use Rattle.weedle_comparisons.specs.written.Places.{
   iterable_interface_member_place,
   async_iterable_interface_member_place,
 };

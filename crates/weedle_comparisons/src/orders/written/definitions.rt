@@ -3,7 +3,7 @@
 //! Written by tools/orders.py, and not edited by hand.
 
 ghost use Rattle.std.specs.Prelude.{◌≡◌, ◌<◌};
-ghost use Rattle.weedle_laws.specs.written.Places.{definition_place};
+ghost use Rattle.weedle_comparisons.specs.written.Places.{definition_place};
 
 use std::cmp::Ordering;
 use weedle_idl::Definition;
