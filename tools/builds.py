@@ -32,11 +32,11 @@ from written_places import files_in, in_logic, module_in, put
 TOP = Path(__file__).resolve().parent.parent
 # Each file, below src of its crate: what it is about, and the crates or modules whose types are built there.
 FILES = {
-    "weedle_build_base/literals": ("Literals, and the values of defaults and constants.", "weedle_literal"),
+    "weedle_build_base/literals": ("Literals, and the values of defaults and constants.", "weedle_parts::literal"),
     "weedle_build_base/modifiers": (
         "What is inherited from, and the words before a member.", "weedle_modifier",
     ),
-    "weedle_build_base/simple_types": ("Types that hold no other type.", "weedle_parts"),
+    "weedle_build_base/simple_types": ("Types that hold no other type.", "weedle_parts::types"),
     "weedle_build_members/members": (
         "The members of interfaces: constants, attributes, operations, constructors and stringifiers.",
         "weedle_members",
@@ -282,7 +282,7 @@ class File:
             self.trees.update({type_: (tree, home) for tree, type_ in trees})
         for it in declared_by(self.root, crate):
             rule = BY_NAME.get(upper(it.name))
-            is_here = it.kind != "type" and not it.parameters and module in ("", it.module)
+            is_here = it.kind != "type" and not it.parameters and f"{it.module}.".startswith(module + "." * bool(module))
             if is_here and rule and rule.shape == "Plain":
                 if it.name not in self.trees:
                     raise Unfit(f"no file of crates/{crate}/specs states the tree of {it.name}")

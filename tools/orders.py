@@ -36,8 +36,8 @@ TOP = Path(__file__).resolve().parent.parent
 LAWS = "weedle_comparisons"
 # Its modules, each with what it is about and the modules or crates that declare the types.
 MODULES = {
-    "parts": ("generic parts, names, docstrings and plain types", ["weedle_parts"]),
-    "literals": ("literals and defaults", ["weedle_literal"]),
+    "parts": ("generic parts, names, docstrings and plain types", ["weedle_parts::common", "weedle_parts::types"]),
+    "literals": ("literals and defaults", ["weedle_parts::literal"]),
     "modifiers": ("words before a member, and of what is inherited from", ["weedle_modifier"]),
     "attributes": (
         "extended attributes and arguments",

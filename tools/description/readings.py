@@ -15,7 +15,6 @@ from description.webidl import BY_CONTENT, BY_NAME
 CRATES = """
     weedle_term
     weedle_parts
-    weedle_literal
     weedle_types
     weedle_modifier
     weedle_members

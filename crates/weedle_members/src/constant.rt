@@ -2,8 +2,8 @@
 
 mod written;
 
-use weedle_literal::ConstValue;
 use weedle_parts::common::Identifier;
+use weedle_parts::literal::ConstValue;
 use weedle_parts::types::ConstType;
 use weedle_term::{Assign, Const, SemiColon};
 use weedle_types::attribute::ExtendedAttributeList;

@@ -1,6 +1,6 @@
 //! What the types and definitions of the grammar share: brackets, lists with separators, names,
-//! docstrings and the types that hold no other type. What each type reads stands in words in
-//! docs/GRAMMAR.md.
+//! docstrings, literals, defaults and the types that hold no other type. What each type reads
+//! stands in words in docs/GRAMMAR.md.
 //!
 //! ```rust
 //! use weedle_parts::common::{Identifier, Parenthesized, Punctuated};
@@ -16,4 +16,5 @@
 
 pub mod common;
 pub mod laws;
+pub mod literal;
 pub mod types;

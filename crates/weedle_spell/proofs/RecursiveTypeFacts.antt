@@ -3,8 +3,8 @@ use Rattle.std.proofs.Common.{◌≡◌, ℕ, List, [], ◌∷◌, map, codes, O
 use Rattle.weedle_base.specs.Rules.{mark_tree, option_tree}
 use Rattle.weedle_term.specs.declared.written.symbols.QMark.{QMark}
 use Rattle.weedle_term.specs.declared.written.type_keywords.Optional.{Optional}
-use Rattle.weedle_literal.specs.LiteralTrees.{default_tree}
-use Rattle.weedle_literal.specs.declared.default.Default.{Default}
+use Rattle.weedle_parts.specs.LiteralTrees.{default_tree}
+use Rattle.weedle_parts.specs.declared.literal.default.Default.{Default}
 use Rattle.weedle_grammar.specs.Meaning.{Marked, Plain}
 use Rattle.weedle_grammar.specs.Rows.{Seq, Bytes}
 use Rattle.weedle_grammar.specs.written.Table.{row_of, shape_of}

@@ -16,7 +16,7 @@
 //!
 //! ```rust
 //! use weedle_base::Parse;
-//! use weedle_literal::StringLit;
+//! use weedle_parts::literal::StringLit;
 //!
 //! // What `parse` took is what the rule of strings takes, so it is trivia, a quote, the value's
 //! // text, a quote, trivia.

@@ -11,8 +11,8 @@ mod written;
 
 use std::alloc::Global;
 use weedle_base::{IResult, Parse};
-use weedle_literal::StringLit;
 use weedle_parts::common::{Braced, Docstring, Identifier, PunctuatedNonEmpty};
+use weedle_parts::literal::StringLit;
 use weedle_term::{Comma, Enum, SemiColon};
 use weedle_types::attribute::ExtendedAttributeList;
 use weedle_types::parts::attributes;

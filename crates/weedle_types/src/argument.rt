@@ -8,8 +8,8 @@ mod written;
 
 use crate::attribute::ExtendedAttributeList;
 use crate::types::{AttributedType, Type};
-use weedle_literal::Default;
 use weedle_parts::common::{Identifier, Punctuated};
+use weedle_parts::literal::Default;
 use weedle_term::{CloseParen, Comma, Ellipsis, OpenParen, Optional};
 
 /// Arguments, as `long x, long y`, none included.

@@ -24,8 +24,8 @@ mod written;
 use crate::argument::ParenthesizedArgumentList;
 use std::alloc::Global;
 use weedle_base::{IResult, Parse};
-use weedle_literal::StringLit;
 use weedle_parts::common::{Bracketed, Identifier, Parenthesized, Punctuated};
+use weedle_parts::literal::StringLit;
 use weedle_term::{Assign, Comma};
 
 /// Extended attributes in brackets, as `[Exposed=Window, SecureContext]`; `[]` too.

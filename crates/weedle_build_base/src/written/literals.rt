@@ -14,7 +14,7 @@ ghost use Rattle.weedle_grammar.specs.written.Table.Literals.{
   FLOAT_LIT,
   INTEGER_LIT,
 };
-ghost use Rattle.weedle_literal.specs.LiteralTrees.{
+ghost use Rattle.weedle_parts.specs.LiteralTrees.{
   boolean_tree,
   const_value_tree,
   default_tree,
@@ -30,7 +30,7 @@ use crate::at::At;
 use crate::build::{Build, BuildResult};
 use crate::structs::two_fields;
 use std::alloc::Global;
-use weedle_literal::{
+use weedle_parts::literal::{
     BooleanLit, ConstValue, DecLit, Default, DefaultValue, EmptyArrayLit, EmptyDictionaryLit,
     FloatLit, FloatValueLit, HexLit, IntegerLit, OctLit, StringLit,
 };

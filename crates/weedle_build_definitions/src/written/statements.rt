@@ -27,8 +27,8 @@ use weedle_build_base::{
     At, Build, BuildResult, five_fields, seven_fields, six_fields, two_fields,
 };
 use weedle_build_types::{Arguments, Attributes, Held};
-use weedle_literal::StringLit;
 use weedle_parts::common::{Docstring, Identifier};
+use weedle_parts::literal::StringLit;
 use weedle_rules::{Ends, Rule};
 use weedle_statements::{
     CallbackDefinition, EnumDefinition, EnumVariant, ImplementsDefinition,

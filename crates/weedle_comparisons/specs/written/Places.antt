@@ -7,14 +7,14 @@ use Rattle.weedle_parts.specs.declared.types.floating_point.FloatingPointType.{F
 use Rattle.weedle_parts.specs.declared.types.floating_point.FloatingPointType.TheVariants.{Float as FloatingPointType-Float, Double as FloatingPointType-Double}
 use Rattle.weedle_parts.specs.declared.types.integer.IntegerType.{IntegerType}
 use Rattle.weedle_parts.specs.declared.types.integer.IntegerType.TheVariants.{LongLong as IntegerType-LongLong, Long as IntegerType-Long, Short as IntegerType-Short}
-use Rattle.weedle_literal.specs.declared.float.FloatLit.{FloatLit}
-use Rattle.weedle_literal.specs.declared.float.FloatLit.TheVariants.{Value as FloatLit-Value, NegInfinity as FloatLit-NegInfinity, Infinity as FloatLit-Infinity, NaN as FloatLit-NaN}
-use Rattle.weedle_literal.specs.declared.integer.IntegerLit.{IntegerLit}
-use Rattle.weedle_literal.specs.declared.integer.IntegerLit.TheVariants.{Dec as IntegerLit-Dec, Hex as IntegerLit-Hex, Oct as IntegerLit-Oct}
-use Rattle.weedle_literal.specs.declared.value.DefaultValue.{DefaultValue}
-use Rattle.weedle_literal.specs.declared.value.DefaultValue.TheVariants.{Boolean as DefaultValue-Boolean, EmptyArray as DefaultValue-EmptyArray, EmptyDictionary as DefaultValue-EmptyDictionary, Float as DefaultValue-Float, Integer as DefaultValue-Integer, Null as DefaultValue-Null, String as DefaultValue-String}
-use Rattle.weedle_literal.specs.declared.value.ConstValue.{ConstValue}
-use Rattle.weedle_literal.specs.declared.value.ConstValue.TheVariants.{Boolean as ConstValue-Boolean, Float as ConstValue-Float, Integer as ConstValue-Integer, Null as ConstValue-Null}
+use Rattle.weedle_parts.specs.declared.literal.float.FloatLit.{FloatLit}
+use Rattle.weedle_parts.specs.declared.literal.float.FloatLit.TheVariants.{Value as FloatLit-Value, NegInfinity as FloatLit-NegInfinity, Infinity as FloatLit-Infinity, NaN as FloatLit-NaN}
+use Rattle.weedle_parts.specs.declared.literal.integer.IntegerLit.{IntegerLit}
+use Rattle.weedle_parts.specs.declared.literal.integer.IntegerLit.TheVariants.{Dec as IntegerLit-Dec, Hex as IntegerLit-Hex, Oct as IntegerLit-Oct}
+use Rattle.weedle_parts.specs.declared.literal.value.DefaultValue.{DefaultValue}
+use Rattle.weedle_parts.specs.declared.literal.value.DefaultValue.TheVariants.{Boolean as DefaultValue-Boolean, EmptyArray as DefaultValue-EmptyArray, EmptyDictionary as DefaultValue-EmptyDictionary, Float as DefaultValue-Float, Integer as DefaultValue-Integer, Null as DefaultValue-Null, String as DefaultValue-String}
+use Rattle.weedle_parts.specs.declared.literal.value.ConstValue.{ConstValue}
+use Rattle.weedle_parts.specs.declared.literal.value.ConstValue.TheVariants.{Boolean as ConstValue-Boolean, Float as ConstValue-Float, Integer as ConstValue-Integer, Null as ConstValue-Null}
 use Rattle.weedle_modifier.specs.declared.modifier.Special.{Special}
 use Rattle.weedle_modifier.specs.declared.modifier.Special.TheVariants.{Getter as Special-Getter, Setter as Special-Setter, Deleter as Special-Deleter, LegacyCaller as Special-LegacyCaller}
 use Rattle.weedle_modifier.specs.declared.modifier.StringifierOrInheritOrStatic.{StringifierOrInheritOrStatic}

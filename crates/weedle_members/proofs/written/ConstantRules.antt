@@ -16,12 +16,12 @@ use Rattle.weedle_grammar.specs.written.Table.Leaves.{IDENTIFIER}
 use Rattle.weedle_grammar.specs.written.Table.Literals.{CONST_VALUE}
 use Rattle.weedle_grammar.specs.written.Table.SimpleTypes.{CONST_TYPE}
 use Rattle.weedle_grammar.specs.written.Table.Symbols.{ASSIGN, SEMI_COLON}
-use Rattle.weedle_literal.specs.LiteralTrees.{const_value_tree}
-use Rattle.weedle_literal.specs.declared.value.ConstValue.{ConstValue}
 use Rattle.weedle_members.specs.declared.constant.ConstMember.{ConstMember}
 use Rattle.weedle_members.specs.written.Trees.{const_member_tree}
+use Rattle.weedle_parts.specs.LiteralTrees.{const_value_tree}
 use Rattle.weedle_parts.specs.ValueTrees.{const_type_tree, identifier_tree}
 use Rattle.weedle_parts.specs.declared.common.identifier.Identifier.{Identifier}
+use Rattle.weedle_parts.specs.declared.literal.value.ConstValue.{ConstValue}
 use Rattle.weedle_parts.specs.declared.types.const_type.ConstType.{ConstType}
 use Rattle.weedle_term.specs.declared.written.definition_keywords.Const.{Const}
 use Rattle.weedle_term.specs.declared.written.symbols.Assign.{Assign}

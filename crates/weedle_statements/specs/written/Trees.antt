@@ -2,7 +2,7 @@
 use Rattle.std.specs.Prelude.{[], ◌∷◌}
 use Rattle.weedle_base.specs.Rules.{option_tree}
 use Rattle.weedle_grammar.specs.Trees.{Mark, Node, Tree, trees}
-use Rattle.weedle_literal.specs.LiteralTrees.{string_tree}
+use Rattle.weedle_parts.specs.LiteralTrees.{string_tree}
 use Rattle.weedle_parts.specs.ValueTrees.{braced_tree, docstring_tree, identifier_tree, punctuated_non_empty_tree}
 use Rattle.weedle_parts.specs.declared.common.brackets.Braced.{Braced}
 use Rattle.weedle_parts.specs.declared.common.punctuated.PunctuatedNonEmpty.{PunctuatedNonEmpty}

@@ -4,9 +4,9 @@ use super::{LESS, LONG, UNSIGNED_SHORT, docstring, inherited, name_list};
 use std::cmp::Ordering;
 use std::test::Fail;
 use weedle_comparisons::laws::{compare, compare_partially, copy, hash_alike, hash_of};
-use weedle_literal::{BooleanLit, ConstValue, FloatLit, HexLit, IntegerLit};
 use weedle_modifier::Special;
 use weedle_parts::common::Identifier;
+use weedle_parts::literal::{BooleanLit, ConstValue, FloatLit, HexLit, IntegerLit};
 use weedle_term::{Comma, Deleter, NaN};
 
 #[test]

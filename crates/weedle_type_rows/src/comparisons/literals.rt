@@ -3,7 +3,7 @@
 use super::{EQUAL, GREATER, LESS};
 use std::test::Fail;
 use weedle_comparisons::literals::*;
-use weedle_literal::{
+use weedle_parts::literal::{
     BooleanLit, ConstValue, DecLit, Default, DefaultValue, EmptyArrayLit, EmptyDictionaryLit,
     FloatLit, FloatValueLit, HexLit, IntegerLit, OctLit, StringLit,
 };

@@ -23,8 +23,8 @@ use super::attributes::attributes;
 use super::kinds::{attributed_type, type_};
 use std::alloc::Global;
 use weedle_build_base::{At, Build, BuildResult, choice, visit};
-use weedle_literal::Default;
 use weedle_parts::common::{Identifier, Punctuated};
+use weedle_parts::literal::Default;
 use weedle_rules::{Ends, Rule};
 use weedle_term::{CloseParen, Comma, Ellipsis, OpenParen, Optional};
 use weedle_types::argument::{

@@ -12,7 +12,7 @@ ghost use Rattle.weedle_comparisons.specs.written.Places.{
 };
 
 use std::cmp::Ordering;
-use weedle_literal::{
+use weedle_parts::literal::{
     BooleanLit, ConstValue, DecLit, Default, DefaultValue, EmptyArrayLit, EmptyDictionaryLit,
     FloatLit, FloatValueLit, HexLit, IntegerLit, OctLit, StringLit,
 };

@@ -5,8 +5,8 @@
 ghost use Rattle.std.specs.Prelude.{◌≡◌};
 ghost use Rattle.std.specs.Ordering.{ordering_then};
 
-use weedle_literal::StringLit;
 use weedle_parts::common::{Braced, Docstring, Identifier};
+use weedle_parts::literal::StringLit;
 use weedle_statements::{
     CallbackDefinition, EnumDefinition, EnumValueList, EnumVariant, ImplementsDefinition,
     IncludesStatementDefinition, TypedefDefinition,
