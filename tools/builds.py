@@ -23,7 +23,7 @@ from declared import public_part
 from description.declarations import declared_by, declared_in, split, type_of
 from description.layout import use_line
 from description.names import upper
-from description.readings import CRATES, lacking
+from description.readings import CRATES, TERMINALS, lacking
 from description.uses import ghost_line
 from description.webidl import BY_NAME, KEYWORDS, NUMBER, SECTIONS
 from written.imports import imported
@@ -61,7 +61,7 @@ BASE = "weedle_build_base"
 # The types that lead back to themselves, and the crate that builds them.
 TYPES, TYPES_BUILT = "weedle_types", "weedle_build_types"
 # The types of these are built by what terminals.py and build_types.py write.
-BY_OTHERS = ("weedle_term", TYPES)
+BY_OTHERS = (TERMINALS, TYPES)
 # How many fields one call builds, by the word in the name of its function in STRUCTS.
 COUNTS = dict(enumerate("two three four five six seven eight".split(), start=2))
 STRUCTS = f"crates/{BASE}/src/structs.rt"

@@ -222,7 +222,7 @@ class Writer:
 def unwritten(done):
     """The declared types that none of the files has; those of LEAF_CRATES are spelt by hand."""
     for name, it in DECLARED.types.items():
-        if it.crate not in LEAF_CRATES and function(type_of(name)) not in done:
+        if it.home not in LEAF_CRATES and function(type_of(name)) not in done:
             yield name
 
 

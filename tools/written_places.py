@@ -21,6 +21,7 @@ from pathlib import Path
 FOLDER = "written"
 # Folders further down. Each has a module by hand above it, and others by hand may stand in it.
 FOLDERS = """
+    weedle_base/src/term
     weedle_build_types/proofs/types
     weedle_build_types/src/types
     weedle_comparisons/proofs/orders

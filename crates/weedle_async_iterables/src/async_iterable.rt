@@ -15,9 +15,9 @@ mod written;
 
 use crate::parts::{async_iterable, optional_arguments};
 use std::alloc::Global;
+use weedle_base::term::{Async, Comma, Iterable, SemiColon};
 use weedle_base::{IResult, Parse};
 use weedle_parts::common::Generics;
-use weedle_term::{Async, Comma, Iterable, SemiColon};
 use weedle_types::argument::ParenthesizedArgumentList;
 use weedle_types::attribute::ExtendedAttributeList;
 use weedle_types::parts::attributes;

@@ -12,8 +12,8 @@ ghost use Rattle.weedle_grammar.specs.written.Table.InterfaceMembers.{
 };
 
 use std::alloc::Global;
+use weedle_base::term::{Async, Iterable};
 use weedle_base::{IResult, Parse};
-use weedle_term::{Async, Iterable};
 use weedle_types::argument::ParenthesizedArgumentList;
 
 /// Reads arguments where they stand.

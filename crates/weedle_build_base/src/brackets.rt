@@ -24,13 +24,13 @@ use crate::at::At;
 use crate::build::{Build, BuildResult};
 use crate::structs::{three_fields, two_fields};
 use std::alloc::Global;
-use weedle_parts::common::{Braced, Bracketed, Generics, Parenthesized};
-use weedle_parts::types::MayBeNull;
-use weedle_rules::{Ends, Rule};
-use weedle_term::{
+use weedle_base::term::{
     CloseBrace, CloseBracket, CloseParen, GreaterThan, LessThan, OpenBrace, OpenBracket, OpenParen,
     QMark,
 };
+use weedle_parts::common::{Braced, Bracketed, Generics, Parenthesized};
+use weedle_parts::types::MayBeNull;
+use weedle_rules::{Ends, Rule};
 
 impl<'a, T: Build<'a>> Build<'a> for Parenthesized<T> {
     type Value = Parenthesized<T::Value>;

@@ -1,8 +1,8 @@
 //! What others are built of.
 
+use weedle_base::term::Comma;
 use weedle_parts::common::{Braced, PunctuatedNonEmpty};
 use weedle_statements::EnumVariant;
-use weedle_term::Comma;
 
 /// How a `T` is built: the `Build` of a mixin, a namespace, a dictionary or of what stands in one,
 /// or of a definition without members, whose type stands in another crate.

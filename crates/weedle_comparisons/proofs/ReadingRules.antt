@@ -4,6 +4,7 @@ use Rattle.weedle_base.proofs.RuleFacts.{own_rule, wider_rule}
 use Rattle.weedle_base.specs.Generic.{pair_reading, seen_reading}
 use Rattle.weedle_base.specs.Own.{own}
 use Rattle.weedle_base.specs.Rules.{HasRule}
+use Rattle.weedle_base.specs.declared.term.written.symbols.Comma.{Comma}
 use Rattle.weedle_grammar.specs.written.Table.InterfaceMembers.{BRACED_INTERFACE_MEMBERS, INTERFACE_MEMBER, INTERFACE_MEMBERS}
 use Rattle.weedle_grammar.specs.written.Table.OtherMembers.{BRACED_DICTIONARY_MEMBERS, BRACED_MIXIN_MEMBERS, BRACED_NAMESPACE_MEMBERS, DICTIONARY_MEMBER, DICTIONARY_MEMBERS, MIXIN_MEMBER, MIXIN_MEMBERS, NAMESPACE_MEMBER, NAMESPACE_MEMBERS}
 use Rattle.weedle_grammar.specs.written.Table.Types.{PARENTHESIZED_ARGUMENT_LIST}
@@ -15,7 +16,6 @@ use Rattle.weedle_parts.specs.Brackets.{braced_reading, parenthesized_reading}
 use Rattle.weedle_parts.specs.Lists.{punctuated_reading}
 use Rattle.weedle_parts.specs.ValueTrees.{braced_tree, parenthesized_tree}
 use Rattle.weedle_parts.specs.declared.common.punctuated.Punctuated.{Punctuated}
-use Rattle.weedle_term.specs.declared.written.symbols.Comma.{Comma}
 use Rattle.weedle_types.proofs.AliasRules.{argument_list_law, argument_list_reading}
 use Rattle.weedle_types.proofs.SharedRules.{members_reading, members_rule}
 use Rattle.weedle_types.specs.PartTrees.{members_tree}

@@ -8,10 +8,10 @@ ghost use Rattle.weedle_grammar.specs.written.Table.InterfaceMembers.{CONSTRUCTO
 mod written;
 
 use std::alloc::Global;
+use weedle_base::term::{Constructor, SemiColon};
 use weedle_base::{IResult, Parse};
 use weedle_modifier::{Special, StringifierOrStatic};
 use weedle_parts::common::{Docstring, Identifier};
-use weedle_term::{Constructor, SemiColon};
 use weedle_types::argument::ParenthesizedArgumentList;
 use weedle_types::attribute::ExtendedAttributeList;
 use weedle_types::parts::attributes;

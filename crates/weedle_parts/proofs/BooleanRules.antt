@@ -7,8 +7,8 @@ use Rattle.weedle_grammar.specs.written.Table.Keywords.{TRUE, FALSE}
 use Rattle.weedle_grammar.specs.written.Table.Literals.{BOOLEAN_LIT}
 use Rattle.weedle_base.specs.declared.fault.Error.{Error}
 use Rattle.weedle_base.specs.declared.fault.Err.{Err as Fault}
-use Rattle.weedle_term.specs.declared.written.type_keywords.True.{True}
-use Rattle.weedle_term.specs.declared.written.type_keywords.False.{False}
+use Rattle.weedle_base.specs.declared.term.written.type_keywords.True.{True}
+use Rattle.weedle_base.specs.declared.term.written.type_keywords.False.{False}
 use Rattle.weedle_base.specs.Reading.{Reading, Got, Faults}
 use Rattle.weedle_base.specs.Generic.{choice_reading, option_reading}
 use Rattle.weedle_base.proofs.ChoiceFacts.{choice_tree, choose_left, choose_right, end_left, end_right, first_last, first_more, first_rule}

@@ -7,7 +7,7 @@ use Rattle.weedle_grammar.specs.written.Table.Symbols.{ASSIGN}
 use Rattle.weedle_grammar.specs.written.Table.Literals.{DEFAULT_VALUE, DEFAULT}
 use Rattle.weedle_base.specs.declared.fault.Err.{Err as Fault}
 use Rattle.weedle_base.specs.declared.fault.Error.{Error}
-use Rattle.weedle_term.specs.declared.written.symbols.Assign.{Assign}
+use Rattle.weedle_base.specs.declared.term.written.symbols.Assign.{Assign}
 use Rattle.weedle_base.specs.Own.{own}
 use Rattle.weedle_base.specs.Reading.{Reading, Got, Faults}
 use Rattle.weedle_base.specs.Rules.{IsRule}

@@ -7,10 +7,10 @@ use Rattle.weedle_grammar.specs.written.Table.Symbols.{OPEN_BRACKET, CLOSE_BRACK
 use Rattle.weedle_grammar.specs.written.Table.Literals.{EMPTY_ARRAY_LIT, EMPTY_DICTIONARY_LIT}
 use Rattle.weedle_base.specs.declared.fault.Err.{Err as Fault}
 use Rattle.weedle_base.specs.declared.fault.Error.{Error}
-use Rattle.weedle_term.specs.declared.written.symbols.OpenBracket.{OpenBracket}
-use Rattle.weedle_term.specs.declared.written.symbols.CloseBracket.{CloseBracket}
-use Rattle.weedle_term.specs.declared.written.symbols.OpenBrace.{OpenBrace}
-use Rattle.weedle_term.specs.declared.written.symbols.CloseBrace.{CloseBrace}
+use Rattle.weedle_base.specs.declared.term.written.symbols.OpenBracket.{OpenBracket}
+use Rattle.weedle_base.specs.declared.term.written.symbols.CloseBracket.{CloseBracket}
+use Rattle.weedle_base.specs.declared.term.written.symbols.OpenBrace.{OpenBrace}
+use Rattle.weedle_base.specs.declared.term.written.symbols.CloseBrace.{CloseBrace}
 use Rattle.weedle_base.specs.Own.{own}
 use Rattle.weedle_base.specs.Reading.{Reading, Got, Faults}
 use Rattle.weedle_base.specs.Rules.{IsRule}

@@ -8,9 +8,9 @@ use Rattle.weedle_grammar.specs.written.Table.Leaves.{FLOAT_VALUE_LIT}
 use Rattle.weedle_grammar.specs.written.Table.Literals.{FLOAT_LIT}
 use Rattle.weedle_base.specs.declared.fault.Err.{Err as Fault}
 use Rattle.weedle_base.specs.declared.fault.Error.{Error}
-use Rattle.weedle_term.specs.declared.written.capitalized_keywords.Infinity.{Infinity}
-use Rattle.weedle_term.specs.declared.written.capitalized_keywords.NaN.{NaN}
-use Rattle.weedle_term.specs.declared.written.capitalized_keywords.NegInfinity.{NegInfinity}
+use Rattle.weedle_base.specs.declared.term.written.capitalized_keywords.Infinity.{Infinity}
+use Rattle.weedle_base.specs.declared.term.written.capitalized_keywords.NaN.{NaN}
+use Rattle.weedle_base.specs.declared.term.written.capitalized_keywords.NegInfinity.{NegInfinity}
 use Rattle.weedle_base.specs.Own.{own}
 use Rattle.weedle_base.specs.Reading.{Reading, Got, Faults}
 use Rattle.weedle_base.specs.Rules.{IsRule}

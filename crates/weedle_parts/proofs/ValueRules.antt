@@ -8,7 +8,7 @@ use Rattle.weedle_grammar.specs.written.Table.Leaves.{STRING_LIT}
 use Rattle.weedle_grammar.specs.written.Table.Literals.{BOOLEAN_LIT, INTEGER_LIT, FLOAT_LIT, EMPTY_ARRAY_LIT, EMPTY_DICTIONARY_LIT, DEFAULT_VALUE, CONST_VALUE}
 use Rattle.weedle_base.specs.declared.fault.Err.{Err as Fault}
 use Rattle.weedle_base.specs.declared.fault.Error.{Error}
-use Rattle.weedle_term.specs.declared.written.type_keywords.Null.{Null}
+use Rattle.weedle_base.specs.declared.term.written.type_keywords.Null.{Null}
 use Rattle.weedle_base.specs.Own.{own}
 use Rattle.weedle_base.specs.Reading.{Reading, Got, Faults}
 use Rattle.weedle_base.specs.Rules.{IsRule}

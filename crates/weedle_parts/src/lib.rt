@@ -5,7 +5,7 @@
 //! ```rust
 //! use weedle_parts::common::{Identifier, Parenthesized, Punctuated};
 //! use weedle_base::Parse;
-//! use weedle_term::Comma;
+//! use weedle_base::term::Comma;
 //!
 //! let text = "(a, b) c";
 //! let names = Parenthesized::<Punctuated<Identifier, Comma>>::parse(rt.alloc(), text);

@@ -1,8 +1,8 @@
 -- What types, arguments and extended attributes take, which hold one another: by cases on the value, as their trees and spellings are.
 use Rattle.std.proofs.Common.{◌≡◌, ℕ, List, [], ◌∷◌, map, codes, Option, Some, None, true, false, refl, ap}
 use Rattle.weedle_base.specs.Rules.{mark_tree, option_tree}
-use Rattle.weedle_term.specs.declared.written.symbols.QMark.{QMark}
-use Rattle.weedle_term.specs.declared.written.type_keywords.Optional.{Optional}
+use Rattle.weedle_base.specs.declared.term.written.symbols.QMark.{QMark}
+use Rattle.weedle_base.specs.declared.term.written.type_keywords.Optional.{Optional}
 use Rattle.weedle_parts.specs.LiteralTrees.{default_tree}
 use Rattle.weedle_parts.specs.declared.literal.default.Default.{Default}
 use Rattle.weedle_grammar.specs.Meaning.{Marked, Plain}

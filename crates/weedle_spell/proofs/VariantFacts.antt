@@ -1,7 +1,7 @@
 -- Each variant of the types that hold one another is spelt as its member is.
 use Rattle.std.proofs.Common.{◌≡◌, refl, ap, sym, ◌∙◌, subst, Option, None, Some, Vec, Global, codes}
-use Rattle.weedle_term.specs.declared.written.symbols.Comma.{Comma}
-use Rattle.weedle_term.specs.declared.written.type_keywords.Or.{Or}
+use Rattle.weedle_base.specs.declared.term.written.symbols.Comma.{Comma}
+use Rattle.weedle_base.specs.declared.term.written.type_keywords.Or.{Or}
 use Rattle.weedle_parts.specs.declared.common.brackets.Bracketed.{Bracketed}
 use Rattle.weedle_parts.specs.declared.common.brackets.Parenthesized.{Parenthesized}
 use Rattle.weedle_parts.specs.declared.common.punctuated.Punctuated.{Punctuated}

@@ -1,6 +1,6 @@
 -- How types, arguments and extended attributes are spelt, which hold one another: by cases on the value, as the logic holds it, in which each value stands flat with the parts of what it holds.
 use Rattle.std.specs.Prelude.{Option, Some, None, codes}
-use Rattle.weedle_term.specs.declared.written.type_keywords.Optional.{Optional}
+use Rattle.weedle_base.specs.declared.term.written.type_keywords.Optional.{Optional}
 use Rattle.weedle_parts.specs.declared.literal.default.Default.{Default}
 use Rattle.weedle_types.specs.declared.argument.Argument.{Argument}
 use Rattle.weedle_types.specs.declared.argument.Argument.TheBlock.{Held-NonAnyType-Promise-0-4, Undefined', Type_', Held-RecordTypes-0-4, RecordTypes-0-4-Byte', DOM', USV', RecordTypes-0-4-NonAny', Held-Type-Single-0, Any', Type-Single-0-NonAny', Held-SingleArgument-attributes, None', Some', Row_of-Argument, end_of-Argument, more_of-Argument, Row_of-UnionMemberType, end_of-UnionMemberType, more_of-UnionMemberType, Row_of-ExtendedAttribute, end_of-ExtendedAttribute, more_of-ExtendedAttribute}

@@ -1,6 +1,6 @@
 -- A variant of the types that hold one another has the tree of its member, as the alternative of the variant's place.
 use Rattle.std.specs.Prelude.{◌≡◌}
-use Rattle.weedle_term.specs.declared.written.type_keywords.Or.{Or}
+use Rattle.weedle_base.specs.declared.term.written.type_keywords.Or.{Or}
 use Rattle.weedle_parts.specs.declared.common.brackets.Parenthesized.{Parenthesized}
 use Rattle.weedle_parts.specs.declared.common.punctuated.Punctuated.{Punctuated}
 use Rattle.weedle_parts.specs.ValueTrees.{may_be_null_tree}

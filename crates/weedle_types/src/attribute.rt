@@ -23,10 +23,10 @@ mod written;
 
 use crate::argument::ParenthesizedArgumentList;
 use std::alloc::Global;
+use weedle_base::term::{Assign, Comma};
 use weedle_base::{IResult, Parse};
 use weedle_parts::common::{Bracketed, Identifier, Parenthesized, Punctuated};
 use weedle_parts::literal::StringLit;
-use weedle_term::{Assign, Comma};
 
 /// Extended attributes in brackets, as `[Exposed=Window, SecureContext]`; `[]` too.
 pub type ExtendedAttributeList<'a> = Bracketed<Punctuated<ExtendedAttribute<'a>, Comma>>;

@@ -10,8 +10,8 @@ use crate::attribute::ExtendedAttributeList;
 use crate::types::AttributedType;
 use std::alloc::{AllocError, Global};
 use weedle_base::TryClone;
+use weedle_base::term::Comma;
 use weedle_parts::common::{Docstring, Generics};
-use weedle_term::Comma;
 
 /// Copies extended attributes, where they stand. It fails where memory is refused.
 #[tactic(auto, using(crate::proofs::CopyFacts::attributes_alike))]

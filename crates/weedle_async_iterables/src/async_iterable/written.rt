@@ -19,9 +19,9 @@ use super::{AsyncIterableInterfaceMember, DoubleTypedAsyncIterable, SingleTypedA
 use crate::copies::copy_optional_arguments;
 use std::alloc::{AllocError, Global};
 use weedle_base::Choice::{self, First, Second};
+use weedle_base::term::{Async, Comma, Iterable, SemiColon};
 use weedle_base::{IResult, Parse, TryClone};
 use weedle_parts::common::Generics;
-use weedle_term::{Async, Comma, Iterable, SemiColon};
 use weedle_types::argument::ParenthesizedArgumentList;
 use weedle_types::attribute::ExtendedAttributeList;
 use weedle_types::copies::{copy_attributes, copy_one_type, copy_two_types};

@@ -17,6 +17,7 @@ ghost use Rattle.weedle_namespaces.specs.written.Trees.{
 
 use crate::part::DefinitionPart;
 use std::alloc::Global;
+use weedle_base::term::{Dictionary, Partial, Required, SemiColon};
 use weedle_build_base::{At, Build, BuildResult, seven_fields, six_fields};
 use weedle_build_types::{Attributes, Held};
 use weedle_modifier::Inheritance;
@@ -25,7 +26,6 @@ use weedle_namespaces::{DictionaryDefinition, PartialDictionaryDefinition};
 use weedle_parts::common::{Braced, Docstring, Identifier};
 use weedle_parts::literal::Default;
 use weedle_rules::{Ends, Rule};
-use weedle_term::{Dictionary, Partial, Required, SemiColon};
 use weedle_types::types::Type;
 
 impl<'a> Build<'a> for DefinitionPart<DictionaryMember<'a>> {

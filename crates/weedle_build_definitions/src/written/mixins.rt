@@ -23,6 +23,7 @@ ghost use Rattle.weedle_mixins.specs.written.Trees.{
 
 use crate::part::DefinitionPart;
 use std::alloc::Global;
+use weedle_base::term::{Attribute, Interface, Mixin, Partial, ReadOnly, SemiColon, Stringifier};
 use weedle_build_base::{At, Build, BuildResult, alternative, choice, seven_fields, six_fields};
 use weedle_build_members::MemberPart;
 use weedle_build_types::{Arguments, Attributes, Held};
@@ -31,7 +32,6 @@ use weedle_mixins::mixin::{AttributeMixinMember, MixinMember, OperationMixinMemb
 use weedle_mixins::{InterfaceMixinDefinition, PartialInterfaceMixinDefinition};
 use weedle_parts::common::{Braced, Identifier};
 use weedle_rules::{Ends, Rule};
-use weedle_term::{Attribute, Interface, Mixin, Partial, ReadOnly, SemiColon, Stringifier};
 use weedle_types::types::{AttributedType, ReturnType};
 
 impl<'a> Build<'a> for DefinitionPart<OperationMixinMember<'a>> {

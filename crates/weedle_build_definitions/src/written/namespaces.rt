@@ -23,6 +23,7 @@ ghost use Rattle.weedle_namespaces.specs.written.Trees.{
 
 use crate::part::DefinitionPart;
 use std::alloc::Global;
+use weedle_base::term::{Attribute, Namespace, Partial, ReadOnly, SemiColon};
 use weedle_build_base::{At, Build, BuildResult, alternative, choice, seven_fields, six_fields};
 use weedle_build_types::{Arguments, Attributes, Held};
 use weedle_namespaces::namespace::{
@@ -31,7 +32,6 @@ use weedle_namespaces::namespace::{
 use weedle_namespaces::{NamespaceDefinition, PartialNamespaceDefinition};
 use weedle_parts::common::{Braced, Docstring, Identifier};
 use weedle_rules::{Ends, Rule};
-use weedle_term::{Attribute, Namespace, Partial, ReadOnly, SemiColon};
 use weedle_types::types::{AttributedType, ReturnType};
 
 impl<'a> Build<'a> for DefinitionPart<OperationNamespaceMember<'a>> {

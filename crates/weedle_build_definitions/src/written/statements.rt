@@ -23,6 +23,7 @@ ghost use Rattle.weedle_statements.specs.written.Trees.{
 
 use crate::part::{DefinitionPart, EnumValues};
 use std::alloc::Global;
+use weedle_base::term::{Assign, Callback, Enum, Implements, Includes, SemiColon, Typedef};
 use weedle_build_base::{
     At, Build, BuildResult, five_fields, seven_fields, six_fields, two_fields,
 };
@@ -34,7 +35,6 @@ use weedle_statements::{
     CallbackDefinition, EnumDefinition, EnumVariant, ImplementsDefinition,
     IncludesStatementDefinition, TypedefDefinition,
 };
-use weedle_term::{Assign, Callback, Enum, Implements, Includes, SemiColon, Typedef};
 use weedle_types::types::{AttributedType, ReturnType};
 
 impl<'a> Build<'a> for DefinitionPart<EnumVariant<'a>> {

@@ -5,7 +5,7 @@
 ghost use Rattle.std.specs.Prelude.{◌≡◌, ◌↔◌};
 
 use std::cmp::Ordering;
-use weedle_term::{
+use weedle_base::term::{
     Any, ArrayBuffer, ArrayBufferView, Assign, Async, Attribute, Boolean, BufferSource, Byte,
     ByteString, Callback, CloseBrace, CloseBracket, CloseParen, Colon, Comma, Const, Constructor,
     DOMString, DataView, Deleter, Dictionary, Dot, Double, Ellipsis, Enum, Error, False, Float,

@@ -21,13 +21,13 @@ use super::{CallbackInterfaceDefinition, InterfaceDefinition, PartialInterfaceDe
 use crate::InterfaceMembers;
 use crate::members::copy_interface_members;
 use std::alloc::{AllocError, Global};
+use weedle_base::term::{Callback, Interface, Partial, SemiColon};
 use weedle_base::{IResult, Parse, TryClone};
 use weedle_fields::{
     attributes_and_five, docstring_attributes_and_five, docstring_attributes_and_six,
 };
 use weedle_modifier::Inheritance;
 use weedle_parts::common::{Braced, Docstring, Identifier};
-use weedle_term::{Callback, Interface, Partial, SemiColon};
 use weedle_types::attribute::ExtendedAttributeList;
 use weedle_types::copies::{copy_attributes, copy_docstring};
 

@@ -19,10 +19,10 @@ use super::{InterfaceMixinDefinition, PartialInterfaceMixinDefinition};
 use crate::copies::copy_mixin_members;
 use crate::mixin::MixinMembers;
 use std::alloc::{AllocError, Global};
+use weedle_base::term::{Interface, Mixin, Partial, SemiColon};
 use weedle_base::{IResult, Parse, TryClone};
 use weedle_fields::{attributes_and_five, attributes_and_six};
 use weedle_parts::common::{Braced, Identifier};
-use weedle_term::{Interface, Mixin, Partial, SemiColon};
 use weedle_types::attribute::ExtendedAttributeList;
 use weedle_types::copies::copy_attributes;
 

@@ -19,8 +19,8 @@ ghost use Rattle.weedle_modifier.specs.written.Trees.{
 use super::{Special, StringifierOrInheritOrStatic, StringifierOrStatic};
 use std::alloc::Global;
 use weedle_base::Choice::{self, First, Second};
+use weedle_base::term::{Deleter, Getter, Inherit, LegacyCaller, Setter, Static, Stringifier};
 use weedle_base::{IResult, Parse};
-use weedle_term::{Deleter, Getter, Inherit, LegacyCaller, Setter, Static, Stringifier};
 
 #[tactic(auto, using(crate::proofs::written::ModifierRules::special_steps))]
 impl<'a> Parse<'a> for Special {

@@ -19,11 +19,11 @@ use super::{DictionaryDefinition, PartialDictionaryDefinition};
 use crate::copies::copy_dictionary_members;
 use crate::dictionary::DictionaryMembers;
 use std::alloc::{AllocError, Global};
+use weedle_base::term::{Dictionary, Partial, SemiColon};
 use weedle_base::{IResult, Parse, TryClone};
 use weedle_fields::{attributes_and_five, docstring_attributes_and_five};
 use weedle_modifier::Inheritance;
 use weedle_parts::common::{Braced, Docstring, Identifier};
-use weedle_term::{Dictionary, Partial, SemiColon};
 use weedle_types::attribute::ExtendedAttributeList;
 use weedle_types::copies::{copy_attributes, copy_docstring};
 

@@ -19,10 +19,10 @@ use super::{NamespaceDefinition, PartialNamespaceDefinition};
 use crate::copies::copy_namespace_members;
 use crate::namespace::NamespaceMembers;
 use std::alloc::{AllocError, Global};
+use weedle_base::term::{Namespace, Partial, SemiColon};
 use weedle_base::{IResult, Parse, TryClone};
 use weedle_fields::{attributes_and_five, docstring_attributes_and_four};
 use weedle_parts::common::{Braced, Docstring, Identifier};
-use weedle_term::{Namespace, Partial, SemiColon};
 use weedle_types::attribute::ExtendedAttributeList;
 use weedle_types::copies::{copy_attributes, copy_docstring};
 

@@ -6,8 +6,8 @@ ghost use Rattle.weedle_base.specs.OwnLaws.{own_lawful};
 ghost use Rattle.weedle_parts.specs.LiteralTrees.{boolean_tree};
 
 use std::alloc::Global;
+use weedle_base::term::{False, True};
 use weedle_base::{IResult, Parse};
-use weedle_term::{False, True};
 
 /// The word `true` or `false`. Any other word is a mismatch, as `truest` is.
 #[derive(Clone, Copy, Debug, PartialEq, Eq, PartialOrd, Ord, Hash)]

@@ -7,8 +7,8 @@ ghost use Rattle.weedle_parts.specs.LiteralTrees.{default_tree};
 
 use super::value::DefaultValue;
 use std::alloc::Global;
+use weedle_base::term::Assign;
 use weedle_base::{IResult, Parse};
-use weedle_term::Assign;
 
 /// A default, as `= 5` behind an argument's name. Without the `=`, or where no value follows it, it
 /// is a mismatch. It takes no memory and never gives a failure.

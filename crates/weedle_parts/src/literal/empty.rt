@@ -6,8 +6,8 @@ ghost use Rattle.weedle_base.specs.OwnLaws.{own_lawful};
 ghost use Rattle.weedle_parts.specs.LiteralTrees.{empty_array_tree, empty_dictionary_tree};
 
 use std::alloc::Global;
+use weedle_base::term::{CloseBrace, CloseBracket, OpenBrace, OpenBracket};
 use weedle_base::{IResult, Parse};
-use weedle_term::{CloseBrace, CloseBracket, OpenBrace, OpenBracket};
 
 /// An empty list, as `[ ]`. Anything between the brackets but trivia is a mismatch.
 #[derive(Clone, Copy, Debug, Default, PartialEq, Eq, PartialOrd, Ord, Hash)]

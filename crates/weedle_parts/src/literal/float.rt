@@ -24,9 +24,9 @@ ghost use Rattle.weedle_parts.specs.LiteralTrees.{float_value_tree, float_tree};
 use super::integer::skip_minus;
 use std::alloc::Global;
 use weedle_base::scan::{after_one, after_run, after_word, skip_trivia, taken};
+use weedle_base::term::{Infinity, NaN, NegInfinity};
 use weedle_base::{IResult, Parse, mismatch};
 use weedle_grammar::{Class, Rule};
-use weedle_term::{Infinity, NaN, NegInfinity};
 
 /// A number with a point or an exponent, as `-.5E+3`, `5.` or `1e3`. An exponent without digits is
 /// left, so `1.5e` is `1.5` and an `e` that stays unread. Without a point and an exponent it is a

@@ -12,8 +12,8 @@ use super::float::FloatLit;
 use super::integer::IntegerLit;
 use super::string::StringLit;
 use std::alloc::Global;
+use weedle_base::term::Null;
 use weedle_base::{IResult, Parse};
-use weedle_term::Null;
 
 /// The value of a default, as `"blob"` or `[]`: the first of the seven forms that fits. Anything
 /// else is a mismatch, as `undefined` is. Up to thirteen literals and words are tried.

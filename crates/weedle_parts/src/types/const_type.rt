@@ -11,8 +11,8 @@ use super::integer::IntegerType;
 use super::may_be_null::MayBeNull;
 use crate::common::Identifier;
 use std::alloc::Global;
+use weedle_base::term::{Boolean, Byte, Octet};
 use weedle_base::{IResult, Parse};
-use weedle_term::{Boolean, Byte, Octet};
 
 /// The type of a constant, as `long?`: a type of numbers, `boolean`, `byte`, `octet` or a name, and
 /// `?` where it may be null. It takes no memory. Of what its variants read, `?` may be absent.

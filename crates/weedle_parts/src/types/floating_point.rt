@@ -15,8 +15,8 @@ ghost use Rattle.weedle_parts.specs.ValueTrees.{
 };
 
 use std::alloc::Global;
+use weedle_base::term::{Double, Float, Unrestricted};
 use weedle_base::{IResult, Parse};
-use weedle_term::{Double, Float, Unrestricted};
 
 /// `float` or `unrestricted float`.
 #[derive(Clone, Copy, Debug, PartialEq, Eq, PartialOrd, Ord, Hash)]

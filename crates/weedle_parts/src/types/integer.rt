@@ -17,8 +17,8 @@ ghost use Rattle.weedle_parts.specs.ValueTrees.{
 };
 
 use std::alloc::Global;
+use weedle_base::term::{Long, Short, Unsigned};
 use weedle_base::{IResult, Parse};
-use weedle_term::{Long, Short, Unsigned};
 
 /// `long long` or `unsigned long long`.
 #[derive(Clone, Copy, Debug, PartialEq, Eq, PartialOrd, Ord, Hash)]

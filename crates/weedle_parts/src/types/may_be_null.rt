@@ -10,8 +10,8 @@ ghost use Rattle.weedle_parts.specs.MayBeNull.{may_be_null_reading};
 ghost use Rattle.weedle_parts.specs.PartLaws.{may_be_null_lawful};
 
 use std::alloc::{AllocError, Global};
+use weedle_base::term::QMark;
 use weedle_base::{IResult, Parse, TryClone};
-use weedle_term::QMark;
 
 /// A type, and `?` where it may be null, as `long?`.
 #[derive(Clone, Copy, Debug, Drop, PartialEq, Eq, PartialOrd, Ord, Hash)]

@@ -1,6 +1,7 @@
 -- How extended attributes and arguments are spelt.
 -- Written by tools/spellings.py, and not edited by hand.
 use Rattle.std.specs.Prelude.{Option, codes}
+use Rattle.weedle_base.specs.declared.term.written.symbols.Comma.{Comma}
 use Rattle.weedle_parts.specs.declared.common.brackets.Bracketed.{Bracketed}
 use Rattle.weedle_parts.specs.declared.common.punctuated.Punctuated.{Punctuated}
 use Rattle.weedle_spell.specs.Forms.{Form, optional, ◌then◌}
@@ -8,7 +9,6 @@ use Rattle.weedle_spell.specs.GenericParts.{bracketed_spelling, punctuated_spell
 use Rattle.weedle_spell.specs.Leaves.{identifier_spelling, terminal}
 use Rattle.weedle_spell.specs.RecursiveTypes.{argument_spelling, default_where_optional, extended_attribute_spelling, type_spelling}
 use Rattle.weedle_spell.specs.Tokens.{word}
-use Rattle.weedle_term.specs.declared.written.symbols.Comma.{Comma}
 use Rattle.weedle_types.specs.declared.argument.Argument.{Argument}
 use Rattle.weedle_types.specs.declared.argument.ParenthesizedArgumentList.{ParenthesizedArgumentList}
 use Rattle.weedle_types.specs.declared.argument.SingleArgument.{SingleArgument}

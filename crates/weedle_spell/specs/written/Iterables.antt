@@ -4,6 +4,9 @@ use Rattle.weedle_async_iterables.specs.declared.async_iterable.AsyncIterableInt
 use Rattle.weedle_async_iterables.specs.declared.async_iterable.AsyncIterableInterfaceMember.{AsyncIterableInterfaceMember}
 use Rattle.weedle_async_iterables.specs.declared.async_iterable.DoubleTypedAsyncIterable.{DoubleTypedAsyncIterable}
 use Rattle.weedle_async_iterables.specs.declared.async_iterable.SingleTypedAsyncIterable.{SingleTypedAsyncIterable}
+use Rattle.weedle_base.specs.declared.term.written.definition_keywords.Async.{Async}
+use Rattle.weedle_base.specs.declared.term.written.definition_keywords.Iterable.{Iterable}
+use Rattle.weedle_base.specs.declared.term.written.symbols.Comma.{Comma}
 use Rattle.weedle_iterables.specs.declared.collection.MaplikeInterfaceMember.{MaplikeInterfaceMember}
 use Rattle.weedle_iterables.specs.declared.collection.SetlikeInterfaceMember.{SetlikeInterfaceMember}
 use Rattle.weedle_iterables.specs.declared.iterable.DoubleTypedIterable.{DoubleTypedIterable}
@@ -15,9 +18,6 @@ use Rattle.weedle_spell.specs.GenericParts.{generics_spelling}
 use Rattle.weedle_spell.specs.Leaves.{terminal}
 use Rattle.weedle_spell.specs.written.Arguments.{arguments_spelling, attributes_spelling}
 use Rattle.weedle_spell.specs.written.Types.{attributed_type_spelling}
-use Rattle.weedle_term.specs.declared.written.definition_keywords.Async.{Async}
-use Rattle.weedle_term.specs.declared.written.definition_keywords.Iterable.{Iterable}
-use Rattle.weedle_term.specs.declared.written.symbols.Comma.{Comma}
 use Rattle.weedle_types.specs.declared.types.AttributedType.{AttributedType}
 
 -- the types of keys and values

@@ -1,13 +1,13 @@
 -- How extended attributes without arguments are spelt.
 -- Written by tools/spellings.py, and not edited by hand.
 use Rattle.std.specs.Prelude.{codes}
+use Rattle.weedle_base.specs.declared.term.written.symbols.Comma.{Comma}
 use Rattle.weedle_parts.specs.declared.common.identifier.Identifier.{Identifier}
 use Rattle.weedle_parts.specs.declared.common.punctuated.Punctuated.{Punctuated}
 use Rattle.weedle_spell.specs.Forms.{Form, ◌then◌}
 use Rattle.weedle_spell.specs.GenericParts.{parenthesized_spelling, punctuated_spelling}
 use Rattle.weedle_spell.specs.Leaves.{identifier_spelling, string_spelling, terminal}
 use Rattle.weedle_spell.specs.Tokens.{word}
-use Rattle.weedle_term.specs.declared.written.symbols.Comma.{Comma}
 use Rattle.weedle_types.specs.declared.attribute.ExtendedAttributeIdent.{ExtendedAttributeIdent}
 use Rattle.weedle_types.specs.declared.attribute.ExtendedAttributeIdentList.{ExtendedAttributeIdentList}
 use Rattle.weedle_types.specs.declared.attribute.ExtendedAttributeNoArgs.{ExtendedAttributeNoArgs}

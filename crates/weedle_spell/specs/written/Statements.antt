@@ -1,5 +1,6 @@
 -- How definitions without members are spelt. Written by tools/spellings.py, and not edited by hand.
 use Rattle.std.specs.Prelude.{codes}
+use Rattle.weedle_base.specs.declared.term.written.symbols.Comma.{Comma}
 use Rattle.weedle_parts.specs.declared.common.punctuated.PunctuatedNonEmpty.{PunctuatedNonEmpty}
 use Rattle.weedle_spell.specs.Forms.{Form, optional, ◌then◌}
 use Rattle.weedle_spell.specs.GenericParts.{braced_spelling, punctuated_non_empty_spelling}
@@ -13,7 +14,6 @@ use Rattle.weedle_statements.specs.declared.enums.EnumVariant.{EnumVariant}
 use Rattle.weedle_statements.specs.declared.statement.ImplementsDefinition.{ImplementsDefinition}
 use Rattle.weedle_statements.specs.declared.statement.IncludesStatementDefinition.{IncludesStatementDefinition}
 use Rattle.weedle_statements.specs.declared.typedef.TypedefDefinition.{TypedefDefinition}
-use Rattle.weedle_term.specs.declared.written.symbols.Comma.{Comma}
 
 -- a callback
 abbrev pub callback_definition_spelling : CallbackDefinition → Form

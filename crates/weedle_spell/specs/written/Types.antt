@@ -2,6 +2,7 @@
 -- Written by tools/spellings.py, and not edited by hand.
 use Rattle.std.specs.Global.{Box}
 use Rattle.std.specs.Prelude.{codes}
+use Rattle.weedle_base.specs.declared.term.written.type_keywords.Or.{Or}
 use Rattle.weedle_parts.specs.declared.common.brackets.Parenthesized.{Parenthesized}
 use Rattle.weedle_parts.specs.declared.common.punctuated.Punctuated.{Punctuated}
 use Rattle.weedle_spell.specs.Forms.{Form, ◌then◌}
@@ -10,7 +11,6 @@ use Rattle.weedle_spell.specs.Leaves.{terminal}
 use Rattle.weedle_spell.specs.RecursiveTypes.{non_any_type_spelling, type_spelling, union_member_type_spelling}
 use Rattle.weedle_spell.specs.Tokens.{word}
 use Rattle.weedle_spell.specs.written.Arguments.{attributes_spelling}
-use Rattle.weedle_term.specs.declared.written.type_keywords.Or.{Or}
 use Rattle.weedle_types.specs.declared.formers.FrozenArrayType.{FrozenArrayType}
 use Rattle.weedle_types.specs.declared.formers.PromiseType.{PromiseType}
 use Rattle.weedle_types.specs.declared.formers.RecordKeyType.TheVariants.{Byte as RecordKeyType-Byte, DOM as RecordKeyType-DOM, USV as RecordKeyType-USV, NonAny as RecordKeyType-NonAny}

@@ -14,10 +14,10 @@ ghost use Rattle.weedle_statements.specs.written.Trees.{
 
 use super::{ImplementsDefinition, IncludesStatementDefinition};
 use std::alloc::{AllocError, Global};
+use weedle_base::term::{Implements, Includes, SemiColon};
 use weedle_base::{IResult, Parse, TryClone};
 use weedle_fields::attributes_and_four;
 use weedle_parts::common::Identifier;
-use weedle_term::{Implements, Includes, SemiColon};
 use weedle_types::attribute::ExtendedAttributeList;
 use weedle_types::copies::copy_attributes;
 

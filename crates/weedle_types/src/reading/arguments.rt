@@ -27,9 +27,9 @@ use crate::argument::{
     Argument, ArgumentList, ParenthesizedArgumentList, SingleArgument, VariadicArgument,
 };
 use std::alloc::Global;
+use weedle_base::term::Comma;
 use weedle_base::{Err, IResult, out_of_memory};
 use weedle_parts::common::Punctuated;
-use weedle_term::Comma;
 
 /// Reads an argument, as `long x` or `long... xs`.
 #[cycle(group)]

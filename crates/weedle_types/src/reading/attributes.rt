@@ -29,9 +29,9 @@ use crate::attribute::{
     ExtendedAttributeNamedArgList,
 };
 use std::alloc::Global;
+use weedle_base::term::Comma;
 use weedle_base::{Err, IResult, out_of_memory};
 use weedle_parts::common::{Bracketed, Punctuated};
-use weedle_term::Comma;
 
 /// Reads extended attributes in brackets, where they stand.
 #[cycle(group)]

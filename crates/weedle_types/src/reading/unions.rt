@@ -22,10 +22,10 @@ use super::steps::{part, word};
 use super::types::attributed_non_any_type;
 use crate::types::{UnionMemberType, UnionType};
 use std::alloc::Global;
+use weedle_base::term::Or;
 use weedle_base::{Err, IResult, out_of_memory};
 use weedle_parts::common::{Parenthesized, Punctuated};
 use weedle_parts::types::MayBeNull;
-use weedle_term::Or;
 
 /// Reads a union, as `(long or DOMString)`.
 #[cycle(group)]

@@ -26,7 +26,7 @@ use weedle_build_base::{At, Build, BuildResult, choice, visit};
 use weedle_parts::common::{Identifier, Punctuated};
 use weedle_parts::literal::Default;
 use weedle_rules::{Ends, Rule};
-use weedle_term::{CloseParen, Comma, Ellipsis, OpenParen, Optional};
+use weedle_base::term::{CloseParen, Comma, Ellipsis, OpenParen, Optional};
 use weedle_types::argument::{
     Argument, ArgumentList, ParenthesizedArgumentList, SingleArgument, VariadicArgument,
 };

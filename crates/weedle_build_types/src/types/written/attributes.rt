@@ -27,7 +27,7 @@ use std::alloc::Global;
 use weedle_build_base::{At, Build, BuildResult, alternative, choice, visit};
 use weedle_parts::common::{Bracketed, Identifier, Punctuated};
 use weedle_rules::{Ends, Rule};
-use weedle_term::{Assign, CloseBracket, Comma, OpenBracket};
+use weedle_base::term::{Assign, CloseBracket, Comma, OpenBracket};
 use weedle_types::attribute::{
     ExtendedAttribute, ExtendedAttributeArgList, ExtendedAttributeIdent,
     ExtendedAttributeIdentList, ExtendedAttributeList, ExtendedAttributeNamedArgList,

@@ -34,7 +34,7 @@ use weedle_build_base::{At, Build, BuildResult, visit};
 use weedle_parts::common::Generics;
 use weedle_parts::types::MayBeNull;
 use weedle_rules::{Ends, Rule};
-use weedle_term::{Comma, FrozenArray, GreaterThan, LessThan, Promise, QMark, Record, Sequence};
+use weedle_base::term::{Comma, FrozenArray, GreaterThan, LessThan, Promise, QMark, Record, Sequence};
 use weedle_types::types::{
     FrozenArrayType, PromiseType, RecordType, RecordTypes, ReturnType, SequenceType, Type,
 };

@@ -31,7 +31,7 @@ use super::unions::nullable_union_type;
 use std::alloc::Global;
 use weedle_build_base::{At, BuildResult, alternative, choice, visit};
 use weedle_rules::{Ends, Rule};
-use weedle_term::{Any, ByteString, DOMString, USVString, Undefined};
+use weedle_base::term::{Any, ByteString, DOMString, USVString, Undefined};
 use weedle_types::types::{
     AttributedNonAnyType, AttributedType, NonAnyType, RecordKeyType, ReturnType, SingleType, Type,
 };

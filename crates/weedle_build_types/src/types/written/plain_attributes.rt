@@ -25,7 +25,7 @@ use weedle_build_base::{
 use weedle_parts::common::{Identifier, Parenthesized, Punctuated};
 use weedle_parts::literal::StringLit;
 use weedle_rules::{Ends, Rule};
-use weedle_term::{Assign, Comma};
+use weedle_base::term::{Assign, Comma};
 use weedle_types::attribute::{
     ExtendedAttributeIdent, ExtendedAttributeIdentList, ExtendedAttributeNoArgs, IdentifierOrString,
 };

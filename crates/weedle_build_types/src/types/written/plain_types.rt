@@ -13,7 +13,7 @@ use weedle_build_base::{At, BuildResult, alternative};
 use weedle_parts::common::Identifier;
 use weedle_parts::types::{FloatingPointType, IntegerType, MayBeNull};
 use weedle_rules::{Ends, Rule};
-use weedle_term::{
+use weedle_base::term::{
     ArrayBuffer, ArrayBufferView, Boolean, BufferSource, Byte, ByteString, DOMString, DataView,
     Error, Float32Array, Float64Array, Int8Array, Int16Array, Int32Array, Object, Octet, Symbol,
     USVString, Uint8Array, Uint8ClampedArray, Uint16Array, Uint32Array,

@@ -26,7 +26,7 @@ use weedle_build_base::{At, Build, BuildResult, choice, visit};
 use weedle_parts::common::{Parenthesized, Punctuated};
 use weedle_parts::types::MayBeNull;
 use weedle_rules::{Ends, Rule};
-use weedle_term::{CloseParen, OpenParen, Or, QMark};
+use weedle_base::term::{CloseParen, OpenParen, Or, QMark};
 use weedle_types::types::{AttributedNonAnyType, UnionMemberType, UnionType};
 
 /// Builds a union, as `(long or DOMString)`.

@@ -8,6 +8,7 @@ ghost use Rattle.weedle_comparisons.specs.written.Places.{interface_member_place
 
 use std::cmp::Ordering;
 use weedle_async_iterables::AsyncIterableInterfaceMember;
+use weedle_base::term::{Callback, Interface, Partial, SemiColon};
 use weedle_interfaces::{
     CallbackInterfaceDefinition, InterfaceDefinition, InterfaceMember, InterfaceMembers,
     PartialInterfaceDefinition,
@@ -19,7 +20,6 @@ use weedle_members::{
 };
 use weedle_modifier::Inheritance;
 use weedle_parts::common::{Braced, Docstring, Identifier};
-use weedle_term::{Callback, Interface, Partial, SemiColon};
 use weedle_types::attribute::ExtendedAttributeList;
 
 /// A law, which does nothing: `cmp` of `CallbackInterfaceDefinition` goes by its fields, in order.

@@ -13,12 +13,12 @@ use std::cmp::Ordering;
 use weedle_async_iterables::{
     AsyncIterableInterfaceMember, DoubleTypedAsyncIterable, SingleTypedAsyncIterable,
 };
+use weedle_base::term::{Async, Comma, Iterable, Maplike, ReadOnly, SemiColon, Setlike};
 use weedle_iterables::{
     DoubleTypedIterable, IterableInterfaceMember, MaplikeInterfaceMember, SetlikeInterfaceMember,
     SingleTypedIterable,
 };
 use weedle_parts::common::Generics;
-use weedle_term::{Async, Comma, Iterable, Maplike, ReadOnly, SemiColon, Setlike};
 use weedle_types::argument::ParenthesizedArgumentList;
 use weedle_types::attribute::ExtendedAttributeList;
 use weedle_types::types::AttributedType;

@@ -7,11 +7,11 @@ ghost use Rattle.std.specs.Ordering.{ordering_then};
 ghost use Rattle.weedle_comparisons.specs.written.Places.{mixin_member_place};
 
 use std::cmp::Ordering;
+use weedle_base::term::{Attribute, Interface, Mixin, Partial, ReadOnly, SemiColon, Stringifier};
 use weedle_members::{ConstMember, StringifierMember};
 use weedle_mixins::mixin::{AttributeMixinMember, MixinMember, MixinMembers, OperationMixinMember};
 use weedle_mixins::{InterfaceMixinDefinition, PartialInterfaceMixinDefinition};
 use weedle_parts::common::{Braced, Identifier};
-use weedle_term::{Attribute, Interface, Mixin, Partial, ReadOnly, SemiColon, Stringifier};
 use weedle_types::argument::ParenthesizedArgumentList;
 use weedle_types::attribute::ExtendedAttributeList;
 use weedle_types::types::{AttributedType, ReturnType};

@@ -7,6 +7,7 @@ ghost use Rattle.std.specs.Ordering.{ordering_then};
 ghost use Rattle.weedle_comparisons.specs.written.Places.{namespace_member_place};
 
 use std::cmp::Ordering;
+use weedle_base::term::{Attribute, Dictionary, Namespace, Partial, ReadOnly, Required, SemiColon};
 use weedle_modifier::Inheritance;
 use weedle_namespaces::dictionary::{DictionaryMember, DictionaryMembers};
 use weedle_namespaces::namespace::{
@@ -18,7 +19,6 @@ use weedle_namespaces::{
 };
 use weedle_parts::common::{Braced, Docstring, Identifier};
 use weedle_parts::literal::Default;
-use weedle_term::{Attribute, Dictionary, Namespace, Partial, ReadOnly, Required, SemiColon};
 use weedle_types::argument::ParenthesizedArgumentList;
 use weedle_types::attribute::ExtendedAttributeList;
 use weedle_types::types::{AttributedType, ReturnType, Type};

@@ -5,13 +5,13 @@
 ghost use Rattle.std.specs.Prelude.{◌≡◌};
 ghost use Rattle.std.specs.Ordering.{ordering_then};
 
+use weedle_base::term::{Assign, Callback, Enum, Implements, Includes, SemiColon, Typedef};
 use weedle_parts::common::{Braced, Docstring, Identifier};
 use weedle_parts::literal::StringLit;
 use weedle_statements::{
     CallbackDefinition, EnumDefinition, EnumValueList, EnumVariant, ImplementsDefinition,
     IncludesStatementDefinition, TypedefDefinition,
 };
-use weedle_term::{Assign, Callback, Enum, Implements, Includes, SemiColon, Typedef};
 use weedle_types::argument::ParenthesizedArgumentList;
 use weedle_types::attribute::ExtendedAttributeList;
 use weedle_types::types::{AttributedType, ReturnType};

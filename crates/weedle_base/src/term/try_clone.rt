@@ -3,9 +3,9 @@
 ghost use Rattle.std.specs.Prelude.{◌≡◌};
 ghost use Rattle.weedle_base.specs.AlikeLaws.{equal_equivalence};
 
-use crate::{Comma, Or};
+use super::{Comma, Or};
+use crate::TryClone;
 use std::alloc::{AllocError, Global};
-use weedle_base::TryClone;
 
 impl TryClone for Comma {
     ghost alike = { λ a b. a ≡ b };

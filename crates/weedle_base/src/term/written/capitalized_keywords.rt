@@ -30,8 +30,8 @@ ghost use Rattle.weedle_grammar.specs.written.Table.CapitalizedKeywords.{
 ghost use Rattle.weedle_base.specs.Own.{own};
 ghost use Rattle.weedle_base.specs.OwnLaws.{own_lawful};
 
+use crate::{IResult, Parse, keyword};
 use std::alloc::Global;
-use weedle_base::{IResult, Parse, keyword};
 use weedle_grammar::Rule;
 
 /// The keyword `ByteString`, with the trivia around it.

@@ -28,8 +28,8 @@ ghost use Rattle.weedle_grammar.specs.written.Table.Keywords.{
 ghost use Rattle.weedle_base.specs.Own.{own};
 ghost use Rattle.weedle_base.specs.OwnLaws.{own_lawful};
 
+use crate::{IResult, Parse, keyword};
 use std::alloc::Global;
-use weedle_base::{IResult, Parse, keyword};
 use weedle_grammar::Rule;
 
 /// The keyword `or`, with the trivia around it.

@@ -24,8 +24,8 @@ ghost use Rattle.weedle_grammar.specs.written.Table.Symbols.{
 ghost use Rattle.weedle_base.specs.Own.{own};
 ghost use Rattle.weedle_base.specs.OwnLaws.{own_lawful};
 
+use crate::{IResult, Parse, symbol};
 use std::alloc::Global;
-use weedle_base::{IResult, Parse, symbol};
 use weedle_grammar::Rule;
 
 /// The symbol `(`, with the trivia around it.
