@@ -100,7 +100,9 @@ class Hints(unittest.TestCase):
 
     def test_nothing_is_tried_of_what_nests_deep(self):
         for behind in ("[A([A([A([A([A([A(", "(" * 65):
-            self.assertIsNone(told(f"interface A {{ atribute long x; }}; {behind}"))
+            self.assertIsNone(told(f"interface A {{ atribute long {behind}; }};"))
+            hint = "1:15: `attribute` in place of `atribute`?"
+            self.assertEqual(told(f"interface A {{ atribute long x; }}; {behind}"), hint)
 
 
 if __name__ == "__main__":
