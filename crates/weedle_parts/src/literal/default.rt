@@ -5,7 +5,7 @@ ghost use Rattle.weedle_base.specs.Own.{own};
 ghost use Rattle.weedle_base.specs.OwnLaws.{own_lawful};
 ghost use Rattle.weedle_parts.specs.LiteralTrees.{default_tree};
 
-use super::value::DefaultValue;
+use crate::literal::value::DefaultValue;
 use std::alloc::Global;
 use weedle_base::term::Assign;
 use weedle_base::{IResult, Parse};

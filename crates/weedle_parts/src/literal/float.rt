@@ -1,6 +1,6 @@
 //! Numbers with a point or an exponent, and the words among floats.
 
-ghost use Rattle.std.specs.Prelude.{◌≡◌, []};
+ghost use Rattle.std.specs.Prelude.{[]};
 ghost use Rattle.weedle_grammar.specs.written.Table.Leaves.{
   DIGITS,
   OPT_ONE_OF_SIGN,
@@ -21,7 +21,9 @@ ghost use Rattle.weedle_base.specs.OwnLaws.{own_lawful};
 ghost use Rattle.weedle_base.specs.Trivia.{Took, Trial};
 ghost use Rattle.weedle_parts.specs.LiteralTrees.{float_value_tree, float_tree};
 
-use super::integer::skip_minus;
+mod written;
+
+use crate::literal::integer::skip_minus;
 use std::alloc::Global;
 use weedle_base::scan::{after_one, after_run, after_word, skip_trivia, taken};
 use weedle_base::term::{Infinity, NaN, NegInfinity};
@@ -84,46 +86,6 @@ impl<'a> Parse<'a> for FloatLit<'a> {
     }
 
     ghost lawful = { own_lawful FLOAT_LIT float_tree ⊥ };
-}
-
-impl<'a> From<FloatValueLit<'a>> for FloatLit<'a> {
-    ghost use Rattle.weedle_parts.specs.declared.literal.float.FloatLit.TheVariants.{Value};
-
-    ghost from_gives = { λ value made. made ≡ Value value };
-
-    fn from(value: FloatValueLit<'a>) -> Self {
-        FloatLit::Value(value)
-    }
-}
-
-impl From<NegInfinity> for FloatLit<'_> {
-    ghost use Rattle.weedle_parts.specs.declared.literal.float.FloatLit.TheVariants.{NegInfinity};
-
-    ghost from_gives = { λ value made. made ≡ NegInfinity value };
-
-    fn from(value: NegInfinity) -> Self {
-        FloatLit::NegInfinity(value)
-    }
-}
-
-impl From<Infinity> for FloatLit<'_> {
-    ghost use Rattle.weedle_parts.specs.declared.literal.float.FloatLit.TheVariants.{Infinity};
-
-    ghost from_gives = { λ value made. made ≡ Infinity value };
-
-    fn from(value: Infinity) -> Self {
-        FloatLit::Infinity(value)
-    }
-}
-
-impl From<NaN> for FloatLit<'_> {
-    ghost use Rattle.weedle_parts.specs.declared.literal.float.FloatLit.TheVariants.{NaN};
-
-    ghost from_gives = { λ value made. made ≡ NaN value };
-
-    fn from(value: NaN) -> Self {
-        FloatLit::NaN(value)
-    }
 }
 
 /// What follows one digit or more.

@@ -1,6 +1,6 @@
 //! Whole numbers.
 
-ghost use Rattle.std.specs.Prelude.{◌≡◌, []};
+ghost use Rattle.std.specs.Prelude.{[]};
 ghost use Rattle.weedle_grammar.specs.written.Table.Leaves.{
   DEC_LIT,
   DEC_LIT_TEXT,
@@ -15,6 +15,8 @@ ghost use Rattle.weedle_base.specs.Own.{own};
 ghost use Rattle.weedle_base.specs.OwnLaws.{own_lawful};
 ghost use Rattle.weedle_base.specs.Trivia.{Took, Trial};
 ghost use Rattle.weedle_parts.specs.LiteralTrees.{dec_tree, hex_tree, oct_tree, integer_tree};
+
+mod written;
 
 use std::alloc::Global;
 use weedle_base::scan::{after_one, after_run, after_word, skip_trivia, taken};
@@ -115,36 +117,6 @@ impl<'a> Parse<'a> for IntegerLit<'a> {
     }
 
     ghost lawful = { own_lawful INTEGER_LIT integer_tree ⊥ };
-}
-
-impl<'a> From<DecLit<'a>> for IntegerLit<'a> {
-    ghost use Rattle.weedle_parts.specs.declared.literal.integer.IntegerLit.TheVariants.{Dec};
-
-    ghost from_gives = { λ value made. made ≡ Dec value };
-
-    fn from(value: DecLit<'a>) -> Self {
-        IntegerLit::Dec(value)
-    }
-}
-
-impl<'a> From<HexLit<'a>> for IntegerLit<'a> {
-    ghost use Rattle.weedle_parts.specs.declared.literal.integer.IntegerLit.TheVariants.{Hex};
-
-    ghost from_gives = { λ value made. made ≡ Hex value };
-
-    fn from(value: HexLit<'a>) -> Self {
-        IntegerLit::Hex(value)
-    }
-}
-
-impl<'a> From<OctLit<'a>> for IntegerLit<'a> {
-    ghost use Rattle.weedle_parts.specs.declared.literal.integer.IntegerLit.TheVariants.{Oct};
-
-    ghost from_gives = { λ value made. made ≡ Oct value };
-
-    fn from(value: OctLit<'a>) -> Self {
-        IntegerLit::Oct(value)
-    }
 }
 
 /// What follows a minus sign at the front of the text, or the text itself.

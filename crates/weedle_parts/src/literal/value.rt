@@ -1,16 +1,17 @@
 //! Values of defaults and of constants.
 
-ghost use Rattle.std.specs.Prelude.{◌≡◌};
 ghost use Rattle.weedle_grammar.specs.written.Table.Literals.{DEFAULT_VALUE, CONST_VALUE};
 ghost use Rattle.weedle_base.specs.Own.{own};
 ghost use Rattle.weedle_base.specs.OwnLaws.{own_lawful};
 ghost use Rattle.weedle_parts.specs.LiteralTrees.{default_value_tree, const_value_tree};
 
-use super::boolean::BooleanLit;
-use super::empty::{EmptyArrayLit, EmptyDictionaryLit};
-use super::float::FloatLit;
-use super::integer::IntegerLit;
-use super::string::StringLit;
+mod written;
+
+use crate::literal::boolean::BooleanLit;
+use crate::literal::empty::{EmptyArrayLit, EmptyDictionaryLit};
+use crate::literal::float::FloatLit;
+use crate::literal::integer::IntegerLit;
+use crate::literal::string::StringLit;
 use std::alloc::Global;
 use weedle_base::term::Null;
 use weedle_base::{IResult, Parse};
@@ -65,76 +66,6 @@ impl<'a> Parse<'a> for DefaultValue<'a> {
     ghost lawful = { own_lawful DEFAULT_VALUE default_value_tree ⊥ };
 }
 
-impl From<BooleanLit> for DefaultValue<'_> {
-    ghost use Rattle.weedle_parts.specs.declared.literal.value.DefaultValue.TheVariants.{Boolean};
-
-    ghost from_gives = { λ value made. made ≡ Boolean value };
-
-    fn from(value: BooleanLit) -> Self {
-        DefaultValue::Boolean(value)
-    }
-}
-
-impl From<EmptyArrayLit> for DefaultValue<'_> {
-    ghost use Rattle.weedle_parts.specs.declared.literal.value.DefaultValue.TheVariants.{EmptyArray};
-
-    ghost from_gives = { λ value made. made ≡ EmptyArray value };
-
-    fn from(value: EmptyArrayLit) -> Self {
-        DefaultValue::EmptyArray(value)
-    }
-}
-
-impl From<EmptyDictionaryLit> for DefaultValue<'_> {
-    ghost use Rattle.weedle_parts.specs.declared.literal.value.DefaultValue.TheVariants.{EmptyDictionary};
-
-    ghost from_gives = { λ value made. made ≡ EmptyDictionary value };
-
-    fn from(value: EmptyDictionaryLit) -> Self {
-        DefaultValue::EmptyDictionary(value)
-    }
-}
-
-impl<'a> From<FloatLit<'a>> for DefaultValue<'a> {
-    ghost use Rattle.weedle_parts.specs.declared.literal.value.DefaultValue.TheVariants.{Float};
-
-    ghost from_gives = { λ value made. made ≡ Float value };
-
-    fn from(value: FloatLit<'a>) -> Self {
-        DefaultValue::Float(value)
-    }
-}
-
-impl<'a> From<IntegerLit<'a>> for DefaultValue<'a> {
-    ghost use Rattle.weedle_parts.specs.declared.literal.value.DefaultValue.TheVariants.{Integer};
-
-    ghost from_gives = { λ value made. made ≡ Integer value };
-
-    fn from(value: IntegerLit<'a>) -> Self {
-        DefaultValue::Integer(value)
-    }
-}
-
-impl From<Null> for DefaultValue<'_> {
-    ghost use Rattle.weedle_parts.specs.declared.literal.value.DefaultValue.TheVariants.{Null};
-
-    ghost from_gives = { λ value made. made ≡ Null value };
-
-    fn from(value: Null) -> Self {
-        DefaultValue::Null(value)
-    }
-}
-
-impl<'a> From<StringLit<'a>> for DefaultValue<'a> {
-    ghost use Rattle.weedle_parts.specs.declared.literal.value.DefaultValue.TheVariants.{String};
-
-    ghost from_gives = { λ value made. made ≡ String value };
-
-    fn from(value: StringLit<'a>) -> Self {
-        DefaultValue::String(value)
-    }
-}
-
 /// The value of a constant, as `1.5` or `null`: the first of the four forms that fits. Anything
 /// else is a mismatch, as a text in quotes is. Up to ten literals and words are tried.
 #[derive(Clone, Copy, Debug, PartialEq, Eq, PartialOrd, Ord, Hash)]
@@ -168,44 +99,4 @@ impl<'a> Parse<'a> for ConstValue<'a> {
     }
 
     ghost lawful = { own_lawful CONST_VALUE const_value_tree ⊥ };
-}
-
-impl From<BooleanLit> for ConstValue<'_> {
-    ghost use Rattle.weedle_parts.specs.declared.literal.value.ConstValue.TheVariants.{Boolean};
-
-    ghost from_gives = { λ value made. made ≡ Boolean value };
-
-    fn from(value: BooleanLit) -> Self {
-        ConstValue::Boolean(value)
-    }
-}
-
-impl<'a> From<FloatLit<'a>> for ConstValue<'a> {
-    ghost use Rattle.weedle_parts.specs.declared.literal.value.ConstValue.TheVariants.{Float};
-
-    ghost from_gives = { λ value made. made ≡ Float value };
-
-    fn from(value: FloatLit<'a>) -> Self {
-        ConstValue::Float(value)
-    }
-}
-
-impl<'a> From<IntegerLit<'a>> for ConstValue<'a> {
-    ghost use Rattle.weedle_parts.specs.declared.literal.value.ConstValue.TheVariants.{Integer};
-
-    ghost from_gives = { λ value made. made ≡ Integer value };
-
-    fn from(value: IntegerLit<'a>) -> Self {
-        ConstValue::Integer(value)
-    }
-}
-
-impl From<Null> for ConstValue<'_> {
-    ghost use Rattle.weedle_parts.specs.declared.literal.value.ConstValue.TheVariants.{Null};
-
-    ghost from_gives = { λ value made. made ≡ Null value };
-
-    fn from(value: Null) -> Self {
-        ConstValue::Null(value)
-    }
 }

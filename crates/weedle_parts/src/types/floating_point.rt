@@ -1,6 +1,5 @@
 //! The types of floating-point numbers.
 
-ghost use Rattle.std.specs.Prelude.{◌≡◌};
 ghost use Rattle.weedle_grammar.specs.written.Table.SimpleTypes.{
   FLOAT_TYPE,
   DOUBLE_TYPE,
@@ -13,6 +12,8 @@ ghost use Rattle.weedle_parts.specs.ValueTrees.{
   double_type_tree,
   floating_point_type_tree,
 };
+
+mod written;
 
 use std::alloc::Global;
 use weedle_base::term::{Double, Float, Unrestricted};
@@ -96,28 +97,4 @@ impl<'a> Parse<'a> for FloatingPointType {
     }
 
     ghost lawful = { own_lawful FLOATING_POINT_TYPE floating_point_type_tree ⊥ };
-}
-
-impl From<FloatType> for FloatingPointType {
-    ghost use Rattle.weedle_parts.specs.declared.types.floating_point.FloatingPointType.TheVariants.{
-      Float,
-    };
-
-    ghost from_gives = { λ v e. e ≡ Float v };
-
-    fn from(value: FloatType) -> Self {
-        FloatingPointType::Float(value)
-    }
-}
-
-impl From<DoubleType> for FloatingPointType {
-    ghost use Rattle.weedle_parts.specs.declared.types.floating_point.FloatingPointType.TheVariants.{
-      Double,
-    };
-
-    ghost from_gives = { λ v e. e ≡ Double v };
-
-    fn from(value: DoubleType) -> Self {
-        FloatingPointType::Double(value)
-    }
 }

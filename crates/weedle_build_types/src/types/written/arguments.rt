@@ -22,11 +22,11 @@ use super::super::steps::{keep, optional};
 use super::attributes::attributes;
 use super::kinds::{attributed_type, type_};
 use std::alloc::Global;
+use weedle_base::term::{CloseParen, Comma, Ellipsis, OpenParen, Optional};
 use weedle_build_base::{At, Build, BuildResult, choice, visit};
 use weedle_parts::common::{Identifier, Punctuated};
 use weedle_parts::literal::Default;
 use weedle_rules::{Ends, Rule};
-use weedle_base::term::{CloseParen, Comma, Ellipsis, OpenParen, Optional};
 use weedle_types::argument::{
     Argument, ArgumentList, ParenthesizedArgumentList, SingleArgument, VariadicArgument,
 };

@@ -24,10 +24,10 @@ use super::super::steps::keep;
 use super::arguments::arguments;
 use crate::held::Held;
 use std::alloc::Global;
+use weedle_base::term::{Assign, CloseBracket, Comma, OpenBracket};
 use weedle_build_base::{At, Build, BuildResult, alternative, choice, visit};
 use weedle_parts::common::{Bracketed, Identifier, Punctuated};
 use weedle_rules::{Ends, Rule};
-use weedle_base::term::{Assign, CloseBracket, Comma, OpenBracket};
 use weedle_types::attribute::{
     ExtendedAttribute, ExtendedAttributeArgList, ExtendedAttributeIdent,
     ExtendedAttributeIdentList, ExtendedAttributeList, ExtendedAttributeNamedArgList,

@@ -30,11 +30,13 @@ ghost use Rattle.weedle_build_base.specs.Built.{Answers, Due};
 use super::super::steps::optional;
 use super::kinds::{record_key_type, return_type, type_};
 use std::alloc::Global;
+use weedle_base::term::{
+    Comma, FrozenArray, GreaterThan, LessThan, Promise, QMark, Record, Sequence,
+};
 use weedle_build_base::{At, Build, BuildResult, visit};
 use weedle_parts::common::Generics;
 use weedle_parts::types::MayBeNull;
 use weedle_rules::{Ends, Rule};
-use weedle_base::term::{Comma, FrozenArray, GreaterThan, LessThan, Promise, QMark, Record, Sequence};
 use weedle_types::types::{
     FrozenArrayType, PromiseType, RecordType, RecordTypes, ReturnType, SequenceType, Type,
 };

@@ -29,9 +29,9 @@ use super::generic_types::{
 use super::plain_types::plain_type;
 use super::unions::nullable_union_type;
 use std::alloc::Global;
+use weedle_base::term::{Any, ByteString, DOMString, USVString, Undefined};
 use weedle_build_base::{At, BuildResult, alternative, choice, visit};
 use weedle_rules::{Ends, Rule};
-use weedle_base::term::{Any, ByteString, DOMString, USVString, Undefined};
 use weedle_types::types::{
     AttributedNonAnyType, AttributedType, NonAnyType, RecordKeyType, ReturnType, SingleType, Type,
 };

@@ -22,11 +22,11 @@ ghost use Rattle.weedle_build_types.specs.Steps.{Adds, KeepsAs};
 use super::super::steps::optional;
 use super::kinds::attributed_non_any_type;
 use std::alloc::{AllocError, Global};
+use weedle_base::term::{CloseParen, OpenParen, Or, QMark};
 use weedle_build_base::{At, Build, BuildResult, choice, visit};
 use weedle_parts::common::{Parenthesized, Punctuated};
 use weedle_parts::types::MayBeNull;
 use weedle_rules::{Ends, Rule};
-use weedle_base::term::{CloseParen, OpenParen, Or, QMark};
 use weedle_types::types::{AttributedNonAnyType, UnionMemberType, UnionType};
 
 /// Builds a union, as `(long or DOMString)`.

@@ -11,7 +11,9 @@ ghost use Rattle.weedle_comparisons.specs.written.Places.{
 };
 
 use std::cmp::Ordering;
-use weedle_base::term::{Colon, Deleter, Getter, Inherit, LegacyCaller, Setter, Static, Stringifier};
+use weedle_base::term::{
+    Colon, Deleter, Getter, Inherit, LegacyCaller, Setter, Static, Stringifier,
+};
 use weedle_modifier::{Inheritance, Special, StringifierOrInheritOrStatic, StringifierOrStatic};
 use weedle_parts::common::Identifier;
 
