@@ -18,6 +18,8 @@ A module of Rust keeps the names by which others know it: the module by hand abo
 
 from pathlib import Path
 
+from description.layout import clauses_in_lines
+
 FOLDER = "written"
 # Folders further down. Each has a module by hand above it, and others by hand may stand in it.
 FOLDERS = """
@@ -75,10 +77,10 @@ def place(path):
 
 
 def put(root, path, text):
-    """Writes a file at its place in the repository with this top."""
+    """Writes a file at its place in the repository with this top. `rt fmt` leaves clauses as they are, so they are cut."""
     file = Path(root) / place(path)
     file.parent.mkdir(parents=True, exist_ok=True)
-    file.write_text(text, encoding="utf-8")
+    file.write_text(clauses_in_lines(text) if file.suffix == ".rt" else text, encoding="utf-8")
 
 
 def in_logic(module):

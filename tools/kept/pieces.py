@@ -21,7 +21,7 @@ MODULES = {
 PIECE = re.compile(
     r"fn (?P<name>\w+)<'a>\(alloc: Global, input: &'a str\) -> IResult<&'a str, (?P<enum>\w+)<'a>>\n"
     r"    ensures (?:reads )?\{ Answers \(members \w+_rules (?P<first>\d+) [^\n]*\n"
-    r"(?:    ensures [^\n]*\n)*\{\n(?P<body>.*?)^\}\n", re.M | re.S,
+    r"(?:    [^\n]*\n)*\{\n(?P<body>.*?)^\}\n", re.M | re.S,
 )
 TABLE = in_logic("weedle_grammar.specs.Table")
 USES = re.compile(rf"(?:^use {TABLE}\.[^\n]*\n)+", re.M)

@@ -73,7 +73,8 @@ impl<'a> Parse<'a> for SingleTypedAsyncIterable<'a> {
         ))
     }
 
-    ghost lawful = { own_lawful SINGLE_TYPED_ASYNC_ITERABLE single_typed_async_iterable_tree (Unit {0}) };
+    ghost lawful = { own_lawful SINGLE_TYPED_ASYNC_ITERABLE single_typed_async_iterable_tree
+        (Unit {0}) };
 }
 
 /// An asynchronous iteration over pairs, as `async iterable<DOMString, long>(long x);`. Arguments
@@ -127,7 +128,8 @@ impl<'a> Parse<'a> for DoubleTypedAsyncIterable<'a> {
         ))
     }
 
-    ghost lawful = { own_lawful DOUBLE_TYPED_ASYNC_ITERABLE double_typed_async_iterable_tree (Unit {0}) };
+    ghost lawful = { own_lawful DOUBLE_TYPED_ASYNC_ITERABLE double_typed_async_iterable_tree
+        (Unit {0}) };
 }
 
 /// An asynchronous iteration over values or pairs, as `async iterable<long>;`: the first of the

@@ -21,7 +21,8 @@ pub(crate) fn optional_arguments<'a>(
     alloc: Global,
     input: &'a str,
 ) -> IResult<&'a str, Option<ParenthesizedArgumentList<'a>>>
-    ensures { Answers (own OPT_PARENTHESIZED_ARGUMENT_LIST optional_arguments_tree (Unit {0})) input.now result }
+    ensures { Answers (own OPT_PARENTHESIZED_ARGUMENT_LIST optional_arguments_tree (Unit {0}))
+        input.now result }
 {
     Option::parse(alloc, input)
 }

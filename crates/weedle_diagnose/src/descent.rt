@@ -34,7 +34,8 @@ pub(crate) fn read(
     requires within { place ≤ length text.now }
     requires low { rule < rule_count }
     ensures end { IfOk result (λ o. HasEnd text.now rule place o) }
-    ensures notes { IfOk result (λ o. Notes (IsUnmetIn text.now rule place) furthest.old furthest.new) }
+    ensures notes { IfOk result
+        (λ o. Notes (IsUnmetIn text.now rule place) furthest.old furthest.new) }
 {
     let below = step(left, depth)?;
     match row_of(rule) {
@@ -85,7 +86,8 @@ fn read_parts(
     requires low { rule < rule_count }
     requires row { the_row_of rule ≡ Seq (numbers_of parts) }
     ensures end { IfOk result (λ o. HasEnd text.now rule place o) }
-    ensures notes { IfOk result (λ o. Notes (IsUnmetIn text.now rule place) furthest.old furthest.new) }
+    ensures notes { IfOk result
+        (λ o. Notes (IsUnmetIn text.now rule place) furthest.old furthest.new) }
 {
     let mut at = place;
     for i in 0..parts.len() {
@@ -112,7 +114,8 @@ fn read_choice(
     requires low { rule < rule_count }
     requires row { the_row_of rule ≡ First (numbers_of choices) }
     ensures end { IfOk result (λ o. HasEnd text.now rule place o) }
-    ensures notes { IfOk result (λ o. Notes (IsUnmetIn text.now rule place) furthest.old furthest.new) }
+    ensures notes { IfOk result
+        (λ o. Notes (IsUnmetIn text.now rule place) furthest.old furthest.new) }
 {
     for i in 0..choices.len() {
         match read(furthest, left, text, choices.rule(i), place, depth)? {
@@ -138,7 +141,8 @@ fn read_optional(
     requires low { rule < rule_count }
     requires row { the_row_of rule ≡ Opt item }
     ensures end { IfOk result (λ o. HasEnd text.now rule place o) }
-    ensures notes { IfOk result (λ o. Notes (IsUnmetIn text.now rule place) furthest.old furthest.new) }
+    ensures notes { IfOk result
+        (λ o. Notes (IsUnmetIn text.now rule place) furthest.old furthest.new) }
 {
     match read(furthest, left, text, item, place, depth)? {
         Some(end) => Ok(Some(end)),
@@ -161,7 +165,8 @@ fn read_items(
     requires low { rule < rule_count }
     requires row { the_row_of rule ≡ Many item }
     ensures end { IfOk result (λ o. HasEnd text.now rule place o) }
-    ensures notes { IfOk result (λ o. Notes (IsUnmetIn text.now rule place) furthest.old furthest.new) }
+    ensures notes { IfOk result
+        (λ o. Notes (IsUnmetIn text.now rule place) furthest.old furthest.new) }
 {
     let mut at = place;
     loop {
@@ -192,7 +197,8 @@ fn read_list(
     requires low { rule < rule_count }
     requires row { the_row_of rule ≡ ListOf item tail }
     ensures end { IfOk result (λ o. HasEnd text.now rule place o) }
-    ensures notes { IfOk result (λ o. Notes (IsUnmetIn text.now rule place) furthest.old furthest.new) }
+    ensures notes { IfOk result
+        (λ o. Notes (IsUnmetIn text.now rule place) furthest.old furthest.new) }
 {
     match read(furthest, left, text, item, place, depth)? {
         Some(at) => {
@@ -219,7 +225,8 @@ fn read_list1(
     requires low { rule < rule_count }
     requires row { the_row_of rule ≡ List1 item tail }
     ensures end { IfOk result (λ o. HasEnd text.now rule place o) }
-    ensures notes { IfOk result (λ o. Notes (IsUnmetIn text.now rule place) furthest.old furthest.new) }
+    ensures notes { IfOk result
+        (λ o. Notes (IsUnmetIn text.now rule place) furthest.old furthest.new) }
 {
     match read(furthest, left, text, item, place, depth)? {
         Some(at) => {
@@ -246,7 +253,8 @@ fn read_tail(
     requires low { rule < rule_count }
     requires row { the_row_of rule ≡ Tail item separator }
     ensures end { IfOk result (λ o. HasEnd text.now rule place o) }
-    ensures notes { IfOk result (λ o. Notes (IsUnmetIn text.now rule place) furthest.old furthest.new) }
+    ensures notes { IfOk result
+        (λ o. Notes (IsUnmetIn text.now rule place) furthest.old furthest.new) }
 {
     let mut at = place;
     loop {
@@ -282,7 +290,8 @@ fn read_conditional(
     requires low { rule < rule_count }
     requires row { the_row_of rule ≡ If (numbers_of parts) k y }
     ensures end { IfOk result (λ o. HasEnd text.now rule place o) }
-    ensures notes { IfOk result (λ o. Notes (IsUnmetIn text.now rule place) furthest.old furthest.new) }
+    ensures notes { IfOk result
+        (λ o. Notes (IsUnmetIn text.now rule place) furthest.old furthest.new) }
 {
     let mut at = place;
     let mut present = false;

@@ -16,7 +16,8 @@ use weedle_grammar::{Class, holds};
 #[inline(always)]
 pub(crate) fn end_of_bytes(bytes: &[u8], text: &[u8], place: usize) -> Option<usize>
     requires { place ≤ length text.now }
-    ensures { result ≡ option_map (λ k. place + k) (the_take_bytes bytes.now (drop place text.now)) }
+    ensures { result
+        ≡ option_map (λ k. place + k) (the_take_bytes bytes.now (drop place text.now)) }
 {
     match take_bytes(bytes, &text[place..]) {
         Some(taken) => Some(place + taken),

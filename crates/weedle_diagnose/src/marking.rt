@@ -73,7 +73,8 @@ pub(crate) fn marks_of_tried(
     requires within { start ≤ last }
     requires small { last < 18446744073709551615 }
     ensures fits { IfOk result (λ marks. 64 * length marks.items < 18446744073709551616) }
-    ensures laid { IfOk result (λ marks. (last - start) * rule_count + rule_count ≤ 64 * length marks.items) }
+    ensures laid { IfOk result
+        (λ marks. (last - start) * rule_count + rule_count ≤ 64 * length marks.items) }
     ensures are { IfOk result (λ marks. AreTried ends.now.text start marks.items) }
 {
     let Some(cells) = (last - start + 1).checked_mul(RULES) else {

@@ -52,7 +52,8 @@ impl Furthest {
     #[inline(always)]
     pub(crate) fn unless(&mut self, end: Option<usize>, rule: Rule, place: usize) -> Option<usize>
         ensures same { result ≡ end }
-        ensures notes { MatchOption end (Notes (SameAttempt rule place) self.old self.new) (λ e. self.new ≡ self.old) }
+        ensures notes { MatchOption end (Notes (SameAttempt rule place) self.old self.new)
+            (λ e. self.new ≡ self.old) }
     {
         match end {
             Some(_) => {}
@@ -63,7 +64,9 @@ impl Furthest {
 
     /// The rules that failed at the furthest place.
     pub(crate) fn rules(&self, alloc: Global) -> Result<Vec<Rule>, AllocError>
-        ensures exact { IfOk result (λ found. (r : ℕ) → Contains found.items r ↔ ((r < rule_count) × IsSet self.now.marks r)) }
+        ensures exact { IfOk result
+            (λ found. (r : ℕ) → Contains found.items r
+            ↔ ((r < rule_count) × IsSet self.now.marks r)) }
         ensures rising { IfOk result (λ found. IsRising found.items) }
     {
         let mut found = Vec::new(alloc);

@@ -36,7 +36,8 @@ pub fn diagnose_by_descent(
     start: usize,
 ) -> Result<Option<Diagnosis>, AllocError>
     requires { start ≤ length text.now }
-    ensures { IfOk result (λ found. IfSome found (λ d. IsDiagnosis text.now start d.place d.expected.items)) }
+    ensures { IfOk result
+        (λ found. IfSome found (λ d. IsDiagnosis text.now start d.place d.expected.items)) }
 {
     let bytes = text.as_bytes();
     let mut furthest = Furthest::new(start);

@@ -76,7 +76,9 @@ pub(crate) fn unmet_at(
     requires fits { 64 * length marks.now < 18446744073709551616 }
     requires marked { AreTried ends.now.text start marks.now }
     requires inside { (r : ℕ) → r < rule_count → HasBit last (length marks.now) r place }
-    ensures exact { IfOk result (λ found. (r : ℕ) → Contains found.items r ↔ ((r < rule_count) × IsUnmet ends.now.text start r place)) }
+    ensures exact { IfOk result
+        (λ found. (r : ℕ) → Contains found.items r
+        ↔ ((r < rule_count) × IsUnmet ends.now.text start r place)) }
     ensures rising { IfOk result (λ found. IsRising found.items) }
 {
     let mut found = Vec::new(alloc);
@@ -95,7 +97,9 @@ fn is_unmet_cell(marks: &[u64], ends: &Ends<'_>, last: usize, start: usize, cell
     requires fits { 64 * length marks.now < 18446744073709551616 }
     requires marked { AreTried ends.now.text start marks.now }
     requires within { cell < 64 * length marks.now }
-    ensures { IsTrue result ↔ ((cell / RULES ≤ last) × IsUnmet ends.now.text start (cell % RULES) (last - cell / RULES)) }
+    ensures { IsTrue result
+        ↔ ((cell / RULES ≤ last)
+        × IsUnmet ends.now.text start (cell % RULES) (last - cell / RULES)) }
 {
     let row = cell / RULES;
     if row > last {

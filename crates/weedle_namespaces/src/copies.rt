@@ -17,7 +17,9 @@ pub(crate) fn copy_namespace_members<'a>(
     members: &Braced<NamespaceMembers<'a>>,
     alloc: Global,
 ) -> Result<Braced<NamespaceMembers<'a>>, AllocError>
-    ensures { IfOk result (λ copy. braced_tree (members_tree namespace_member_tree) copy ≡ braced_tree (members_tree namespace_member_tree) members.now) }
+    ensures { IfOk result
+        (λ copy. braced_tree (members_tree namespace_member_tree) copy
+        ≡ braced_tree (members_tree namespace_member_tree) members.now) }
 {
     let copy = members.try_clone(alloc)?;
     Ok(copy)
@@ -29,7 +31,9 @@ pub(crate) fn copy_dictionary_members<'a>(
     members: &Braced<DictionaryMembers<'a>>,
     alloc: Global,
 ) -> Result<Braced<DictionaryMembers<'a>>, AllocError>
-    ensures { IfOk result (λ copy. braced_tree (members_tree dictionary_member_tree) copy ≡ braced_tree (members_tree dictionary_member_tree) members.now) }
+    ensures { IfOk result
+        (λ copy. braced_tree (members_tree dictionary_member_tree) copy
+        ≡ braced_tree (members_tree dictionary_member_tree) members.now) }
 {
     let copy = members.try_clone(alloc)?;
     Ok(copy)

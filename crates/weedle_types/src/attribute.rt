@@ -146,7 +146,8 @@ pub enum IdentifierOrString<'a> {
 
 #[tactic(auto, using(crate::proofs::PlainAttributeRules::extended_attribute_ident_list_steps))]
 impl<'a> Parse<'a> for ExtendedAttributeIdentList<'a> {
-    ghost reading = { own EXTENDED_ATTRIBUTE_IDENT_LIST extended_attribute_ident_list_tree (Unit {0}) };
+    ghost reading = { own EXTENDED_ATTRIBUTE_IDENT_LIST extended_attribute_ident_list_tree
+        (Unit {0}) };
 
     fn parse(alloc: Global, input: &'a str) -> IResult<&'a str, Self> {
         let (rest, identifier) = Parse::parse(alloc, input)?;
@@ -162,7 +163,8 @@ impl<'a> Parse<'a> for ExtendedAttributeIdentList<'a> {
         ))
     }
 
-    ghost lawful = { own_lawful EXTENDED_ATTRIBUTE_IDENT_LIST extended_attribute_ident_list_tree (Unit {0}) };
+    ghost lawful = { own_lawful EXTENDED_ATTRIBUTE_IDENT_LIST extended_attribute_ident_list_tree
+        (Unit {0}) };
 }
 
 #[tactic(auto, using(crate::proofs::PlainAttributeRules::extended_attribute_ident_steps))]

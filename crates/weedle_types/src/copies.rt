@@ -31,7 +31,8 @@ pub fn copy_docstring(
     docstring: &Option<Docstring>,
     alloc: Global,
 ) -> Result<Option<Docstring>, AllocError>
-    ensures { IfOk result (λ copy. option_tree docstring_tree copy ≡ option_tree docstring_tree docstring.now) }
+    ensures { IfOk result
+        (λ copy. option_tree docstring_tree copy ≡ option_tree docstring_tree docstring.now) }
 {
     let copy = docstring.try_clone(alloc)?;
     Ok(copy)

@@ -42,7 +42,9 @@ pub fn parts_named<'d, 'a>(
     definitions: &'d [Definition<'a>],
     name: &str,
 ) -> Result<Vec<&'d Definition<'a>>, AllocError>
-    ensures { IfOk result (λ parts. map (λ d. d.now) parts.items ≡ filter (is_part_of name.now) definitions.entry.now) }
+    ensures { IfOk result
+        (λ parts. map (λ d. d.now) parts.items
+        ≡ filter (is_part_of name.now) definitions.entry.now) }
 {
     let mut parts = Vec::new(alloc);
     for definition in definitions {
@@ -63,7 +65,9 @@ pub fn included_into<'d, 'a>(
     definitions: &'d [Definition<'a>],
     name: &str,
 ) -> Result<Vec<&'d Definition<'a>>, AllocError>
-    ensures { IfOk result (λ included. map (λ d. d.now) included.items ≡ filter (is_included_in definitions.entry.now name.now) definitions.entry.now) }
+    ensures { IfOk result
+        (λ included. map (λ d. d.now) included.items
+        ≡ filter (is_included_in definitions.entry.now name.now) definitions.entry.now) }
 {
     let mut included = Vec::new(alloc);
     for definition in definitions {

@@ -47,7 +47,8 @@ pub(crate) fn listed(
 )
     requires last { last ≡ length ends.now.text }
     requires fits { 64 * length marks.old < 18446744073709551616 }
-    requires inside { (x q : ℕ) → TriesListed ends.now.text item tail place x q → HasBit last (length marks.old) x q }
+    requires inside { (x q : ℕ) → TriesListed ends.now.text item tail place x q
+        → HasBit last (length marks.old) x q }
     ensures { Adds last marks.old marks.new (TriesListed ends.now.text item tail place) }
 {
     mark(marks, last, item, place);

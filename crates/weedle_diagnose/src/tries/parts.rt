@@ -16,7 +16,8 @@ use weedle_rules::Ends;
 pub(crate) fn in_turn(marks: &mut [u64], ends: &Ends<'_>, last: usize, place: usize, parts: Parts)
     requires last { last ≡ length ends.now.text }
     requires fits { 64 * length marks.old < 18446744073709551616 }
-    requires inside { (x q : ℕ) → TriesInTurn ends.now.text (numbers_of parts) place x q → HasBit last (length marks.old) x q }
+    requires inside { (x q : ℕ) → TriesInTurn ends.now.text (numbers_of parts) place x q
+        → HasBit last (length marks.old) x q }
     ensures { Adds last marks.old marks.new (TriesInTurn ends.now.text (numbers_of parts) place) }
 {
     let mut end = place;
@@ -34,7 +35,8 @@ pub(crate) fn in_turn(marks: &mut [u64], ends: &Ends<'_>, last: usize, place: us
 pub(crate) fn by_choice(marks: &mut [u64], ends: &Ends<'_>, last: usize, place: usize, parts: Parts)
     requires last { last ≡ length ends.now.text }
     requires fits { 64 * length marks.old < 18446744073709551616 }
-    requires inside { (x q : ℕ) → TriesByChoice ends.now.text (numbers_of parts) place x q → HasBit last (length marks.old) x q }
+    requires inside { (x q : ℕ) → TriesByChoice ends.now.text (numbers_of parts) place x q
+        → HasBit last (length marks.old) x q }
     ensures { Adds last marks.old marks.new (TriesByChoice ends.now.text (numbers_of parts) place) }
 {
     for i in 0..parts.len() {
@@ -67,7 +69,8 @@ fn end_with(
     requires within { place ≤ length ends.now.text }
     requires low { rule < rule_count }
     requires row { row_of rule ≡ If (numbers_of parts) k y }
-    ensures { MatchOption result ((q : ℕ) → EndsWith ends.now.text (numbers_of parts) k place q → ⊥) (λ q. EndsWith ends.now.text (numbers_of parts) k place q) }
+    ensures { MatchOption result ((q : ℕ) → EndsWith ends.now.text (numbers_of parts) k place q → ⊥)
+        (λ q. EndsWith ends.now.text (numbers_of parts) k place q) }
 {
     let mut end = place;
     let mut present = false;

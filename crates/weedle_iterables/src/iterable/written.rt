@@ -169,7 +169,8 @@ impl<'a> Parse<'a> for IterableInterfaceMember<'a> {
         Ok((rest, member))
     }
 
-    ghost lawful = { own_lawful ITERABLE_INTERFACE_MEMBER iterable_interface_member_tree (Unit {0}) };
+    ghost lawful = { own_lawful ITERABLE_INTERFACE_MEMBER iterable_interface_member_tree
+        (Unit {0}) };
 }
 
 impl TryClone for IterableInterfaceMember<'_> {

@@ -44,7 +44,8 @@ impl<'a> Parse<'a> for AttributeInterfaceMember<'a> {
         }
     }
 
-    ghost lawful = { own_lawful ATTRIBUTE_INTERFACE_MEMBER attribute_interface_member_tree (Unit {0}) };
+    ghost lawful = { own_lawful ATTRIBUTE_INTERFACE_MEMBER attribute_interface_member_tree
+        (Unit {0}) };
 }
 
 impl TryClone for AttributeInterfaceMember<'_> {

@@ -25,7 +25,8 @@ use weedle_types::copies::{copy_attributes, copy_docstring};
 use weedle_types::types::ReturnType;
 
 impl TryClone for ConstructorInterfaceMember<'_> {
-    ghost alike = { λ a b. constructor_interface_member_tree a ≡ constructor_interface_member_tree b };
+    ghost alike = { λ a b. constructor_interface_member_tree a
+        ≡ constructor_interface_member_tree b };
 
     fn try_clone(&self, alloc: Global) -> Result<Self, AllocError> {
         Ok(ConstructorInterfaceMember {
@@ -107,7 +108,8 @@ impl<'a> Parse<'a> for OperationInterfaceMember<'a> {
         }
     }
 
-    ghost lawful = { own_lawful OPERATION_INTERFACE_MEMBER operation_interface_member_tree (Unit {0}) };
+    ghost lawful = { own_lawful OPERATION_INTERFACE_MEMBER operation_interface_member_tree
+        (Unit {0}) };
 }
 
 impl TryClone for OperationInterfaceMember<'_> {

@@ -50,7 +50,8 @@ impl<'a> Parse<'a> for OperationNamespaceMember<'a> {
         }
     }
 
-    ghost lawful = { own_lawful OPERATION_NAMESPACE_MEMBER operation_namespace_member_tree (Unit {0}) };
+    ghost lawful = { own_lawful OPERATION_NAMESPACE_MEMBER operation_namespace_member_tree
+        (Unit {0}) };
 }
 
 impl TryClone for OperationNamespaceMember<'_> {
@@ -135,7 +136,8 @@ impl<'a> Parse<'a> for AttributeNamespaceMember<'a> {
         }
     }
 
-    ghost lawful = { own_lawful ATTRIBUTE_NAMESPACE_MEMBER attribute_namespace_member_tree (Unit {0}) };
+    ghost lawful = { own_lawful ATTRIBUTE_NAMESPACE_MEMBER attribute_namespace_member_tree
+        (Unit {0}) };
 }
 
 impl TryClone for AttributeNamespaceMember<'_> {

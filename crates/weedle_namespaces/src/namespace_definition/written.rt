@@ -107,7 +107,8 @@ impl<'a> NamespaceDefinition<'a> {
 
 #[tactic(auto, using(crate::proofs::written::NamespaceDefinitionRules::partial_namespace_definition_steps))]
 impl<'a> Parse<'a> for PartialNamespaceDefinition<'a> {
-    ghost reading = { own PARTIAL_NAMESPACE_DEFINITION partial_namespace_definition_tree (Unit {0}) };
+    ghost reading = { own PARTIAL_NAMESPACE_DEFINITION partial_namespace_definition_tree
+        (Unit {0}) };
 
     fn parse(alloc: Global, input: &'a str) -> IResult<&'a str, Self> {
         match attributes_and_five(alloc, input) {
@@ -126,11 +127,13 @@ impl<'a> Parse<'a> for PartialNamespaceDefinition<'a> {
         }
     }
 
-    ghost lawful = { own_lawful PARTIAL_NAMESPACE_DEFINITION partial_namespace_definition_tree (Unit {0}) };
+    ghost lawful = { own_lawful PARTIAL_NAMESPACE_DEFINITION partial_namespace_definition_tree
+        (Unit {0}) };
 }
 
 impl TryClone for PartialNamespaceDefinition<'_> {
-    ghost alike = { λ a b. partial_namespace_definition_tree a ≡ partial_namespace_definition_tree b };
+    ghost alike = { λ a b. partial_namespace_definition_tree a
+        ≡ partial_namespace_definition_tree b };
 
     fn try_clone(&self, alloc: Global) -> Result<Self, AllocError> {
         Ok(PartialNamespaceDefinition {

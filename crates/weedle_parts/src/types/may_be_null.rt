@@ -44,5 +44,6 @@ impl<T: TryClone> TryClone for MayBeNull<T> {
         Ok(MayBeNull { type_, q_mark })
     }
 
-    ghost equivalence = { seen_equivalence (λ m. (m.type_, m.q_mark)) (pair_equivalence T.equivalence equal_equivalence) };
+    ghost equivalence = { seen_equivalence (λ m. (m.type_, m.q_mark))
+        (pair_equivalence T.equivalence equal_equivalence) };
 }

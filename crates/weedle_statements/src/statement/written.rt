@@ -23,7 +23,8 @@ use weedle_types::copies::copy_attributes;
 
 #[tactic(auto, using(crate::proofs::written::StatementRules::includes_statement_definition_steps))]
 impl<'a> Parse<'a> for IncludesStatementDefinition<'a> {
-    ghost reading = { own INCLUDES_STATEMENT_DEFINITION includes_statement_definition_tree (Unit {0}) };
+    ghost reading = { own INCLUDES_STATEMENT_DEFINITION includes_statement_definition_tree
+        (Unit {0}) };
 
     fn parse(alloc: Global, input: &'a str) -> IResult<&'a str, Self> {
         match attributes_and_four(alloc, input) {
@@ -41,11 +42,13 @@ impl<'a> Parse<'a> for IncludesStatementDefinition<'a> {
         }
     }
 
-    ghost lawful = { own_lawful INCLUDES_STATEMENT_DEFINITION includes_statement_definition_tree (Unit {0}) };
+    ghost lawful = { own_lawful INCLUDES_STATEMENT_DEFINITION includes_statement_definition_tree
+        (Unit {0}) };
 }
 
 impl TryClone for IncludesStatementDefinition<'_> {
-    ghost alike = { λ a b. includes_statement_definition_tree a ≡ includes_statement_definition_tree b };
+    ghost alike = { λ a b. includes_statement_definition_tree a
+        ≡ includes_statement_definition_tree b };
 
     fn try_clone(&self, alloc: Global) -> Result<Self, AllocError> {
         Ok(IncludesStatementDefinition {

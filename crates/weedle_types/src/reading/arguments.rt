@@ -95,7 +95,8 @@ pub(crate) fn variadic_argument<'a>(
     alloc: Global,
     input: &'a str,
 ) -> IResult<&'a str, VariadicArgument<'a>>
-    ensures reads { Answers (own VARIADIC_ARGUMENT variadic_argument_tree (Unit {0})) input.now result }
+    ensures reads { Answers (own VARIADIC_ARGUMENT variadic_argument_tree (Unit {0})) input.now
+        result }
     ensures shorter { IfOk result (λ x. length x.0.now < length input.now) }
 {
     let (rest, attributes) = attributes(alloc, input)?;
@@ -120,7 +121,8 @@ pub(crate) fn arguments<'a>(
     alloc: Global,
     input: &'a str,
 ) -> IResult<&'a str, ParenthesizedArgumentList<'a>>
-    ensures reads { Answers (own PARENTHESIZED_ARGUMENT_LIST arguments_tree (Unit {0})) input.now result }
+    ensures reads { Answers (own PARENTHESIZED_ARGUMENT_LIST arguments_tree (Unit {0})) input.now
+        result }
     ensures shorter { IfOk result (λ x. length x.0.now < length input.now) }
 {
     let (rest, open_paren) = word(alloc, input)?;
@@ -177,7 +179,9 @@ pub(crate) fn more_arguments<'a>(
     first: Argument<'a>,
     input: &'a str,
 ) -> IResult<&'a str, Vec<Argument<'a>>>
-    ensures reads { Answers (after_first (own ARGUMENT argument_tree (Unit {0})) comma_reading (λ l. l.items) first.entry) input.now result }
+    ensures reads { Answers
+        (after_first (own ARGUMENT argument_tree (Unit {0})) comma_reading (λ l. l.items)
+        first.entry) input.now result }
     ensures no_longer { IfOk result (λ x. length x.0.now ≤ length input.now) }
 {
     let mut list = Vec::new(alloc);

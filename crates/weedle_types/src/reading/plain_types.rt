@@ -124,7 +124,8 @@ pub(crate) fn signed_arrays<'a>(alloc: Global, input: &'a str) -> IResult<&'a st
 /// Reads an array of unsigned numbers, as `Uint8Array`.
 #[tactic(auto, using(crate::proofs::written::PlainTypeRules::unsigned_arrays_steps))]
 pub(crate) fn unsigned_arrays<'a>(alloc: Global, input: &'a str) -> IResult<&'a str, NonAnyType<'a>>
-    ensures reads { Answers (members unsigned_arrays_rules 18 non_any_type_tree ⊥) input.now result }
+    ensures reads { Answers (members unsigned_arrays_rules 18 non_any_type_tree ⊥) input.now
+        result }
     ensures shorter { IfOk result (λ x. length x.0.now < length input.now) }
 {
     match word(alloc, input) {

@@ -180,7 +180,8 @@ pub(crate) fn attributed_non_any_type<'a>(
     alloc: Global,
     input: &'a str,
 ) -> IResult<&'a str, AttributedNonAnyType<'a>>
-    ensures reads { Answers (own ATTRIBUTED_NON_ANY_TYPE attributed_non_any_type_tree (Unit {0})) input.now result }
+    ensures reads { Answers (own ATTRIBUTED_NON_ANY_TYPE attributed_non_any_type_tree (Unit {0}))
+        input.now result }
     ensures shorter { IfOk result (λ x. length x.0.now < length input.now) }
 {
     let (rest, attributes) = attributes(alloc, input)?;

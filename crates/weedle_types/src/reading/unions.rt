@@ -54,7 +54,9 @@ pub(crate) fn nullable_union_type<'a>(
     alloc: Global,
     input: &'a str,
 ) -> IResult<&'a str, MayBeNull<UnionType<'a>>>
-    ensures reads { Answers (own MAY_BE_NULL_UNION_TYPE (may_be_null_tree union_type_tree) (Unit {0})) input.now result }
+    ensures reads { Answers
+        (own MAY_BE_NULL_UNION_TYPE (may_be_null_tree union_type_tree) (Unit {0})) input.now
+        result }
     ensures shorter { IfOk result (λ x. length x.0.now < length input.now) }
 {
     let (rest, type_) = union_type(alloc, input)?;
@@ -69,7 +71,8 @@ pub(crate) fn union_member_type<'a>(
     alloc: Global,
     input: &'a str,
 ) -> IResult<&'a str, UnionMemberType<'a>>
-    ensures reads { Answers (own UNION_MEMBER_TYPE union_member_type_tree (Unit {0})) input.now result }
+    ensures reads { Answers (own UNION_MEMBER_TYPE union_member_type_tree (Unit {0})) input.now
+        result }
     ensures shorter { IfOk result (λ x. length x.0.now < length input.now) }
 {
     match attributed_non_any_type(alloc, input) {
@@ -88,7 +91,8 @@ pub(crate) fn union_member_types<'a>(
     alloc: Global,
     input: &'a str,
 ) -> IResult<&'a str, Punctuated<UnionMemberType<'a>, Or>>
-    ensures reads { Answers (own LIST_UNION_MEMBER_TYPE_OR union_member_types_tree (Unit {0})) input.now result }
+    ensures reads { Answers (own LIST_UNION_MEMBER_TYPE_OR union_member_types_tree (Unit {0}))
+        input.now result }
     ensures no_longer { IfOk result (λ x. length x.0.now ≤ length input.now) }
 {
     match union_member_type(alloc, input) {
@@ -127,7 +131,9 @@ pub(crate) fn more_union_member_types<'a>(
     first: UnionMemberType<'a>,
     input: &'a str,
 ) -> IResult<&'a str, Vec<UnionMemberType<'a>>>
-    ensures reads { Answers (after_first (own UNION_MEMBER_TYPE union_member_type_tree (Unit {0})) or_reading (λ l. l.items) first.entry) input.now result }
+    ensures reads { Answers
+        (after_first (own UNION_MEMBER_TYPE union_member_type_tree (Unit {0})) or_reading
+        (λ l. l.items) first.entry) input.now result }
     ensures no_longer { IfOk result (λ x. length x.0.now ≤ length input.now) }
 {
     let mut list = Vec::new(alloc);

@@ -66,21 +66,24 @@ pub fn extended_attribute()
 /// `Constructor(long x)`, spells its value.
 #[tactic(auto, using(crate::proofs::written::ArgumentLaws::extended_attribute_arg_list_law))]
 pub fn extended_attribute_arg_list()
-    ensures { SpellsValues EXTENDED_ATTRIBUTE_ARG_LIST extended_attribute_arg_list_tree extended_attribute_arg_list_spelling }
+    ensures { SpellsValues EXTENDED_ATTRIBUTE_ARG_LIST extended_attribute_arg_list_tree
+        extended_attribute_arg_list_spelling }
 {}
 
 /// A law, which does nothing: the text of an extended attribute with a name and arguments, as
 /// `NamedConstructor=Image(long x)`, spells its value.
 #[tactic(auto, using(crate::proofs::written::ArgumentLaws::extended_attribute_named_arg_list_law))]
 pub fn extended_attribute_named_arg_list()
-    ensures { SpellsValues EXTENDED_ATTRIBUTE_NAMED_ARG_LIST extended_attribute_named_arg_list_tree extended_attribute_named_arg_list_spelling }
+    ensures { SpellsValues EXTENDED_ATTRIBUTE_NAMED_ARG_LIST extended_attribute_named_arg_list_tree
+        extended_attribute_named_arg_list_spelling }
 {}
 
 /// A law, which does nothing: the text of extended attributes in brackets, as
 /// `[Exposed=Window, SecureContext]`, spells its value.
 #[tactic(auto, using(crate::proofs::written::ArgumentLaws::extended_attribute_list_law))]
 pub fn extended_attribute_list()
-    ensures { SpellsValues EXTENDED_ATTRIBUTE_LIST extended_attribute_list_tree extended_attribute_list_spelling }
+    ensures { SpellsValues EXTENDED_ATTRIBUTE_LIST extended_attribute_list_tree
+        extended_attribute_list_spelling }
 {}
 
 /// A law, which does nothing: the text of an argument, as `optional long x = 5`, spells its value.

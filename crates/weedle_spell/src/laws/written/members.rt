@@ -44,7 +44,8 @@ ghost use Rattle.weedle_types.specs.PartTrees.{members_tree};
 /// `static readonly attribute long x;`, spells its value.
 #[tactic(auto, using(crate::proofs::written::MemberLaws::attribute_interface_member_law))]
 pub fn attribute_interface_member()
-    ensures { SpellsValues ATTRIBUTE_INTERFACE_MEMBER attribute_interface_member_tree attribute_interface_member_spelling }
+    ensures { SpellsValues ATTRIBUTE_INTERFACE_MEMBER attribute_interface_member_tree
+        attribute_interface_member_spelling }
 {}
 
 /// A law, which does nothing: the text of a constant, as `const long X = 5;`, spells its value.
@@ -57,14 +58,16 @@ pub fn const_member()
 /// value.
 #[tactic(auto, using(crate::proofs::written::MemberLaws::constructor_interface_member_law))]
 pub fn constructor_interface_member()
-    ensures { SpellsValues CONSTRUCTOR_INTERFACE_MEMBER constructor_interface_member_tree constructor_interface_member_spelling }
+    ensures { SpellsValues CONSTRUCTOR_INTERFACE_MEMBER constructor_interface_member_tree
+        constructor_interface_member_spelling }
 {}
 
 /// A law, which does nothing: the text of an operation of an interface, as
 /// `getter long item(long index);`, spells its value.
 #[tactic(auto, using(crate::proofs::written::MemberLaws::operation_interface_member_law))]
 pub fn operation_interface_member()
-    ensures { SpellsValues OPERATION_INTERFACE_MEMBER operation_interface_member_tree operation_interface_member_spelling }
+    ensures { SpellsValues OPERATION_INTERFACE_MEMBER operation_interface_member_tree
+        operation_interface_member_spelling }
 {}
 
 /// A law, which does nothing: the text of a stringifier with no body, as `stringifier;`, spells its
@@ -78,14 +81,16 @@ pub fn stringifier_member()
 /// `stringifier long f(long x);`, spells its value.
 #[tactic(auto, using(crate::proofs::written::MemberLaws::operation_mixin_member_law))]
 pub fn operation_mixin_member()
-    ensures { SpellsValues OPERATION_MIXIN_MEMBER operation_mixin_member_tree operation_mixin_member_spelling }
+    ensures { SpellsValues OPERATION_MIXIN_MEMBER operation_mixin_member_tree
+        operation_mixin_member_spelling }
 {}
 
 /// A law, which does nothing: the text of an attribute of a mixin, as `readonly attribute long x;`,
 /// spells its value.
 #[tactic(auto, using(crate::proofs::written::MemberLaws::attribute_mixin_member_law))]
 pub fn attribute_mixin_member()
-    ensures { SpellsValues ATTRIBUTE_MIXIN_MEMBER attribute_mixin_member_tree attribute_mixin_member_spelling }
+    ensures { SpellsValues ATTRIBUTE_MIXIN_MEMBER attribute_mixin_member_tree
+        attribute_mixin_member_spelling }
 {}
 
 /// A law, which does nothing: the text of a member of a mixin, as `readonly attribute long x;`,

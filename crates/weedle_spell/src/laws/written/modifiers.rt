@@ -39,12 +39,14 @@ pub fn special()
 /// value.
 #[tactic(auto, using(crate::proofs::written::ModifierLaws::stringifier_or_inherit_or_static_law))]
 pub fn stringifier_or_inherit_or_static()
-    ensures { SpellsValues STRINGIFIER_OR_INHERIT_OR_STATIC stringifier_or_inherit_or_static_tree stringifier_or_inherit_or_static_spelling }
+    ensures { SpellsValues STRINGIFIER_OR_INHERIT_OR_STATIC stringifier_or_inherit_or_static_tree
+        stringifier_or_inherit_or_static_spelling }
 {}
 
 /// A law, which does nothing: the text of the word before an operation, as `stringifier` or
 /// `static`, spells its value.
 #[tactic(auto, using(crate::proofs::written::ModifierLaws::stringifier_or_static_law))]
 pub fn stringifier_or_static()
-    ensures { SpellsValues STRINGIFIER_OR_STATIC stringifier_or_static_tree stringifier_or_static_spelling }
+    ensures { SpellsValues STRINGIFIER_OR_STATIC stringifier_or_static_tree
+        stringifier_or_static_spelling }
 {}

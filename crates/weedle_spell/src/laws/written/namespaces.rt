@@ -51,35 +51,40 @@ pub fn dictionary_member()
 /// `long x; long y = 5;`, spells its value.
 #[tactic(auto, using(crate::proofs::written::NamespaceLaws::dictionary_members_law))]
 pub fn dictionary_members()
-    ensures { SpellsValues DICTIONARY_MEMBERS (members_tree dictionary_member_tree) dictionary_members_spelling }
+    ensures { SpellsValues DICTIONARY_MEMBERS (members_tree dictionary_member_tree)
+        dictionary_members_spelling }
 {}
 
 /// A law, which does nothing: the text of a dictionary, as `dictionary A : B { long x = 5; };`,
 /// spells its value.
 #[tactic(auto, using(crate::proofs::written::NamespaceLaws::dictionary_definition_law))]
 pub fn dictionary_definition()
-    ensures { SpellsValues DICTIONARY_DEFINITION dictionary_definition_tree dictionary_definition_spelling }
+    ensures { SpellsValues DICTIONARY_DEFINITION dictionary_definition_tree
+        dictionary_definition_spelling }
 {}
 
 /// A law, which does nothing: the text of a part of a dictionary, as `partial dictionary A {};`,
 /// spells its value.
 #[tactic(auto, using(crate::proofs::written::NamespaceLaws::partial_dictionary_definition_law))]
 pub fn partial_dictionary_definition()
-    ensures { SpellsValues PARTIAL_DICTIONARY_DEFINITION partial_dictionary_definition_tree partial_dictionary_definition_spelling }
+    ensures { SpellsValues PARTIAL_DICTIONARY_DEFINITION partial_dictionary_definition_tree
+        partial_dictionary_definition_spelling }
 {}
 
 /// A law, which does nothing: the text of an operation of a namespace, as `long f(long x);`, spells
 /// its value.
 #[tactic(auto, using(crate::proofs::written::NamespaceLaws::operation_namespace_member_law))]
 pub fn operation_namespace_member()
-    ensures { SpellsValues OPERATION_NAMESPACE_MEMBER operation_namespace_member_tree operation_namespace_member_spelling }
+    ensures { SpellsValues OPERATION_NAMESPACE_MEMBER operation_namespace_member_tree
+        operation_namespace_member_spelling }
 {}
 
 /// A law, which does nothing: the text of an attribute of a namespace, as
 /// `readonly attribute long x;`, spells its value.
 #[tactic(auto, using(crate::proofs::written::NamespaceLaws::attribute_namespace_member_law))]
 pub fn attribute_namespace_member()
-    ensures { SpellsValues ATTRIBUTE_NAMESPACE_MEMBER attribute_namespace_member_tree attribute_namespace_member_spelling }
+    ensures { SpellsValues ATTRIBUTE_NAMESPACE_MEMBER attribute_namespace_member_tree
+        attribute_namespace_member_spelling }
 {}
 
 /// A law, which does nothing: the text of a member of a namespace, as `long f(long x);`, spells its
@@ -93,19 +98,22 @@ pub fn namespace_member()
 /// `long f(); long g();`, spells its value.
 #[tactic(auto, using(crate::proofs::written::NamespaceLaws::namespace_members_law))]
 pub fn namespace_members()
-    ensures { SpellsValues NAMESPACE_MEMBERS (members_tree namespace_member_tree) namespace_members_spelling }
+    ensures { SpellsValues NAMESPACE_MEMBERS (members_tree namespace_member_tree)
+        namespace_members_spelling }
 {}
 
 /// A law, which does nothing: the text of a namespace, as `namespace A { long f(); };`, spells its
 /// value.
 #[tactic(auto, using(crate::proofs::written::NamespaceLaws::namespace_definition_law))]
 pub fn namespace_definition()
-    ensures { SpellsValues NAMESPACE_DEFINITION namespace_definition_tree namespace_definition_spelling }
+    ensures { SpellsValues NAMESPACE_DEFINITION namespace_definition_tree
+        namespace_definition_spelling }
 {}
 
 /// A law, which does nothing: the text of a part of a namespace, as `partial namespace A {};`,
 /// spells its value.
 #[tactic(auto, using(crate::proofs::written::NamespaceLaws::partial_namespace_definition_law))]
 pub fn partial_namespace_definition()
-    ensures { SpellsValues PARTIAL_NAMESPACE_DEFINITION partial_namespace_definition_tree partial_namespace_definition_spelling }
+    ensures { SpellsValues PARTIAL_NAMESPACE_DEFINITION partial_namespace_definition_tree
+        partial_namespace_definition_spelling }
 {}

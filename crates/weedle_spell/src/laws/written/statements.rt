@@ -32,7 +32,8 @@ ghost use Rattle.weedle_statements.specs.written.Trees.{
 /// its value.
 #[tactic(auto, using(crate::proofs::written::StatementLaws::callback_definition_law))]
 pub fn callback_definition()
-    ensures { SpellsValues CALLBACK_DEFINITION callback_definition_tree callback_definition_spelling }
+    ensures { SpellsValues CALLBACK_DEFINITION callback_definition_tree
+        callback_definition_spelling }
 {}
 
 /// A law, which does nothing: the text of a value of an enum, as `"blob"`, spells its value.
@@ -45,7 +46,8 @@ pub fn enum_variant()
 /// the last where it stands, as `"a", "b",`, spells its value.
 #[tactic(auto, using(crate::proofs::written::StatementLaws::enum_value_list_law))]
 pub fn enum_value_list()
-    ensures { SpellsValues ENUM_VALUE_LIST (punctuated_non_empty_tree enum_variant_tree) enum_value_list_spelling }
+    ensures { SpellsValues ENUM_VALUE_LIST (punctuated_non_empty_tree enum_variant_tree)
+        enum_value_list_spelling }
 {}
 
 /// A law, which does nothing: the text of an enum, as `enum A { "a", "b" };`, spells its value.
@@ -58,14 +60,16 @@ pub fn enum_definition()
 /// spells its value.
 #[tactic(auto, using(crate::proofs::written::StatementLaws::includes_statement_definition_law))]
 pub fn includes_statement_definition()
-    ensures { SpellsValues INCLUDES_STATEMENT_DEFINITION includes_statement_definition_tree includes_statement_definition_spelling }
+    ensures { SpellsValues INCLUDES_STATEMENT_DEFINITION includes_statement_definition_tree
+        includes_statement_definition_spelling }
 {}
 
 /// A law, which does nothing: the text of the older form of a mixin's use, as `A implements B;`,
 /// spells its value.
 #[tactic(auto, using(crate::proofs::written::StatementLaws::implements_definition_law))]
 pub fn implements_definition()
-    ensures { SpellsValues IMPLEMENTS_DEFINITION implements_definition_tree implements_definition_spelling }
+    ensures { SpellsValues IMPLEMENTS_DEFINITION implements_definition_tree
+        implements_definition_spelling }
 {}
 
 /// A law, which does nothing: the text of a name for a type, as `typedef long A;`, spells its

@@ -143,5 +143,6 @@ pub fn attributed_type()
 /// extended attributes that stand before it, as `[Clamp] octet`, spells its value.
 #[tactic(auto, using(crate::proofs::written::TypeLaws::attributed_non_any_type_law))]
 pub fn attributed_non_any_type()
-    ensures { SpellsValues ATTRIBUTED_NON_ANY_TYPE attributed_non_any_type_tree attributed_non_any_type_spelling }
+    ensures { SpellsValues ATTRIBUTED_NON_ANY_TYPE attributed_non_any_type_tree
+        attributed_non_any_type_spelling }
 {}
