@@ -25,11 +25,7 @@ PIECE = re.compile(
 )
 TABLE = in_logic("weedle_grammar.specs.Table")
 USES = re.compile(rf"(?:^use {TABLE}\.[^\n]*\n)+", re.M)
-WORD = """    match word(alloc, input) {{
-        Ok((rest, member)) => return Ok((rest, {}(member))),
-        Err(Err::Error(_)) => {{}}
-        Err(Err::Failure(e)) => return Err(Err::Failure(e)),
-    }}
+WORD = """    read_or_next!(word(alloc, input), {});
 """
 LAST_WORD = """    let (rest, member) = word(alloc, input)?;
     Ok((rest, {}(member)))

@@ -2,6 +2,7 @@
 //! and the terminals.
 #![tactic(auto)]
 
+mod alternatives;
 mod choice;
 mod doc_lines;
 mod fault;

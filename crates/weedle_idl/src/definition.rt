@@ -17,7 +17,7 @@ mod written;
 
 use std::alloc::Global;
 use weedle_base::Choice::{self, First, Second};
-use weedle_base::{Err, IResult, Parse};
+use weedle_base::{IResult, Parse, read_or_next};
 use weedle_interfaces::{
     CallbackInterfaceDefinition, InterfaceDefinition, PartialInterfaceDefinition,
 };
@@ -94,21 +94,9 @@ impl<'a> Parse<'a> for Definition<'a> {
     ghost reading = { own DEFINITION definition_tree (Unit {0}) };
 
     fn parse(alloc: Global, input: &'a str) -> IResult<&'a str, Self> {
-        match callback_or_interface(alloc, input) {
-            Ok((rest, member)) => return Ok((rest, member)),
-            Err(Err::Error(_)) => {}
-            Err(Err::Failure(fault)) => return Err(Err::Failure(fault)),
-        }
-        match main_definition(alloc, input) {
-            Ok((rest, member)) => return Ok((rest, member)),
-            Err(Err::Error(_)) => {}
-            Err(Err::Failure(fault)) => return Err(Err::Failure(fault)),
-        }
-        match partial_definition(alloc, input) {
-            Ok((rest, member)) => return Ok((rest, member)),
-            Err(Err::Error(_)) => {}
-            Err(Err::Failure(fault)) => return Err(Err::Failure(fault)),
-        }
+        read_or_next!(callback_or_interface(alloc, input));
+        read_or_next!(main_definition(alloc, input));
+        read_or_next!(partial_definition(alloc, input));
         let (rest, member) = other_definition(alloc, input)?;
         Ok((rest, member))
     }

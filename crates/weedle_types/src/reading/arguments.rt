@@ -28,7 +28,7 @@ use crate::argument::{
 };
 use std::alloc::Global;
 use weedle_base::term::Comma;
-use weedle_base::{Err, IResult, out_of_memory};
+use weedle_base::{Err, IResult, out_of_memory, read_or_next};
 use weedle_parts::common::Punctuated;
 
 /// Reads an argument, as `long x` or `long... xs`.
@@ -38,11 +38,7 @@ pub(crate) fn argument<'a>(alloc: Global, input: &'a str) -> IResult<&'a str, Ar
     ensures reads { Answers (own ARGUMENT argument_tree (Unit {0})) input.now result }
     ensures shorter { IfOk result (λ x. length x.0.now < length input.now) }
 {
-    match single_argument(alloc, input) {
-        Ok((rest, member)) => return Ok((rest, Argument::Single(member))),
-        Err(Err::Error(_)) => {}
-        Err(Err::Failure(e)) => return Err(Err::Failure(e)),
-    }
+    read_or_next!(single_argument(alloc, input), Argument::Single);
     let (rest, member) = variadic_argument(alloc, input)?;
     Ok((rest, Argument::Variadic(member)))
 }

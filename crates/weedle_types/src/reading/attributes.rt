@@ -30,7 +30,7 @@ use crate::attribute::{
 };
 use std::alloc::Global;
 use weedle_base::term::Comma;
-use weedle_base::{Err, IResult, out_of_memory};
+use weedle_base::{Err, IResult, out_of_memory, read_or_next};
 use weedle_parts::common::{Bracketed, Punctuated};
 
 /// Reads extended attributes in brackets, where they stand.
@@ -87,26 +87,10 @@ pub(crate) fn extended_attribute<'a>(
         result }
     ensures shorter { IfOk result (λ x. length x.0.now < length input.now) }
 {
-    match extended_attribute_arg_list(alloc, input) {
-        Ok((rest, member)) => return Ok((rest, ExtendedAttribute::ArgList(member))),
-        Err(Err::Error(_)) => {}
-        Err(Err::Failure(e)) => return Err(Err::Failure(e)),
-    }
-    match extended_attribute_named_arg_list(alloc, input) {
-        Ok((rest, member)) => return Ok((rest, ExtendedAttribute::NamedArgList(member))),
-        Err(Err::Error(_)) => {}
-        Err(Err::Failure(e)) => return Err(Err::Failure(e)),
-    }
-    match word(alloc, input) {
-        Ok((rest, member)) => return Ok((rest, ExtendedAttribute::IdentList(member))),
-        Err(Err::Error(_)) => {}
-        Err(Err::Failure(e)) => return Err(Err::Failure(e)),
-    }
-    match word(alloc, input) {
-        Ok((rest, member)) => return Ok((rest, ExtendedAttribute::Ident(member))),
-        Err(Err::Error(_)) => {}
-        Err(Err::Failure(e)) => return Err(Err::Failure(e)),
-    }
+    read_or_next!(extended_attribute_arg_list(alloc, input), ExtendedAttribute::ArgList);
+    read_or_next!(extended_attribute_named_arg_list(alloc, input), ExtendedAttribute::NamedArgList);
+    read_or_next!(word(alloc, input), ExtendedAttribute::IdentList);
+    read_or_next!(word(alloc, input), ExtendedAttribute::Ident);
     let (rest, member) = word(alloc, input)?;
     Ok((rest, ExtendedAttribute::NoArgs(member)))
 }

@@ -23,7 +23,7 @@ use super::types::attributed_non_any_type;
 use crate::types::{UnionMemberType, UnionType};
 use std::alloc::Global;
 use weedle_base::term::Or;
-use weedle_base::{Err, IResult, out_of_memory};
+use weedle_base::{Err, IResult, out_of_memory, read_or_next};
 use weedle_parts::common::{Parenthesized, Punctuated};
 use weedle_parts::types::MayBeNull;
 
@@ -75,11 +75,7 @@ pub(crate) fn union_member_type<'a>(
         result }
     ensures shorter { IfOk result (λ x. length x.0.now < length input.now) }
 {
-    match attributed_non_any_type(alloc, input) {
-        Ok((rest, member)) => return Ok((rest, UnionMemberType::Single(member))),
-        Err(Err::Error(_)) => {}
-        Err(Err::Failure(e)) => return Err(Err::Failure(e)),
-    }
+    read_or_next!(attributed_non_any_type(alloc, input), UnionMemberType::Single);
     let (rest, member) = nullable_union_type(alloc, input)?;
     Ok((rest, UnionMemberType::Union(member)))
 }
