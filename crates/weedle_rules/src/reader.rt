@@ -4,6 +4,7 @@
 //! by `byte` and `cell` alone, each of which counts; the text is never handed out.
 
 ghost use Rattle.std.specs.Prelude.{
+  ◌^◌,
   ◌≡◌,
   ◌≤◌,
   ◌<◌,
@@ -236,7 +237,7 @@ impl<'a, C: Cell> Reader<'a, C> {
         requires next { length self.old.known ≡ cell_number (length self.old.text) rule place }
         ensures begun { result ≡ record { rule = rule; place = place; count = 0 } }
         ensures opened { self.new ≡ record self.old { is_open = true } }
-        ensures fits { length self.old.text < 18446744073709551616 }
+        ensures fits { length self.old.text < 2 ^ 64 }
     {
         self.is_open = true;
         Working {
