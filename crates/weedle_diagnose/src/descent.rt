@@ -1,7 +1,8 @@
 //! What fails furthest on, by descent, without a table.
 //!
-//! Each rule is read where it is tried, and a rule without parts that fails is noted. Nothing is passed
-//! over: what can't begin with the byte that stands there is tried too, since that it fails is noted.
+//! Each rule is read where it is tried, and a rule without parts that fails is noted. Nothing is
+//! passed over: what can't begin with the byte that stands there is tried too, since that it fails
+//! is noted.
 
 ghost use Rattle.std.specs.Prelude.{◌≡◌, ◌≤◌, ◌<◌, length, IfOk, if◌then◌else◌};
 ghost use Rattle.weedle_grammar.specs.Rows.{Seq, First, Opt, Many, ListOf, List1, Tail, If};
@@ -21,7 +22,7 @@ pub(crate) struct GaveUp;
 
 /// Notes what fails where the rule is read, and says where it ends; nothing where it fails.
 ///
-/// So many rules may be read that `left` says, and so many in one another that `depth` says.
+/// At most `left` rules are read, and at most `depth` in one another.
 #[cycle(descent)]
 pub(crate) fn read(
     furthest: &mut Furthest,

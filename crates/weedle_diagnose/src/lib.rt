@@ -10,8 +10,8 @@
 //! ```
 //!
 //! At 40 stands the `}`, where the text lacks a `;`. So the rule of that sign is one of `expected`,
-//! beside those that begin a comment or a blank, which may stand there too. [`diagnose_from`] says the
-//! same over a table of ends.
+//! beside those that begin a comment or a blank, which may stand there too. [`diagnose_from`] says
+//! the same over a table of ends.
 #![tactic(auto)]
 
 mod descent;

@@ -1,7 +1,7 @@
 //! Marks of rules at places: a bit for each, by the number of its cell in a table of ends.
 //!
-//! In a word the first cell has the highest bit and the last cell the lowest. So the last cell that is
-//! marked in a word is the number of its trailing zeros away from its end.
+//! In a word the first cell has the highest bit and the last cell the lowest. So the last cell that
+//! is marked in a word is the number of its trailing zeros away from its end.
 
 ghost use Rattle.std.specs.Prelude.{
   ◌^◌,

@@ -12,10 +12,11 @@ use crate::marks::{is_set, set};
 use std::alloc::{AllocError, Global};
 use weedle_grammar::{RULES, Rule, rule_of};
 
-/// So many words have a bit for each rule.
+/// How many words have a bit for each rule.
 const WORDS: usize = 7;
 
-/// The furthest place where something failed so far, and the rules that failed there, a bit for each.
+/// The furthest place where something failed so far, and the rules that failed there, a bit for
+/// each.
 #[derive(Drop)]
 pub(crate) struct Furthest {
     pub(crate) place: usize,

@@ -40,7 +40,8 @@ pub fn syntax_quick(alloc: Global, raw: &str) -> Result<Option<Vec<Node>>, Alloc
 /// these are the nodes of the first definition, and the rest begins at 17. Of a text that is read
 /// whole it answers what [`syntax`] answers. So a tool can show a tree while a text is written.
 ///
-/// It goes by descent or over the table, as [`syntax_quick`] does, and costs the same.
+/// It goes by descent or over the table, as [`syntax_quick`] does, and costs the same. Where memory
+/// is refused, the answer is an error.
 pub fn syntax_of_front(alloc: Global, raw: &str) -> Result<Vec<Node>, AllocError>
     ensures are { IfOk result (λ nodes. IsFront raw.now nodes.items) }
 
