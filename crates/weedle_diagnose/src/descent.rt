@@ -12,8 +12,10 @@ ghost use Rattle.weedle_grammar.specs.written.Table.{row_of as the_row_of};
 ghost use Rattle.weedle_rules.specs.Cells.{HasEnd};
 ghost use Rattle.weedle_diagnose.specs.Noted.{IsUnmetIn, Notes};
 
-use crate::leaves::{end_of_bytes, end_of_not_next, end_of_one, end_of_run, end_past};
 use crate::noted::Furthest;
+use weedle_grammar::leaf_ends::{
+    end_of_bytes, end_of_not_next, end_of_one, end_of_run, end_past,
+};
 use weedle_grammar::{Parts, Row, Rule, row_of};
 
 /// The descent gave up: it would have to read more rules than it may, or deeper in one another.

@@ -16,7 +16,6 @@
 
 mod descent;
 mod diagnosis;
-mod leaves;
 mod marking;
 mod marks;
 mod noted;

@@ -5,6 +5,7 @@ use Rattle.std.proofs.lemmas.List.{drop_more, drop_all, length-drop, take_rest}
 use Rattle.std.proofs.lemmas.Bool.{ne_eqb}
 use Rattle.weedle_grammar.specs.declared.class.Class.{Class}
 use Rattle.weedle_grammar.specs.Rows.{begins, is_in, run_length, take_past}
+use Rattle.weedle_grammar.proofs.Leaves.{begins_le}
 
 -- what is left from a place on
 pub left_is : (text left : List ℕ) (p : ℕ) → left ≡ take (length text - p) (drop p text) → left ≡ drop p text
@@ -33,15 +34,6 @@ begins_short bytes left i a b = ap (λ z. begins z (drop i left)) (drop_more byt
 
 pub begins_all : (bytes left : List ℕ) (i : ℕ) → length bytes ≤ i → begins (drop i bytes) (drop i left) ≡ true
 begins_all bytes left i a = ap (λ z. begins z (drop i left)) (drop_all i bytes a)
-
-pub begins_le : (bytes left : List ℕ) → begins bytes left ≡ true → length bytes ≤ length left
-begins_le [] left h = omega arith
-begins_le (b ∷ bytes) [] h = cc
-begins_le (b ∷ bytes) (t ∷ left) h = let l : length bytes ≤ length left = begins_le bytes left (both_right (b == t) (begins bytes left) h) in omega arith
-  where
-    both_right : (x y : Bool) → x && y ≡ true → y ≡ true
-    both_right true y h = h
-    both_right false y h = cc
 
 -- one byte
 pub run_on : (class : Class) (left : List ℕ) (i : ℕ) → i < length left → is_in class (get_or left i 0) ≡ true → run_length class (drop i left) ≡ suc (run_length class (drop (i + 1) left))

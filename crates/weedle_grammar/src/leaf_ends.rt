@@ -1,4 +1,5 @@
-//! Rows without parts: where they end.
+//! Rows without parts: where they end at a place of a text, as bytes. None of these calls takes
+//! memory.
 
 ghost use Rattle.std.specs.Prelude.{◌≡◌, ◌≤◌, ◌+◌, length, drop, option_map, IfSome};
 ghost use Rattle.weedle_grammar.specs.Rows.{
@@ -10,11 +11,12 @@ ghost use Rattle.weedle_grammar.specs.Rows.{
   take_past as the_take_past,
 };
 
-use weedle_grammar::{Class, holds};
+use crate::{Class, holds};
 
-/// Where these bytes end, which stand at a place.
+/// Where these bytes end that stand at a place: of `enum` at the front of `enum E {};` 4, and None
+/// where others stand there. It is what a row `Bytes` reads.
 #[inline(always)]
-pub(crate) fn end_of_bytes(bytes: &[u8], text: &[u8], place: usize) -> Option<usize>
+pub fn end_of_bytes(bytes: &[u8], text: &[u8], place: usize) -> Option<usize>
     requires { place ≤ length text.now }
     ensures { result
         ≡ option_map (λ k. place + k) (the_take_bytes bytes.now (drop place text.now)) }
@@ -25,9 +27,10 @@ pub(crate) fn end_of_bytes(bytes: &[u8], text: &[u8], place: usize) -> Option<us
     }
 }
 
-/// Where one byte of the class ends, which stands at a place.
+/// Where one byte of the class ends that stands at a place; None where another byte stands there, or
+/// the text ends. It is what a row `OneOf` reads.
 #[inline(always)]
-pub(crate) fn end_of_one(class: Class, text: &[u8], place: usize) -> Option<usize>
+pub fn end_of_one(class: Class, text: &[u8], place: usize) -> Option<usize>
     requires { place ≤ length text.now }
     ensures { result ≡ option_map (λ k. place + k) (the_take_one class (drop place text.now)) }
 {
@@ -37,9 +40,10 @@ pub(crate) fn end_of_one(class: Class, text: &[u8], place: usize) -> Option<usiz
     }
 }
 
-/// The place itself, where no byte of the class stands there.
+/// The place itself, where no byte of the class stands there, as at the end of the text; else None.
+/// It is what a row `NotNext` reads.
 #[inline(always)]
-pub(crate) fn end_of_not_next(class: Class, text: &[u8], place: usize) -> Option<usize>
+pub fn end_of_not_next(class: Class, text: &[u8], place: usize) -> Option<usize>
     requires { place ≤ length text.now }
     ensures { result ≡ option_map (λ k. place + k) (the_take_not_next class (drop place text.now)) }
 {
@@ -49,18 +53,20 @@ pub(crate) fn end_of_not_next(class: Class, text: &[u8], place: usize) -> Option
     }
 }
 
-/// Where the bytes of the class end that stand at a place.
+/// Where the bytes of the class end that stand at a place: the place itself where there are none. It
+/// is what a row `Run` reads.
 #[inline(always)]
-pub(crate) fn end_of_run(class: Class, text: &[u8], place: usize) -> usize
+pub fn end_of_run(class: Class, text: &[u8], place: usize) -> usize
     requires { place ≤ length text.now }
     ensures { result ≡ place + the_run_length class (drop place text.now) }
 {
     place + run_length(class, &text[place..])
 }
 
-/// Where the first of these bytes behind a place end.
+/// Where the first of these bytes end that stand at a place or behind it, as `*/` of a comment; None
+/// where they don't stand there. It is what a row `Past` reads.
 #[inline(always)]
-pub(crate) fn end_past(bytes: &[u8], text: &[u8], place: usize) -> Option<usize>
+pub fn end_past(bytes: &[u8], text: &[u8], place: usize) -> Option<usize>
     requires { place ≤ length text.now }
     ensures { result ≡ option_map (λ k. place + k) (the_take_past bytes.now (drop place text.now)) }
 {
@@ -69,6 +75,7 @@ pub(crate) fn end_past(bytes: &[u8], text: &[u8], place: usize) -> Option<usize>
         None => None,
     }
 }
+
 /// Whether what is left begins with the bytes.
 fn begins(bytes: &[u8], left: &[u8]) -> bool
     ensures { result ≡ begins_with bytes.now left.now }
