@@ -22,7 +22,7 @@ BLOCKS = {
     f"{TYPES}/src/reading/generic_types.rt": [
         FUNCTION.replace("{}", "NAME_type"), FUNCTION.replace("{}", "nullable_NAME_type"),
     ],
-    f"{TYPES}/src/reading/types.rt": [r"^    read_or_next!\(nullable_NAME_type\([^;]*;\n"],
+    f"{TYPES}/src/reading/types.rt": [r"^    read_or_next!\(\s*nullable_NAME_type\([^;]*;\n"],
     f"{TYPES}/specs/Trees.antt": [
         CLAUSE.replace("{}", "non_any_type_tree"),
         r"^-- [^\n]*\nabbrev pub NAME_type_tree [^\n]*\n[^\n]*\n\n",

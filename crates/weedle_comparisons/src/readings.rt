@@ -14,7 +14,10 @@ ghost use Rattle.weedle_grammar.specs.written.Table.OtherMembers.{
 ghost use Rattle.weedle_grammar.specs.written.Table.Types.{PARENTHESIZED_ARGUMENT_LIST};
 ghost use Rattle.weedle_interfaces.specs.written.Trees.{interface_member_tree};
 ghost use Rattle.weedle_mixins.specs.written.Trees.{mixin_member_tree};
-ghost use Rattle.weedle_namespaces.specs.written.Trees.{dictionary_member_tree, namespace_member_tree};
+ghost use Rattle.weedle_namespaces.specs.written.Trees.{
+  dictionary_member_tree,
+  namespace_member_tree,
+};
 ghost use Rattle.weedle_parts.specs.ValueTrees.{braced_tree, parenthesized_tree};
 ghost use Rattle.weedle_types.specs.PartTrees.{members_tree};
 ghost use Rattle.weedle_types.specs.Trees.{argument_list_tree};

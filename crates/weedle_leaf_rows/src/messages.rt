@@ -30,7 +30,11 @@ fn assert_written(
 ) {
     let mut out = short_writer(alloc, most, calls);
     assert_eq!(rt; is_written(&mut out), is_whole, "after {calls} calls");
-    assert_eq!(rt; out.taken.as_slice(), said.as_bytes(), "after {calls} calls");
+    assert_eq!(rt;
+        out.taken.as_slice(),
+        said.as_bytes(),
+        "after {calls} calls"
+    );
 }
 
 #[test]

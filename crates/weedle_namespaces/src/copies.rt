@@ -1,7 +1,10 @@
 //! Copies of lists that definitions have, each with the tree of its original.
 
 ghost use Rattle.std.specs.Prelude.{IfOk, ◌≡◌};
-ghost use Rattle.weedle_namespaces.specs.written.Trees.{dictionary_member_tree, namespace_member_tree};
+ghost use Rattle.weedle_namespaces.specs.written.Trees.{
+  dictionary_member_tree,
+  namespace_member_tree,
+};
 ghost use Rattle.weedle_parts.specs.ValueTrees.{braced_tree};
 ghost use Rattle.weedle_types.specs.PartTrees.{members_tree};
 

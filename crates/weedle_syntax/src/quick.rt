@@ -1,7 +1,14 @@
 //! Descent where it suits a text, and else the table.
 
 ghost use Rattle.std.specs.Prelude.{◌≡◌, ◌↔◌, All, take, IsSome, IfOk, IfSome};
-ghost use Rattle.weedle_syntax.specs.Syntax.{IsWhole, IsSyntax, IsFront, IsRead, leaves_of, rest_of};
+ghost use Rattle.weedle_syntax.specs.Syntax.{
+  IsWhole,
+  IsSyntax,
+  IsFront,
+  IsRead,
+  leaves_of,
+  rest_of,
+};
 
 use crate::descent::front_by_descent;
 use crate::node::Node;

@@ -1,6 +1,9 @@
 //! Empty lists and dictionaries.
 
-ghost use Rattle.weedle_grammar.specs.written.Table.Literals.{EMPTY_ARRAY_LIT, EMPTY_DICTIONARY_LIT};
+ghost use Rattle.weedle_grammar.specs.written.Table.Literals.{
+  EMPTY_ARRAY_LIT,
+  EMPTY_DICTIONARY_LIT,
+};
 ghost use Rattle.weedle_base.specs.Own.{own};
 ghost use Rattle.weedle_base.specs.OwnLaws.{own_lawful};
 ghost use Rattle.weedle_parts.specs.LiteralTrees.{empty_array_tree, empty_dictionary_tree};

@@ -87,8 +87,14 @@ pub(crate) fn extended_attribute<'a>(
         result }
     ensures shorter { IfOk result (λ x. length x.0.now < length input.now) }
 {
-    read_or_next!(extended_attribute_arg_list(alloc, input), ExtendedAttribute::ArgList);
-    read_or_next!(extended_attribute_named_arg_list(alloc, input), ExtendedAttribute::NamedArgList);
+    read_or_next!(
+        extended_attribute_arg_list(alloc, input),
+        ExtendedAttribute::ArgList
+    );
+    read_or_next!(
+        extended_attribute_named_arg_list(alloc, input),
+        ExtendedAttribute::NamedArgList
+    );
     read_or_next!(word(alloc, input), ExtendedAttribute::IdentList);
     read_or_next!(word(alloc, input), ExtendedAttribute::Ident);
     let (rest, member) = word(alloc, input)?;

@@ -71,7 +71,10 @@ pub(crate) fn non_any_type<'a>(alloc: Global, input: &'a str) -> IResult<&'a str
     read_or_next!(before_sequence(alloc, input));
     read_or_next!(nullable_sequence_type(alloc, input), NonAnyType::Sequence);
     read_or_next!(after_sequence(alloc, input));
-    read_or_next!(nullable_frozen_array_type(alloc, input), NonAnyType::FrozenArrayType);
+    read_or_next!(
+        nullable_frozen_array_type(alloc, input),
+        NonAnyType::FrozenArrayType
+    );
     read_or_next!(nullable_record_type(alloc, input), NonAnyType::RecordType);
     let (rest, member) = word(alloc, input)?;
     Ok((rest, NonAnyType::Identifier(member)))

@@ -75,7 +75,10 @@ pub(crate) fn union_member_type<'a>(
         result }
     ensures shorter { IfOk result (λ x. length x.0.now < length input.now) }
 {
-    read_or_next!(attributed_non_any_type(alloc, input), UnionMemberType::Single);
+    read_or_next!(
+        attributed_non_any_type(alloc, input),
+        UnionMemberType::Single
+    );
     let (rest, member) = nullable_union_type(alloc, input)?;
     Ok((rest, UnionMemberType::Union(member)))
 }
