@@ -9,7 +9,7 @@ OPENING, CLOSING = "([{⟦", ")]}⟧"
 # The signs before which a clause is cut: from those that bind least.
 SIGNS = {sign: -rank for rank, signs in enumerate(("→ ↔", "× ⊎", "≡ ≢ < ≤ ∷ ++ + - * =")) for sign in signs.split()}
 # Behind what no line is cut: a sign, a label, and a variable that is bound, up to its point.
-HELD = re.compile(r"(?:^| )(?:→|↔|×|⊎|≡|≢|<|≤|∷|\+\+|\+|-|\*|=)$|[.:]$|λ[^.]*$")
+HELD = re.compile(rf"(?:^| )(?:{'|'.join(map(re.escape, SIGNS))})$|[.:]$|λ[^.]*$")
 # More lines than these are filled, and not cut between brackets.
 FEW = 3
 

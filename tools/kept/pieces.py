@@ -25,8 +25,7 @@ PIECE = re.compile(
 )
 TABLE = in_logic("weedle_grammar.specs.Table")
 USES = re.compile(rf"(?:^use {TABLE}\.[^\n]*\n)+", re.M)
-WORD = """    read_or_next!(word(alloc, input), {});
-"""
+WORD = "    read_or_next!(word(alloc, input), {});\n"
 LAST_WORD = """    let (rest, member) = word(alloc, input)?;
     Ok((rest, {}(member)))
 """
