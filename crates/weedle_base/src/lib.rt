@@ -2,7 +2,6 @@
 //! and the terminals.
 #![tactic(auto)]
 
-mod alternatives;
 mod choice;
 mod doc_lines;
 mod fault;

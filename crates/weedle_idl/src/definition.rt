@@ -17,7 +17,7 @@ mod written;
 
 use std::alloc::Global;
 use weedle_base::Choice::{self, First, Second};
-use weedle_base::{IResult, Parse, read_or_next};
+use weedle_base::{Err, IResult, Parse};
 use weedle_interfaces::{
     CallbackInterfaceDefinition, InterfaceDefinition, PartialInterfaceDefinition,
 };
@@ -94,9 +94,21 @@ impl<'a> Parse<'a> for Definition<'a> {
     ghost reading = { own DEFINITION definition_tree (Unit {0}) };
 
     fn parse(alloc: Global, input: &'a str) -> IResult<&'a str, Self> {
-        read_or_next!(callback_or_interface(alloc, input));
-        read_or_next!(main_definition(alloc, input));
-        read_or_next!(partial_definition(alloc, input));
+        match callback_or_interface(alloc, input) {
+            Ok((rest, member)) => return Ok((rest, member)),
+            Err(Err::Error(_)) => {}
+            Err(Err::Failure(fault)) => return Err(Err::Failure(fault)),
+        }
+        match main_definition(alloc, input) {
+            Ok((rest, member)) => return Ok((rest, member)),
+            Err(Err::Error(_)) => {}
+            Err(Err::Failure(fault)) => return Err(Err::Failure(fault)),
+        }
+        match partial_definition(alloc, input) {
+            Ok((rest, member)) => return Ok((rest, member)),
+            Err(Err::Error(_)) => {}
+            Err(Err::Failure(fault)) => return Err(Err::Failure(fault)),
+        }
         let (rest, member) = other_definition(alloc, input)?;
         Ok((rest, member))
     }

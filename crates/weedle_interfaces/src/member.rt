@@ -17,7 +17,7 @@ mod written;
 use std::alloc::Global;
 use weedle_async_iterables::AsyncIterableInterfaceMember;
 use weedle_base::Choice::{self, First, Second};
-use weedle_base::{IResult, Parse, read_or_next};
+use weedle_base::{Err, IResult, Parse};
 use weedle_iterables::{IterableInterfaceMember, MaplikeInterfaceMember, SetlikeInterfaceMember};
 use weedle_members::{
     AttributeInterfaceMember, ConstMember, ConstructorInterfaceMember, OperationInterfaceMember,
@@ -74,8 +74,16 @@ impl<'a> Parse<'a> for InterfaceMember<'a> {
     ghost reading = { own INTERFACE_MEMBER interface_member_tree (Unit {0}) };
 
     fn parse(alloc: Global, input: &'a str) -> IResult<&'a str, Self> {
-        read_or_next!(main_member(alloc, input));
-        read_or_next!(iterable_member(alloc, input));
+        match main_member(alloc, input) {
+            Ok((rest, member)) => return Ok((rest, member)),
+            Err(Err::Error(_)) => {}
+            Err(Err::Failure(fault)) => return Err(Err::Failure(fault)),
+        }
+        match iterable_member(alloc, input) {
+            Ok((rest, member)) => return Ok((rest, member)),
+            Err(Err::Error(_)) => {}
+            Err(Err::Failure(fault)) => return Err(Err::Failure(fault)),
+        }
         let (rest, member) = collection_member(alloc, input)?;
         Ok((rest, member))
     }

@@ -28,7 +28,7 @@ use crate::argument::{
 };
 use std::alloc::Global;
 use weedle_base::term::Comma;
-use weedle_base::{Err, IResult, out_of_memory, read_or_next};
+use weedle_base::{Err, IResult, out_of_memory};
 use weedle_parts::common::Punctuated;
 
 /// Reads an argument, as `long x` or `long... xs`.

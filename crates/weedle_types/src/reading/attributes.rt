@@ -30,7 +30,7 @@ use crate::attribute::{
 };
 use std::alloc::Global;
 use weedle_base::term::Comma;
-use weedle_base::{Err, IResult, out_of_memory, read_or_next};
+use weedle_base::{Err, IResult, out_of_memory};
 use weedle_parts::common::{Bracketed, Punctuated};
 
 /// Reads extended attributes in brackets, where they stand.

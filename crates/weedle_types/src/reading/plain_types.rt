@@ -19,7 +19,7 @@ ghost use Rattle.weedle_types.specs.Pieces.{
 use super::steps::word;
 use crate::types::NonAnyType;
 use std::alloc::Global;
-use weedle_base::{IResult, read_or_next};
+use weedle_base::{Err, IResult};
 
 /// Reads a type of numbers, `boolean` or `byte`, as `unsigned long?`.
 #[tactic(auto, using(crate::proofs::written::PlainTypeRules::numbers_steps))]

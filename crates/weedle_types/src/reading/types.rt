@@ -34,7 +34,7 @@ use crate::types::{
     ReturnType, SingleType, Type,
 };
 use std::alloc::Global;
-use weedle_base::{IResult, read_or_next};
+use weedle_base::{Err, IResult};
 
 /// Reads a type, as `long` or `(long or DOMString)?`.
 #[cycle(group)]

@@ -23,7 +23,7 @@ use super::types::attributed_non_any_type;
 use crate::types::{UnionMemberType, UnionType};
 use std::alloc::Global;
 use weedle_base::term::Or;
-use weedle_base::{Err, IResult, out_of_memory, read_or_next};
+use weedle_base::{Err, IResult, out_of_memory};
 use weedle_parts::common::{Parenthesized, Punctuated};
 use weedle_parts::types::MayBeNull;
 
