@@ -13,6 +13,4 @@ mod members;
 #[cfg(test)]
 mod types;
 #[cfg(test)]
-mod walks;
-#[cfg(test)]
 mod word_types;
