@@ -23,7 +23,7 @@ from declared import public_part
 from description.declarations import declared_by, declared_in, split, type_of
 from description.layout import use_line
 from description.names import upper
-from description.readings import CRATES, lacking
+from description.readings import CRATES, TERMINALS, lacking
 from description.uses import ghost_line
 from description.webidl import BY_NAME, KEYWORDS, NUMBER, SECTIONS
 from written.imports import imported
@@ -32,11 +32,11 @@ from written_places import files_in, in_logic, module_in, put
 TOP = Path(__file__).resolve().parent.parent
 # Each file, below src of its crate: what it is about, and the crates or modules whose types are built there.
 FILES = {
-    "weedle_build_base/literals": ("Literals, and the values of defaults and constants.", "weedle_literal"),
+    "weedle_build_base/literals": ("Literals, and the values of defaults and constants.", "weedle_parts::literal"),
     "weedle_build_base/modifiers": (
         "What is inherited from, and the words before a member.", "weedle_modifier",
     ),
-    "weedle_build_base/simple_types": ("Types that hold no other type.", "weedle_parts"),
+    "weedle_build_base/simple_types": ("Types that hold no other type.", "weedle_parts::types"),
     "weedle_build_members/members": (
         "The members of interfaces: constants, attributes, operations, constructors and stringifiers.",
         "weedle_members",
@@ -45,23 +45,23 @@ FILES = {
         "Iterations, maps and sets.", "weedle_iterables", "weedle_async_iterables",
     ),
     "weedle_build_interfaces/interfaces": ("Interfaces and their members.", "weedle_interfaces"),
-    "weedle_build_mixins/mixins": ("Mixins and their members.", "weedle_mixins"),
-    "weedle_build_namespaces/namespaces": (
+    "weedle_build_definitions/mixins": ("Mixins and their members.", "weedle_mixins"),
+    "weedle_build_definitions/namespaces": (
         "Namespaces and their members.",
         "weedle_namespaces::namespace", "weedle_namespaces::namespace_definition",
     ),
-    "weedle_build_namespaces/dictionaries": (
+    "weedle_build_definitions/dictionaries": (
         "Dictionaries and their members.",
         "weedle_namespaces::dictionary", "weedle_namespaces::dictionary_definition",
     ),
-    "weedle_build_statements/statements": ("The definitions without members.", "weedle_statements"),
+    "weedle_build_definitions/statements": ("The definitions without members.", "weedle_statements"),
     "weedle_build/definition": ("A definition of any kind.", "weedle_idl"),
 }
 BASE = "weedle_build_base"
 # The types that lead back to themselves, and the crate that builds them.
 TYPES, TYPES_BUILT = "weedle_types", "weedle_build_types"
 # The types of these are built by what terminals.py and build_types.py write.
-BY_OTHERS = ("weedle_term", TYPES)
+BY_OTHERS = (TERMINALS, TYPES)
 # How many fields one call builds, by the word in the name of its function in STRUCTS.
 COUNTS = dict(enumerate("two three four five six seven eight".split(), start=2))
 STRUCTS = f"crates/{BASE}/src/structs.rt"
@@ -282,7 +282,7 @@ class File:
             self.trees.update({type_: (tree, home) for tree, type_ in trees})
         for it in declared_by(self.root, crate):
             rule = BY_NAME.get(upper(it.name))
-            is_here = it.kind != "type" and not it.parameters and module in ("", it.module)
+            is_here = it.kind != "type" and not it.parameters and f"{it.module}.".startswith(module + "." * bool(module))
             if is_here and rule and rule.shape == "Plain":
                 if it.name not in self.trees:
                     raise Unfit(f"no file of crates/{crate}/specs states the tree of {it.name}")

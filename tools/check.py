@@ -7,8 +7,7 @@ In a copy of the repository all that scripts write is written anew, and each cra
 tools/write.py does it. Then the copy has to hold the very files of the repository.
 Beside that it is looked whether each public field and each variant has a doc line
 (tools/undocumented.py), whether the types are declared as the grammar has them
-(tools/unmatched.py), whether each conversion of a member does no more than to put it into its
-variant (tools/conversions.py), whether the `Drop` behind each declaration is what follows from it
+(tools/unmatched.py), whether the `Drop` behind each declaration is what follows from it
 (tools/drops.py --check), whether docs/CALLING.md is as the crates are (tools/calling.py --check),
 whether the numbers in pages that follow from the grammar still do (tools/grammar_numbers.py),
 whether each wrong body that is tried by hand, or that tests have to find, still applies
@@ -40,7 +39,6 @@ from write import TOP, sources, write_anew, writer_in, writers
 LOOKS = (
     ["undocumented.py"],
     ["unmatched.py"],
-    ["conversions.py"],
     ["drops.py", "--check"],
     ["calling.py", "--check"],
     ["grammar_numbers.py"],

@@ -121,10 +121,10 @@ def quoted(name):
 
 
 def modules_of(root, path):
-    """The modules of a crate, or the one of this path."""
+    """The modules of a crate, or the one of this path and those below it."""
     crate, _, module = path.partition("::")
     source = Path(root) / "crates" / crate / "src"
     if not source.is_dir():
         raise Unfit(f"there is no folder {source}")
     modules = [Module(crate, file, source) for file in sorted(source.rglob("*.rt"))]
-    return [it for it in modules if not module or it.inner == path]
+    return [it for it in modules if not module or f"{it.inner}::".startswith(f"{path}::")]

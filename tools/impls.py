@@ -13,6 +13,8 @@ CRATES that declares some, this writes MODULE/written.rt, with
 - `into_fields` of a struct, and for each variant of an enum a method as `into_interface`, where the
   type derives neither `Copy` nor `Drop`.
 
+Of literals and of types only `From` is written, since they are read by hand.
+
 `Drop` stands in MODULE.rt, where tools/drops.py puts it: the language wants it in the module that declares
 the type. The conversions of an enum with many variants stand in a file of their own. tools/modules.py adds
 the lines `mod` for the files, and `rt fmt` lays them out, as tools/write.py has it do.
@@ -23,12 +25,12 @@ from pathlib import Path
 
 from command_line import refuse_writer
 from crates import Unfit
-from description.readings import IDL, TYPES
+from description.readings import IDL, LEAVES, TYPES
 from written.files import files_of
 from written_places import put
 
 TOP = Path(__file__).resolve().parent.parent
-CRATES = [TYPES, *IDL]
+CRATES = [*LEAVES[1:], TYPES, *IDL]
 
 
 def run(root):

@@ -8,9 +8,9 @@ that `cmp` of a struct is the comparison of its fields in order, the first that 
 and that of an enum the value whose variant is declared first is less, and two of one variant
 compare as what they hold.
 
-CRATES says which crate has the laws of which types: in src/orders, with the places of variants in
-specs/Places.antt and, of the types that hold one another, proofs in proofs/orders. The files have the
-layout of `rt fmt`. The line `mod` of a module is written by hand.
+They stand in weedle_comparisons: MODULES says which module of src/orders has the laws of which types, with
+the places of variants in specs/Places.antt and, of the types that hold one another, proofs in
+proofs/orders. The files have the layout of `rt fmt`.
 
 tools/write.py runs the script. With --check it prints the files that are stale, and writes none: the
 status is 0 where all stands as it should, and 1 where a file is stale.
@@ -32,31 +32,28 @@ from terminals import label
 from written_places import in_logic, place, put
 
 TOP = Path(__file__).resolve().parent.parent
-# Each crate of laws: its modules, each with what it is about and the modules or crates that declare
-# the types.
-CRATES = {
-    "weedle_comparisons": {
-        "parts": ("generic parts, names, docstrings and plain types", ["weedle_parts"]),
-        "literals": ("literals and defaults", ["weedle_literal"]),
-        "modifiers": ("words before a member, and of what is inherited from", ["weedle_modifier"]),
-        "attributes": (
-            "extended attributes and arguments",
-            ["weedle_types::argument", "weedle_types::attribute"],
-        ),
-        "types": ("types", ["weedle_types::formers", "weedle_types::types"]),
-        "members": ("constants, attributes, operations and stringifiers", ["weedle_members"]),
-    },
-    "weedle_laws": {
-        "iterables": (
-            "iterations, and of what is like a map or a set",
-            ["weedle_iterables", "weedle_async_iterables"],
-        ),
-        "namespaces": ("namespaces and dictionaries, with their members", ["weedle_namespaces"]),
-        "statements": ("definitions without members", ["weedle_statements"]),
-        "interfaces": ("interfaces, with their members", ["weedle_interfaces"]),
-        "mixins": ("mixins, with their members", ["weedle_mixins"]),
-        "definitions": ("definitions", ["weedle_idl"]),
-    },
+# The crate of the laws.
+LAWS = "weedle_comparisons"
+# Its modules, each with what it is about and the modules or crates that declare the types.
+MODULES = {
+    "parts": ("generic parts, names, docstrings and plain types", ["weedle_parts::common", "weedle_parts::types"]),
+    "literals": ("literals and defaults", ["weedle_parts::literal"]),
+    "modifiers": ("words before a member, and of what is inherited from", ["weedle_modifier"]),
+    "attributes": (
+        "extended attributes and arguments",
+        ["weedle_types::argument", "weedle_types::attribute"],
+    ),
+    "types": ("types", ["weedle_types::formers", "weedle_types::types"]),
+    "members": ("constants, attributes, operations and stringifiers", ["weedle_members"]),
+    "iterables": (
+        "iterations, and of what is like a map or a set",
+        ["weedle_iterables", "weedle_async_iterables"],
+    ),
+    "namespaces": ("namespaces and dictionaries, with their members", ["weedle_namespaces"]),
+    "statements": ("definitions without members", ["weedle_statements"]),
+    "interfaces": ("interfaces, with their members", ["weedle_interfaces"]),
+    "mixins": ("mixins, with their members", ["weedle_mixins"]),
+    "definitions": ("definitions", ["weedle_idl"]),
 }
 # The variants that the logic holds flat, each with how many parts it has there.
 FLAT = flat_variants(Declared.of(TOP))
@@ -197,14 +194,14 @@ def ghost_line(path, names):
     return f"ghost use {path}.{{\n" + "".join(f"  {name},\n" for name in names) + "};\n"
 
 
-def ghost_lines(crate, items, laws):
+def ghost_lines(items, laws):
     """What the clauses of these laws name, brought in."""
     enums = [it for it in items if it.is_enum]
     lines = ghost_line("Rattle.std.specs.Prelude", ["◌≡◌", "◌<◌"] if enums else ["◌≡◌"])
     if "ordering_then" in laws:
         lines += ghost_line("Rattle.std.specs.Ordering", ["ordering_then"])
     if enums:
-        lines += ghost_line(in_logic(f"{crate}.specs.Places"), [it.place for it in enums])
+        lines += ghost_line(in_logic(f"{LAWS}.specs.Places"), [it.place for it in enums])
     for item in items:
         if item.is_former:
             lines += ghost_line(item.declared(), [f"{item.name} as {item.name}{FORMED}"])
@@ -214,11 +211,11 @@ def ghost_lines(crate, items, laws):
     return lines
 
 
-def laws_text(crate, about, items, aliases):
+def laws_text(about, items, aliases):
     """A module of laws."""
     laws = "\n".join(law(item, aliases) for item in items)
     head = f"//! Orders of {about}.\n//!\n//! {HEAD}\n"
-    return "\n".join([head, ghost_lines(crate, items, laws), use_lines(items, aliases), laws])
+    return "\n".join([head, ghost_lines(items, laws), use_lines(items, aliases), laws])
 
 
 def constructor(item, variant, parts=False):
@@ -250,7 +247,7 @@ def parts_of(k):
     return f"{'inr (' * k}inl ({{}}, tt){')' * k}"
 
 
-def enum_answers(item, aliases):
+def enum_answers(item):
     """Why the clauses of an enum hold that leads back to itself."""
     parts, is_ = "(type.the_parts static_lft)", "order.is _ _"
     lines = [f"place_is : (x : {quoted(item.name)}) → place_of {parts} (type.as_values static_lft x) ≡ {item.place} x",
@@ -267,7 +264,7 @@ def enum_answers(item, aliases):
     return lines
 
 
-def answers_text(crate, module, item, aliases):
+def answers_text(module, item):
     """The proof of the law of a type that leads back to itself."""
     own = item.module.dotted("contracts")
     uses = [f"use Rattle.{own}.{item.name}Ord.TheImpl.Laws as order"]
@@ -280,13 +277,13 @@ def answers_text(crate, module, item, aliases):
             f"use Rattle.{own}.{quoted(item.name)} as type", *uses, f"use {RING}.TheViews as view",
             f"use {item.declared()}.{{{quoted(item.name)}}}",
             f"use {item.declared()}.TheVariants.{{{', '.join(variants)}}}",
-            f"use {in_logic(f'{crate}.specs.Places')}.{{{item.place}}}",
-            f"use Rattle.{crate}.proofs.Choices.{{by_after, by_before, by_same, place_of}}",
+            f"use {in_logic(f'{LAWS}.specs.Places')}.{{{item.place}}}",
+            f"use Rattle.{LAWS}.proofs.Choices.{{by_after, by_before, by_same, place_of}}",
         ]
-        lines = enum_answers(item, aliases)
+        lines = enum_answers(item)
     else:
         lines = ["pub returns : goal.returns", "returns c = order.is"]
-    uses.append(f"use {in_logic(f'{crate}.proofs.orders.{module}.{item.law}')}.Goals as goal")
+    uses.append(f"use {in_logic(f'{LAWS}.proofs.orders.{module}.{item.law}')}.Goals as goal")
     return "\n".join([f"-- {HEAD}", *uses, "", *lines]) + "\n"
 
 
@@ -295,19 +292,18 @@ def files_of(root):
     aliases = {}
     for module in modules_of(root, FORMERS):
         aliases.update(module.aliases())
-    for crate, modules in CRATES.items():
-        enums = []
-        for module, (about, crates) in modules.items():
-            items = [item for it in crates for one in modules_of(root, it) for item in one.items()]
-            for item in items:
-                if item.is_former:
-                    item.at(aliases[item.name][1])
-                if item.leads_back:
-                    path = f"{crate}/proofs/orders/{module}/{item.law}/Answers.antt"
-                    yield path, answers_text(crate, module, item, aliases)
-            enums += [item for item in items if item.is_enum]
-            yield f"{crate}/src/orders/{module}.rt", laws_text(crate, about, items, aliases)
-        yield f"{crate}/specs/Places.antt", places_text(enums)
+    enums = []
+    for module, (about, crates) in MODULES.items():
+        items = [item for it in crates for one in modules_of(root, it) for item in one.items()]
+        for item in items:
+            if item.is_former:
+                item.at(aliases[item.name][1])
+            if item.leads_back:
+                path = f"{LAWS}/proofs/orders/{module}/{item.law}/Answers.antt"
+                yield path, answers_text(module, item)
+        enums += [item for item in items if item.is_enum]
+        yield f"{LAWS}/src/orders/{module}.rt", laws_text(about, items, aliases)
+    yield f"{LAWS}/specs/Places.antt", places_text(enums)
 
 
 def run(root, is_check=False):
@@ -325,10 +321,10 @@ def run(root, is_check=False):
 
 def main(is_check=False):
     """Writes, or says what is stale. The status."""
-    named = [it for modules in CRATES.values() for _, crates in modules.values() for it in crates]
+    named = [it for _, crates in MODULES.values() for it in crates]
     # The terminals have their laws by terminals.py.
     if why := lacking([*LEAVES[1:], TYPES, *IDL], named):
-        sys.exit(f"orders: {why}: CRATES says which modules have the laws")
+        sys.exit(f"orders: {why}: MODULES says which modules have the laws")
     try:
         said, is_well = run(TOP, is_check)
     except Unfit as why:

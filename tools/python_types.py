@@ -31,8 +31,8 @@ PACKAGE = TOP / "python/weedle"
 LIBRARY = "crates/weedle_c/src/lib.rt"
 # The module of weedle2 for the types of a crate, or of a module of it.
 MODULES = {
-    "weedle_term": "term", "weedle_parts.common": "common", "weedle_parts.types": "types",
-    "weedle_literal.default": "common", "weedle_literal": "literal",
+    "weedle_base.term": "term", "weedle_parts.common": "common", "weedle_parts.types": "types",
+    "weedle_parts.literal.default": "common", "weedle_parts.literal": "literal",
     "weedle_types.argument": "argument", "weedle_types.attribute": "attribute",
     "weedle_types": "types", "weedle_modifier": "interface", "weedle_members": "interface",
     "weedle_iterables": "interface", "weedle_async_iterables": "interface",

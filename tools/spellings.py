@@ -3,13 +3,11 @@
 
 tools/write.py runs it.
 
-For each of FILES it
-writes the spellings in specs/, that what a rule takes is so spelt in proofs/, and the functions that
-carry these laws in src/laws. A struct is spelt as its fields, one after another, an enum as what its
-variant holds; fields and variants are those of the declarations.
-Examples in the docs of the functions are those of the declarations.
-The types that hold one another are spelt in specs/RecursiveTypes.antt of weedle_spell_types, by hand:
-of these only the laws are written.
+All of it stands in weedle_spell. For each of FILES it writes the spellings in specs/, that what a rule
+takes is so spelt in proofs/, and the functions that carry these laws in src/laws. A struct is spelt as
+its fields, one after another, an enum as what its variant holds; fields and variants are those of the
+declarations, and so are the examples in the docs of the functions. The types that hold one another are
+spelt in specs/RecursiveTypes.antt, by hand: of these only the laws are written.
 
 It refuses where none of FILES has a type that is declared.
 """
@@ -31,21 +29,21 @@ from written_places import in_crate, in_logic, put
 
 HEAD = "Written by tools/spellings.py, and not edited by hand."
 COLUMNS = 110
-LEAVES, TYPES, IDL = "weedle_spell", "weedle_spell_types", "weedle_spell_idl"
+SPELL = "weedle_spell"
 # The module of the types that are made over one, each under the name of a `type`.
 FORMERS = "formers"
 STANDARD = {
     "Rattle.std.specs.Global": ["Box", "Vec"],
     "Rattle.std.specs.Prelude": ["List", "Option", "codes"],
-    f"Rattle.{LEAVES}.specs.Forms": ["◌then◌"],
+    f"Rattle.{SPELL}.specs.Forms": ["◌then◌"],
 }
 
 
 class File:
     """Spellings that stand in one file: its name, what it holds, and its types, or their modules."""
 
-    def __init__(self, crate, name, spelt, of_what, types="", modules="", law_module=None):
-        self.crate, self.name, self.spelt, self.of_what = crate, name, spelt, of_what
+    def __init__(self, name, spelt, of_what, types="", modules="", law_module=None):
+        self.name, self.spelt, self.of_what = name, spelt, of_what
         self.types = [type_of(text) for text in types.split()]
         self.modules = modules.split()
         self.laws, self.law_module = f"{name[:-1]}Laws", law_module or snake(name)
@@ -60,37 +58,37 @@ class File:
 
 
 FILES = [
-    File(TYPES, "PlainAttributes", "extended attributes without arguments are spelt",
+    File("PlainAttributes", "extended attributes without arguments are spelt",
          "extended attributes without arguments",
          types="IdentifierOrString IdentifierList ExtendedAttributeIdent ExtendedAttributeIdentList"
                " ExtendedAttributeNoArgs"),
-    File(TYPES, "Arguments", "extended attributes and arguments are spelt",
+    File("Arguments", "extended attributes and arguments are spelt",
          "arguments, and of extended attributes that may have arguments", law_module="attributes",
          types="Argument ArgumentList ParenthesizedArgumentList ExtendedAttribute ExtendedAttributeArgList"
                " ExtendedAttributeNamedArgList ExtendedAttributeList Option<ExtendedAttributeList>"
                " SingleArgument VariadicArgument"),
-    File(TYPES, "Types", "the types are spelt that are made of types, arguments and extended attributes",
+    File("Types", "the types are spelt that are made of types, arguments and extended attributes",
          "types",
          types="Type NonAnyType UnionMemberType SingleType ReturnType RecordKeyType RecordTypes Box<Type>"
                " Box<ReturnType> SequenceType FrozenArrayType PromiseType RecordType UnionType AttributedType"
                " AttributedNonAnyType", modules="weedle_types.types"),
-    File(IDL, "Modifiers", "what is inherited from is spelt, and the words before a member",
+    File("Modifiers", "what is inherited from is spelt, and the words before a member",
          "what is inherited from, and of the words before a member", modules="weedle_modifier"),
-    File(IDL, "Members",
+    File("Members",
          "constants, attributes, operations, constructors and stringifiers of interfaces are spelt, and the"
          " members of mixins",
          "constants, attributes, operations, constructors and stringifiers of interfaces, and of the members"
          " of mixins", modules="weedle_members weedle_mixins.mixin"),
-    File(IDL, "Iterables", "iterations, maps and sets are spelt", "iterations, maps and sets",
+    File("Iterables", "iterations, maps and sets are spelt", "iterations, maps and sets",
          modules="weedle_iterables weedle_async_iterables"),
-    File(IDL, "Namespaces", "namespaces and dictionaries are spelt, and their members",
+    File("Namespaces", "namespaces and dictionaries are spelt, and their members",
          "namespaces and dictionaries, and of their members", modules="weedle_namespaces"),
-    File(IDL, "Statements", "definitions without members are spelt", "definitions without members",
+    File("Statements", "definitions without members are spelt", "definitions without members",
          modules="weedle_statements"),
-    File(IDL, "Interfaces", "the members of interfaces are spelt, interfaces and mixins",
+    File("Interfaces", "the members of interfaces are spelt, interfaces and mixins",
          "the members of interfaces, of interfaces and of mixins",
          modules="weedle_interfaces weedle_mixins.mixin_definition"),
-    File(IDL, "Definitions", "definitions are spelt", "definitions", modules="weedle_idl",
+    File("Definitions", "definitions are spelt", "definitions", modules="weedle_idl",
          law_module="all_definitions"),
 ]
 
@@ -185,7 +183,7 @@ class Writer:
     """Writes the files, in their order: each may name what stands in those before it."""
 
     def __init__(self):
-        crates = [LEAVES, TYPES, "weedle_grammar", "weedle_base", *CRATES]
+        crates = [SPELL, "weedle_grammar", "weedle_base", *CRATES]
         self.specs = Names(TOP, crates, STANDARD, bound=[WHOLE.lower()])
         self.proofs = Names(TOP, crates, {"Rattle.std.proofs.Common": ["refl"]})
         self.done = set()
@@ -203,7 +201,7 @@ class Writer:
         own = [it for it in items if it.name not in self.specs.stated]
         known = set(self.specs.stated)
         body = "\n".join(spelling(it, known) for it in own)
-        module = f"{file.crate}.specs.{file.name}"
+        module = f"{SPELL}.specs.{file.name}"
         self.put_logic(module, head_of(f"How {file.spelt}.", "-- "), imports(self.specs, body, own), body)
         self.laws(file, items, own)
 
@@ -213,18 +211,18 @@ class Writer:
         texts = [spelt(it, stated, known) for it in own if not it.is_box]
         body = "\n".join([*texts, "-- the laws\n" + "\n".join(law(it, stated) for it in with_law)])
         uses, said = imports(self.proofs, body, own), f"The laws of {file.of_what}."
-        module = f"{file.crate}.proofs.{file.laws}"
+        module = f"{SPELL}.proofs.{file.laws}"
         self.put_logic(module, head_of(said, "-- "), uses, body)
         ghosts = map(ghost, imports(self.proofs, "\n".join(contract(it, stated) for it in with_law)))
         functions = "\n".join(law_function(it, stated, module) for it in with_law)
-        put(TOP, f"{file.crate}/src/laws/{file.law_module}.rt",
+        put(TOP, f"{SPELL}/src/laws/{file.law_module}.rt",
             f"{head_of(said, '//! ')}\n{''.join(ghosts)}\n{functions}")
 
 
 def unwritten(done):
-    """The declared types that none of the files has; LEAF_CRATES are spelt in `weedle_spell`."""
+    """The declared types that none of the files has; those of LEAF_CRATES are spelt by hand."""
     for name, it in DECLARED.types.items():
-        if it.crate not in LEAF_CRATES and function(type_of(name)) not in done:
+        if it.home not in LEAF_CRATES and function(type_of(name)) not in done:
             yield name
 
 
@@ -234,7 +232,7 @@ def main():
         writer.file(file)
     if names := list(unwritten(writer.done)):
         sys.exit(f"no file of FILES has {', '.join(names)}")
-    print(f"{len(FILES)} files of {TYPES} and {IDL}")
+    print(f"{len(FILES)} files of {SPELL}")
 
 
 if __name__ == "__main__":

@@ -13,10 +13,10 @@ import builds
 from crates import Unfit
 from written_places import in_logic, place
 
-LINES = """weedle_term:
-low: weedle_term
-weedle_build_base: low weedle_term
-build_low: weedle_build_base low weedle_term
+LINES = """weedle_base:
+low: weedle_base
+weedle_build_base: low weedle_base
+build_low: weedle_build_base low weedle_base
 high: low
 build_high: build_low weedle_build_base high
 """
@@ -119,7 +119,8 @@ TEXTS = {
     "crates/low/src/default.rt": DEFAULT,
     "crates/low/src/mixin.rt": MIXIN,
     "crates/low/specs/Trees.antt": TREES,
-    "crates/weedle_term/src/lib.rt": TERMS,
+    "crates/weedle_base/src/lib.rt": "pub mod term;\n",
+    "crates/weedle_base/src/term.rt": TERMS,
     "crates/weedle_build_base/src/lib.rt": BASE,
     "crates/build_low/src/lib.rt": "pub use part::LowPart;\n",
     "crates/build_low/src/part.rt": PART,
@@ -141,9 +142,9 @@ use crate::part::LowPart;
 use low::Default;
 use low::mixin::DecLit;
 use std::alloc::Global;
+use weedle_base::term::Assign;
 use weedle_build_base::{At, Build, BuildResult, two_fields};
 use weedle_rules::{Ends, Rule};
-use weedle_term::Assign;
 
 impl<'a> Build<'a> for LowPart<Default<'a>> {
     type Value = Default<'a>;
@@ -219,7 +220,7 @@ class BuildsTest(unittest.TestCase):
         for path, text in TEXTS.items():
             self.put(path, text)
         named = {
-            "FILES": FILES, "CRATES": ["weedle_term", "low", "high"],
+            "FILES": FILES, "CRATES": ["weedle_base::term", "low", "high"],
             "TYPES": "none", "TYPES_BUILT": "build_low",
         }
         for name, value in named.items():
@@ -246,7 +247,7 @@ class BuildsTest(unittest.TestCase):
     def test_members_in_braces_are_built_by_the_generic_part(self):
         text = self.written("build_low/src/low.rt")
         self.assertIn(flat(BRACED), text)
-        self.assertIn("use weedle_term::{Assign, Braced, False, True};", text)
+        self.assertIn("use weedle_base::term::{Assign, Braced, False, True};", text)
 
     def test_an_enum_is_built_by_its_alternatives(self):
         self.assertIn(flat(CHOICE), self.written("build_low/src/low.rt"))
@@ -281,7 +282,7 @@ class BuildsTest(unittest.TestCase):
                 builds.run(self.root)
 
     def test_a_crate_that_no_file_names_is_refused(self):
-        with mock.patch.object(builds, "CRATES", ["weedle_term", "low", "high", "new"]):
+        with mock.patch.object(builds, "CRATES", ["weedle_base::term", "low", "high", "new"]):
             with self.assertRaisesRegex(Unfit, "no place is said for what is of new: FILES says"):
                 builds.run(self.root)
 

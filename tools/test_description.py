@@ -12,6 +12,7 @@ from description.declarations import declared_in, type_of
 from description.docs import about, with_example
 from description.functions import functions_of
 from description.imports import Names, uses_of
+from description.layout import clauses_in_lines
 from description.names import snake, upper
 from description.productions import forms, productions, unlike
 from description.readings import Declared, Unread
@@ -196,6 +197,37 @@ class Written(unittest.TestCase):
     def test_names_of_some_modules(self):
         lines = list(uses_of(self.root, "x = Kept pair_tree", ["Rattle.low.specs.Trees"]))
         self.assertEqual(lines, ["use Rattle.low.specs.Trees.{Kept, pair_tree}"])
+
+
+class Clauses(unittest.TestCase):
+    def test_one_that_fits_is_left(self):
+        line = "    ensures { IsRead text.now result }"
+        self.assertEqual(clauses_in_lines(line), line)
+
+    def test_what_is_no_clause_is_left(self):
+        line = "    let rest = " + "x" * 100 + ";"
+        self.assertEqual(clauses_in_lines(line), line)
+
+    def test_a_long_one_is_cut_outside_of_brackets_before_a_sign(self):
+        premise, end = "a" * 50, "(b " + "c" * 50 + ")"
+        self.assertEqual(clauses_in_lines(f"    ensures x {{ {premise} p q → {end} r }}").split("\n"), [
+            f"    ensures x {{ {premise} p q", f"        → {end} r }}",
+        ])
+
+    def test_a_bound_variable_stays_with_its_sign(self):
+        told = clauses_in_lines(f"    ensures {{ IfOk result (λ {'v' * 30}. {'w' * 20} {'x' * 25}) }}")
+        self.assertEqual(told, f"    ensures {{ IfOk result\n        (λ {'v' * 30}. {'w' * 20} {'x' * 25}) }}")
+
+    def test_brackets_in_brackets_are_filled(self):
+        line = f"    ensures {{ Reads {'(pair reading ' * 20}end{')' * 20} }}"
+        told = clauses_in_lines(line).split("\n")
+        self.assertTrue(all(len(it) <= 100 for it in told))
+        self.assertEqual(len(told), 4)
+        self.assertEqual(" ".join(it.strip() for it in told), line.strip())
+
+    def test_a_text_is_never_cut(self):
+        line = '    ensures { result ≡ codes "' + "a " * 60 + '" }'
+        self.assertEqual(clauses_in_lines(line), line)
 
 
 class Docs(unittest.TestCase):

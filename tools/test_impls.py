@@ -60,7 +60,7 @@ FILES = {
     "low/proofs/MemberRules.antt": "pub ruleset member_steps\n",
     apart("weedle_grammar/specs/Table/Members.antt"): "abbrev pub MEMBER : Rule\n",
     "weedle_fields/src/lib.rt": "pub fn attributes_and_three<'a, A: Parse<'a>>(\n",
-    "weedle_term/src/lib.rt": "#[derive(Clone, Copy)]\npub struct Word;\n",
+    "weedle_base/src/term.rt": "#[derive(Clone, Copy)]\npub struct Word;\n",
     "weedle_types/src/copies.rt": """
 pub fn copy_attributes<'a>(
     attributes: &Option<ExtendedAttributeList<'a>>,

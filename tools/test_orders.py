@@ -105,7 +105,8 @@ class OrdersTest(unittest.TestCase):
         folder = tempfile.TemporaryDirectory()
         self.addCleanup(folder.cleanup)
         for name, value in (
-            ("CRATES", {"laws": {"members": ("members", ["low"])}}),
+            ("LAWS", "laws"),
+            ("MODULES", {"members": ("members", ["low"])}),
             ("FLAT", {"Kind": {"Static": 3}}),
             ("FORMERS", "low"),
         ):
@@ -152,7 +153,7 @@ class OrdersTest(unittest.TestCase):
         self.assertEqual(orders.cut_line(line), ["→ " + "x" * 60, "(" + "y" * 40 + ")"])
 
     def test_a_crate_that_is_not_there_is_refused(self):
-        with mock.patch.object(orders, "CRATES", {"laws": {"members": ("members", ["high"])}}):
+        with mock.patch.object(orders, "MODULES", {"members": ("members", ["high"])}):
             with self.assertRaisesRegex(Unfit, "there is no folder"):
                 orders.run(self.root)
 

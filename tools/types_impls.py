@@ -302,7 +302,7 @@ def function(it):
         lines.append(f"#[tactic(auto, using({STEPS}, {SMALLER}::{it.smaller}))]")
     lines += [
         f"pub(crate) fn {it.name}<'a>(original: &{it.text}, alloc: Global) -> Result<{it.text}, AllocError>",
-        f"ensures {{ IfOk result (λ v. {trees_alike(it)}) }}", "{", BODIES[it.name], "}",
+        f"    ensures {{ IfOk result (λ v. {trees_alike(it)}) }}", "{", BODIES[it.name], "}",
     ]
     return "\n".join(lines) + "\n"
 

@@ -33,7 +33,7 @@ from description.webidl import BY_NAME
 TOP = Path(__file__).resolve().parent.parent
 # What may differ, and why.
 EXCEPTIONS = {
-    "weedle_literal: BooleanLit": "it holds which of the two words was read, and no terminal",
+    "weedle_parts: BooleanLit": "it holds which of the two words was read, and no terminal",
     "weedle_parts: Generics": "weedle2 has these names for the brackets",
     "weedle_statements: ImplementsDefinition.includes": "weedle2 has this name for it",
     "weedle_types: UnionMemberType.Single": "weedle2 has this name, for a type that is no union",

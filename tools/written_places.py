@@ -18,17 +18,18 @@ A module of Rust keeps the names by which others know it: the module by hand abo
 
 from pathlib import Path
 
+from description.layout import clauses_in_lines
+
 FOLDER = "written"
 # Folders further down. Each has a module by hand above it, and others by hand may stand in it.
 FOLDERS = """
+    weedle_base/src/term
     weedle_build_types/proofs/types
     weedle_build_types/src/types
     weedle_comparisons/proofs/orders
     weedle_comparisons/src/orders
-    weedle_laws/src/orders
     weedle_rules/src/fill
-    weedle_spell_idl/src/laws
-    weedle_spell_types/src/laws
+    weedle_spell/src/laws
     weedle_types/proofs/clones
     weedle_types/src/clones
 """.split()
@@ -76,10 +77,10 @@ def place(path):
 
 
 def put(root, path, text):
-    """Writes a file at its place in the repository with this top."""
+    """Writes a file at its place in the repository with this top. `rt fmt` leaves clauses as they are, so they are cut."""
     file = Path(root) / place(path)
     file.parent.mkdir(parents=True, exist_ok=True)
-    file.write_text(text, encoding="utf-8")
+    file.write_text(clauses_in_lines(text) if file.suffix == ".rt" else text, encoding="utf-8")
 
 
 def in_logic(module):

@@ -30,7 +30,7 @@ TREES = {"attributes": "attributes_tree"}
 # A sentence of docs up to what explains it.
 SENTENCE = re.compile(r"(?:`[^`]*`|[^`:.])+")
 # The crates whose types a path names by their module; others give all their types at the top.
-WITH_MODULES = ("weedle_parts", TYPES)
+WITH_MODULES = ("weedle_base", "weedle_parts", TYPES)
 
 DECLARED = Declared.of(TOP)
 OWN = {it.name: it for it in declared_by(TOP, TYPES)}

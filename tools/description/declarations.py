@@ -59,7 +59,7 @@ class Declaration:
     def __init__(self, kind, name, parameters, parts, doc="", derived=()):
         self.kind, self.name, self.parameters, self.parts = kind, name, parameters, parts
         self.doc, self.derived = doc, derived
-        self.crate = self.module = None
+        self.crate = self.module = self.home = None
         # Whether it has a lifetime, and whether it stands in a cycle of types.
         self.is_borrowing = self.is_recursive = False
         # The declaration that it is an alias of, where it is one that was looked up.
@@ -188,11 +188,17 @@ def once_declared_in(text):
     return found
 
 
-def declared_by(root, crate):
-    """The declarations of a crate, with their crate and module, file by file."""
+def crate_of(home):
+    """The crate of a home: a crate, or a module of one, as `weedle_base::term`."""
+    return home.partition("::")[0]
+
+
+def declared_by(root, home):
+    """The declarations of a crate, or of a module right in one, with that home, their crate and module, file by file."""
+    crate, _, top = home.partition("::")
     source = Path(root) / "crates" / crate / "src"
     for path in sorted(source.rglob("*.rt")):
-        module = ".".join(path.relative_to(source).with_suffix("").parts)
-        for declaration in declared_in(path.read_text(encoding="utf-8")):
-            declaration.crate, declaration.module = crate, module
+        parts = path.relative_to(source).with_suffix("").parts
+        for declaration in declared_in(path.read_text(encoding="utf-8")) if top in ("", parts[0]) else ():
+            declaration.home, declaration.crate, declaration.module = home, crate, ".".join(parts)
             yield declaration

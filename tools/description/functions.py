@@ -9,7 +9,7 @@ from description.declarations import docs_and_code, type_of
 
 FUNCTION = re.compile(
     r"^(?:pub\(crate\) )?fn (\w+)<'a>\([^{]*?\) -> (IResult<&'a str, |BuildResult<)(.+)>\n"
-    r"((?:    (?:requires|ensures)\b.*\n)+)",
+    r"((?:    (?:requires|ensures)\b.*\n(?:        .*\n)*)+)",
     re.M,
 )
 TREE = r"(\w+|\([^()]*\))"
@@ -53,6 +53,7 @@ def functions_of(folder, files):
         text = (folder / f"{file}.rt").read_text(encoding="utf-8")
         docs = {name: docs_and_code(doc)[0] for doc, name in DOCS.findall(text)}
         for name, _, type_, contract in FUNCTION.findall(text):
+            contract = " ".join(contract.split())
             own, some = OWN.search(contract), SOME.search(contract)
             told = own.groups() if own else (None, None, int(some[2])) if some else ()
             function = Function(name, file, type_, *told)

@@ -7,7 +7,7 @@ tools/grammar.py or tools/trees.py, and the declared types.
 import re
 from pathlib import Path
 
-from description.declarations import declared_by
+from description.declarations import crate_of, declared_by
 from description.names import logic
 from written_places import files_in, module_in
 
@@ -17,8 +17,8 @@ OWN = re.compile(r"^(?:abbrev )?pub (?:ruleset )?([\w-]+)|^(?:abbrev )?([\w-]+) 
 WORD = re.compile(r"(?<![.\w-])[\w«»'-]+")
 WRITTEN = re.compile(r"[Ww]ritten by tools/(?!(?:grammar|trees)\.py)")
 HEAD_LINES = 3
-# What a name stands for where two crates have it: the keyword `Error`, beside that of a fault.
-KEYWORDS = {("weedle_term", "Error"): "ErrorKeyword"}
+# What a name of a module stands for where another has it too: the keyword `Error`, beside that of a fault.
+KEYWORDS = {("term", "Error"): "ErrorKeyword"}
 GRAMMAR = "weedle_grammar"
 FAULTS = "Rattle.weedle_base.specs.declared.fault.Err"
 OUTCOMES = {"Recoverable": "Error as Recoverable", "Failure": "Failure"}
@@ -68,11 +68,12 @@ class Names:
         for crate in crates:
             # Of the grammar's own crate only its table is named, and none of its types or proofs.
             folders = ["specs"] if crate == GRAMMAR else ["specs", "proofs"]
-            for name, module in stated_in(root, crate, folders):
+            for name, module in stated_in(root, crate_of(crate), folders):
                 self.stated.setdefault(name, module)
             for it in declared_by(root, crate) if crate != GRAMMAR else ():
                 if it.kind != "type":
-                    self.types[KEYWORDS.get((crate, it.name), logic(it.name))] = it
+                    said = KEYWORDS.get((it.module.partition(".")[0], it.name), logic(it.name))
+                    self.types[said] = it
 
     def standard_names(self, text, words):
         """The names of the standard library in a text, by their modules."""

@@ -5,17 +5,16 @@ A type without parameters is read by the rule that has its name, as `ConstMember
 whose row says what the declaration does.
 """
 
-from description.declarations import Type, declared_by
+from description.declarations import Type, crate_of, declared_by
 from description.names import logic, upper
 from description.webidl import BY_CONTENT, BY_NAME
 
-# The crates whose types are read, lowest first. All scripts have them from here, so a new one has its
-# line here and in crates.txt. Scripts that say where they write what is of a crate, as FILES of
-# builds.py and trees.py and CRATES of orders.py, name a crate that they lack.
+# The crates whose types are read, lowest first; of the lowest the module of the terminals. All scripts
+# have them from here, so a new one has its line here and in crates.txt. Scripts that say where they write
+# what is of a crate, as FILES of builds.py and trees.py and MODULES of orders.py, name a crate that they lack.
 CRATES = """
-    weedle_term
+    weedle_base::term
     weedle_parts
-    weedle_literal
     weedle_types
     weedle_modifier
     weedle_members
@@ -27,6 +26,7 @@ CRATES = """
     weedle_statements
     weedle_idl
 """.split()
+TERMINALS = CRATES[0]
 # The one with the types that hold one another; those below it, and those of members and definitions.
 TYPES = "weedle_types"
 LEAVES = CRATES[: CRATES.index(TYPES)]
@@ -35,8 +35,8 @@ IDL = CRATES[CRATES.index(TYPES) + 1:]
 
 def lacking(crates, named):
     """What a script says of the crates for which it has no place, by the names that it has, or None."""
-    known = {it.split("::")[0] for it in named}
-    found = [crate for crate in crates if crate not in known]
+    known = set(map(crate_of, named))
+    found = [crate for crate in crates if crate_of(crate) not in known]
     return f"no place is said for what is of {', '.join(found)}" if found else None
 
 

@@ -275,7 +275,7 @@ first("DEFINITION", "CALLBACK_DEFINITION", "CALLBACK_INTERFACE_DEFINITION", "INT
       "INCLUDES_STATEMENT_DEFINITION", "IMPLEMENTS_DEFINITION", doc="A definition.")
 many("DEFINITIONS", "DEFINITION", doc="Definitions, none included: the whole of a text.")
 
-# The parts that the scanners of weedle_base and weedle_literal name.
+# The parts that the scanners of weedle_base and weedle_parts name.
 SCANNED = (
     "BYTES_SLASH_SLASH BYTES_SLASH_STAR ONE_OF_BLANK RUN_BLANK BYTES_THREE_SLASHES BYTES_UNDERSCORE ONE_OF_LETTER RUN_NAME "
     "IDENTIFIER_TEXT BYTES_MINUS BYTES_DOT BYTES_ZERO BYTES_QUOTE ONE_OF_DIGIT ONE_OF_ONE_TO_NINE ONE_OF_E_LETTER ONE_OF_HEX "

@@ -13,7 +13,7 @@ from description.readings import Declared
 from description.webidl import BY_NAME
 
 ENUM, MODEL = "NonAnyType", "FrozenArrayType"
-TYPES, SPELT, VIEWS = "weedle_types", "weedle_spell_types", "weedle_view"
+TYPES, SPELT, VIEWS = "weedle_types", "weedle_spell", "weedle_view"
 FUNCTION = r"^/// [^\n]*\n#\[cycle\(group\)\]\n#\[tactic[^\n]*\npub\(crate\) fn {}<.*?^}\n\n?"
 CLAUSE = r"^  {} \(NonAnyType-VARIANT' [^\n]*\n(?:      [^\n]*\n)*"
 FIELD, GIVEN = r"^  pub NAME : [^\n]*\n", r"^  NAME = [^\n]*\n"
@@ -22,7 +22,7 @@ BLOCKS = {
     f"{TYPES}/src/reading/generic_types.rt": [
         FUNCTION.replace("{}", "NAME_type"), FUNCTION.replace("{}", "nullable_NAME_type"),
     ],
-    f"{TYPES}/src/reading/types.rt": [r"^    match nullable_NAME_type\(.*?^    }\n"],
+    f"{TYPES}/src/reading/types.rt": [r"^    read_or_next!\(\s*nullable_NAME_type\([^;]*;\n"],
     f"{TYPES}/specs/Trees.antt": [
         CLAUSE.replace("{}", "non_any_type_tree"),
         r"^-- [^\n]*\nabbrev pub NAME_type_tree [^\n]*\n[^\n]*\n\n",

@@ -21,16 +21,11 @@ MODULES = {
 PIECE = re.compile(
     r"fn (?P<name>\w+)<'a>\(alloc: Global, input: &'a str\) -> IResult<&'a str, (?P<enum>\w+)<'a>>\n"
     r"    ensures (?:reads )?\{ Answers \(members \w+_rules (?P<first>\d+) [^\n]*\n"
-    r"(?:    ensures [^\n]*\n)*\{\n(?P<body>.*?)^\}\n", re.M | re.S,
+    r"(?:    [^\n]*\n)*\{\n(?P<body>.*?)^\}\n", re.M | re.S,
 )
 TABLE = in_logic("weedle_grammar.specs.Table")
 USES = re.compile(rf"(?:^use {TABLE}\.[^\n]*\n)+", re.M)
-WORD = """    match word(alloc, input) {{
-        Ok((rest, member)) => return Ok((rest, {}(member))),
-        Err(Err::Error(_)) => {{}}
-        Err(Err::Failure(e)) => return Err(Err::Failure(e)),
-    }}
-"""
+WORD = "    read_or_next!(word(alloc, input), {});\n"
 LAST_WORD = """    let (rest, member) = word(alloc, input)?;
     Ok((rest, {}(member)))
 """

@@ -14,7 +14,7 @@ from description.readings import Declared
 from description.webidl import BY_NAME
 
 ENUM = "NonAnyType"
-TYPES, SPELT, VIEWS = "weedle_types", "weedle_spell_types", "weedle_view"
+TYPES, SPELT, VIEWS = "weedle_types", "weedle_spell", "weedle_view"
 # Each file with the name of its definition, and what it says of a word that may be null.
 CLAUSES = {
     f"{TYPES}/specs/Trees.antt": ("non_any_type_tree", "Alt {number} (may_be_null_tree mark_tree v)"),

@@ -4,10 +4,10 @@ A type is spelt by a definition of its own where it is declared, where a `type` 
 HELPERS does; else as what it is made of.
 """
 
+from description.readings import TERMINALS
 from description.webidl import BY_NAME
 from proofs.idl_parts import DECLARED
 
-TERMINALS = "weedle_term"
 # Types that are made of others, each with the name of its spelling, its fact and its tree.
 FORMERS = {
     "Braced": "braced", "Bracketed": "bracketed", "Generics": "generics", "Parenthesized": "parenthesized",
@@ -54,7 +54,7 @@ def is_named(type_):
 def terminal(type_):
     """The kind of a terminal, `keyword` or `symbol`, and its text; or None."""
     name = DECLARED.expanded(type_).name
-    if name not in DECLARED.types or DECLARED.types[name].crate != TERMINALS:
+    if name not in DECLARED.types or DECLARED.types[name].home != TERMINALS:
         return None
     parts = BY_NAME[DECLARED.rule_of(type_)].row[1]
     [text] = [BY_NAME[part].row[1] for part in parts if BY_NAME[part].row[0] == "Bytes"]

@@ -15,9 +15,9 @@ from written_places import FOLDER
 OUT = FOLDER
 # What is written of a type, in this order.
 KINDS = (parses, copies, conversions, methods)
-# The types that hold one another are read and copied together, in modules of their own, and no
-# other crate takes them apart.
-ONLY = {"weedle_types": (conversions,)}
+# What holds no other type is read by hand. The types that hold one another are read and copied together, in
+# modules of their own, and no other crate takes them apart.
+ONLY = {"weedle_parts": (conversions,), "weedle_types": (conversions,)}
 # An enum with more variants has its conversions in a file of their own.
 MANY = 16
 HEAD = """//! {}

@@ -26,7 +26,7 @@ pub mod common;
 pub mod literal;
 pub mod types;
 
-pub use weedle_base::{Err, Error, ErrorKind, IResult, Parse, TryClone, at_byte};
+pub use weedle_base::{Err, Error, ErrorKind, IResult, Parse, TryClone, at_byte, term};
 pub use weedle_explain::{
     Class, Expected, Hint, Lines, Position, Refusal, explain, position_of, write_hint,
 };
@@ -42,7 +42,6 @@ pub use weedle_idl::{
     PartialNamespaceDefinition, TypedefDefinition, dictionary, interface, mixin, namespace,
 };
 pub use weedle_places::{MemberPlace, Name, Place, Role, Span, names, places};
-pub use weedle_term as term;
 pub use weedle_types::{argument, attribute};
 pub use weedle_view::{
     MemberKind, MemberView, definition_named, docstring_of, extended_attributes_of, included_into,

@@ -15,9 +15,9 @@ mod written;
 
 use crate::parts::{async_iterable, optional_arguments};
 use std::alloc::Global;
+use weedle_base::term::{Async, Comma, Iterable, SemiColon};
 use weedle_base::{IResult, Parse};
 use weedle_parts::common::Generics;
-use weedle_term::{Async, Comma, Iterable, SemiColon};
 use weedle_types::argument::ParenthesizedArgumentList;
 use weedle_types::attribute::ExtendedAttributeList;
 use weedle_types::parts::attributes;
@@ -73,7 +73,8 @@ impl<'a> Parse<'a> for SingleTypedAsyncIterable<'a> {
         ))
     }
 
-    ghost lawful = { own_lawful SINGLE_TYPED_ASYNC_ITERABLE single_typed_async_iterable_tree (Unit {0}) };
+    ghost lawful = { own_lawful SINGLE_TYPED_ASYNC_ITERABLE single_typed_async_iterable_tree
+        (Unit {0}) };
 }
 
 /// An asynchronous iteration over pairs, as `async iterable<DOMString, long>(long x);`. Arguments
@@ -127,7 +128,8 @@ impl<'a> Parse<'a> for DoubleTypedAsyncIterable<'a> {
         ))
     }
 
-    ghost lawful = { own_lawful DOUBLE_TYPED_ASYNC_ITERABLE double_typed_async_iterable_tree (Unit {0}) };
+    ghost lawful = { own_lawful DOUBLE_TYPED_ASYNC_ITERABLE double_typed_async_iterable_tree
+        (Unit {0}) };
 }
 
 /// An asynchronous iteration over values or pairs, as `async iterable<long>;`: the first of the

@@ -13,7 +13,8 @@ pub(crate) fn copy_optional_arguments<'a>(
     arguments: &Option<ParenthesizedArgumentList<'a>>,
     alloc: Global,
 ) -> Result<Option<ParenthesizedArgumentList<'a>>, AllocError>
-    ensures { IfOk result (λ copy. optional_arguments_tree copy ≡ optional_arguments_tree arguments.now) }
+    ensures { IfOk result
+        (λ copy. optional_arguments_tree copy ≡ optional_arguments_tree arguments.now) }
 {
     let copy = arguments.try_clone(alloc)?;
     Ok(copy)

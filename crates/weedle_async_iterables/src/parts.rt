@@ -12,8 +12,8 @@ ghost use Rattle.weedle_grammar.specs.written.Table.InterfaceMembers.{
 };
 
 use std::alloc::Global;
+use weedle_base::term::{Async, Iterable};
 use weedle_base::{IResult, Parse};
-use weedle_term::{Async, Iterable};
 use weedle_types::argument::ParenthesizedArgumentList;
 
 /// Reads arguments where they stand.
@@ -21,7 +21,8 @@ pub(crate) fn optional_arguments<'a>(
     alloc: Global,
     input: &'a str,
 ) -> IResult<&'a str, Option<ParenthesizedArgumentList<'a>>>
-    ensures { Answers (own OPT_PARENTHESIZED_ARGUMENT_LIST optional_arguments_tree (Unit {0})) input.now result }
+    ensures { Answers (own OPT_PARENTHESIZED_ARGUMENT_LIST optional_arguments_tree (Unit {0}))
+        input.now result }
 {
     Option::parse(alloc, input)
 }

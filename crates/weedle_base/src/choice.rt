@@ -31,5 +31,6 @@ impl<'a, T: Parse<'a>, U: Parse<'a>> Parse<'a> for Choice<T, U> {
         Ok((rest, Choice::Second(value)))
     }
 
-    ghost lawful = { seen_lawful choice_view (choice_reading T.reading U.reading) (choice_lawful T.reading U.reading T.lawful U.lawful) };
+    ghost lawful = { seen_lawful choice_view (choice_reading T.reading U.reading)
+        (choice_lawful T.reading U.reading T.lawful U.lawful) };
 }

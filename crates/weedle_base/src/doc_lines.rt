@@ -16,7 +16,8 @@ use weedle_grammar::{Class, Rule};
 
 /// The text of the line at the front, and what follows it: blanks, `///`, the text and an LF.
 fn doc_line(input: &str) -> Option<(&str, &str)>
-    ensures { MatchOption result (Reads input.now DOC_LINE 0 Fails) (λ x. Took DOC_LINE input.now (Lines x.0.now ∷ []) x.1.now) }
+    ensures { MatchOption result (Reads input.now DOC_LINE 0 Fails)
+        (λ x. Took DOC_LINE input.now (Lines x.0.now ∷ []) x.1.now) }
 {
     let line = after_run(Rule::RUN_BLANK, Class::Blank, input);
     let after = after_word(Rule::BYTES_THREE_SLASHES, "///", line)?;
@@ -27,7 +28,8 @@ fn doc_line(input: &str) -> Option<(&str, &str)>
 /// Puts an LF and the line at the end of the text, as a docstring's lines are put together: of `a`
 /// and ` b` it makes `a`, an LF and ` b`. Where memory is refused the text may have grown in part.
 pub fn push_line(text: &mut String, line: &str) -> Result<(), AllocError>
-    ensures { OnOk result (string_bytes text.new ≡ (string_bytes text.old ++ (10 ∷ [])) ++ line.now) }
+    ensures { OnOk result
+        (string_bytes text.new ≡ (string_bytes text.old ++ (10 ∷ [])) ++ line.now) }
 {
     text.push('\n')?;
     text.push_str(line)

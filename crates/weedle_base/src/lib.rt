@@ -1,5 +1,5 @@
-//! The ground of the parser: faults, the trait [`Parse`] with its meaning and laws, trivia and
-//! words.
+//! The ground of the parser: faults, the trait [`Parse`] with its meaning and laws, trivia, words
+//! and the terminals.
 #![tactic(auto)]
 
 mod choice;
@@ -12,6 +12,7 @@ mod parse;
 mod place;
 pub mod scan;
 mod standard;
+pub mod term;
 mod token;
 mod trivia;
 mod try_clone;

@@ -30,7 +30,8 @@ pub fn is_alphanum_underscore_dash(token: char) -> bool
 /// `ident_tag("or", "oré")` is `Some(("é", "or"))`; `ident_tag("long", "long-")` is None. It takes
 /// no memory.
 pub fn ident_tag<'a>(tag: &'static str, input: &'a str) -> Option<(&'a str, &'a str)>
-    ensures { MatchOption result (LacksTag tag.now input.now) (λ x. IsTagged tag.now input.now x.0.now × (x.1.now ≡ tag.now)) }
+    ensures { MatchOption result (LacksTag tag.now input.now)
+        (λ x. IsTagged tag.now input.now x.0.now × (x.1.now ≡ tag.now)) }
 {
     let rest = input.strip_prefix(tag)?;
     if next_is(Class::Name, rest) {
@@ -45,7 +46,8 @@ pub fn ident_tag<'a>(tag: &'static str, input: &'a str) -> Option<(&'a str, &'a 
 /// `identifier(" _interface x")` is `Some(("x", "interface"))`; `identifier("__x")` is None. It
 /// takes no memory.
 pub fn identifier(input: &str) -> Option<(&str, &str)>
-    ensures { MatchOption result (Reads input.now IDENTIFIER 0 Fails) (λ x. Took IDENTIFIER input.now (Text x.1.now ∷ []) x.0.now) }
+    ensures { MatchOption result (Reads input.now IDENTIFIER 0 Fails)
+        (λ x. Took IDENTIFIER input.now (Text x.1.now ∷ []) x.0.now) }
 {
     let start = skip_trivia(input);
     let name = skip_underscore(start);
@@ -62,7 +64,8 @@ fn skip_underscore(input: &str) -> &str
 
 /// What follows a letter and the name characters behind it, and the text of all of them.
 fn name_text(input: &str) -> Option<(&str, &str)>
-    ensures { MatchOption result (Reads input.now IDENTIFIER_TEXT 0 Fails) (λ x. TookText IDENTIFIER_TEXT input.now x.1.now x.0.now) }
+    ensures { MatchOption result (Reads input.now IDENTIFIER_TEXT 0 Fails)
+        (λ x. TookText IDENTIFIER_TEXT input.now x.1.now x.0.now) }
 {
     let first = after_one(Rule::ONE_OF_LETTER, Class::Letter, input)?;
     let rest = after_run(Rule::RUN_NAME, Class::Name, first);

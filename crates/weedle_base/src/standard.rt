@@ -84,12 +84,14 @@ impl<'a, T: Parse<'a>> Parse<'a> for Vec<T> {
         }
     }
 
-    ghost lawful = { run_lawful (λ v. v.items) (vec_step T.reading) (vec_step_lawful T.reading T.lawful) };
+    ghost lawful = { run_lawful (λ v. v.items) (vec_step T.reading)
+        (vec_step_lawful T.reading T.lawful) };
 }
 
 #[tactic(auto, using(crate::proofs::Steps::seen_steps))]
 impl<'a, T: Parse<'a>, U: Parse<'a>, V: Parse<'a>> Parse<'a> for (T, U, V) {
-    ghost reading = { seen_reading (λ x. (x.0, (x.1, x.2))) (pair_reading T.reading (pair_reading U.reading V.reading)) };
+    ghost reading = { seen_reading (λ x. (x.0, (x.1, x.2)))
+        (pair_reading T.reading (pair_reading U.reading V.reading)) };
 
     fn parse(alloc: Global, input: &'a str) -> IResult<&'a str, Self> {
         let (rest, first) = T::parse(alloc, input)?;
@@ -98,5 +100,8 @@ impl<'a, T: Parse<'a>, U: Parse<'a>, V: Parse<'a>> Parse<'a> for (T, U, V) {
         Ok((rest, (first, second, third)))
     }
 
-    ghost lawful = { seen_lawful (λ x. (x.0, (x.1, x.2))) (pair_reading T.reading (pair_reading U.reading V.reading)) (pair_lawful T.reading (pair_reading U.reading V.reading) T.lawful (pair_lawful U.reading V.reading U.lawful V.lawful)) };
+    ghost lawful = { seen_lawful (λ x. (x.0, (x.1, x.2))) (pair_reading T.reading
+        (pair_reading U.reading V.reading)) (pair_lawful T.reading
+        (pair_reading U.reading V.reading) T.lawful
+        (pair_lawful U.reading V.reading U.lawful V.lawful)) };
 }

@@ -19,7 +19,8 @@ use weedle_grammar::{Class, Rule};
 /// What follows the line at the front and its LF. Where there is no LF, the line ends with the
 /// text.
 fn after_line(input: &str) -> &str
-    ensures { (end : List ℕ) × Took RUN_NOT_LINE_FEED input.now [] end × Took LINE_END end [] result.now }
+    ensures { (end : List ℕ) × Took RUN_NOT_LINE_FEED input.now [] end
+        × Took LINE_END end [] result.now }
 {
     match memchr(b'\n', input.as_bytes()) {
         Some(end) => &input[end + 1..],

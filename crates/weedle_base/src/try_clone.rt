@@ -98,5 +98,6 @@ impl<T: TryClone, U: TryClone, V: TryClone> TryClone for (T, U, V) {
         Ok((first, second, third))
     }
 
-    ghost equivalence = { seen_equivalence (λ x. (x.0, (x.1, x.2))) (pair_equivalence T.equivalence (pair_equivalence U.equivalence V.equivalence)) };
+    ghost equivalence = { seen_equivalence (λ x. (x.0, (x.1, x.2)))
+        (pair_equivalence T.equivalence (pair_equivalence U.equivalence V.equivalence)) };
 }

@@ -33,7 +33,8 @@ pub fn build_definitions<'a>(
     raw: &'a str,
 ) -> Result<Built<'a>, AllocError>
     requires table { ends.now.text ≡ raw.now }
-    ensures { IfOk result (λ built. IsBuilt raw.now (definitions_tree built.list.items) built.rest.now built.visits) }
+    ensures { IfOk result
+        (λ built. IsBuilt raw.now (definitions_tree built.list.items) built.rest.now built.visits) }
 {
     let (list, rest, visits) = build_front::<Vec<AnyDefinition>>(alloc, ends, raw)?;
     Ok(Built { list, rest, visits })

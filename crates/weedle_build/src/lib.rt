@@ -12,9 +12,8 @@
 //!
 //! How the values of each type are built stands in the crates below: in `weedle_build_base` for
 //! what holds no other type, in `weedle_build_types` for the types that hold one another, in
-//! `weedle_build_members` for the members of interfaces, and in `weedle_build_interfaces`,
-//! `weedle_build_mixins`, `weedle_build_namespaces` and `weedle_build_statements` for the kinds of
-//! definitions.
+//! `weedle_build_members` for the members of interfaces, in `weedle_build_interfaces` for
+//! interfaces, and in `weedle_build_definitions` for the other kinds of definitions.
 #![tactic(auto)]
 
 mod built;

@@ -24,18 +24,19 @@ use crate::at::At;
 use crate::build::{Build, BuildResult};
 use crate::structs::{three_fields, two_fields};
 use std::alloc::Global;
-use weedle_parts::common::{Braced, Bracketed, Generics, Parenthesized};
-use weedle_parts::types::MayBeNull;
-use weedle_rules::{Ends, Rule};
-use weedle_term::{
+use weedle_base::term::{
     CloseBrace, CloseBracket, CloseParen, GreaterThan, LessThan, OpenBrace, OpenBracket, OpenParen,
     QMark,
 };
+use weedle_parts::common::{Braced, Bracketed, Generics, Parenthesized};
+use weedle_parts::types::MayBeNull;
+use weedle_rules::{Ends, Rule};
 
 impl<'a, T: Build<'a>> Build<'a> for Parenthesized<T> {
     type Value = Parenthesized<T::Value>;
 
-    ghost fits = { λ r. fits_seq (bracket_fits OPEN_PAREN T.fits CLOSE_PAREN) (row_of_rule r) (shape_of r) };
+    ghost fits = { λ r. fits_seq (bracket_fits OPEN_PAREN T.fits CLOSE_PAREN) (row_of_rule r)
+        (shape_of r) };
 
     ghost tree = { parenthesized_tree T.tree };
 
@@ -62,7 +63,8 @@ impl<'a, T: Build<'a>> Build<'a> for Parenthesized<T> {
 impl<'a, T: Build<'a>> Build<'a> for Bracketed<T> {
     type Value = Bracketed<T::Value>;
 
-    ghost fits = { λ r. fits_seq (bracket_fits OPEN_BRACKET T.fits CLOSE_BRACKET) (row_of_rule r) (shape_of r) };
+    ghost fits = { λ r. fits_seq (bracket_fits OPEN_BRACKET T.fits CLOSE_BRACKET) (row_of_rule r)
+        (shape_of r) };
 
     ghost tree = { bracketed_tree T.tree };
 
@@ -91,7 +93,8 @@ impl<'a, T: Build<'a>> Build<'a> for Bracketed<T> {
 impl<'a, T: Build<'a>> Build<'a> for Braced<T> {
     type Value = Braced<T::Value>;
 
-    ghost fits = { λ r. fits_seq (bracket_fits OPEN_BRACE T.fits CLOSE_BRACE) (row_of_rule r) (shape_of r) };
+    ghost fits = { λ r. fits_seq (bracket_fits OPEN_BRACE T.fits CLOSE_BRACE) (row_of_rule r)
+        (shape_of r) };
 
     ghost tree = { braced_tree T.tree };
 
@@ -113,7 +116,8 @@ impl<'a, T: Build<'a>> Build<'a> for Braced<T> {
 impl<'a, T: Build<'a>> Build<'a> for Generics<T> {
     type Value = Generics<T::Value>;
 
-    ghost fits = { λ r. fits_seq (bracket_fits LESS_THAN T.fits GREATER_THAN) (row_of_rule r) (shape_of r) };
+    ghost fits = { λ r. fits_seq (bracket_fits LESS_THAN T.fits GREATER_THAN) (row_of_rule r)
+        (shape_of r) };
 
     ghost tree = { generics_tree T.tree };
 

@@ -48,7 +48,8 @@ pub trait Fields<'a> {
     ) -> BuildResult<Self::Values>
         requires fit { fits (drop first (list_of (row_of_rule rule))) }
         requires due { Rest table.now.text (drop first (list_of (row_of_rule rule))) at.place }
-        ensures { FieldAnswers table.now.text (drop first (list_of (row_of_rule rule))) trees at.place at.visits result };
+        ensures { FieldAnswers table.now.text (drop first (list_of (row_of_rule rule))) trees
+            at.place at.visits result };
 }
 
 /// The last field of a sequence.
@@ -111,7 +112,8 @@ pub fn sequence<'a, P: Fields<'a>>(
 ) -> BuildResult<P::Values>
     requires fit { fits_seq P.fits (row_of_rule rule) (shape_of rule) }
     requires due { Due table.now.text rule at.place }
-    ensures { Answers table.now.text rule (λ fields. Node (trees (P.trees fields))) at.place at.visits result }
+    ensures { Answers table.now.text rule (λ fields. Node (trees (P.trees fields))) at.place
+        at.visits result }
 {
     let (fields, at) = P::build_fields(alloc, table, rule, 0, at)?;
     Ok((fields, visit(at)))

@@ -77,7 +77,8 @@ impl<'a, T: Build<'a>> Build<'a> for Box<T> {
 impl<'a, T: Build<'a>, U: Build<'a>> Build<'a> for (T, U) {
     type Value = (T::Value, U::Value);
 
-    ghost fits = { λ r. fits_seq (then_fits T.fits (then_fits U.fits end_fits)) (row_of_rule r) (shape_of r) };
+    ghost fits = { λ r. fits_seq (then_fits T.fits (then_fits U.fits end_fits)) (row_of_rule r)
+        (shape_of r) };
 
     ghost tree = { pair_tree T.tree U.tree };
 
@@ -94,7 +95,8 @@ impl<'a, T: Build<'a>, U: Build<'a>> Build<'a> for (T, U) {
 impl<'a, T: Build<'a>, U: Build<'a>, V: Build<'a>> Build<'a> for (T, U, V) {
     type Value = (T::Value, U::Value, V::Value);
 
-    ghost fits = { λ r. fits_seq (then_fits T.fits (then_fits U.fits (then_fits V.fits end_fits))) (row_of_rule r) (shape_of r) };
+    ghost fits = { λ r. fits_seq (then_fits T.fits (then_fits U.fits (then_fits V.fits end_fits)))
+        (row_of_rule r) (shape_of r) };
 
     ghost tree = { triple_tree T.tree U.tree V.tree };
 

@@ -11,7 +11,7 @@ ghost use Rattle.weedle_grammar.specs.written.Table.Leaves.{
   STRING_LIT,
 };
 ghost use Rattle.weedle_parts.specs.ValueTrees.{identifier_tree};
-ghost use Rattle.weedle_literal.specs.LiteralTrees.{
+ghost use Rattle.weedle_parts.specs.LiteralTrees.{
   dec_tree,
   hex_tree,
   oct_tree,
@@ -23,8 +23,8 @@ use crate::at::At;
 use crate::build::{Build, BuildResult};
 use crate::texts::kept;
 use std::alloc::Global;
-use weedle_literal::{DecLit, FloatValueLit, HexLit, OctLit, StringLit};
 use weedle_parts::common::Identifier;
+use weedle_parts::literal::{DecLit, FloatValueLit, HexLit, OctLit, StringLit};
 use weedle_rules::{Ends, Rule};
 
 impl<'a> Build<'a> for Identifier<'a> {

@@ -2,7 +2,7 @@
 //!
 //! ```rust
 //! use weedle_build_base::{At, Build};
-//! use weedle_literal::DecLit;
+//! use weedle_parts::literal::DecLit;
 //! use weedle_rules::{Ends, Rule};
 //!
 //! let ends = Ends::new(rt.alloc(), "12;")?;

@@ -27,7 +27,8 @@ pub fn items<'a, T: Build<'a>>(
     requires fit { T.fits item }
     requires tail { fits_tail item (row_of_rule tail) (shape_of tail) }
     requires due { IsDueList table.now.text item tail at.place }
-    ensures { ItemAnswers table.now.text item tail (λ (l : Vec T.Value). map T.tree l.items) at.place at.visits result }
+    ensures { ItemAnswers table.now.text item tail (λ (l : Vec T.Value). map T.tree l.items)
+        at.place at.visits result }
 {
     let Row::Tail(_, separator) = row_of(tail) else {
         unreachable!()

@@ -28,9 +28,11 @@ pub fn two_fields<'a, A: Build<'a>, B: Build<'a>>(
     rule: Rule,
     at: At,
 ) -> BuildResult<(A::Value, B::Value)>
-    requires fit { fits_seq (then_fits A.fits (then_fits B.fits end_fits)) (row_of_rule rule) (shape_of rule) }
+    requires fit { fits_seq (then_fits A.fits (then_fits B.fits end_fits)) (row_of_rule rule)
+        (shape_of rule) }
     requires due { Due table.now.text rule at.place }
-    ensures { Answers table.now.text rule (λ v. Node (trees (A.tree v.0 ∷ B.tree v.1 ∷ []))) at.place at.visits result }
+    ensures { Answers table.now.text rule (λ v. Node (trees (A.tree v.0 ∷ B.tree v.1 ∷ [])))
+        at.place at.visits result }
 {
     let ((first, Last(second)), at) = sequence::<(A, Last<B>)>(alloc, table, rule, at)?;
     Ok(((first, second), at))
@@ -45,9 +47,11 @@ pub fn three_fields<'a, A: Build<'a>, B: Build<'a>, C: Build<'a>>(
     rule: Rule,
     at: At,
 ) -> BuildResult<(A::Value, B::Value, C::Value)>
-    requires fit { fits_seq (then_fits A.fits (then_fits B.fits (then_fits C.fits end_fits))) (row_of_rule rule) (shape_of rule) }
+    requires fit { fits_seq (then_fits A.fits (then_fits B.fits (then_fits C.fits end_fits)))
+        (row_of_rule rule) (shape_of rule) }
     requires due { Due table.now.text rule at.place }
-    ensures { Answers table.now.text rule (λ v. Node (trees (A.tree v.0 ∷ B.tree v.1 ∷ C.tree v.2 ∷ []))) at.place at.visits result }
+    ensures { Answers table.now.text rule
+        (λ v. Node (trees (A.tree v.0 ∷ B.tree v.1 ∷ C.tree v.2 ∷ []))) at.place at.visits result }
 {
     let ((first, (second, Last(third))), at) = sequence::<(A, (B, Last<C>))>(
         alloc, table, rule, at,
@@ -64,9 +68,13 @@ pub fn four_fields<'a, A: Build<'a>, B: Build<'a>, C: Build<'a>, D: Build<'a>>(
     rule: Rule,
     at: At,
 ) -> BuildResult<(A::Value, B::Value, C::Value, D::Value)>
-    requires fit { fits_seq (then_fits A.fits (then_fits B.fits (then_fits C.fits (then_fits D.fits end_fits)))) (row_of_rule rule) (shape_of rule) }
+    requires fit { fits_seq
+        (then_fits A.fits (then_fits B.fits (then_fits C.fits (then_fits D.fits end_fits))))
+        (row_of_rule rule) (shape_of rule) }
     requires due { Due table.now.text rule at.place }
-    ensures { Answers table.now.text rule (λ v. Node (trees (A.tree v.0 ∷ B.tree v.1 ∷ C.tree v.2 ∷ D.tree v.3 ∷ []))) at.place at.visits result }
+    ensures { Answers table.now.text rule
+        (λ v. Node (trees (A.tree v.0 ∷ B.tree v.1 ∷ C.tree v.2 ∷ D.tree v.3 ∷ []))) at.place
+        at.visits result }
 {
     let ((first, (second, (third, Last(fourth)))), at) = sequence::<(A, (B, (C, Last<D>)))>(
         alloc, table, rule, at,
@@ -83,9 +91,12 @@ pub fn five_fields<'a, A: Build<'a>, B: Build<'a>, C: Build<'a>, D: Build<'a>, E
     rule: Rule,
     at: At,
 ) -> BuildResult<(A::Value, B::Value, C::Value, D::Value, E::Value)>
-    requires fit { fits_seq (then_fits A.fits (then_fits B.fits (then_fits C.fits (then_fits D.fits (then_fits E.fits end_fits))))) (row_of_rule rule) (shape_of rule) }
+    requires fit { fits_seq (then_fits A.fits (then_fits B.fits (then_fits C.fits (then_fits D.fits
+        (then_fits E.fits end_fits))))) (row_of_rule rule) (shape_of rule) }
     requires due { Due table.now.text rule at.place }
-    ensures { Answers table.now.text rule (λ v. Node (trees (A.tree v.0 ∷ B.tree v.1 ∷ C.tree v.2 ∷ D.tree v.3 ∷ E.tree v.4 ∷ []))) at.place at.visits result }
+    ensures { Answers table.now.text rule
+        (λ v. Node (trees (A.tree v.0 ∷ B.tree v.1 ∷ C.tree v.2 ∷ D.tree v.3 ∷ E.tree v.4 ∷ [])))
+        at.place at.visits result }
 {
     let ((first, (second, (third, (fourth, Last(fifth))))), at) = sequence::<
         (A, (B, (C, (D, Last<E>)))),
@@ -110,9 +121,11 @@ pub fn six_fields<
     rule: Rule,
     at: At,
 ) -> BuildResult<(A::Value, B::Value, C::Value, D::Value, E::Value, F::Value)>
-    requires fit { fits_seq (then_fits A.fits (then_fits B.fits (then_fits C.fits (then_fits D.fits (then_fits E.fits (then_fits F.fits end_fits)))))) (row_of_rule rule) (shape_of rule) }
+    requires fit { fits_seq (then_fits A.fits (then_fits B.fits (then_fits C.fits (then_fits D.fits
+        (then_fits E.fits (then_fits F.fits end_fits)))))) (row_of_rule rule) (shape_of rule) }
     requires due { Due table.now.text rule at.place }
-    ensures { Answers table.now.text rule (λ v. Node (trees (A.tree v.0 ∷ B.tree v.1 ∷ C.tree v.2 ∷ D.tree v.3 ∷ E.tree v.4 ∷ F.tree v.5 ∷ []))) at.place at.visits result }
+    ensures { Answers table.now.text rule (λ v. Node (trees (A.tree v.0 ∷ B.tree v.1 ∷ C.tree v.2
+        ∷ D.tree v.3 ∷ E.tree v.4 ∷ F.tree v.5 ∷ []))) at.place at.visits result }
 {
     let ((first, (second, (third, (fourth, (fifth, Last(sixth)))))), at) = sequence::<
         (A, (B, (C, (D, (E, Last<F>))))),
@@ -148,9 +161,12 @@ pub fn seven_fields<
         G::Value,
     ),
 >
-    requires fit { fits_seq (then_fits A.fits (then_fits B.fits (then_fits C.fits (then_fits D.fits (then_fits E.fits (then_fits F.fits (then_fits G.fits end_fits))))))) (row_of_rule rule) (shape_of rule) }
+    requires fit { fits_seq (then_fits A.fits (then_fits B.fits (then_fits C.fits (then_fits D.fits
+        (then_fits E.fits (then_fits F.fits (then_fits G.fits end_fits))))))) (row_of_rule rule)
+        (shape_of rule) }
     requires due { Due table.now.text rule at.place }
-    ensures { Answers table.now.text rule (λ v. Node (trees (A.tree v.0 ∷ B.tree v.1 ∷ C.tree v.2 ∷ D.tree v.3 ∷ E.tree v.4 ∷ F.tree v.5 ∷ G.tree v.6 ∷ []))) at.place at.visits result }
+    ensures { Answers table.now.text rule (λ v. Node (trees (A.tree v.0 ∷ B.tree v.1 ∷ C.tree v.2
+        ∷ D.tree v.3 ∷ E.tree v.4 ∷ F.tree v.5 ∷ G.tree v.6 ∷ []))) at.place at.visits result }
 {
     let ((first, (second, (third, (fourth, (fifth, (sixth, Last(seventh))))))), at) = sequence::<
         (A, (B, (C, (D, (E, (F, Last<G>)))))),
@@ -188,9 +204,13 @@ pub fn eight_fields<
         H::Value,
     ),
 >
-    requires fit { fits_seq (then_fits A.fits (then_fits B.fits (then_fits C.fits (then_fits D.fits (then_fits E.fits (then_fits F.fits (then_fits G.fits (then_fits H.fits end_fits)))))))) (row_of_rule rule) (shape_of rule) }
+    requires fit { fits_seq (then_fits A.fits (then_fits B.fits (then_fits C.fits (then_fits D.fits
+        (then_fits E.fits (then_fits F.fits (then_fits G.fits (then_fits H.fits end_fits))))))))
+        (row_of_rule rule) (shape_of rule) }
     requires due { Due table.now.text rule at.place }
-    ensures { Answers table.now.text rule (λ v. Node (trees (A.tree v.0 ∷ B.tree v.1 ∷ C.tree v.2 ∷ D.tree v.3 ∷ E.tree v.4 ∷ F.tree v.5 ∷ G.tree v.6 ∷ H.tree v.7 ∷ []))) at.place at.visits result }
+    ensures { Answers table.now.text rule (λ v. Node (trees (A.tree v.0 ∷ B.tree v.1 ∷ C.tree v.2
+        ∷ D.tree v.3 ∷ E.tree v.4 ∷ F.tree v.5 ∷ G.tree v.6 ∷ H.tree v.7
+        ∷ []))) at.place at.visits result }
 {
     let ((first, (second, (third, (fourth, (fifth, (sixth, (seventh, Last(eighth)))))))), at) =
         sequence::<(A, (B, (C, (D, (E, (F, (G, Last<H>)))))))>(alloc, table, rule, at)?;

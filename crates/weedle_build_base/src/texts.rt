@@ -16,7 +16,8 @@ use weedle_rules::{Ends, Rule};
 pub fn kept<'a>(table: &Ends<'a>, rule: Rule, k: usize, at: At) -> (&'a str, At)
     requires shape { IsTrue (is_kept k (row_of_rule rule) (shape_of rule)) }
     requires due { Due table.now.text rule at.place }
-    ensures { Builds table.now.text rule (Text result.0.now) at.place at.visits result.1.place result.1.visits }
+    ensures { Builds table.now.text rule (Text result.0.now) at.place at.visits result.1.place
+        result.1.visits }
 {
     let end = end_at(table, rule, at.place);
     let mut start = at.place;

@@ -1,8 +1,8 @@
 //! What others are built of.
 
+use weedle_base::term::Comma;
 use weedle_build_types::Held;
 use weedle_parts::common::Generics;
-use weedle_term::Comma;
 use weedle_types::types::AttributedType;
 
 /// How a `T` is built: the `Build` of a member of an interface, whose type stands in another crate.

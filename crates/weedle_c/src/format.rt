@@ -1,6 +1,17 @@
 //! A text laid out anew.
 
-ghost use Rattle.std.specs.Prelude.{◌≡◌, ◌≢◌, ◌≤◌, ◌⊎◌, ◌↔◌, IfOk, IfSome, IsUtf8, length, string_bytes};
+ghost use Rattle.std.specs.Prelude.{
+  ◌≡◌,
+  ◌≢◌,
+  ◌≤◌,
+  ◌⊎◌,
+  ◌↔◌,
+  IfOk,
+  IfSome,
+  IsUtf8,
+  length,
+  string_bytes,
+};
 ghost use Rattle.std.specs.Str.{IsValidUpTo};
 ghost use Rattle.weedle_c.specs.Formatted.{IsFormatted, IsLonger, IsUnformatted};
 ghost use Rattle.weedle_formatter.specs.Words.{SaysTheSame};

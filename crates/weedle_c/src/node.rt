@@ -20,7 +20,7 @@ pub struct WeedleNode {
 }
 
 /// The greatest number that a node holds.
-pub const MOST: usize = 4294967295;
+pub const MOST: usize = u32::MAX as usize;
 
 /// Whether each node fits into the numbers that C has for it.
 pub(crate) fn all_fit(found: &[Node]) -> bool

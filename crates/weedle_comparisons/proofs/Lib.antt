@@ -1,3 +1,4 @@
 pub mod Choices
 pub mod ListingAttributes
 pub mod NameLists
+pub mod ReadingRules

@@ -6,14 +6,14 @@ use Rattle.weedle_base.specs.declared.fault.Err.TheVariants.{Error, Failure}
 use Rattle.weedle_parts.specs.declared.common.identifier.Identifier.{Identifier}
 use Rattle.weedle_parts.specs.declared.types.integer.IntegerType.{IntegerType}
 use Rattle.weedle_parts.specs.declared.types.integer.IntegerType.TheVariants.{LongLong, Long, Short}
-use Rattle.weedle_literal.specs.declared.integer.IntegerLit.{IntegerLit}
-use Rattle.weedle_literal.specs.declared.integer.IntegerLit.TheVariants.{Dec, Hex, Oct}
-use Rattle.weedle_literal.specs.declared.float.FloatLit.{FloatLit}
-use Rattle.weedle_literal.specs.declared.float.FloatLit.TheVariants.{Value, NegInfinity, Infinity, NaN}
-use Rattle.weedle_literal.specs.declared.value.ConstValue.{ConstValue}
-use Rattle.weedle_literal.specs.declared.value.ConstValue.TheVariants.{Boolean as ConstBoolean, Float as ConstFloat, Integer as ConstInteger, Null as ConstNull}
-use Rattle.weedle_literal.specs.declared.value.DefaultValue.{DefaultValue}
-use Rattle.weedle_literal.specs.declared.value.DefaultValue.TheVariants.{Boolean as DefaultBoolean, EmptyArray, EmptyDictionary, Float as DefaultFloat, Integer as DefaultInteger, Null as DefaultNull, String as DefaultString}
+use Rattle.weedle_parts.specs.declared.literal.integer.IntegerLit.{IntegerLit}
+use Rattle.weedle_parts.specs.declared.literal.integer.IntegerLit.TheVariants.{Dec, Hex, Oct}
+use Rattle.weedle_parts.specs.declared.literal.float.FloatLit.{FloatLit}
+use Rattle.weedle_parts.specs.declared.literal.float.FloatLit.TheVariants.{Value, NegInfinity, Infinity, NaN}
+use Rattle.weedle_parts.specs.declared.literal.value.ConstValue.{ConstValue}
+use Rattle.weedle_parts.specs.declared.literal.value.ConstValue.TheVariants.{Boolean as ConstBoolean, Float as ConstFloat, Integer as ConstInteger, Null as ConstNull}
+use Rattle.weedle_parts.specs.declared.literal.value.DefaultValue.{DefaultValue}
+use Rattle.weedle_parts.specs.declared.literal.value.DefaultValue.TheVariants.{Boolean as DefaultBoolean, EmptyArray, EmptyDictionary, Float as DefaultFloat, Integer as DefaultInteger, Null as DefaultNull, String as DefaultString}
 use Rattle.weedle_modifier.specs.declared.modifier.Special.{Special}
 use Rattle.weedle_modifier.specs.declared.modifier.Special.TheVariants.{Getter, Setter, Deleter, LegacyCaller}
 use Rattle.weedle_types.specs.declared.attribute.IdentifierOrString.{IdentifierOrString}

@@ -12,12 +12,12 @@ use crate::laws::{compare, hash_alike};
 use std::alloc::{AllocError, Global};
 use std::cmp::Ordering;
 use std::hash::Hash;
+use weedle_base::term::Comma;
 use weedle_base::{Err, Error, ErrorKind, TryClone};
 use weedle_parts::common::{
     Braced, Bracketed, Docstring, Generics, Identifier, Parenthesized, Punctuated,
 };
 use weedle_parts::types::{IntegerType, MayBeNull};
-use weedle_term::Comma;
 
 /// Two commas are equal, and neither stands before the other: `(true, Equal)`.
 pub fn compare_commas(a: Comma, b: Comma) -> (bool, Ordering)

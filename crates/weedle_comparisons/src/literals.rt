@@ -11,7 +11,9 @@ use crate::laws::{compare, hash_alike};
 use std::alloc::AllocError;
 use std::cmp::Ordering;
 use std::hash::Hash;
-use weedle_literal::{ConstValue, DecLit, Default, EmptyArrayLit, EmptyDictionaryLit, IntegerLit};
+use weedle_parts::literal::{
+    ConstValue, DecLit, Default, EmptyArrayLit, EmptyDictionaryLit, IntegerLit,
+};
 
 /// Decimal numbers are compared by the bytes of their texts, not by their values: of `12` and `5`
 /// `(false, Less)`.

@@ -7,4 +7,7 @@
 
 mod written;
 
-pub use written::{attributes, literals, members, modifiers, parts, types};
+pub use written::{
+    attributes, definitions, interfaces, iterables, literals, members, mixins, modifiers,
+    namespaces, parts, statements, types,
+};

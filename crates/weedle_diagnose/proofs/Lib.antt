@@ -1,5 +1,4 @@
 pub mod OutcomeFacts
-pub mod LeafEnds
 pub mod LaterFacts
 pub mod AddingFacts
 pub mod ConditionFacts

@@ -1,7 +1,8 @@
 //! What fails furthest on, by descent, without a table.
 //!
-//! Each rule is read where it is tried, and a rule without parts that fails is noted. Nothing is passed
-//! over: what can't begin with the byte that stands there is tried too, since that it fails is noted.
+//! Each rule is read where it is tried, and a rule without parts that fails is noted. Nothing is
+//! passed over: what can't begin with the byte that stands there is tried too, since that it fails
+//! is noted.
 
 ghost use Rattle.std.specs.Prelude.{◌≡◌, ◌≤◌, ◌<◌, length, IfOk, if◌then◌else◌};
 ghost use Rattle.weedle_grammar.specs.Rows.{Seq, First, Opt, Many, ListOf, List1, Tail, If};
@@ -11,8 +12,10 @@ ghost use Rattle.weedle_grammar.specs.written.Table.{row_of as the_row_of};
 ghost use Rattle.weedle_rules.specs.Cells.{HasEnd};
 ghost use Rattle.weedle_diagnose.specs.Noted.{IsUnmetIn, Notes};
 
-use crate::leaves::{end_of_bytes, end_of_not_next, end_of_one, end_of_run, end_past};
 use crate::noted::Furthest;
+use weedle_grammar::leaf_ends::{
+    end_of_bytes, end_of_not_next, end_of_one, end_of_run, end_past,
+};
 use weedle_grammar::{Parts, Row, Rule, row_of};
 
 /// The descent gave up: it would have to read more rules than it may, or deeper in one another.
@@ -21,7 +24,7 @@ pub(crate) struct GaveUp;
 
 /// Notes what fails where the rule is read, and says where it ends; nothing where it fails.
 ///
-/// So many rules may be read that `left` says, and so many in one another that `depth` says.
+/// At most `left` rules are read, and at most `depth` in one another.
 #[cycle(descent)]
 pub(crate) fn read(
     furthest: &mut Furthest,
@@ -34,7 +37,8 @@ pub(crate) fn read(
     requires within { place ≤ length text.now }
     requires low { rule < rule_count }
     ensures end { IfOk result (λ o. HasEnd text.now rule place o) }
-    ensures notes { IfOk result (λ o. Notes (IsUnmetIn text.now rule place) furthest.old furthest.new) }
+    ensures notes { IfOk result
+        (λ o. Notes (IsUnmetIn text.now rule place) furthest.old furthest.new) }
 {
     let below = step(left, depth)?;
     match row_of(rule) {
@@ -85,7 +89,8 @@ fn read_parts(
     requires low { rule < rule_count }
     requires row { the_row_of rule ≡ Seq (numbers_of parts) }
     ensures end { IfOk result (λ o. HasEnd text.now rule place o) }
-    ensures notes { IfOk result (λ o. Notes (IsUnmetIn text.now rule place) furthest.old furthest.new) }
+    ensures notes { IfOk result
+        (λ o. Notes (IsUnmetIn text.now rule place) furthest.old furthest.new) }
 {
     let mut at = place;
     for i in 0..parts.len() {
@@ -112,7 +117,8 @@ fn read_choice(
     requires low { rule < rule_count }
     requires row { the_row_of rule ≡ First (numbers_of choices) }
     ensures end { IfOk result (λ o. HasEnd text.now rule place o) }
-    ensures notes { IfOk result (λ o. Notes (IsUnmetIn text.now rule place) furthest.old furthest.new) }
+    ensures notes { IfOk result
+        (λ o. Notes (IsUnmetIn text.now rule place) furthest.old furthest.new) }
 {
     for i in 0..choices.len() {
         match read(furthest, left, text, choices.rule(i), place, depth)? {
@@ -138,7 +144,8 @@ fn read_optional(
     requires low { rule < rule_count }
     requires row { the_row_of rule ≡ Opt item }
     ensures end { IfOk result (λ o. HasEnd text.now rule place o) }
-    ensures notes { IfOk result (λ o. Notes (IsUnmetIn text.now rule place) furthest.old furthest.new) }
+    ensures notes { IfOk result
+        (λ o. Notes (IsUnmetIn text.now rule place) furthest.old furthest.new) }
 {
     match read(furthest, left, text, item, place, depth)? {
         Some(end) => Ok(Some(end)),
@@ -161,7 +168,8 @@ fn read_items(
     requires low { rule < rule_count }
     requires row { the_row_of rule ≡ Many item }
     ensures end { IfOk result (λ o. HasEnd text.now rule place o) }
-    ensures notes { IfOk result (λ o. Notes (IsUnmetIn text.now rule place) furthest.old furthest.new) }
+    ensures notes { IfOk result
+        (λ o. Notes (IsUnmetIn text.now rule place) furthest.old furthest.new) }
 {
     let mut at = place;
     loop {
@@ -192,7 +200,8 @@ fn read_list(
     requires low { rule < rule_count }
     requires row { the_row_of rule ≡ ListOf item tail }
     ensures end { IfOk result (λ o. HasEnd text.now rule place o) }
-    ensures notes { IfOk result (λ o. Notes (IsUnmetIn text.now rule place) furthest.old furthest.new) }
+    ensures notes { IfOk result
+        (λ o. Notes (IsUnmetIn text.now rule place) furthest.old furthest.new) }
 {
     match read(furthest, left, text, item, place, depth)? {
         Some(at) => {
@@ -219,7 +228,8 @@ fn read_list1(
     requires low { rule < rule_count }
     requires row { the_row_of rule ≡ List1 item tail }
     ensures end { IfOk result (λ o. HasEnd text.now rule place o) }
-    ensures notes { IfOk result (λ o. Notes (IsUnmetIn text.now rule place) furthest.old furthest.new) }
+    ensures notes { IfOk result
+        (λ o. Notes (IsUnmetIn text.now rule place) furthest.old furthest.new) }
 {
     match read(furthest, left, text, item, place, depth)? {
         Some(at) => {
@@ -246,7 +256,8 @@ fn read_tail(
     requires low { rule < rule_count }
     requires row { the_row_of rule ≡ Tail item separator }
     ensures end { IfOk result (λ o. HasEnd text.now rule place o) }
-    ensures notes { IfOk result (λ o. Notes (IsUnmetIn text.now rule place) furthest.old furthest.new) }
+    ensures notes { IfOk result
+        (λ o. Notes (IsUnmetIn text.now rule place) furthest.old furthest.new) }
 {
     let mut at = place;
     loop {
@@ -282,7 +293,8 @@ fn read_conditional(
     requires low { rule < rule_count }
     requires row { the_row_of rule ≡ If (numbers_of parts) k y }
     ensures end { IfOk result (λ o. HasEnd text.now rule place o) }
-    ensures notes { IfOk result (λ o. Notes (IsUnmetIn text.now rule place) furthest.old furthest.new) }
+    ensures notes { IfOk result
+        (λ o. Notes (IsUnmetIn text.now rule place) furthest.old furthest.new) }
 {
     let mut at = place;
     let mut present = false;

@@ -10,13 +10,12 @@
 //! ```
 //!
 //! At 40 stands the `}`, where the text lacks a `;`. So the rule of that sign is one of `expected`,
-//! beside those that begin a comment or a blank, which may stand there too. [`diagnose_from`] says the
-//! same over a table of ends.
+//! beside those that begin a comment or a blank, which may stand there too. [`diagnose_from`] says
+//! the same over a table of ends.
 #![tactic(auto)]
 
 mod descent;
 mod diagnosis;
-mod leaves;
 mod marking;
 mod marks;
 mod noted;

@@ -3,7 +3,7 @@
 //! What a rule tries has a smaller cell than the rule. So when a cell's turn comes, it is marked if
 //! anything tries it, and one walk over all cells suffices.
 
-ghost use Rattle.std.specs.Prelude.{◌≡◌, ◌≤◌, ◌<◌, ◌+◌, ◌-◌, ◌*◌, ℕ, length, IfOk};
+ghost use Rattle.std.specs.Prelude.{◌^◌, ◌≡◌, ◌≤◌, ◌<◌, ◌+◌, ◌-◌, ◌*◌, ℕ, length, IfOk};
 ghost use Rattle.weedle_grammar.specs.written.Bound.{rule_count};
 ghost use Rattle.weedle_diagnose.specs.Marks.{AreTried, IsSet, IsMarking};
 ghost use Rattle.weedle_diagnose.specs.Ways.{AreWays};
@@ -25,7 +25,7 @@ fn close_cell(
     cell: usize,
 )
     requires last { last ≡ length ends.now.text }
-    requires fits { 64 * length marks.old < 18446744073709551616 }
+    requires fits { 64 * length marks.old < 2 ^ 64 }
     requires ways { AreWays ways.now rule_count }
     requires within { cell < 64 * length marks.old }
     requires marked { IsSet marks.old cell }
@@ -43,7 +43,7 @@ fn close_cell(
 fn mark_all(marks: &mut [u64], ends: &Ends<'_>, last: usize, start: usize)
     requires last { last ≡ length ends.now.text }
     requires within { start ≤ last }
-    requires fits { 64 * length marks.old < 18446744073709551616 }
+    requires fits { 64 * length marks.old < 2 ^ 64 }
     requires laid { (last - start) * rule_count + rule_count ≤ 64 * length marks.old }
     requires clear { (cell : ℕ) → IsSet marks.old cell → ⊥ }
     ensures { AreTried ends.now.text start marks.new }
@@ -71,9 +71,10 @@ pub(crate) fn marks_of_tried(
 ) -> Result<Vec<u64>, AllocError>
     requires last { last ≡ length ends.now.text }
     requires within { start ≤ last }
-    requires small { last < 18446744073709551615 }
-    ensures fits { IfOk result (λ marks. 64 * length marks.items < 18446744073709551616) }
-    ensures laid { IfOk result (λ marks. (last - start) * rule_count + rule_count ≤ 64 * length marks.items) }
+    requires small { last < 2 ^ 64 - 1 }
+    ensures fits { IfOk result (λ marks. 64 * length marks.items < 2 ^ 64) }
+    ensures laid { IfOk result
+        (λ marks. (last - start) * rule_count + rule_count ≤ 64 * length marks.items) }
     ensures are { IfOk result (λ marks. AreTried ends.now.text start marks.items) }
 {
     let Some(cells) = (last - start + 1).checked_mul(RULES) else {

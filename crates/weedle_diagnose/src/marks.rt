@@ -1,9 +1,10 @@
 //! Marks of rules at places: a bit for each, by the number of its cell in a table of ends.
 //!
-//! In a word the first cell has the highest bit and the last cell the lowest. So the last cell that is
-//! marked in a word is the number of its trailing zeros away from its end.
+//! In a word the first cell has the highest bit and the last cell the lowest. So the last cell that
+//! is marked in a word is the number of its trailing zeros away from its end.
 
 ghost use Rattle.std.specs.Prelude.{
+  ◌^◌,
   ◌≡◌,
   ◌⊎◌,
   ◌≤◌,
@@ -61,7 +62,7 @@ pub(crate) fn last_set(marks: &[u64], behind: usize) -> Option<usize>
 /// The cell behind the last of so many words that has a mark, or 0 where none has.
 pub(crate) fn behind_marks(marks: &[u64], words: usize) -> usize
     requires within { words ≤ length marks.now }
-    requires fits { 64 * length marks.now < 18446744073709551616 }
+    requires fits { 64 * length marks.now < 2 ^ 64 }
     ensures before { result ≤ 64 * words }
     ensures clear { IsClear marks.now result (64 * words) }
 {
@@ -76,7 +77,7 @@ pub(crate) fn behind_marks(marks: &[u64], words: usize) -> usize
 #[inline(always)]
 fn cell_of(last: usize, rule: Rule, place: usize) -> usize
     requires within { place ≤ last }
-    requires fits { cell_number last rule place < 18446744073709551616 }
+    requires fits { cell_number last rule place < 2 ^ 64 }
     ensures { result ≡ cell_number last rule place }
 {
     (last - place) * RULES + rule.number() as usize
@@ -85,7 +86,7 @@ fn cell_of(last: usize, rule: Rule, place: usize) -> usize
 /// Whether the rule is marked at the place.
 #[inline(always)]
 pub(crate) fn is_marked(marks: &[u64], last: usize, rule: Rule, place: usize) -> bool
-    requires fits { 64 * length marks.now < 18446744073709551616 }
+    requires fits { 64 * length marks.now < 2 ^ 64 }
     requires here { HasBit last (length marks.now) rule place }
     ensures { IsTrue result ↔ IsMarked last marks.now rule place }
 {
@@ -95,7 +96,7 @@ pub(crate) fn is_marked(marks: &[u64], last: usize, rule: Rule, place: usize) ->
 /// Marks the rule at the place.
 #[inline(always)]
 pub(crate) fn mark(marks: &mut [u64], last: usize, rule: Rule, place: usize)
-    requires fits { 64 * length marks.old < 18446744073709551616 }
+    requires fits { 64 * length marks.old < 2 ^ 64 }
     requires here { HasBit last (length marks.old) rule place }
     ensures { Adds last marks.old marks.new (SameAttempt rule place) }
 {

@@ -12,10 +12,11 @@ use crate::marks::{is_set, set};
 use std::alloc::{AllocError, Global};
 use weedle_grammar::{RULES, Rule, rule_of};
 
-/// So many words have a bit for each rule.
+/// How many words have a bit for each rule.
 const WORDS: usize = 7;
 
-/// The furthest place where something failed so far, and the rules that failed there, a bit for each.
+/// The furthest place where something failed so far, and the rules that failed there, a bit for
+/// each.
 #[derive(Drop)]
 pub(crate) struct Furthest {
     pub(crate) place: usize,
@@ -52,7 +53,8 @@ impl Furthest {
     #[inline(always)]
     pub(crate) fn unless(&mut self, end: Option<usize>, rule: Rule, place: usize) -> Option<usize>
         ensures same { result ≡ end }
-        ensures notes { MatchOption end (Notes (SameAttempt rule place) self.old self.new) (λ e. self.new ≡ self.old) }
+        ensures notes { MatchOption end (Notes (SameAttempt rule place) self.old self.new)
+            (λ e. self.new ≡ self.old) }
     {
         match end {
             Some(_) => {}
@@ -63,7 +65,9 @@ impl Furthest {
 
     /// The rules that failed at the furthest place.
     pub(crate) fn rules(&self, alloc: Global) -> Result<Vec<Rule>, AllocError>
-        ensures exact { IfOk result (λ found. (r : ℕ) → Contains found.items r ↔ ((r < rule_count) × IsSet self.now.marks r)) }
+        ensures exact { IfOk result
+            (λ found. (r : ℕ) → Contains found.items r
+            ↔ ((r < rule_count) × IsSet self.now.marks r)) }
         ensures rising { IfOk result (λ found. IsRising found.items) }
     {
         let mut found = Vec::new(alloc);

@@ -10,8 +10,8 @@ use std::alloc::{AllocError, Global};
 use weedle_grammar::Rule;
 use weedle_rules::Ends;
 
-/// How many rules descent may read for each byte of the text from the place on. Of what people write
-/// it reads 4 to 30.
+/// How many rules descent may read for each byte of the text from the place on. Of what people
+/// write it reads 4 to 30.
 const READS_A_BYTE: usize = 64;
 
 /// How many more it may read, so that a short definition may have long extended attributes.
@@ -23,20 +23,21 @@ const MOST_DEPTH: usize = 600;
 /// The same as [`diagnose_from`] without a table, or None where descent gives up.
 ///
 /// Of `interface A { readonly attribute long x };` it says 40, as the table does. It reads from the
-/// place on what the rules try there, up to the first definition that isn't read, and nothing behind
-/// that.
+/// place on what the rules try there, up to the first definition that isn't read, and nothing
+/// behind that.
 ///
-/// It asks for memory for the list alone. It takes some 200 to 300 nanoseconds for each byte that it
-/// reads, and at most 140 kB of the stack. It gives up where it would have to read more than 64 rules
-/// for each byte from the place on and 20,000, as where extended attributes nest, or more than 600 in
-/// one another, as of 100 `sequence<` that are open.
+/// It asks for memory for the list alone. It takes some 200 to 300 nanoseconds for each byte that
+/// it reads, and at most 140 kB of the stack. It gives up where it would have to read more than 64
+/// rules for each byte from the place on and 20,000, as where extended attributes nest, or more
+/// than 600 in one another, as of 100 `sequence<` that are open.
 pub fn diagnose_by_descent(
     alloc: Global,
     text: &str,
     start: usize,
 ) -> Result<Option<Diagnosis>, AllocError>
     requires { start ≤ length text.now }
-    ensures { IfOk result (λ found. IfSome found (λ d. IsDiagnosis text.now start d.place d.expected.items)) }
+    ensures { IfOk result
+        (λ found. IfSome found (λ d. IsDiagnosis text.now start d.place d.expected.items)) }
 {
     let bytes = text.as_bytes();
     let mut furthest = Furthest::new(start);
@@ -62,11 +63,12 @@ pub fn diagnose_by_descent(
     }
 }
 
-/// The same as [`diagnose_from`], by [`diagnose_by_descent`], and where that gives up over the table.
+/// The same as [`diagnose_from`], by [`diagnose_by_descent`], and where that gives up over the
+/// table.
 ///
 /// So of what people write it takes no table, and the time for the one definition that isn't read,
-/// however much stands behind it. For what nests deep it fills the table of the whole text, and marks
-/// what is tried: together 1,592 bytes of memory for each byte.
+/// however much stands behind it. For what nests deep it fills the table of the whole text, and
+/// marks what is tried: together 1,592 bytes of memory for each byte.
 pub fn diagnose_quick(alloc: Global, text: &str, start: usize) -> Result<Diagnosis, AllocError>
     requires { start ≤ length text.now }
     ensures { IfOk result (λ d. IsDiagnosis text.now start d.place d.expected.items) }

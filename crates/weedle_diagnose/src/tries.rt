@@ -1,6 +1,6 @@
 //! What a rule tries at a place is marked, by its row: a function for each kind of row.
 
-ghost use Rattle.std.specs.Prelude.{◌≡◌, ◌<◌, ◌*◌, length};
+ghost use Rattle.std.specs.Prelude.{◌^◌, ◌≡◌, ◌<◌, ◌*◌, length};
 ghost use Rattle.weedle_grammar.specs.written.Bound.{rule_count};
 ghost use Rattle.weedle_diagnose.specs.Tries.{Tries};
 ghost use Rattle.weedle_diagnose.specs.Marks.{HasBit, Adds};
@@ -24,7 +24,7 @@ pub(crate) fn mark_tries(
     place: usize,
 )
     requires last { last ≡ length ends.now.text }
-    requires fits { 64 * length marks.old < 18446744073709551616 }
+    requires fits { 64 * length marks.old < 2 ^ 64 }
     requires ways { AreWays ways.now rule_count }
     requires here { HasBit last (length marks.old) rule place }
     ensures { Adds last marks.old marks.new (Tries ends.now.text rule place) }

@@ -1,6 +1,7 @@
 //! What is unmet: rules without parts that are tried and fail.
 
 ghost use Rattle.std.specs.Prelude.{
+  ◌^◌,
   ◌≡◌,
   ◌≤◌,
   ◌<◌,
@@ -46,7 +47,7 @@ fn is_unmet(
     place: usize,
 ) -> bool
     requires last { last ≡ length ends.now.text }
-    requires fits { 64 * length marks.now < 18446744073709551616 }
+    requires fits { 64 * length marks.now < 2 ^ 64 }
     requires marked { AreTried ends.now.text start marks.now }
     requires here { HasBit last (length marks.now) rule place }
     ensures { IsTrue result ↔ IsUnmet ends.now.text start rule place }
@@ -73,10 +74,12 @@ pub(crate) fn unmet_at(
     place: usize,
 ) -> Result<Vec<Rule>, AllocError>
     requires last { last ≡ length ends.now.text }
-    requires fits { 64 * length marks.now < 18446744073709551616 }
+    requires fits { 64 * length marks.now < 2 ^ 64 }
     requires marked { AreTried ends.now.text start marks.now }
     requires inside { (r : ℕ) → r < rule_count → HasBit last (length marks.now) r place }
-    ensures exact { IfOk result (λ found. (r : ℕ) → Contains found.items r ↔ ((r < rule_count) × IsUnmet ends.now.text start r place)) }
+    ensures exact { IfOk result
+        (λ found. (r : ℕ) → Contains found.items r
+        ↔ ((r < rule_count) × IsUnmet ends.now.text start r place)) }
     ensures rising { IfOk result (λ found. IsRising found.items) }
 {
     let mut found = Vec::new(alloc);
@@ -92,10 +95,12 @@ pub(crate) fn unmet_at(
 /// Whether the cell is that of a rule without parts that is tried there and fails.
 fn is_unmet_cell(marks: &[u64], ends: &Ends<'_>, last: usize, start: usize, cell: usize) -> bool
     requires last { last ≡ length ends.now.text }
-    requires fits { 64 * length marks.now < 18446744073709551616 }
+    requires fits { 64 * length marks.now < 2 ^ 64 }
     requires marked { AreTried ends.now.text start marks.now }
     requires within { cell < 64 * length marks.now }
-    ensures { IsTrue result ↔ ((cell / RULES ≤ last) × IsUnmet ends.now.text start (cell % RULES) (last - cell / RULES)) }
+    ensures { IsTrue result
+        ↔ ((cell / RULES ≤ last)
+        × IsUnmet ends.now.text start (cell % RULES) (last - cell / RULES)) }
 {
     let row = cell / RULES;
     if row > last {
@@ -108,7 +113,7 @@ fn is_unmet_cell(marks: &[u64], ends: &Ends<'_>, last: usize, start: usize, cell
 /// The furthest place where something that is tried fails. A word without marks is passed over.
 pub(crate) fn furthest_place(marks: &[u64], ends: &Ends<'_>, last: usize, start: usize) -> usize
     requires last { last ≡ length ends.now.text }
-    requires fits { 64 * length marks.now < 18446744073709551616 }
+    requires fits { 64 * length marks.now < 2 ^ 64 }
     requires within { start ≤ last }
     requires marked { AreTried ends.now.text start marks.now }
     ensures after { start ≤ result }

@@ -22,7 +22,8 @@ pub fn explain(alloc: Global, raw: &str) -> Result<Option<Refusal>, AllocError>
     ensures explains { IfOk result (Explains raw.now) }
 
     // A refusal's place is one of the text.
-    ensures within { IfOk result (λ answer. IfSome answer (λ refusal. refusal.place ≤ length raw.now)) }
+    ensures within { IfOk result
+        (λ answer. IfSome answer (λ refusal. refusal.place ≤ length raw.now)) }
 {
     let Some(rest) = unread_rest(alloc, raw)? else {
         return Ok(None);

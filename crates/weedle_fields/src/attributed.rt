@@ -27,7 +27,9 @@ pub fn attributes_and_three<'a, A: Parse<'a>, B: Parse<'a>, C: Parse<'a>>(
     alloc: Global,
     input: &'a str,
 ) -> IResult<&'a str, (Option<ExtendedAttributeList<'a>>, A, B, C)>
-    ensures { AnswersInPairs (attributes_then (pair_reading A.reading (pair_reading B.reading C.reading))) (λ v. (v.0, (v.1, (v.2, v.3)))) input.now result }
+    ensures { AnswersInPairs
+        (attributes_then (pair_reading A.reading (pair_reading B.reading C.reading)))
+        (λ v. (v.0, (v.1, (v.2, v.3)))) input.now result }
 {
     let (rest, (attributes, (first, (second, third)))) = attributes_and(alloc, input)?;
     Ok((rest, (attributes, first, second, third)))
@@ -40,7 +42,9 @@ pub fn attributes_and_four<'a, A: Parse<'a>, B: Parse<'a>, C: Parse<'a>, D: Pars
     alloc: Global,
     input: &'a str,
 ) -> IResult<&'a str, (Option<ExtendedAttributeList<'a>>, A, B, C, D)>
-    ensures { AnswersInPairs (attributes_then (pair_reading A.reading (pair_reading B.reading (pair_reading C.reading D.reading)))) (λ v. (v.0, (v.1, (v.2, (v.3, v.4))))) input.now result }
+    ensures { AnswersInPairs (attributes_then (pair_reading A.reading (pair_reading B.reading
+        (pair_reading C.reading D.reading)))) (λ v. (v.0, (v.1, (v.2,
+        (v.3, v.4))))) input.now result }
 {
     let (rest, (attributes, (first, (second, (third, fourth))))) = attributes_and(alloc, input)?;
     Ok((rest, (attributes, first, second, third, fourth)))
@@ -60,7 +64,9 @@ pub fn attributes_and_five<
     alloc: Global,
     input: &'a str,
 ) -> IResult<&'a str, (Option<ExtendedAttributeList<'a>>, A, B, C, D, E)>
-    ensures { AnswersInPairs (attributes_then (pair_reading A.reading (pair_reading B.reading (pair_reading C.reading (pair_reading D.reading E.reading))))) (λ v. (v.0, (v.1, (v.2, (v.3, (v.4, v.5)))))) input.now result }
+    ensures { AnswersInPairs (attributes_then (pair_reading A.reading (pair_reading B.reading
+        (pair_reading C.reading (pair_reading D.reading E.reading))))) (λ v. (v.0, (v.1, (v.2, (v.3,
+        (v.4, v.5)))))) input.now result }
 {
     let (rest, (attributes, (first, (second, (third, (fourth, fifth)))))) = attributes_and(
         alloc, input,
@@ -83,7 +89,9 @@ pub fn attributes_and_six<
     alloc: Global,
     input: &'a str,
 ) -> IResult<&'a str, (Option<ExtendedAttributeList<'a>>, A, B, C, D, E, F)>
-    ensures { AnswersInPairs (attributes_then (pair_reading A.reading (pair_reading B.reading (pair_reading C.reading (pair_reading D.reading (pair_reading E.reading F.reading)))))) (λ v. (v.0, (v.1, (v.2, (v.3, (v.4, (v.5, v.6))))))) input.now result }
+    ensures { AnswersInPairs (attributes_then (pair_reading A.reading (pair_reading B.reading
+        (pair_reading C.reading (pair_reading D.reading (pair_reading E.reading F.reading))))))
+        (λ v. (v.0, (v.1, (v.2, (v.3, (v.4, (v.5, v.6))))))) input.now result }
 {
     let (rest, (attributes, (first, (second, (third, (fourth, (fifth, sixth))))))) = attributes_and(
         alloc, input,

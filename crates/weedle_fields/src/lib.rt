@@ -10,7 +10,7 @@
 //! ```rust
 //! use weedle_fields::attributes_and_four;
 //! use weedle_parts::common::Identifier;
-//! use weedle_term::{Includes, SemiColon};
+//! use weedle_base::term::{Includes, SemiColon};
 //!
 //! let text = "Request includes Body; enum E";
 //! let read = attributes_and_four::<Identifier, Includes, Identifier, SemiColon>(rt.alloc(), text);

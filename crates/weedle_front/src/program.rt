@@ -164,7 +164,8 @@ fn report_of<P: Report>(alloc: Global, text: &str) -> Result<(String, Status), R
 
 /// The report of a list that it lends.
 fn report_lent<P: Report>(alloc: Global, definitions: Definitions<'_>) -> Result<String, AllocError>
-    ensures { IfOk result (λ report. string_bytes report ≡ list_report P.lines definitions.entry.items) }
+    ensures { IfOk result
+        (λ report. string_bytes report ≡ list_report P.lines definitions.entry.items) }
 {
     lend(definitions, move |definitions: &Definitions<'_>| {
         lines_of::<P>(alloc, definitions)
@@ -174,7 +175,8 @@ fn report_lent<P: Report>(alloc: Global, definitions: Definitions<'_>) -> Result
 /// Writes all the bytes, in as many writes as the writer needs.
 fn write_through<W: Write>(writer: &mut W, bytes: &[u8]) -> Result<(), RunFault>
     ensures ok { OnOk result (Appends (W.contents writer.old) (W.contents writer.new) bytes.now) }
-    ensures part { OnErr result (AppendsPart (W.contents writer.old) (W.contents writer.new) bytes.now) }
+    ensures part { OnErr result
+        (AppendsPart (W.contents writer.old) (W.contents writer.new) bytes.now) }
     ensures fault { IfErr result (λ fault. fault ≡ RunFault.Output) }
 {
     let mut sent = 0;

@@ -4,6 +4,7 @@ pub mod Moves
 pub mod Shift
 pub mod Ranked
 pub mod Leaves
+pub mod LeafEnds
 pub mod FirstPlace
 pub mod Exists
 pub mod Classes

@@ -9,18 +9,21 @@ ghost use Rattle.weedle_grammar.specs.written.Table.{webidl};
 
 /// A law, which does nothing: each rule has exactly one outcome at each place of a text.
 pub fn one_outcome()
-    ensures { (text : List ℕ) (rule place : ℕ) → place ≤ length text → HasOneOutcome text rule place }
+    ensures { (text : List ℕ) (rule place : ℕ) → place ≤ length text
+        → HasOneOutcome text rule place }
 {}
 
 /// A law, which does nothing: what a rule does at a boundary, it does at the front of the text from
 /// there, its end moved.
 pub fn shift()
-    ensures { (text : List ℕ) (rule place : ℕ) → IsCharBoundary text place → IsShifted text rule place }
+    ensures { (text : List ℕ) (rule place : ℕ) → IsCharBoundary text place
+        → IsShifted text rule place }
 {}
 
 /// A law, which does nothing: a rule that is read from a boundary ends at a boundary.
 pub fn boundary()
-    ensures { (text : List ℕ) (rule place : ℕ) → IsUtf8 text → IsCharBoundary text place → EndsAtBoundary text rule place }
+    ensures { (text : List ℕ) (rule place : ℕ) → IsUtf8 text → IsCharBoundary text place
+        → EndsAtBoundary text rule place }
 {}
 
 /// A law, which does nothing: what a rule gives where it takes no byte has at most two nodes.

@@ -11,11 +11,12 @@
 //!
 //! What a rule reads from a text, and what it gives, is said once for any such table, in
 //! `specs/Meaning.antt`; the table itself is `specs/written/Table`, and [`laws`] has what always
-//! holds.
+//! holds. [`leaf_ends`] has where a rule without parts ends.
 #![tactic(auto)]
 
 mod class;
 pub mod laws;
+pub mod leaf_ends;
 mod row;
 mod rule;
 mod written;

@@ -119,7 +119,8 @@ impl<'a> Parse<'a> for Definition<'a> {
 /// Reads a callback or an interface.
 #[tactic(auto, using(crate::proofs::written::DefinitionRules::callback_or_interface_steps))]
 fn callback_or_interface<'a>(alloc: Global, input: &'a str) -> IResult<&'a str, Definition<'a>>
-    ensures { Answers (members callback_or_interface_rules 0 definition_tree (Unit {0})) input.now result }
+    ensures { Answers (members callback_or_interface_rules 0 definition_tree (Unit {0})) input.now
+        result }
 {
     let (rest, read) = Choice::parse(alloc, input)?;
     let member = match read {
@@ -133,7 +134,8 @@ fn callback_or_interface<'a>(alloc: Global, input: &'a str) -> IResult<&'a str, 
 /// Reads a mixin, a namespace or a dictionary.
 #[tactic(auto, using(crate::proofs::written::DefinitionRules::main_definition_steps))]
 fn main_definition<'a>(alloc: Global, input: &'a str) -> IResult<&'a str, Definition<'a>>
-    ensures { Answers (members main_definition_rules 3 definition_tree (Unit {0})) input.now result }
+    ensures { Answers (members main_definition_rules 3 definition_tree (Unit {0})) input.now
+        result }
 {
     let (rest, read) = Choice::parse(alloc, input)?;
     let member = match read {
@@ -147,7 +149,8 @@ fn main_definition<'a>(alloc: Global, input: &'a str) -> IResult<&'a str, Defini
 /// Reads a part of an interface, of a mixin, of a dictionary or of a namespace.
 #[tactic(auto, using(crate::proofs::written::DefinitionRules::partial_definition_steps))]
 fn partial_definition<'a>(alloc: Global, input: &'a str) -> IResult<&'a str, Definition<'a>>
-    ensures { Answers (members partial_definition_rules 6 definition_tree (Unit {0})) input.now result }
+    ensures { Answers (members partial_definition_rules 6 definition_tree (Unit {0})) input.now
+        result }
 {
     let (rest, read) = Choice::parse(alloc, input)?;
     let member = match read {
@@ -162,7 +165,8 @@ fn partial_definition<'a>(alloc: Global, input: &'a str) -> IResult<&'a str, Def
 /// Reads an enum, a name for a type or a statement.
 #[tactic(auto, using(crate::proofs::written::DefinitionRules::other_definition_steps))]
 fn other_definition<'a>(alloc: Global, input: &'a str) -> IResult<&'a str, Definition<'a>>
-    ensures { Answers (members other_definition_rules 10 definition_tree (Unit {0})) input.now result }
+    ensures { Answers (members other_definition_rules 10 definition_tree (Unit {0})) input.now
+        result }
 {
     let (rest, read) = Choice::parse(alloc, input)?;
     let member = match read {

@@ -12,7 +12,8 @@ use weedle_base::Parse;
 /// A law, which does nothing: `Definitions` gives of a text what the grammar's rule of definitions
 /// gives.
 pub fn definitions<'a>()
-    ensures { HasRule ⟦<Definitions<'a> as Parse<'a>>⟧.reading DEFINITIONS (λ v. definitions_tree v.items) }
+    ensures { HasRule ⟦<Definitions<'a> as Parse<'a>>⟧.reading DEFINITIONS
+        (λ v. definitions_tree v.items) }
 {}
 
 /// A law, which does nothing: `Definitions` is never a mismatch, since a definition takes a byte or

@@ -3,9 +3,9 @@
 mod written;
 
 use crate::InterfaceMembers;
+use weedle_base::term::{Callback, Interface, Partial, SemiColon};
 use weedle_modifier::Inheritance;
 use weedle_parts::common::{Braced, Docstring, Identifier};
-use weedle_term::{Callback, Interface, Partial, SemiColon};
 use weedle_types::attribute::ExtendedAttributeList;
 
 /// A callback interface, as `callback interface A {};`. A docstring may stand before it.

@@ -94,7 +94,8 @@ impl<'a> Parse<'a> for InterfaceMember<'a> {
 /// Reads one of the members up to operations.
 #[tactic(auto, using(crate::proofs::written::MemberRules::main_member_steps))]
 fn main_member<'a>(alloc: Global, input: &'a str) -> IResult<&'a str, InterfaceMember<'a>>
-    ensures { Answers (members main_member_rules 0 interface_member_tree (Unit {0})) input.now result }
+    ensures { Answers (members main_member_rules 0 interface_member_tree (Unit {0})) input.now
+        result }
 {
     let (rest, read) = Choice::parse(alloc, input)?;
     let member = match read {
@@ -109,7 +110,8 @@ fn main_member<'a>(alloc: Global, input: &'a str) -> IResult<&'a str, InterfaceM
 /// Reads an iteration.
 #[tactic(auto, using(crate::proofs::written::MemberRules::iterable_member_steps))]
 fn iterable_member<'a>(alloc: Global, input: &'a str) -> IResult<&'a str, InterfaceMember<'a>>
-    ensures { Answers (members iterable_member_rules 4 interface_member_tree (Unit {0})) input.now result }
+    ensures { Answers (members iterable_member_rules 4 interface_member_tree (Unit {0})) input.now
+        result }
 {
     let (rest, read) = Choice::parse(alloc, input)?;
     let member = match read {
@@ -122,7 +124,8 @@ fn iterable_member<'a>(alloc: Global, input: &'a str) -> IResult<&'a str, Interf
 /// Reads a map, a set or a stringifier.
 #[tactic(auto, using(crate::proofs::written::MemberRules::collection_member_steps))]
 fn collection_member<'a>(alloc: Global, input: &'a str) -> IResult<&'a str, InterfaceMember<'a>>
-    ensures { Answers (members collection_member_rules 6 interface_member_tree (Unit {0})) input.now result }
+    ensures { Answers (members collection_member_rules 6 interface_member_tree (Unit {0})) input.now
+        result }
 {
     let (rest, read) = Choice::parse(alloc, input)?;
     let member = match read {

@@ -19,7 +19,9 @@ pub(crate) fn copy_interface_members<'a>(
     members: &Braced<InterfaceMembers<'a>>,
     alloc: Global,
 ) -> Result<Braced<InterfaceMembers<'a>>, AllocError>
-    ensures { IfOk result (λ copy. braced_tree (members_tree interface_member_tree) copy ≡ braced_tree (members_tree interface_member_tree) members.now) }
+    ensures { IfOk result
+        (λ copy. braced_tree (members_tree interface_member_tree) copy
+        ≡ braced_tree (members_tree interface_member_tree) members.now) }
 {
     let copy = members.try_clone(alloc)?;
     Ok(copy)

@@ -2,8 +2,8 @@
 
 mod written;
 
+use weedle_base::term::{Comma, Maplike, ReadOnly, SemiColon, Setlike};
 use weedle_parts::common::Generics;
-use weedle_term::{Comma, Maplike, ReadOnly, SemiColon, Setlike};
 use weedle_types::attribute::ExtendedAttributeList;
 use weedle_types::types::AttributedType;
 

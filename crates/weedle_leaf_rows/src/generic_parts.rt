@@ -5,11 +5,11 @@
 use crate::users::Fuse;
 use std::test::Fail;
 use weedle_base::Parse;
+use weedle_base::term::{Comma, Dot, Or, SemiColon};
 use weedle_parts::common::{
     Braced, Bracketed, Generics, Identifier, Parenthesized, Punctuated, PunctuatedNonEmpty,
 };
 use weedle_parts::types::MayBeNull;
-use weedle_term::{Comma, Dot, Or, SemiColon};
 use weedle_testing::{Wanted, fails_at, reads_with_no_memory, refuses};
 
 #[test]

@@ -5,12 +5,12 @@
 //! `0x`, which it reads, are refused here, by hand from the grammar.
 
 use std::test::Fail;
-use weedle_literal::{
+use weedle_base::term::{Comma, NegInfinity, Null, Or};
+use weedle_parts::common::{Docstring, Generics, Identifier, Parenthesized};
+use weedle_parts::literal::{
     BooleanLit, ConstValue, DecLit, Default, DefaultValue, EmptyArrayLit, EmptyDictionaryLit,
     FloatLit, FloatValueLit, HexLit, IntegerLit, OctLit, StringLit,
 };
-use weedle_parts::common::{Docstring, Generics, Identifier, Parenthesized};
-use weedle_term::{Comma, NegInfinity, Null, Or};
 use weedle_testing::{Wanted, reads_with_no_memory};
 
 #[test]

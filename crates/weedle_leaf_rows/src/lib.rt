@@ -1,7 +1,8 @@
 //! Tests of what stands below the types: the grammar's rows, the table of ends, diagnoses,
 //! scanners, terminals, standard types, generic parts and leaves, as worked examples whose answers
-//! come from outside; and of syntax trees, names, places, comments, lines and layouts each call
-//! once, since what they say of texts is tested over the built programs and from Python.
+//! come from outside; messages through outputs that fail; and of syntax trees, names, places,
+//! comments, lines and layouts each call once, since what they say of texts is tested over the
+//! built programs and from Python.
 #![tactic(auto)]
 
 #[cfg(test)]
@@ -12,6 +13,8 @@ mod diagnoses;
 mod generic_parts;
 #[cfg(test)]
 mod leaves;
+#[cfg(test)]
+mod messages;
 #[cfg(test)]
 mod plain_types;
 #[cfg(test)]

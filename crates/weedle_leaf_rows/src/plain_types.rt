@@ -3,11 +3,11 @@
 //! The values are those that weedle2 prints, in the port's names.
 
 use std::test::Fail;
+use weedle_base::term::Long;
 use weedle_parts::types::{
     ConstType, DoubleType, FloatType, FloatingPointType, IntegerType, LongLongType, LongType,
     MayBeNull, ShortType,
 };
-use weedle_term::Long;
 use weedle_testing::{Wanted, reads_with_no_memory};
 
 #[test]

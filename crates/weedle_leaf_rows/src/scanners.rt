@@ -5,8 +5,8 @@
 
 use std::alloc::Global;
 use std::test::Fail;
+use weedle_base::term::{Dot, Ellipsis, Long, NegInfinity, OpenParen};
 use weedle_base::{Parse, docstring, ident_tag, is_alphanum_underscore_dash, sp};
-use weedle_term::{Dot, Ellipsis, Long, NegInfinity, OpenParen};
 use weedle_testing::{Unlike, Wanted, is_mismatch, other_value, reads_with_no_memory};
 
 #[test]

@@ -6,9 +6,9 @@
 use crate::users::{Fuse, Nothing};
 use std::alloc::AllocError;
 use std::test::Fail;
+use weedle_base::term::{Comma, Dot, Or};
 use weedle_base::{Choice, Parse, TryClone};
 use weedle_parts::common::Identifier;
-use weedle_term::{Comma, Dot, Or};
 use weedle_testing::{Wanted, fails_at, reads_with_no_memory, refuses};
 
 #[test]

@@ -2,9 +2,9 @@
 
 mod written;
 
+use weedle_base::term::{Attribute, ReadOnly, SemiColon};
 use weedle_modifier::StringifierOrInheritOrStatic;
 use weedle_parts::common::Identifier;
-use weedle_term::{Attribute, ReadOnly, SemiColon};
 use weedle_types::attribute::ExtendedAttributeList;
 use weedle_types::types::AttributedType;
 

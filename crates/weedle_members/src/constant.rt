@@ -2,10 +2,10 @@
 
 mod written;
 
-use weedle_literal::ConstValue;
+use weedle_base::term::{Assign, Const, SemiColon};
 use weedle_parts::common::Identifier;
+use weedle_parts::literal::ConstValue;
 use weedle_parts::types::ConstType;
-use weedle_term::{Assign, Const, SemiColon};
 use weedle_types::attribute::ExtendedAttributeList;
 
 /// A constant, as `const long X = 5;`. No docstring may stand before it.

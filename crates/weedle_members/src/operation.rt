@@ -8,10 +8,10 @@ ghost use Rattle.weedle_grammar.specs.written.Table.InterfaceMembers.{CONSTRUCTO
 mod written;
 
 use std::alloc::Global;
+use weedle_base::term::{Constructor, SemiColon};
 use weedle_base::{IResult, Parse};
 use weedle_modifier::{Special, StringifierOrStatic};
 use weedle_parts::common::{Docstring, Identifier};
-use weedle_term::{Constructor, SemiColon};
 use weedle_types::argument::ParenthesizedArgumentList;
 use weedle_types::attribute::ExtendedAttributeList;
 use weedle_types::parts::attributes;
@@ -46,7 +46,8 @@ impl Drop for ConstructorInterfaceMember<'_> {
 
 #[tactic(auto, using(crate::proofs::written::OperationRules::constructor_interface_member_steps))]
 impl<'a> Parse<'a> for ConstructorInterfaceMember<'a> {
-    ghost reading = { own CONSTRUCTOR_INTERFACE_MEMBER constructor_interface_member_tree (Unit {0}) };
+    ghost reading = { own CONSTRUCTOR_INTERFACE_MEMBER constructor_interface_member_tree
+        (Unit {0}) };
 
     fn parse(alloc: Global, input: &'a str) -> IResult<&'a str, Self> {
         let (rest, docstring) = Option::parse(alloc, input)?;
@@ -64,7 +65,8 @@ impl<'a> Parse<'a> for ConstructorInterfaceMember<'a> {
         ))
     }
 
-    ghost lawful = { own_lawful CONSTRUCTOR_INTERFACE_MEMBER constructor_interface_member_tree (Unit {0}) };
+    ghost lawful = { own_lawful CONSTRUCTOR_INTERFACE_MEMBER constructor_interface_member_tree
+        (Unit {0}) };
 }
 
 /// An operation of an interface, as `getter long item(long index);`. It may lack a name, and a

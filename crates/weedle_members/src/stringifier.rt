@@ -8,8 +8,8 @@ ghost use Rattle.weedle_grammar.specs.written.Table.InterfaceMembers.{STRINGIFIE
 mod written;
 
 use std::alloc::Global;
+use weedle_base::term::{SemiColon, Stringifier};
 use weedle_base::{IResult, Parse};
-use weedle_term::{SemiColon, Stringifier};
 use weedle_types::attribute::ExtendedAttributeList;
 use weedle_types::parts::attributes;
 

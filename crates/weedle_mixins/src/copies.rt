@@ -16,7 +16,9 @@ pub(crate) fn copy_mixin_members<'a>(
     members: &Braced<MixinMembers<'a>>,
     alloc: Global,
 ) -> Result<Braced<MixinMembers<'a>>, AllocError>
-    ensures { IfOk result (λ copy. braced_tree (members_tree mixin_member_tree) copy ≡ braced_tree (members_tree mixin_member_tree) members.now) }
+    ensures { IfOk result
+        (λ copy. braced_tree (members_tree mixin_member_tree) copy
+        ≡ braced_tree (members_tree mixin_member_tree) members.now) }
 {
     let copy = members.try_clone(alloc)?;
     Ok(copy)

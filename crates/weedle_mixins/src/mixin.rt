@@ -2,9 +2,9 @@
 
 mod written;
 
+use weedle_base::term::{Attribute, ReadOnly, SemiColon, Stringifier};
 use weedle_members::{ConstMember, StringifierMember};
 use weedle_parts::common::Identifier;
-use weedle_term::{Attribute, ReadOnly, SemiColon, Stringifier};
 use weedle_types::argument::ParenthesizedArgumentList;
 use weedle_types::attribute::ExtendedAttributeList;
 use weedle_types::types::{AttributedType, ReturnType};

@@ -3,8 +3,8 @@
 mod written;
 
 use crate::mixin::MixinMembers;
+use weedle_base::term::{Interface, Mixin, Partial, SemiColon};
 use weedle_parts::common::{Braced, Identifier};
-use weedle_term::{Interface, Mixin, Partial, SemiColon};
 use weedle_types::attribute::ExtendedAttributeList;
 
 /// A mixin, as `interface mixin A {};`. No docstring may stand before it.

@@ -7,7 +7,7 @@
 //! ```rust
 //! use weedle_base::Parse;
 //! use weedle_modifier::Special;
-//! use weedle_term::Getter;
+//! use weedle_base::term::Getter;
 //!
 //! let (rest, special) = Special::parse(rt.alloc(), "getter any (long i);").expect(rt, "special");
 //! assert!(rt; rest == "any (long i);" && special == Special::Getter(Getter));

@@ -2,7 +2,7 @@
 
 mod written;
 
-use weedle_term::{Deleter, Getter, Inherit, LegacyCaller, Setter, Static, Stringifier};
+use weedle_base::term::{Deleter, Getter, Inherit, LegacyCaller, Setter, Static, Stringifier};
 
 /// The word of a special operation, as `getter`: one of four. It takes no memory and never gives a
 /// failure.

@@ -1,7 +1,10 @@
 //! Copies of lists that definitions have, each with the tree of its original.
 
 ghost use Rattle.std.specs.Prelude.{IfOk, ◌≡◌};
-ghost use Rattle.weedle_namespaces.specs.written.Trees.{dictionary_member_tree, namespace_member_tree};
+ghost use Rattle.weedle_namespaces.specs.written.Trees.{
+  dictionary_member_tree,
+  namespace_member_tree,
+};
 ghost use Rattle.weedle_parts.specs.ValueTrees.{braced_tree};
 ghost use Rattle.weedle_types.specs.PartTrees.{members_tree};
 
@@ -17,7 +20,9 @@ pub(crate) fn copy_namespace_members<'a>(
     members: &Braced<NamespaceMembers<'a>>,
     alloc: Global,
 ) -> Result<Braced<NamespaceMembers<'a>>, AllocError>
-    ensures { IfOk result (λ copy. braced_tree (members_tree namespace_member_tree) copy ≡ braced_tree (members_tree namespace_member_tree) members.now) }
+    ensures { IfOk result
+        (λ copy. braced_tree (members_tree namespace_member_tree) copy
+        ≡ braced_tree (members_tree namespace_member_tree) members.now) }
 {
     let copy = members.try_clone(alloc)?;
     Ok(copy)
@@ -29,7 +34,9 @@ pub(crate) fn copy_dictionary_members<'a>(
     members: &Braced<DictionaryMembers<'a>>,
     alloc: Global,
 ) -> Result<Braced<DictionaryMembers<'a>>, AllocError>
-    ensures { IfOk result (λ copy. braced_tree (members_tree dictionary_member_tree) copy ≡ braced_tree (members_tree dictionary_member_tree) members.now) }
+    ensures { IfOk result
+        (λ copy. braced_tree (members_tree dictionary_member_tree) copy
+        ≡ braced_tree (members_tree dictionary_member_tree) members.now) }
 {
     let copy = members.try_clone(alloc)?;
     Ok(copy)

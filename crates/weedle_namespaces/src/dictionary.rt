@@ -2,9 +2,9 @@
 
 mod written;
 
-use weedle_literal::Default;
+use weedle_base::term::{Required, SemiColon};
 use weedle_parts::common::{Docstring, Identifier};
-use weedle_term::{Required, SemiColon};
+use weedle_parts::literal::Default;
 use weedle_types::attribute::ExtendedAttributeList;
 use weedle_types::types::Type;
 

@@ -2,8 +2,8 @@
 
 mod written;
 
+use weedle_base::term::{Attribute, ReadOnly, SemiColon};
 use weedle_parts::common::{Docstring, Identifier};
-use weedle_term::{Attribute, ReadOnly, SemiColon};
 use weedle_types::argument::ParenthesizedArgumentList;
 use weedle_types::attribute::ExtendedAttributeList;
 use weedle_types::types::{AttributedType, ReturnType};

@@ -3,8 +3,8 @@
 mod written;
 
 use crate::namespace::NamespaceMembers;
+use weedle_base::term::{Namespace, Partial, SemiColon};
 use weedle_parts::common::{Braced, Docstring, Identifier};
-use weedle_term::{Namespace, Partial, SemiColon};
 use weedle_types::attribute::ExtendedAttributeList;
 
 /// A namespace, as `namespace A { long f(); };`. A docstring may stand before it.

@@ -82,10 +82,13 @@ impl Look {
     fn count(&mut self, mark: u8)
         requires attributes { self.old.attributes.depth + 1 < 2 ^ 64 }
         requires brackets { self.old.brackets.depth + 1 < 2 ^ 64 }
-        ensures attributes { self.new.attributes.depth ≡ attributes_behind self.old.attributes.depth mark }
-        ensures most_attributes { self.old.attributes.depth ≤ self.old.attributes.most → self.new.attributes.most ≡ max self.old.attributes.most self.new.attributes.depth }
+        ensures attributes { self.new.attributes.depth
+            ≡ attributes_behind self.old.attributes.depth mark }
+        ensures most_attributes { self.old.attributes.depth ≤ self.old.attributes.most
+            → self.new.attributes.most ≡ max self.old.attributes.most self.new.attributes.depth }
         ensures brackets { self.new.brackets.depth ≡ brackets_behind self.old.brackets.depth mark }
-        ensures most_brackets { self.old.brackets.depth ≤ self.old.brackets.most → self.new.brackets.most ≡ max self.old.brackets.most self.new.brackets.depth }
+        ensures most_brackets { self.old.brackets.depth ≤ self.old.brackets.most
+            → self.new.brackets.most ≡ max self.old.brackets.most self.new.brackets.depth }
     {
         match mark {
             b'[' => self.attributes.enter(),

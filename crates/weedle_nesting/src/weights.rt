@@ -67,7 +67,8 @@ impl Weights {
     /// Adds the weight of so many bytes.
     fn weigh(&mut self, bytes: usize)
         ensures work { self.new.work ≡ min (self.old.work + self.old.weight * bytes) (2 ^ 128 - 1) }
-        ensures same { (self.new.depth ≡ self.old.depth) × (self.new.weight ≡ self.old.weight) × (self.new.brackets ≡ self.old.brackets) }
+        ensures same { (self.new.depth ≡ self.old.depth) × (self.new.weight ≡ self.old.weight)
+            × (self.new.brackets ≡ self.old.brackets) }
     {
         let weight = self.weight.saturating_mul(bytes as u128);
         self.work = self.work.saturating_add(weight);
@@ -79,11 +80,13 @@ impl Weights {
         requires weight { self.old.weight * 3 < 2 ^ 128 }
         requires brackets { self.old.brackets.depth + 1 < 2 ^ 64 }
         ensures depth { self.new.depth ≡ attributes_behind self.old.depth mark }
-        ensures weight { self.old.weight ≡ 3 ^ self.old.depth → self.new.weight ≡ 3 ^ self.new.depth }
+        ensures weight { self.old.weight ≡ 3 ^ self.old.depth
+            → self.new.weight ≡ 3 ^ self.new.depth }
         ensures light { self.new.weight ≤ self.old.weight * 3 }
         ensures work { self.new.work ≡ self.old.work }
         ensures brackets { self.new.brackets.depth ≡ brackets_behind self.old.brackets.depth mark }
-        ensures most_brackets { self.old.brackets.depth ≤ self.old.brackets.most → self.new.brackets.most ≡ max self.old.brackets.most self.new.brackets.depth }
+        ensures most_brackets { self.old.brackets.depth ≤ self.old.brackets.most
+            → self.new.brackets.most ≡ max self.old.brackets.most self.new.brackets.depth }
     {
         match mark {
             b'[' => {

@@ -10,9 +10,9 @@ use Rattle.weedle_base.specs.Reading.{Reading, Got, Faults}
 use Rattle.weedle_base.specs.Rules.{IsRule, mark_tree}
 use Rattle.weedle_base.specs.declared.fault.Err.{Err as Fault}
 use Rattle.weedle_base.specs.declared.fault.Error.{Error}
-use Rattle.weedle_term.specs.declared.written.type_keywords.Boolean.{Boolean}
-use Rattle.weedle_term.specs.declared.written.type_keywords.Byte.{Byte}
-use Rattle.weedle_term.specs.declared.written.type_keywords.Octet.{Octet}
+use Rattle.weedle_base.specs.declared.term.written.type_keywords.Boolean.{Boolean}
+use Rattle.weedle_base.specs.declared.term.written.type_keywords.Byte.{Byte}
+use Rattle.weedle_base.specs.declared.term.written.type_keywords.Octet.{Octet}
 use Rattle.weedle_parts.proofs.PartRules.{may_be_null_rule}
 use Rattle.weedle_parts.specs.MayBeNull.{may_be_null_reading}
 use Rattle.weedle_parts.specs.ValueTrees.{identifier_tree, may_be_null_tree, integer_type_tree, floating_point_type_tree, const_type_tree}

@@ -11,9 +11,9 @@ use Rattle.weedle_base.specs.Reading.{Reading, Got, Faults}
 use Rattle.weedle_base.specs.Rules.{IsRule, option_tree, mark_tree}
 use Rattle.weedle_base.specs.declared.fault.Err.{Err as Fault}
 use Rattle.weedle_base.specs.declared.fault.Error.{Error}
-use Rattle.weedle_term.specs.declared.written.type_keywords.Double.{Double}
-use Rattle.weedle_term.specs.declared.written.type_keywords.Float.{Float}
-use Rattle.weedle_term.specs.declared.written.type_keywords.Unrestricted.{Unrestricted}
+use Rattle.weedle_base.specs.declared.term.written.type_keywords.Double.{Double}
+use Rattle.weedle_base.specs.declared.term.written.type_keywords.Float.{Float}
+use Rattle.weedle_base.specs.declared.term.written.type_keywords.Unrestricted.{Unrestricted}
 use Rattle.weedle_parts.specs.ValueTrees.{float_type_tree, double_type_tree, floating_point_type_tree}
 use Rattle.weedle_parts.specs.declared.types.floating_point.DoubleType.{DoubleType}
 use Rattle.weedle_parts.specs.declared.types.floating_point.FloatType.{FloatType}

@@ -11,9 +11,9 @@ use Rattle.weedle_base.specs.Reading.{Reading, Got, Faults}
 use Rattle.weedle_base.specs.Rules.{IsRule, option_tree, mark_tree}
 use Rattle.weedle_base.specs.declared.fault.Err.{Err as Fault}
 use Rattle.weedle_base.specs.declared.fault.Error.{Error}
-use Rattle.weedle_term.specs.declared.written.type_keywords.Long.{Long}
-use Rattle.weedle_term.specs.declared.written.type_keywords.Short.{Short}
-use Rattle.weedle_term.specs.declared.written.type_keywords.Unsigned.{Unsigned}
+use Rattle.weedle_base.specs.declared.term.written.type_keywords.Long.{Long}
+use Rattle.weedle_base.specs.declared.term.written.type_keywords.Short.{Short}
+use Rattle.weedle_base.specs.declared.term.written.type_keywords.Unsigned.{Unsigned}
 use Rattle.weedle_parts.specs.ValueTrees.{long_long_type_tree, long_type_tree, short_type_tree, integer_type_tree}
 use Rattle.weedle_parts.specs.declared.types.integer.IntegerType.{IntegerType}
 use Rattle.weedle_parts.specs.declared.types.integer.IntegerType.TheVariants.{LongLong, Long as IsLong, Short as IsShort}

@@ -6,3 +6,11 @@ pub mod IntegerTypeRules
 pub mod FloatingPointTypeRules
 pub mod ConstTypeRules
 pub mod RuleLawFacts
+pub mod KeptFacts
+pub mod QuoteFacts
+pub mod BooleanRules
+pub mod IntegerLitRules
+pub mod FloatLitRules
+pub mod EmptyRules
+pub mod ValueRules
+pub mod DefaultRules

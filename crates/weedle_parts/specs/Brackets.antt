@@ -3,14 +3,14 @@ use Rattle.std.specs.Prelude.{ℕ}
 use Rattle.weedle_base.specs.Generic.{pair_reading, seen_reading}
 use Rattle.weedle_base.specs.Own.{own}
 use Rattle.weedle_base.specs.Reading.{Reading}
-use Rattle.weedle_term.specs.declared.written.symbols.CloseBrace.{CloseBrace}
-use Rattle.weedle_term.specs.declared.written.symbols.CloseBracket.{CloseBracket}
-use Rattle.weedle_term.specs.declared.written.symbols.CloseParen.{CloseParen}
-use Rattle.weedle_term.specs.declared.written.symbols.GreaterThan.{GreaterThan}
-use Rattle.weedle_term.specs.declared.written.symbols.LessThan.{LessThan}
-use Rattle.weedle_term.specs.declared.written.symbols.OpenBrace.{OpenBrace}
-use Rattle.weedle_term.specs.declared.written.symbols.OpenBracket.{OpenBracket}
-use Rattle.weedle_term.specs.declared.written.symbols.OpenParen.{OpenParen}
+use Rattle.weedle_base.specs.declared.term.written.symbols.CloseBrace.{CloseBrace}
+use Rattle.weedle_base.specs.declared.term.written.symbols.CloseBracket.{CloseBracket}
+use Rattle.weedle_base.specs.declared.term.written.symbols.CloseParen.{CloseParen}
+use Rattle.weedle_base.specs.declared.term.written.symbols.GreaterThan.{GreaterThan}
+use Rattle.weedle_base.specs.declared.term.written.symbols.LessThan.{LessThan}
+use Rattle.weedle_base.specs.declared.term.written.symbols.OpenBrace.{OpenBrace}
+use Rattle.weedle_base.specs.declared.term.written.symbols.OpenBracket.{OpenBracket}
+use Rattle.weedle_base.specs.declared.term.written.symbols.OpenParen.{OpenParen}
 use Rattle.weedle_parts.specs.declared.common.brackets.Parenthesized.{Parenthesized}
 use Rattle.weedle_parts.specs.declared.common.brackets.Bracketed.{Bracketed}
 use Rattle.weedle_parts.specs.declared.common.brackets.Braced.{Braced}

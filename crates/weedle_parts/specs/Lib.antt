@@ -4,4 +4,5 @@ pub mod ListLaws
 pub mod MayBeNull
 pub mod PartLaws
 pub mod ValueTrees
+pub mod LiteralTrees
 pub mod RuleLaws

@@ -3,7 +3,7 @@ use Rattle.std.specs.Prelude.{Option}
 use Rattle.weedle_base.specs.Generic.{pair_reading, option_reading, seen_reading}
 use Rattle.weedle_base.specs.Own.{own}
 use Rattle.weedle_base.specs.Reading.{Reading}
-use Rattle.weedle_term.specs.declared.written.symbols.QMark.{QMark}
+use Rattle.weedle_base.specs.declared.term.written.symbols.QMark.{QMark}
 use Rattle.weedle_parts.specs.declared.types.may_be_null.MayBeNull.{MayBeNull}
 use Rattle.weedle_grammar.specs.written.Table.Symbols.{Q_MARK}
 use Rattle.weedle_grammar.specs.Trees.{Mark}

@@ -1,11 +1,11 @@
 //! What the types and definitions of the grammar share: brackets, lists with separators, names,
-//! docstrings and the types that hold no other type. What each type reads stands in words in
-//! docs/GRAMMAR.md.
+//! docstrings, literals, defaults and the types that hold no other type. What each type reads
+//! stands in words in docs/GRAMMAR.md.
 //!
 //! ```rust
 //! use weedle_parts::common::{Identifier, Parenthesized, Punctuated};
 //! use weedle_base::Parse;
-//! use weedle_term::Comma;
+//! use weedle_base::term::Comma;
 //!
 //! let text = "(a, b) c";
 //! let names = Parenthesized::<Punctuated<Identifier, Comma>>::parse(rt.alloc(), text);
@@ -16,4 +16,5 @@
 
 pub mod common;
 pub mod laws;
+pub mod literal;
 pub mod types;

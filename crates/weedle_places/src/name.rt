@@ -86,7 +86,7 @@ pub fn names_of<'a>(alloc: Global, syntax: &Syntax<'a>) -> Result<Vec<Name<'a>>,
 /// from, `C`, a type, and `x`, an attribute. Keywords are no names, nor are strings.
 ///
 /// It reads as [`Syntax::new`] does, and costs the same; beside that it goes once through the
-/// nodes.
+/// nodes. Where memory is refused, the answer is an error.
 pub fn names<'a>(alloc: Global, raw: &'a str) -> Result<Option<Vec<Name<'a>>>, AllocError>
     ensures whole { IfOk result (λ found. IsSome found ↔ IsWhole raw.entry.now) }
     ensures are { IfOk result

@@ -13,7 +13,7 @@ const BELOW_NUMBER: &str = "      ";
 /// Of a longer line it shows 100 characters around the place. A tab in front of the mark is written
 /// as a tab, so that the mark stands below its place whatever a tab's width is. What can't be seen
 /// is shown by its number, as `U+00A0`: other control characters, a blank that doesn't break, what
-/// has no width, and what turns the direction of a line.
+/// has no width, and what turns the direction of a line. Its errors are those of writing.
 pub fn write_excerpt<W: Write>(line: &str, column: usize, out: &mut W) -> io::Result<()> {
     let first = first_shown(width_of(line, usize::MAX), width_of(line, column));
     let mut at = 0;

@@ -14,7 +14,7 @@ use std::io::{self, Write};
 /// ```
 ///
 /// The place is given in bytes from the front of the text. One behind the end of the text is taken
-/// as that end.
+/// as that end. Its errors are those of writing.
 pub fn write_message<W: Write>(
     text: &str,
     place: usize,

@@ -39,7 +39,8 @@ pub fn outline<'d, 'a>(
     alloc: Global,
     definitions: &'d Definitions<'a>,
 ) -> Result<Vec<Entry<'d, 'a>>, AllocError>
-    ensures { IfOk result (λ entries. map said entries.items ≡ map outlined definitions.entry.now.items) }
+    ensures { IfOk result
+        (λ entries. map said entries.items ≡ map outlined definitions.entry.now.items) }
 {
     let mut entries = Vec::with_capacity(alloc, definitions.len())?;
     for definition in definitions {
@@ -93,7 +94,8 @@ pub(crate) fn push_docstring(
     definition: &Definition<'_>,
     report: &mut String,
 ) -> Result<(), AllocError>
-    ensures { OnOk result (string_bytes report.new ≡ string_bytes report.old ++ docstring_lines definition.now) }
+    ensures { OnOk result
+        (string_bytes report.new ≡ string_bytes report.old ++ docstring_lines definition.now) }
 {
     match docstring_of(definition) {
         Some(text) => push_indented(text, report),

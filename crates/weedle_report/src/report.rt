@@ -17,7 +17,8 @@ pub trait Report {
     /// Adds the lines of a definition. Where memory is refused the report may have grown in
     /// part.
     fn push(definition: &Definition<'_>, report: &mut String) -> Result<(), AllocError>
-        ensures { OnOk result (string_bytes report.new ≡ string_bytes report.old ++ lines definition.now) };
+        ensures { OnOk result
+            (string_bytes report.new ≡ string_bytes report.old ++ lines definition.now) };
 }
 
 /// The report of titles: of each definition its kind and its name.

@@ -6,9 +6,9 @@ use std::test::Fail;
 use weedle::common::Braced;
 use weedle::interface::{InterfaceMember, InterfaceMembers};
 use weedle::{Definition, Definitions, Err, at_byte, lend, name_of, parse_quick};
+use weedle_base::term::Comma;
 use weedle_base::{IResult, Parse};
 use weedle_parts::common::{Identifier, Punctuated};
-use weedle_term::Comma;
 
 /// The interfaces of a text with their attributes, or from where on it can't be read.
 fn listing_of(alloc: Global, text: &str) -> Result<String, AllocError> {

@@ -4,6 +4,7 @@
 //! by `byte` and `cell` alone, each of which counts; the text is never handed out.
 
 ghost use Rattle.std.specs.Prelude.{
+  ◌^◌,
   ◌≡◌,
   ◌≤◌,
   ◌<◌,
@@ -69,7 +70,8 @@ impl<'a, C: Cell> Model for Reader<'a, C> {
       is_open = r.is_open;
     } };
 
-    ghost invariant = { λ r. IsReader C.stands_for C.greatest r.text.now r.rows.items (vec_capacity r.rows) r.before (r.before + r.filled) r.reads r.most r.is_open };
+    ghost invariant = { λ r. IsReader C.stands_for C.greatest r.text.now r.rows.items
+        (vec_capacity r.rows) r.before (r.before + r.filled) r.reads r.most r.is_open };
 }
 
 /// The working-out of one cell: its rule and place, and how many looks it took so far. It can't be
@@ -149,7 +151,8 @@ impl<'a, C: Cell> Reader<'a, C> {
     #[inline(always)]
     pub(crate) fn recall(&self)
         ensures right { AllRight self.now.text self.now.known }
-        ensures counted { IsCounted READS self.now.known self.now.workings self.now.reads self.now.most }
+        ensures counted { IsCounted READS self.now.known self.now.workings self.now.reads
+            self.now.most }
         ensures looked { self.now.workings ≤ self.now.reads }
         ensures bounded { self.now.reads ≤ READS * self.now.workings }
     {
@@ -234,7 +237,7 @@ impl<'a, C: Cell> Reader<'a, C> {
         requires next { length self.old.known ≡ cell_number (length self.old.text) rule place }
         ensures begun { result ≡ record { rule = rule; place = place; count = 0 } }
         ensures opened { self.new ≡ record self.old { is_open = true } }
-        ensures fits { length self.old.text < 18446744073709551616 }
+        ensures fits { length self.old.text < 2 ^ 64 }
     {
         self.is_open = true;
         Working {
@@ -249,7 +252,8 @@ impl<'a, C: Cell> Reader<'a, C> {
     pub(crate) fn close(&mut self, working: Working, outcome: Option<usize>)
         requires opened { self.old.is_open ≡ true }
         requires within { working.place ≤ length self.old.text }
-        requires next { length self.old.known ≡ cell_number (length self.old.text) working.rule working.place }
+        requires next { length self.old.known
+            ≡ cell_number (length self.old.text) working.rule working.place }
         requires looked { 0 < working.count }
         requires right { HasEnd self.old.text working.rule working.place outcome }
         ensures { self.new ≡ record self.old {

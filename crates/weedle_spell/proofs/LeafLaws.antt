@@ -1,6 +1,6 @@
 -- The laws of names, numbers, strings and docstrings.
 use Rattle.std.proofs.Common.{string_bytes}
-use Rattle.weedle_literal.specs.LiteralTrees.{dec_tree, hex_tree, oct_tree, float_value_tree, string_tree}
+use Rattle.weedle_parts.specs.LiteralTrees.{dec_tree, hex_tree, oct_tree, float_value_tree, string_tree}
 use Rattle.weedle_parts.specs.ValueTrees.{identifier_tree, docstring_tree}
 use Rattle.weedle_parts.specs.declared.common.docstring.Docstring.{Docstring}
 use Rattle.weedle_grammar.specs.written.Table.Leaves.{IDENTIFIER, DEC_LIT, HEX_LIT, OCT_LIT, FLOAT_VALUE_LIT, STRING_LIT, DOCSTRING}

@@ -14,3 +14,7 @@ pub mod PartFacts
 pub mod LeafLaws
 pub mod LiteralLaws
 pub mod SimpleTypeLaws
+pub mod RecursiveTypeFacts
+pub mod VariantFacts
+pub mod VariantTreeFacts
+pub mod written

@@ -1,11 +1,11 @@
 -- The laws of literals and defaults.
 use Rattle.std.proofs.Common.{codes, Bool, true, false, refl}
 use Rattle.std.specs.Prelude.{if◌then◌else◌}
-use Rattle.weedle_literal.specs.LiteralTrees.{integer_tree, float_tree, boolean_tree, empty_array_tree, empty_dictionary_tree, default_value_tree, const_value_tree, default_tree}
-use Rattle.weedle_literal.specs.declared.float.FloatLit.TheVariants.{Value, NegInfinity, Infinity, NaN}
-use Rattle.weedle_literal.specs.declared.integer.IntegerLit.TheVariants.{Dec, Hex, Oct}
-use Rattle.weedle_literal.specs.declared.value.ConstValue.TheVariants.{Boolean as ConstBoolean, Float as ConstFloat, Integer as ConstInteger, Null as ConstNull}
-use Rattle.weedle_literal.specs.declared.value.DefaultValue.TheVariants.{Boolean as DefaultBoolean, EmptyArray, EmptyDictionary, Float as DefaultFloat, Integer as DefaultInteger, Null as DefaultNull, String as DefaultString}
+use Rattle.weedle_parts.specs.LiteralTrees.{integer_tree, float_tree, boolean_tree, empty_array_tree, empty_dictionary_tree, default_value_tree, const_value_tree, default_tree}
+use Rattle.weedle_parts.specs.declared.literal.float.FloatLit.TheVariants.{Value, NegInfinity, Infinity, NaN}
+use Rattle.weedle_parts.specs.declared.literal.integer.IntegerLit.TheVariants.{Dec, Hex, Oct}
+use Rattle.weedle_parts.specs.declared.literal.value.ConstValue.TheVariants.{Boolean as ConstBoolean, Float as ConstFloat, Integer as ConstInteger, Null as ConstNull}
+use Rattle.weedle_parts.specs.declared.literal.value.DefaultValue.TheVariants.{Boolean as DefaultBoolean, EmptyArray, EmptyDictionary, Float as DefaultFloat, Integer as DefaultInteger, Null as DefaultNull, String as DefaultString}
 use Rattle.weedle_grammar.specs.written.Table.Literals.{INTEGER_LIT, FLOAT_LIT, BOOLEAN_LIT, EMPTY_ARRAY_LIT, EMPTY_DICTIONARY_LIT, DEFAULT_VALUE, CONST_VALUE, DEFAULT}
 use Rattle.weedle_spell.specs.Laws.{SpellsValues}
 use Rattle.weedle_spell.specs.Literals.{integer_spelling, float_spelling, boolean_spelling, empty_array_spelling, empty_dictionary_spelling, default_value_spelling, const_value_spelling, default_spelling}

@@ -1,7 +1,7 @@
 -- What the generic parts take, by what their parameters take.
 use Rattle.std.proofs.Common.{◌≡◌, ℕ, List, [], ◌∷◌, Option, codes, true, refl}
 use Rattle.weedle_base.specs.Rules.{mark_tree, option_tree}
-use Rattle.weedle_term.specs.declared.written.symbols.QMark.{QMark}
+use Rattle.weedle_base.specs.declared.term.written.symbols.QMark.{QMark}
 use Rattle.weedle_parts.specs.ValueTrees.{bracket_tree, punctuated_tree, punctuated_non_empty_tree}
 use Rattle.weedle_parts.specs.declared.common.punctuated.Punctuated.{Punctuated}
 use Rattle.weedle_parts.specs.declared.common.punctuated.PunctuatedNonEmpty.{PunctuatedNonEmpty}

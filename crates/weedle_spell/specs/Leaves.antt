@@ -2,11 +2,11 @@
 use Rattle.std.specs.Prelude.{ℕ, List, string_bytes}
 use Rattle.weedle_parts.specs.declared.common.docstring.Docstring.{Docstring}
 use Rattle.weedle_parts.specs.declared.common.identifier.Identifier.{Identifier}
-use Rattle.weedle_literal.specs.declared.float.FloatValueLit.{FloatValueLit}
-use Rattle.weedle_literal.specs.declared.integer.DecLit.{DecLit}
-use Rattle.weedle_literal.specs.declared.integer.HexLit.{HexLit}
-use Rattle.weedle_literal.specs.declared.integer.OctLit.{OctLit}
-use Rattle.weedle_literal.specs.declared.string.StringLit.{StringLit}
+use Rattle.weedle_parts.specs.declared.literal.float.FloatValueLit.{FloatValueLit}
+use Rattle.weedle_parts.specs.declared.literal.integer.DecLit.{DecLit}
+use Rattle.weedle_parts.specs.declared.literal.integer.HexLit.{HexLit}
+use Rattle.weedle_parts.specs.declared.literal.integer.OctLit.{OctLit}
+use Rattle.weedle_parts.specs.declared.literal.string.StringLit.{StringLit}
 use Rattle.weedle_spell.specs.Forms.{Form}
 use Rattle.weedle_spell.specs.Tokens.{word, named, number, quoted, decimal, hexadecimal, octal, floating, documented}
 

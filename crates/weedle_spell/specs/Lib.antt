@@ -6,3 +6,7 @@ pub mod Literals
 pub mod SimpleTypes
 pub mod Pieces
 pub mod Laws
+pub mod RecursiveTypes
+pub mod Variants
+pub mod VariantTrees
+pub mod written

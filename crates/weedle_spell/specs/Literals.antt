@@ -1,17 +1,17 @@
 -- How literals are spelt, and defaults.
 use Rattle.std.specs.Prelude.{codes, if◌then◌else◌}
-use Rattle.weedle_literal.specs.declared.default.Default.{Default}
-use Rattle.weedle_literal.specs.declared.boolean.BooleanLit.{BooleanLit}
-use Rattle.weedle_literal.specs.declared.empty.EmptyArrayLit.{EmptyArrayLit}
-use Rattle.weedle_literal.specs.declared.empty.EmptyDictionaryLit.{EmptyDictionaryLit}
-use Rattle.weedle_literal.specs.declared.float.FloatLit.{FloatLit}
-use Rattle.weedle_literal.specs.declared.float.FloatLit.TheVariants.{Value, NegInfinity, Infinity, NaN}
-use Rattle.weedle_literal.specs.declared.integer.IntegerLit.{IntegerLit}
-use Rattle.weedle_literal.specs.declared.integer.IntegerLit.TheVariants.{Dec, Hex, Oct}
-use Rattle.weedle_literal.specs.declared.value.ConstValue.{ConstValue}
-use Rattle.weedle_literal.specs.declared.value.ConstValue.TheVariants.{Boolean as ConstBoolean, Float as ConstFloat, Integer as ConstInteger, Null as ConstNull}
-use Rattle.weedle_literal.specs.declared.value.DefaultValue.{DefaultValue}
-use Rattle.weedle_literal.specs.declared.value.DefaultValue.TheVariants.{Boolean as DefaultBoolean, EmptyArray, EmptyDictionary, Float as DefaultFloat, Integer as DefaultInteger, Null as DefaultNull, String as DefaultString}
+use Rattle.weedle_parts.specs.declared.literal.default.Default.{Default}
+use Rattle.weedle_parts.specs.declared.literal.boolean.BooleanLit.{BooleanLit}
+use Rattle.weedle_parts.specs.declared.literal.empty.EmptyArrayLit.{EmptyArrayLit}
+use Rattle.weedle_parts.specs.declared.literal.empty.EmptyDictionaryLit.{EmptyDictionaryLit}
+use Rattle.weedle_parts.specs.declared.literal.float.FloatLit.{FloatLit}
+use Rattle.weedle_parts.specs.declared.literal.float.FloatLit.TheVariants.{Value, NegInfinity, Infinity, NaN}
+use Rattle.weedle_parts.specs.declared.literal.integer.IntegerLit.{IntegerLit}
+use Rattle.weedle_parts.specs.declared.literal.integer.IntegerLit.TheVariants.{Dec, Hex, Oct}
+use Rattle.weedle_parts.specs.declared.literal.value.ConstValue.{ConstValue}
+use Rattle.weedle_parts.specs.declared.literal.value.ConstValue.TheVariants.{Boolean as ConstBoolean, Float as ConstFloat, Integer as ConstInteger, Null as ConstNull}
+use Rattle.weedle_parts.specs.declared.literal.value.DefaultValue.{DefaultValue}
+use Rattle.weedle_parts.specs.declared.literal.value.DefaultValue.TheVariants.{Boolean as DefaultBoolean, EmptyArray, EmptyDictionary, Float as DefaultFloat, Integer as DefaultInteger, Null as DefaultNull, String as DefaultString}
 use Rattle.weedle_spell.specs.Forms.{Form, ◌then◌}
 use Rattle.weedle_spell.specs.Leaves.{terminal, dec_spelling, hex_spelling, oct_spelling, float_value_spelling, string_spelling}
 use Rattle.weedle_spell.specs.Tokens.{word}

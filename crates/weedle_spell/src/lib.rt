@@ -9,16 +9,41 @@
 //! - `Spells` holds of a text also where it would hold with an LF behind it: a line comment at the
 //!   end of a text needs no LF. Inside a value nothing is so widened, and a docstring never is.
 //! - A value has many spellings: nothing is said of which of them are read.
+//! - Types, extended attributes and arguments hold one another. The logic holds a value of such a
+//!   type flat, with the parts of what stands in it, and its spelling is written so.
+//!   [`laws::variants`] says that it is the spelling of what stands in it all the same, and
+//!   [`laws::variant_trees`] that its tree is.
 //!
 //! ```rust
 //! use weedle_base::Parse;
-//! use weedle_literal::StringLit;
+//! use weedle_parts::literal::StringLit;
 //!
 //! // What `parse` took is what the rule of strings takes, so it is trivia, a quote, the value's
 //! // text, a quote, trivia.
 //! let (rest, value) = StringLit::parse(rt.alloc(), " \"a\" // b").expect(rt, "a text");
 //! weedle_spell::laws::string();
 //! assert!(rt; rest == "" && value.0 == "a");
+//! ```
+//!
+//! ```rust
+//! use weedle_base::Parse;
+//! use weedle_types::types::Type;
+//!
+//! // So it spells the type: `sequence`, `<`, what spells `long`, and `>`, with blanks and comments
+//! // between them.
+//! let (rest, _) = Type::parse(rt.alloc(), "sequence < long /* l */ > x").expect(rt, "a type");
+//! weedle_spell::laws::type_();
+//! assert!(rt; rest == "x");
+//! ```
+//!
+//! ```rust
+//! use weedle_base::Parse;
+//! use weedle_idl::Definitions;
+//!
+//! // So it spells the list.
+//! let (rest, _) = Definitions::parse(rt.alloc(), "enum E { \"a\" }; x").expect(rt, "a list");
+//! weedle_spell::laws::definitions();
+//! assert!(rt; rest == "x");
 //! ```
 #![tactic(auto)]
 

@@ -13,7 +13,7 @@ use Rattle.weedle_grammar.specs.written.Table.OtherMembers.{BRACED_ENUM_VALUE_LI
 use Rattle.weedle_grammar.specs.written.Table.Symbols.{COMMA}
 use Rattle.weedle_statements.specs.written.Trees.{EnumValues, enum_values_tree, enum_variant_tree}
 use Rattle.weedle_statements.specs.declared.enums.EnumVariant.{EnumVariant}
-use Rattle.weedle_term.specs.declared.written.symbols.Comma.{Comma}
+use Rattle.weedle_base.specs.declared.term.written.symbols.Comma.{Comma}
 use Rattle.weedle_types.proofs.SharedRules.{word}
 
 -- the values between braces

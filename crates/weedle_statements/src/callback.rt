@@ -2,8 +2,8 @@
 
 mod written;
 
+use weedle_base::term::{Assign, Callback, SemiColon};
 use weedle_parts::common::Identifier;
-use weedle_term::{Assign, Callback, SemiColon};
 use weedle_types::argument::ParenthesizedArgumentList;
 use weedle_types::attribute::ExtendedAttributeList;
 use weedle_types::types::ReturnType;

@@ -10,10 +10,10 @@ ghost use Rattle.weedle_statements.specs.written.Trees.{enum_definition_tree, en
 mod written;
 
 use std::alloc::Global;
+use weedle_base::term::{Comma, Enum, SemiColon};
 use weedle_base::{IResult, Parse};
-use weedle_literal::StringLit;
 use weedle_parts::common::{Braced, Docstring, Identifier, PunctuatedNonEmpty};
-use weedle_term::{Comma, Enum, SemiColon};
+use weedle_parts::literal::StringLit;
 use weedle_types::attribute::ExtendedAttributeList;
 use weedle_types::parts::attributes;
 

@@ -8,10 +8,10 @@ ghost use Rattle.weedle_statements.specs.written.Trees.{implements_definition_tr
 mod written;
 
 use std::alloc::Global;
+use weedle_base::term::{Implements, Includes, SemiColon};
 use weedle_base::{IResult, Parse};
 use weedle_fields::attributes_and_four;
 use weedle_parts::common::Identifier;
-use weedle_term::{Implements, Includes, SemiColon};
 use weedle_types::attribute::ExtendedAttributeList;
 
 /// The use of a mixin by an interface, as `A includes B;`. No docstring may stand before it.

@@ -2,8 +2,8 @@
 
 mod written;
 
+use weedle_base::term::{SemiColon, Typedef};
 use weedle_parts::common::Identifier;
-use weedle_term::{SemiColon, Typedef};
 use weedle_types::attribute::ExtendedAttributeList;
 use weedle_types::types::AttributedType;
 

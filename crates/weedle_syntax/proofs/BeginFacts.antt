@@ -1,5 +1,5 @@
 -- With which bytes a row begins that takes one.
-use Rattle.std.proofs.Common.{◌≡◌, inl, inr, ℕ, suc, ◌+◌, ◌<◌, ◌≤◌, List, [], ◌∷◌, length, drop, set, replicate, Bool, true, false, Option, Some, None, refl, sym, subst, ◌∙◌, ap, arith, length-set}
+use Rattle.std.proofs.Common.{◌^◌, ◌-◌, ◌≡◌, inl, inr, ℕ, suc, ◌+◌, ◌<◌, ◌≤◌, List, [], ◌∷◌, length, drop, set, replicate, Bool, true, false, Option, Some, None, refl, sym, subst, ◌∙◌, ap, arith, length-set}
 use Rattle.std.specs.Prelude.{◌==◌, ◌&&◌, ◌||◌, not, if◌then◌else◌, nat_lt, slice_index}
 use Rattle.std.specs.List.{list_any, list_all}
 use Rattle.std.specs.Int.{bit_at}
@@ -286,14 +286,14 @@ flag_known flags new n always flagged fits e is x h = elim (cases_eq x n) [
 abbrev pub AreStarted : List ℕ → ℕ → Type 0
 AreStarted starts n = (x : ℕ) → x < n → CoversStarts (slice_index starts x) x
 
-start_covers : (flags : List Bool) (n word start : ℕ) (always : Bool) → AreFlags flags → CoversTaken word n → always ≡ always_takes flags (row_of n) → start ≡ (if always then word else 340282366920938463463374607431768211455) → CoversStarts start n
+start_covers : (flags : List Bool) (n word start : ℕ) (always : Bool) → AreFlags flags → CoversTaken word n → always ≡ always_takes flags (row_of n) → start ≡ (if always then word else (2 ^ 128 - 1)) → CoversStarts start n
 start_covers flags n word start true flagged w a e text p q b rest d is ascii =
     let takes_it = rule_flagged flags flagged n (sym a) in
     ap (λ z. bit_at z b) e ∙ w text p q b rest d (advances webidl text rank takes ranked d.1 takes_it) is ascii
 start_covers flags n word start false flagged w a e text p q b rest d is ascii = ap (λ z. bit_at z b) e ∙ bit_at_ones 128 b ascii
 
 pub start_known : (starts new : List ℕ) (flags : List Bool) (n word start : ℕ) (always : Bool) → AreStarted starts n → n < length starts → new ≡ set starts n start → AreFlags flags → CoversTaken word n → always ≡ always_takes flags (row_of n)
-    → start ≡ (if always then word else 340282366920938463463374607431768211455) → AreStarted new (n + 1)
+    → start ≡ (if always then word else (2 ^ 128 - 1)) → AreStarted new (n + 1)
 start_known starts new flags n word start always known fits e flagged w a is x l = subst (λ z. CoversStarts (slice_index z x) x) (sym e) (elim (cases_lt x n) [
   | inl m ↦ subst (λ z. CoversStarts z x) (sym (get_or-set_other starts n x start 0 (λ k. absurd (omega arith)))) (known x m)
   | inr m ↦ (
@@ -321,7 +321,7 @@ starting = record {
 }
 
 pub start_on : (words : List ℕ) (flags : List Bool) (starts : List ℕ) (n word start : ℕ) (always : Bool) → IsStarting words flags starts n → n < 386 → Begins words flags (row_of n) word → always ≡ always_takes flags (row_of n)
-    → start ≡ (if always then word else 340282366920938463463374607431768211455) → IsStarting (set words n word) (set flags n always) (set starts n start) (n + 1)
+    → start ≡ (if always then word else (2 ^ 128 - 1)) → IsStarting (set words n word) (set flags n always) (set starts n start) (n + 1)
 start_on words flags starts n word start always s l begins a is =
     let covers = word_covers words flags n word s.known s.flagged begins in
     let words_long = s.words_long in

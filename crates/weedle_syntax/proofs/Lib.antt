@@ -12,7 +12,6 @@ pub mod OneFacts
 pub mod DescentFacts
 pub mod RepeatFacts
 pub mod ConditionFacts
-pub mod LeafEnds
 pub mod EachFacts
 pub mod FrontFacts
 pub mod BelowFacts

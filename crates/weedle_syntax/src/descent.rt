@@ -3,7 +3,18 @@
 //! A node is laid down before its row is read. Where an attempt fails, what it laid down is taken
 //! back. What can't begin with the byte that stands there isn't tried.
 
-ghost use Rattle.std.specs.Prelude.{◌≡◌, ◌≤◌, ◌<◌, ◌+◌, [], length, IfOk, IfSome, if◌then◌else◌, option_map};
+ghost use Rattle.std.specs.Prelude.{
+  ◌≡◌,
+  ◌≤◌,
+  ◌<◌,
+  ◌+◌,
+  [],
+  length,
+  IfOk,
+  IfSome,
+  if◌then◌else◌,
+  option_map,
+};
 ghost use Rattle.weedle_grammar.specs.Rows.{Seq, First, Opt, Many, ListOf, List1, Tail, If};
 ghost use Rattle.weedle_grammar.specs.View.{numbers_of};
 ghost use Rattle.weedle_grammar.specs.written.Bound.{rule_count};

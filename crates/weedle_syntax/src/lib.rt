@@ -22,7 +22,6 @@ mod descent;
 mod iter;
 mod kinds;
 pub mod laws;
-mod leaves;
 mod node;
 mod quick;
 mod readers;

@@ -1,7 +1,14 @@
 //! Descent where it suits a text, and else the table.
 
 ghost use Rattle.std.specs.Prelude.{◌≡◌, ◌↔◌, All, take, IsSome, IfOk, IfSome};
-ghost use Rattle.weedle_syntax.specs.Syntax.{IsWhole, IsSyntax, IsFront, IsRead, leaves_of, rest_of};
+ghost use Rattle.weedle_syntax.specs.Syntax.{
+  IsWhole,
+  IsSyntax,
+  IsFront,
+  IsRead,
+  leaves_of,
+  rest_of,
+};
 
 use crate::descent::front_by_descent;
 use crate::node::Node;
@@ -40,7 +47,8 @@ pub fn syntax_quick(alloc: Global, raw: &str) -> Result<Option<Vec<Node>>, Alloc
 /// these are the nodes of the first definition, and the rest begins at 17. Of a text that is read
 /// whole it answers what [`syntax`] answers. So a tool can show a tree while a text is written.
 ///
-/// It goes by descent or over the table, as [`syntax_quick`] does, and costs the same.
+/// It goes by descent or over the table, as [`syntax_quick`] does, and costs the same. Where memory
+/// is refused, the answer is an error.
 pub fn syntax_of_front(alloc: Global, raw: &str) -> Result<Vec<Node>, AllocError>
     ensures are { IfOk result (λ nodes. IsFront raw.now nodes.items) }
 

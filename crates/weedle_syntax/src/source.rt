@@ -13,10 +13,9 @@ ghost use Rattle.weedle_grammar.specs.written.Bound.{rule_count};
 ghost use Rattle.weedle_rules.specs.Cells.{HasEnd};
 ghost use Rattle.weedle_syntax.specs.Starts.{AreStarts};
 
-use crate::leaves::{run_length, take_bytes, take_not_next, take_one, take_past};
 use crate::starts::Starts;
 use std::marker::Model;
-use weedle_grammar::{Class, Rule};
+use weedle_grammar::{Class, Rule, leaf_ends};
 
 /// A text, and the bytes that each rule can begin with.
 #[derive(Drop)]
@@ -72,10 +71,7 @@ impl<'t> Source<'t> {
         ensures { result
             ≡ option_map (λ k. place + k) (the_take_bytes bytes.now (drop place self.now)) }
     {
-        match take_bytes(bytes, &self.text[place..]) {
-            Some(taken) => Some(place + taken),
-            None => None,
-        }
+        leaf_ends::end_of_bytes(bytes, self.text, place)
     }
 
     /// Where one byte of the class ends, which stands at a place.
@@ -85,10 +81,7 @@ impl<'t> Source<'t> {
         ensures { result
             ≡ option_map (λ k. place + k) (the_take_one class (drop place self.now)) }
     {
-        match take_one(class, &self.text[place..]) {
-            Some(taken) => Some(place + taken),
-            None => None,
-        }
+        leaf_ends::end_of_one(class, self.text, place)
     }
 
     /// The place itself, where no byte of the class stands there.
@@ -98,10 +91,7 @@ impl<'t> Source<'t> {
         ensures { result
             ≡ option_map (λ k. place + k) (the_take_not_next class (drop place self.now)) }
     {
-        match take_not_next(class, &self.text[place..]) {
-            Some(taken) => Some(place + taken),
-            None => None,
-        }
+        leaf_ends::end_of_not_next(class, self.text, place)
     }
 
     /// Where the bytes of the class end that stand at a place.
@@ -110,7 +100,7 @@ impl<'t> Source<'t> {
         requires { place ≤ length self.now }
         ensures { result ≡ place + the_run_length class (drop place self.now) }
     {
-        place + run_length(class, &self.text[place..])
+        leaf_ends::end_of_run(class, self.text, place)
     }
 
     /// Where the first of these bytes behind a place end.
@@ -120,9 +110,6 @@ impl<'t> Source<'t> {
         ensures { result
             ≡ option_map (λ k. place + k) (the_take_past bytes.now (drop place self.now)) }
     {
-        match take_past(bytes, &self.text[place..]) {
-            Some(taken) => Some(place + taken),
-            None => None,
-        }
+        leaf_ends::end_past(bytes, self.text, place)
     }
 }

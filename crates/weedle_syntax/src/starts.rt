@@ -3,7 +3,7 @@
 //! Before it takes a byte, a rule reads only rules of smaller numbers. So one look at each row, in
 //! the order of the numbers, says which bytes each rule can begin with.
 
-ghost use Rattle.std.specs.Prelude.{◌≡◌, if◌then◌else◌};
+ghost use Rattle.std.specs.Prelude.{◌^◌, ◌-◌, ◌≡◌, if◌then◌else◌};
 ghost use Rattle.std.specs.List.{list_any, list_all};
 ghost use Rattle.weedle_grammar.specs.Rows.{is_in};
 ghost use Rattle.weedle_grammar.specs.View.{numbers_of};
@@ -145,7 +145,7 @@ fn rule_takes(takes: &Takes, rule: Rule) -> bool
 
 /// The word of a rule that may take no byte has every bit, since it may be read anywhere.
 fn start_of(always: bool, word: u128) -> u128
-    ensures { result ≡ (if always then word else 340282366920938463463374607431768211455) }
+    ensures { result ≡ (if always then word else (2 ^ 128 - 1)) }
 {
     if always { word } else { u128::MAX }
 }

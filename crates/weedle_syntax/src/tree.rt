@@ -16,7 +16,14 @@ ghost use Rattle.std.specs.Prelude.{
   MatchOption,
 };
 ghost use Rattle.weedle_grammar.specs.Meaning.{between};
-ghost use Rattle.weedle_syntax.specs.Syntax.{RestBegins, IsWhole, IsSyntax, IsFront, rest_of, root_to};
+ghost use Rattle.weedle_syntax.specs.Syntax.{
+  RestBegins,
+  IsWhole,
+  IsSyntax,
+  IsFront,
+  rest_of,
+  root_to,
+};
 ghost use Rattle.weedle_syntax.specs.Tree.{
   node_at,
   below_of,

@@ -25,8 +25,8 @@ pub enum Unlike<'a> {
         wanted: &'a str,
         left: &'a str,
     },
-    /// Another value is read than is wanted; where what was read is printed so, a copy doesn't equal
-    /// it. There may be no memory to print it.
+    /// Another value is read than is wanted; where what was read is printed so, a copy doesn't
+    /// equal it. There may be no memory to print it.
     Value {
         text: &'a str,
         wanted: &'a str,

@@ -9,10 +9,10 @@ mod types;
 
 use std::alloc::{AllocError, Global};
 use std::cmp::Ordering;
+use weedle_base::term::{Colon, Comma, Long, Short, Unsigned};
 use weedle_modifier::Inheritance;
 use weedle_parts::common::{Docstring, Identifier, Punctuated};
 use weedle_parts::types::{IntegerType, LongType, ShortType};
-use weedle_term::{Colon, Comma, Long, Short, Unsigned};
 
 const LESS: (bool, Ordering) = (false, Ordering::Less);
 

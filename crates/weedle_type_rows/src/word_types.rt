@@ -4,8 +4,8 @@
 //! The values are those that weedle2 prints, in the port's names.
 
 use std::test::Fail;
+use weedle_base::term::{ArrayBuffer, Boolean};
 use weedle_parts::types::MayBeNull;
-use weedle_term::{ArrayBuffer, Boolean};
 use weedle_testing::{Wanted, is_printed};
 use weedle_types::types::NonAnyType;
 

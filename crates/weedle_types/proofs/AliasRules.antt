@@ -5,8 +5,8 @@ use Rattle.weedle_base.specs.Generic.{option_reading, pair_reading, seen_reading
 use Rattle.weedle_base.specs.Own.{own}
 use Rattle.weedle_base.specs.Reading.{Reading}
 use Rattle.weedle_base.specs.Rules.{HasRule, IsRule}
-use Rattle.weedle_term.specs.declared.written.symbols.Comma.{Comma}
-use Rattle.weedle_term.specs.declared.written.type_keywords.Or.{Or}
+use Rattle.weedle_base.specs.declared.term.written.symbols.Comma.{Comma}
+use Rattle.weedle_base.specs.declared.term.written.type_keywords.Or.{Or}
 use Rattle.weedle_parts.proofs.ListRules.{punctuated_rule}
 use Rattle.weedle_parts.proofs.PartRules.{bracketed_rule, may_be_null_rule, parenthesized_rule}
 use Rattle.weedle_parts.specs.Brackets.{bracketed_reading, parenthesized_reading}

@@ -11,18 +11,18 @@ use Rattle.weedle_base.specs.Reading.{Reading, Got, Faults}
 use Rattle.weedle_base.specs.Rules.{IsRule}
 use Rattle.weedle_base.specs.declared.fault.Err.{Err as Fault}
 use Rattle.weedle_base.specs.declared.fault.Error.{Error}
-use Rattle.weedle_term.specs.declared.written.symbols.Assign.{Assign}
-use Rattle.weedle_term.specs.declared.written.symbols.Comma.{Comma}
+use Rattle.weedle_base.specs.declared.term.written.symbols.Assign.{Assign}
+use Rattle.weedle_base.specs.declared.term.written.symbols.Comma.{Comma}
 use Rattle.weedle_parts.proofs.ListRules.{punctuated_rule}
 use Rattle.weedle_parts.proofs.PartRules.{parenthesized_rule}
 use Rattle.weedle_parts.specs.Brackets.{parenthesized_reading}
 use Rattle.weedle_parts.specs.Lists.{punctuated_reading}
-use Rattle.weedle_literal.specs.LiteralTrees.{string_tree}
+use Rattle.weedle_parts.specs.LiteralTrees.{string_tree}
 use Rattle.weedle_parts.specs.ValueTrees.{identifier_tree, parenthesized_tree, punctuated_tree}
 use Rattle.weedle_parts.specs.declared.common.brackets.Parenthesized.{Parenthesized}
 use Rattle.weedle_parts.specs.declared.common.identifier.Identifier.{Identifier}
 use Rattle.weedle_parts.specs.declared.common.punctuated.Punctuated.{Punctuated}
-use Rattle.weedle_literal.specs.declared.string.StringLit.{StringLit}
+use Rattle.weedle_parts.specs.declared.literal.string.StringLit.{StringLit}
 use Rattle.weedle_grammar.specs.written.Table.Leaves.{IDENTIFIER, STRING_LIT}
 use Rattle.weedle_grammar.specs.written.Table.SimpleTypes.{TAIL_IDENTIFIER_COMMA, IDENTIFIER_LIST, PARENTHESIZED_IDENTIFIER_LIST}
 use Rattle.weedle_grammar.specs.written.Table.Symbols.{ASSIGN, COMMA}

@@ -2,9 +2,9 @@
 use Rattle.std.proofs.Common.{◌≡◌, refl, ap, sym, ◌∙◌, Option, None, Some, map, Vec, Global}
 use Rattle.std.specs.Prelude.{[], ◌∷◌}
 use Rattle.weedle_base.specs.Rules.{option_tree, mark_tree}
-use Rattle.weedle_term.specs.declared.written.symbols.Comma.{Comma}
-use Rattle.weedle_term.specs.declared.written.type_keywords.Or.{Or}
-use Rattle.weedle_literal.specs.LiteralTrees.{default_tree}
+use Rattle.weedle_base.specs.declared.term.written.symbols.Comma.{Comma}
+use Rattle.weedle_base.specs.declared.term.written.type_keywords.Or.{Or}
+use Rattle.weedle_parts.specs.LiteralTrees.{default_tree}
 use Rattle.weedle_parts.specs.ValueTrees.{identifier_tree, bracket_tree, may_be_null_tree}
 use Rattle.weedle_parts.specs.declared.common.brackets.Bracketed.{Bracketed}
 use Rattle.weedle_parts.specs.declared.common.brackets.Parenthesized.{Parenthesized}

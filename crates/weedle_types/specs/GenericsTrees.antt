@@ -3,7 +3,7 @@ use Rattle.std.specs.Prelude.{[], ◌∷◌}
 use Rattle.weedle_parts.specs.ValueTrees.{generics_tree}
 use Rattle.weedle_parts.specs.declared.common.brackets.Generics.{Generics}
 use Rattle.weedle_grammar.specs.Trees.{Mark, Node, Tree, trees}
-use Rattle.weedle_term.specs.declared.written.symbols.Comma.{Comma}
+use Rattle.weedle_base.specs.declared.term.written.symbols.Comma.{Comma}
 use Rattle.weedle_types.specs.Trees.{attributed_type_tree}
 use Rattle.weedle_types.specs.declared.types.AttributedType.{AttributedType}
 

@@ -2,8 +2,8 @@
 use Rattle.weedle_base.specs.Own.{own}
 use Rattle.weedle_base.specs.Reading.{Reading}
 use Rattle.weedle_base.specs.Rules.{mark_tree}
-use Rattle.weedle_term.specs.declared.written.symbols.Comma.{Comma}
-use Rattle.weedle_term.specs.declared.written.type_keywords.Or.{Or}
+use Rattle.weedle_base.specs.declared.term.written.symbols.Comma.{Comma}
+use Rattle.weedle_base.specs.declared.term.written.type_keywords.Or.{Or}
 use Rattle.weedle_grammar.specs.written.Table.Keywords.{OR}
 use Rattle.weedle_grammar.specs.written.Table.Symbols.{COMMA}
 

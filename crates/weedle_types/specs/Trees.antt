@@ -8,9 +8,9 @@
 use Rattle.std.specs.Global.{Box}
 use Rattle.std.specs.Prelude.{[], ◌∷◌, Option}
 use Rattle.weedle_base.specs.Rules.{option_tree, mark_tree}
-use Rattle.weedle_term.specs.declared.written.symbols.Comma.{Comma}
-use Rattle.weedle_term.specs.declared.written.type_keywords.Or.{Or}
-use Rattle.weedle_literal.specs.LiteralTrees.{string_tree, default_tree}
+use Rattle.weedle_base.specs.declared.term.written.symbols.Comma.{Comma}
+use Rattle.weedle_base.specs.declared.term.written.type_keywords.Or.{Or}
+use Rattle.weedle_parts.specs.LiteralTrees.{string_tree, default_tree}
 use Rattle.weedle_parts.specs.ValueTrees.{identifier_tree, bracket_tree, parenthesized_tree, bracketed_tree, generics_tree, may_be_null_tree, punctuated_tree, integer_type_tree, floating_point_type_tree}
 use Rattle.weedle_parts.specs.declared.common.brackets.Bracketed.{Bracketed}
 use Rattle.weedle_parts.specs.declared.common.brackets.Parenthesized.{Parenthesized}

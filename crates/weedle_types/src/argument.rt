@@ -8,9 +8,9 @@ mod written;
 
 use crate::attribute::ExtendedAttributeList;
 use crate::types::{AttributedType, Type};
-use weedle_literal::Default;
+use weedle_base::term::{CloseParen, Comma, Ellipsis, OpenParen, Optional};
 use weedle_parts::common::{Identifier, Punctuated};
-use weedle_term::{CloseParen, Comma, Ellipsis, OpenParen, Optional};
+use weedle_parts::literal::Default;
 
 /// Arguments, as `long x, long y`, none included.
 pub type ArgumentList<'a> = Punctuated<Argument<'a>, Comma>;

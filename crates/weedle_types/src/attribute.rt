@@ -23,10 +23,10 @@ mod written;
 
 use crate::argument::ParenthesizedArgumentList;
 use std::alloc::Global;
+use weedle_base::term::{Assign, Comma};
 use weedle_base::{IResult, Parse};
-use weedle_literal::StringLit;
 use weedle_parts::common::{Bracketed, Identifier, Parenthesized, Punctuated};
-use weedle_term::{Assign, Comma};
+use weedle_parts::literal::StringLit;
 
 /// Extended attributes in brackets, as `[Exposed=Window, SecureContext]`; `[]` too.
 pub type ExtendedAttributeList<'a> = Bracketed<Punctuated<ExtendedAttribute<'a>, Comma>>;
@@ -146,7 +146,8 @@ pub enum IdentifierOrString<'a> {
 
 #[tactic(auto, using(crate::proofs::PlainAttributeRules::extended_attribute_ident_list_steps))]
 impl<'a> Parse<'a> for ExtendedAttributeIdentList<'a> {
-    ghost reading = { own EXTENDED_ATTRIBUTE_IDENT_LIST extended_attribute_ident_list_tree (Unit {0}) };
+    ghost reading = { own EXTENDED_ATTRIBUTE_IDENT_LIST extended_attribute_ident_list_tree
+        (Unit {0}) };
 
     fn parse(alloc: Global, input: &'a str) -> IResult<&'a str, Self> {
         let (rest, identifier) = Parse::parse(alloc, input)?;
@@ -162,7 +163,8 @@ impl<'a> Parse<'a> for ExtendedAttributeIdentList<'a> {
         ))
     }
 
-    ghost lawful = { own_lawful EXTENDED_ATTRIBUTE_IDENT_LIST extended_attribute_ident_list_tree (Unit {0}) };
+    ghost lawful = { own_lawful EXTENDED_ATTRIBUTE_IDENT_LIST extended_attribute_ident_list_tree
+        (Unit {0}) };
 }
 
 #[tactic(auto, using(crate::proofs::PlainAttributeRules::extended_attribute_ident_steps))]

@@ -10,8 +10,8 @@ use crate::attribute::ExtendedAttributeList;
 use crate::types::AttributedType;
 use std::alloc::{AllocError, Global};
 use weedle_base::TryClone;
+use weedle_base::term::Comma;
 use weedle_parts::common::{Docstring, Generics};
-use weedle_term::Comma;
 
 /// Copies extended attributes, where they stand. It fails where memory is refused.
 #[tactic(auto, using(crate::proofs::CopyFacts::attributes_alike))]
@@ -31,7 +31,8 @@ pub fn copy_docstring(
     docstring: &Option<Docstring>,
     alloc: Global,
 ) -> Result<Option<Docstring>, AllocError>
-    ensures { IfOk result (λ copy. option_tree docstring_tree copy ≡ option_tree docstring_tree docstring.now) }
+    ensures { IfOk result
+        (λ copy. option_tree docstring_tree copy ≡ option_tree docstring_tree docstring.now) }
 {
     let copy = docstring.try_clone(alloc)?;
     Ok(copy)

@@ -2,10 +2,10 @@
 //! and its public name is an alias of it, as `SequenceType<'a>` is
 //! `formers::SequenceType<Type<'a>>`.
 
-use weedle_parts::common::Generics;
-use weedle_term::{
+use weedle_base::term::{
     Any, ByteString, DOMString, FrozenArray, Promise, Record, Sequence, USVString, Undefined,
 };
+use weedle_parts::common::Generics;
 
 /// A type that is no union, as `any` or `long?`.
 #[derive(Debug, PartialEq, Eq, PartialOrd, Ord, Hash, Drop)]

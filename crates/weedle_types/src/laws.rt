@@ -46,20 +46,23 @@ pub fn union_type<'a>()
 /// reads.
 #[tactic(auto, using(crate::proofs::AliasRules::nullable_union_type_has_rule))]
 pub fn nullable_union_type<'a>()
-    ensures { HasRule ⟦<MayBeNull<UnionType<'a>> as Parse<'a>>⟧.reading MAY_BE_NULL_UNION_TYPE (may_be_null_tree union_type_tree) }
+    ensures { HasRule ⟦<MayBeNull<UnionType<'a>> as Parse<'a>>⟧.reading MAY_BE_NULL_UNION_TYPE
+        (may_be_null_tree union_type_tree) }
 {}
 
 /// A law, which does nothing: `ExtendedAttributeList` reads what its rule reads.
 #[tactic(auto, using(crate::proofs::AliasRules::extended_attribute_list_has_rule))]
 pub fn extended_attribute_list<'a>()
-    ensures { HasRule ⟦<ExtendedAttributeList<'a> as Parse<'a>>⟧.reading EXTENDED_ATTRIBUTE_LIST extended_attribute_list_tree }
+    ensures { HasRule ⟦<ExtendedAttributeList<'a> as Parse<'a>>⟧.reading EXTENDED_ATTRIBUTE_LIST
+        extended_attribute_list_tree }
 {}
 
 /// A law, which does nothing: `Option<ExtendedAttributeList>` reads what the rule of extended
 /// attributes that may be absent reads.
 #[tactic(auto, using(crate::proofs::AliasRules::attributes_has_rule))]
 pub fn attributes<'a>()
-    ensures { HasRule ⟦<Option<ExtendedAttributeList<'a>> as Parse<'a>>⟧.reading OPT_EXTENDED_ATTRIBUTE_LIST attributes_tree }
+    ensures { HasRule ⟦<Option<ExtendedAttributeList<'a>> as Parse<'a>>⟧.reading
+        OPT_EXTENDED_ATTRIBUTE_LIST attributes_tree }
 {}
 
 /// A law, which does nothing: `ArgumentList` reads what its rule reads.
@@ -71,12 +74,14 @@ pub fn argument_list<'a>()
 /// A law, which does nothing: `IdentifierList` reads what its rule reads.
 #[tactic(auto, using(crate::proofs::AliasRules::identifier_list_has_rule))]
 pub fn identifier_list<'a>()
-    ensures { HasRule ⟦<IdentifierList<'a> as Parse<'a>>⟧.reading IDENTIFIER_LIST (punctuated_tree identifier_tree) }
+    ensures { HasRule ⟦<IdentifierList<'a> as Parse<'a>>⟧.reading IDENTIFIER_LIST
+        (punctuated_tree identifier_tree) }
 {}
 
 /// A law, which does nothing: `Parenthesized<IdentifierList>`, names in parentheses, reads what its
 /// rule reads.
 #[tactic(auto, using(crate::proofs::AliasRules::identifiers_has_rule))]
 pub fn identifiers<'a>()
-    ensures { HasRule ⟦<Parenthesized<IdentifierList<'a>> as Parse<'a>>⟧.reading PARENTHESIZED_IDENTIFIER_LIST (parenthesized_tree (punctuated_tree identifier_tree)) }
+    ensures { HasRule ⟦<Parenthesized<IdentifierList<'a>> as Parse<'a>>⟧.reading
+        PARENTHESIZED_IDENTIFIER_LIST (parenthesized_tree (punctuated_tree identifier_tree)) }
 {}

@@ -15,7 +15,8 @@ pub fn attributes<'a>(
     alloc: Global,
     input: &'a str,
 ) -> IResult<&'a str, Option<ExtendedAttributeList<'a>>>
-    ensures { Answers (own OPT_EXTENDED_ATTRIBUTE_LIST attributes_tree (Unit {0})) input.now result }
+    ensures { Answers (own OPT_EXTENDED_ATTRIBUTE_LIST attributes_tree (Unit {0})) input.now
+        result }
 {
     Option::parse(alloc, input)
 }

@@ -10,13 +10,13 @@ mod written;
 
 use crate::attribute::ExtendedAttributeList;
 use crate::formers;
-use weedle_parts::common::{Identifier, Parenthesized, Punctuated};
-use weedle_parts::types::{FloatingPointType, IntegerType, MayBeNull};
-use weedle_term::{
+use weedle_base::term::{
     ArrayBuffer, ArrayBufferView, Boolean, BufferSource, Byte, ByteString, Comma, DOMString,
     DataView, Error, Float32Array, Float64Array, Int8Array, Int16Array, Int32Array, Object, Octet,
     Or, Symbol, USVString, Uint8Array, Uint8ClampedArray, Uint16Array, Uint32Array,
 };
+use weedle_parts::common::{Identifier, Parenthesized, Punctuated};
+use weedle_parts::types::{FloatingPointType, IntegerType, MayBeNull};
 
 /// A type that is no union, as `any` or `long?`.
 pub type SingleType<'a> = formers::SingleType<NonAnyType<'a>>;

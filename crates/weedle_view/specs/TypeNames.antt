@@ -10,7 +10,7 @@ use Rattle.weedle_parts.specs.declared.common.identifier.Identifier.{Identifier}
 use Rattle.weedle_parts.specs.declared.common.punctuated.Punctuated.{Punctuated}
 use Rattle.weedle_parts.specs.declared.types.const_type.ConstType.{ConstType}
 use Rattle.weedle_parts.specs.declared.types.const_type.ConstType.TheVariants.{Integer as ConstInteger, FloatingPoint as ConstFloatingPoint, Boolean as ConstBoolean, Byte as ConstByte, Octet as ConstOctet, Identifier as ConstIdentifier}
-use Rattle.weedle_term.specs.declared.written.symbols.Comma.{Comma}
+use Rattle.weedle_base.specs.declared.term.written.symbols.Comma.{Comma}
 use Rattle.weedle_types.specs.PartTrees.{Attributes}
 use Rattle.weedle_types.specs.declared.argument.Argument.TheBlock.{Held-NonAnyType-Promise-0-4, Undefined', Type_', Held-RecordTypes-0-4, RecordTypes-0-4-Byte', DOM', USV', RecordTypes-0-4-NonAny', Held-Type-Single-0, Any', Type-Single-0-NonAny', Held-SingleArgument-attributes, None', Some', Row_of-Argument, end_of-Argument, more_of-Argument, Row_of-UnionMemberType, end_of-UnionMemberType, more_of-UnionMemberType, Row_of-ExtendedAttribute, end_of-ExtendedAttribute, more_of-ExtendedAttribute}
 use Rattle.weedle_types.specs.declared.argument.Argument.TheVariants.{Single' as Argument-Single', Variadic' as Argument-Variadic'}

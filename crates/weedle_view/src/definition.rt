@@ -62,8 +62,8 @@ pub fn docstring_of<'d>(definition: &'d Definition<'_>) -> Option<&'d Docstring>
     }
 }
 
-/// What a definition inherits from, as `: Node` of `interface Element : Node {};`, where it says so:
-/// only interfaces, callback interfaces and dictionaries can. It takes no memory.
+/// What a definition inherits from, as `: Node` of `interface Element : Node {};`, where it says
+/// so: only interfaces, callback interfaces and dictionaries can. It takes no memory.
 pub fn inheritance_of<'d, 'a>(definition: &'d Definition<'a>) -> Option<&'d Inheritance<'a>>
     ensures { option_copied result ≡ inheritance_of_definition definition.entry.now }
 {

@@ -48,8 +48,8 @@ pub struct MemberView<'v, 'a> {
     pub key_type: Option<&'v AttributedType<'a>>,
     /// The extended attributes in front of `type_`, where they stand.
     pub type_attributes: Option<&'v ExtendedAttributeList<'a>>,
-    /// The type of an attribute or of a member of a dictionary; of an iteration, a map or a set that
-    /// of its values.
+    /// The type of an attribute or of a member of a dictionary; of an iteration, a map or a set
+    /// that of its values.
     pub type_: Option<&'v Type<'a>>,
     /// The arguments of an operation or a constructor, and of an asynchronous iteration that has
     /// some.

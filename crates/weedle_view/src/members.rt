@@ -26,7 +26,8 @@ pub fn members_of<'v, 'a>(
     alloc: Global,
     definition: &'v Definition<'a>,
 ) -> Result<Vec<MemberView<'v, 'a>>, AllocError>
-    ensures { IfOk result (λ views. map seen views.items ≡ members_of_definition definition.entry.now) }
+    ensures { IfOk result
+        (λ views. map seen views.items ≡ members_of_definition definition.entry.now) }
 {
     match definition {
         Definition::CallbackInterface(interface) => of_interface(alloc, &interface.members.body),
@@ -52,7 +53,8 @@ fn of_interface<'v, 'a>(
     alloc: Global,
     members: &'v Vec<InterfaceMember<'a>>,
 ) -> Result<Vec<MemberView<'v, 'a>>, AllocError>
-    ensures { IfOk result (λ views. map seen views.items ≡ map interface_member_view members.entry.now.items) }
+    ensures { IfOk result
+        (λ views. map seen views.items ≡ map interface_member_view members.entry.now.items) }
 {
     let mut views = Vec::with_capacity(alloc, members.len())?;
     for member in members {
@@ -67,7 +69,8 @@ fn of_mixin<'v, 'a>(
     alloc: Global,
     members: &'v Vec<MixinMember<'a>>,
 ) -> Result<Vec<MemberView<'v, 'a>>, AllocError>
-    ensures { IfOk result (λ views. map seen views.items ≡ map mixin_member_view members.entry.now.items) }
+    ensures { IfOk result
+        (λ views. map seen views.items ≡ map mixin_member_view members.entry.now.items) }
 {
     let mut views = Vec::with_capacity(alloc, members.len())?;
     for member in members {
@@ -82,7 +85,8 @@ fn of_namespace<'v, 'a>(
     alloc: Global,
     members: &'v Vec<NamespaceMember<'a>>,
 ) -> Result<Vec<MemberView<'v, 'a>>, AllocError>
-    ensures { IfOk result (λ views. map seen views.items ≡ map namespace_member_view members.entry.now.items) }
+    ensures { IfOk result
+        (λ views. map seen views.items ≡ map namespace_member_view members.entry.now.items) }
 {
     let mut views = Vec::with_capacity(alloc, members.len())?;
     for member in members {
@@ -97,7 +101,8 @@ fn of_dictionary<'v, 'a>(
     alloc: Global,
     members: &'v Vec<DictionaryMember<'a>>,
 ) -> Result<Vec<MemberView<'v, 'a>>, AllocError>
-    ensures { IfOk result (λ views. map seen views.items ≡ map dictionary_member_view members.entry.now.items) }
+    ensures { IfOk result
+        (λ views. map seen views.items ≡ map dictionary_member_view members.entry.now.items) }
 {
     let mut views = Vec::with_capacity(alloc, members.len())?;
     for member in members {

@@ -37,7 +37,7 @@ pub fn type_names<'a>(alloc: Global, type_: &Type<'a>) -> Result<Vec<Identifier<
 }
 
 /// The names that the type of a result speaks of, as [`type_names`] gives them: `Node` of
-/// `Promise<Node>`, and none of `undefined`.
+/// `Promise<Node>`, and none of `undefined`. It fails where memory for the list is refused.
 pub fn type_names_of_return<'a>(
     alloc: Global,
     return_type: &ReturnType<'a>,
@@ -51,7 +51,7 @@ pub fn type_names_of_return<'a>(
 
 /// The names that the types of arguments speak of, as [`type_names`] gives them: `Node` and `Attr`
 /// of `(optional Node node, Attr... attrs)`. The names of the arguments aren't among them, those in
-/// the types within their extended attributes are.
+/// the types within their extended attributes are. It fails where memory for the list is refused.
 pub fn type_names_of_arguments<'a>(
     alloc: Global,
     arguments: &ParenthesizedArgumentList<'a>,
@@ -65,7 +65,8 @@ pub fn type_names_of_arguments<'a>(
 
 /// The names that the types of the arguments in extended attributes speak of, as [`type_names`]
 /// gives them: `Node` of `[Exposed=Window, NamedConstructor=Image(Node node)]`. The names of the
-/// extended attributes, and what stands behind their `=`, aren't among them.
+/// extended attributes, and what stands behind their `=`, aren't among them. It fails where memory
+/// for the list is refused.
 pub fn type_names_of_attributes<'a>(
     alloc: Global,
     attributes: &ExtendedAttributeList<'a>,

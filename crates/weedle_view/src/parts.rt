@@ -16,8 +16,9 @@ use std::alloc::{AllocError, Global};
 use weedle_idl::Definition;
 use weedle_report::name_of;
 
-/// The first definition of a name that is neither a part nor a statement, as the interface of
-/// `A includes M; interface A {};` for `A`. It takes no memory, and looks through the definitions once.
+/// The first definition of a name that is neither a part nor a statement, as the interface of `A
+/// includes M; interface A {};` for `A`. It takes no memory, and looks through the definitions
+/// once.
 #[tactic(auto, using(crate::proofs::Finds::found, crate::proofs::Finds::still_none))]
 pub fn definition_named<'d, 'a>(
     definitions: &'d [Definition<'a>],
@@ -34,15 +35,17 @@ pub fn definition_named<'d, 'a>(
 }
 
 /// The parts of a name, as `partial interface A {};` for `A`, in the order of the definitions.
-/// Whatever has the name is told, also where that makes no sense, as a part of a dictionary beside an
-/// interface. It takes memory for the list, and fails where that is refused.
+/// Whatever has the name is told, also where that makes no sense, as a part of a dictionary beside
+/// an interface. It takes memory for the list, and fails where that is refused.
 #[tactic(auto, using(crate::proofs::Finds::kept, crate::proofs::Finds::passed_over))]
 pub fn parts_named<'d, 'a>(
     alloc: Global,
     definitions: &'d [Definition<'a>],
     name: &str,
 ) -> Result<Vec<&'d Definition<'a>>, AllocError>
-    ensures { IfOk result (λ parts. map (λ d. d.now) parts.items ≡ filter (is_part_of name.now) definitions.entry.now) }
+    ensures { IfOk result
+        (λ parts. map (λ d. d.now) parts.items
+        ≡ filter (is_part_of name.now) definitions.entry.now) }
 {
     let mut parts = Vec::new(alloc);
     for definition in definitions {
@@ -54,16 +57,18 @@ pub fn parts_named<'d, 'a>(
     Ok(parts)
 }
 
-/// The mixins that are included into a name, as `M` by `A includes M;` into `A`, and their parts, in
-/// the order of the definitions. It takes memory for the list, and fails where that is refused. It
-/// looks through the definitions once, and once more for each mixin and each part of one.
+/// The mixins that are included into a name, as `M` by `A includes M;` into `A`, and their parts,
+/// in the order of the definitions. It takes memory for the list, and fails where that is refused.
+/// It looks through the definitions once, and once more for each mixin and each part of one.
 #[tactic(auto, using(crate::proofs::Finds::kept, crate::proofs::Finds::passed_over))]
 pub fn included_into<'d, 'a>(
     alloc: Global,
     definitions: &'d [Definition<'a>],
     name: &str,
 ) -> Result<Vec<&'d Definition<'a>>, AllocError>
-    ensures { IfOk result (λ included. map (λ d. d.now) included.items ≡ filter (is_included_in definitions.entry.now name.now) definitions.entry.now) }
+    ensures { IfOk result
+        (λ included. map (λ d. d.now) included.items
+        ≡ filter (is_included_in definitions.entry.now name.now) definitions.entry.now) }
 {
     let mut included = Vec::new(alloc);
     for definition in definitions {

@@ -2,9 +2,9 @@
 -- arguments. Written by tools/trees.py, and not edited by hand.
 use Rattle.std.specs.Prelude.{Option, [], ◌∷◌}
 use Rattle.weedle_base.specs.Rules.{option_tree}
+use Rattle.weedle_base.specs.declared.term.written.definition_keywords.Async.{Async}
+use Rattle.weedle_base.specs.declared.term.written.definition_keywords.Iterable.{Iterable}
 use Rattle.weedle_grammar.specs.Trees.{Mark, Node, Tree, trees}
-use Rattle.weedle_term.specs.declared.written.definition_keywords.Async.{Async}
-use Rattle.weedle_term.specs.declared.written.definition_keywords.Iterable.{Iterable}
 use Rattle.weedle_types.specs.Trees.{arguments_tree}
 use Rattle.weedle_types.specs.declared.argument.ParenthesizedArgumentList.{ParenthesizedArgumentList}
 

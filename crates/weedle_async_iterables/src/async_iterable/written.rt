@@ -19,16 +19,17 @@ use super::{AsyncIterableInterfaceMember, DoubleTypedAsyncIterable, SingleTypedA
 use crate::copies::copy_optional_arguments;
 use std::alloc::{AllocError, Global};
 use weedle_base::Choice::{self, First, Second};
+use weedle_base::term::{Async, Comma, Iterable, SemiColon};
 use weedle_base::{IResult, Parse, TryClone};
 use weedle_parts::common::Generics;
-use weedle_term::{Async, Comma, Iterable, SemiColon};
 use weedle_types::argument::ParenthesizedArgumentList;
 use weedle_types::attribute::ExtendedAttributeList;
 use weedle_types::copies::{copy_attributes, copy_one_type, copy_two_types};
 use weedle_types::types::AttributedType;
 
 impl TryClone for SingleTypedAsyncIterable<'_> {
-    ghost alike = { λ a b. single_typed_async_iterable_tree a ≡ single_typed_async_iterable_tree b };
+    ghost alike = { λ a b. single_typed_async_iterable_tree a
+        ≡ single_typed_async_iterable_tree b };
 
     fn try_clone(&self, alloc: Global) -> Result<Self, AllocError> {
         Ok(SingleTypedAsyncIterable {
@@ -74,7 +75,8 @@ impl<'a> SingleTypedAsyncIterable<'a> {
 }
 
 impl TryClone for DoubleTypedAsyncIterable<'_> {
-    ghost alike = { λ a b. double_typed_async_iterable_tree a ≡ double_typed_async_iterable_tree b };
+    ghost alike = { λ a b. double_typed_async_iterable_tree a
+        ≡ double_typed_async_iterable_tree b };
 
     fn try_clone(&self, alloc: Global) -> Result<Self, AllocError> {
         Ok(DoubleTypedAsyncIterable {
@@ -121,7 +123,8 @@ impl<'a> DoubleTypedAsyncIterable<'a> {
 
 #[tactic(auto, using(crate::proofs::written::AsyncIterableRules::async_iterable_interface_member_steps))]
 impl<'a> Parse<'a> for AsyncIterableInterfaceMember<'a> {
-    ghost reading = { own ASYNC_ITERABLE_INTERFACE_MEMBER async_iterable_interface_member_tree (Unit {0}) };
+    ghost reading = { own ASYNC_ITERABLE_INTERFACE_MEMBER async_iterable_interface_member_tree
+        (Unit {0}) };
 
     fn parse(alloc: Global, input: &'a str) -> IResult<&'a str, Self> {
         let (rest, read) = Choice::parse(alloc, input)?;
@@ -132,11 +135,13 @@ impl<'a> Parse<'a> for AsyncIterableInterfaceMember<'a> {
         Ok((rest, member))
     }
 
-    ghost lawful = { own_lawful ASYNC_ITERABLE_INTERFACE_MEMBER async_iterable_interface_member_tree (Unit {0}) };
+    ghost lawful = { own_lawful ASYNC_ITERABLE_INTERFACE_MEMBER async_iterable_interface_member_tree
+        (Unit {0}) };
 }
 
 impl TryClone for AsyncIterableInterfaceMember<'_> {
-    ghost alike = { λ a b. async_iterable_interface_member_tree a ≡ async_iterable_interface_member_tree b };
+    ghost alike = { λ a b. async_iterable_interface_member_tree a
+        ≡ async_iterable_interface_member_tree b };
 
     fn try_clone(&self, alloc: Global) -> Result<Self, AllocError> {
         match self {

@@ -9,10 +9,8 @@ ghost use Rattle.weedle_idl.specs.written.DefinitionTrees.{definition_tree};
 
 use std::alloc::Global;
 use weedle_build_base::{At, Build, BuildResult, alternative, choice};
+use weedle_build_definitions::DefinitionPart;
 use weedle_build_interfaces::InterfacePart;
-use weedle_build_mixins::MixinPart;
-use weedle_build_namespaces::NamespacePart;
-use weedle_build_statements::StatementPart;
 use weedle_idl::{
     CallbackDefinition, CallbackInterfaceDefinition, Definition, DictionaryDefinition,
     EnumDefinition, ImplementsDefinition, IncludesStatementDefinition, InterfaceDefinition,
@@ -36,7 +34,7 @@ impl<'a> Build<'a> for AnyDefinition {
         let rule = Rule::DEFINITION;
         match choice(table, rule, at.place) {
             0 => {
-                let (member, at) = alternative::<StatementPart<CallbackDefinition<'a>>>(
+                let (member, at) = alternative::<DefinitionPart<CallbackDefinition<'a>>>(
                     alloc, table, rule, 0, at,
                 )?;
                 Ok((Definition::Callback(member), at))
@@ -54,19 +52,19 @@ impl<'a> Build<'a> for AnyDefinition {
                 Ok((Definition::Interface(member), at))
             }
             3 => {
-                let (member, at) = alternative::<MixinPart<InterfaceMixinDefinition<'a>>>(
+                let (member, at) = alternative::<DefinitionPart<InterfaceMixinDefinition<'a>>>(
                     alloc, table, rule, 3, at,
                 )?;
                 Ok((Definition::InterfaceMixin(member), at))
             }
             4 => {
-                let (member, at) = alternative::<NamespacePart<NamespaceDefinition<'a>>>(
+                let (member, at) = alternative::<DefinitionPart<NamespaceDefinition<'a>>>(
                     alloc, table, rule, 4, at,
                 )?;
                 Ok((Definition::Namespace(member), at))
             }
             5 => {
-                let (member, at) = alternative::<NamespacePart<DictionaryDefinition<'a>>>(
+                let (member, at) = alternative::<DefinitionPart<DictionaryDefinition<'a>>>(
                     alloc, table, rule, 5, at,
                 )?;
                 Ok((Definition::Dictionary(member), at))
@@ -78,43 +76,43 @@ impl<'a> Build<'a> for AnyDefinition {
                 Ok((Definition::PartialInterface(member), at))
             }
             7 => {
-                let (member, at) = alternative::<MixinPart<PartialInterfaceMixinDefinition<'a>>>(
-                    alloc, table, rule, 7, at,
-                )?;
+                let (member, at) = alternative::<
+                    DefinitionPart<PartialInterfaceMixinDefinition<'a>>,
+                >(alloc, table, rule, 7, at)?;
                 Ok((Definition::PartialInterfaceMixin(member), at))
             }
             8 => {
-                let (member, at) = alternative::<NamespacePart<PartialDictionaryDefinition<'a>>>(
+                let (member, at) = alternative::<DefinitionPart<PartialDictionaryDefinition<'a>>>(
                     alloc, table, rule, 8, at,
                 )?;
                 Ok((Definition::PartialDictionary(member), at))
             }
             9 => {
-                let (member, at) = alternative::<NamespacePart<PartialNamespaceDefinition<'a>>>(
+                let (member, at) = alternative::<DefinitionPart<PartialNamespaceDefinition<'a>>>(
                     alloc, table, rule, 9, at,
                 )?;
                 Ok((Definition::PartialNamespace(member), at))
             }
             10 => {
-                let (member, at) = alternative::<StatementPart<EnumDefinition<'a>>>(
+                let (member, at) = alternative::<DefinitionPart<EnumDefinition<'a>>>(
                     alloc, table, rule, 10, at,
                 )?;
                 Ok((Definition::Enum(member), at))
             }
             11 => {
-                let (member, at) = alternative::<StatementPart<TypedefDefinition<'a>>>(
+                let (member, at) = alternative::<DefinitionPart<TypedefDefinition<'a>>>(
                     alloc, table, rule, 11, at,
                 )?;
                 Ok((Definition::Typedef(member), at))
             }
             12 => {
-                let (member, at) = alternative::<StatementPart<IncludesStatementDefinition<'a>>>(
+                let (member, at) = alternative::<DefinitionPart<IncludesStatementDefinition<'a>>>(
                     alloc, table, rule, 12, at,
                 )?;
                 Ok((Definition::IncludesStatement(member), at))
             }
             13 => {
-                let (member, at) = alternative::<StatementPart<ImplementsDefinition<'a>>>(
+                let (member, at) = alternative::<DefinitionPart<ImplementsDefinition<'a>>>(
                     alloc, table, rule, 13, at,
                 )?;
                 Ok((Definition::Implements(member), at))

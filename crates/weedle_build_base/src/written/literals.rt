@@ -14,7 +14,7 @@ ghost use Rattle.weedle_grammar.specs.written.Table.Literals.{
   FLOAT_LIT,
   INTEGER_LIT,
 };
-ghost use Rattle.weedle_literal.specs.LiteralTrees.{
+ghost use Rattle.weedle_parts.specs.LiteralTrees.{
   boolean_tree,
   const_value_tree,
   default_tree,
@@ -30,15 +30,15 @@ use crate::at::At;
 use crate::build::{Build, BuildResult};
 use crate::structs::two_fields;
 use std::alloc::Global;
-use weedle_literal::{
+use weedle_base::term::{
+    Assign, CloseBrace, CloseBracket, False, Infinity, NaN, NegInfinity, Null, OpenBrace,
+    OpenBracket, True,
+};
+use weedle_parts::literal::{
     BooleanLit, ConstValue, DecLit, Default, DefaultValue, EmptyArrayLit, EmptyDictionaryLit,
     FloatLit, FloatValueLit, HexLit, IntegerLit, OctLit, StringLit,
 };
 use weedle_rules::{Ends, Rule};
-use weedle_term::{
-    Assign, CloseBrace, CloseBracket, False, Infinity, NaN, NegInfinity, Null, OpenBrace,
-    OpenBracket, True,
-};
 
 impl<'a> Build<'a> for BooleanLit {
     type Value = Self;

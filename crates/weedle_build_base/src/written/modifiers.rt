@@ -22,10 +22,12 @@ use crate::at::At;
 use crate::build::{Build, BuildResult};
 use crate::structs::two_fields;
 use std::alloc::Global;
+use weedle_base::term::{
+    Colon, Deleter, Getter, Inherit, LegacyCaller, Setter, Static, Stringifier,
+};
 use weedle_modifier::{Inheritance, Special, StringifierOrInheritOrStatic, StringifierOrStatic};
 use weedle_parts::common::Identifier;
 use weedle_rules::{Ends, Rule};
-use weedle_term::{Colon, Deleter, Getter, Inherit, LegacyCaller, Setter, Static, Stringifier};
 
 impl<'a> Build<'a> for Inheritance<'a> {
     type Value = Self;

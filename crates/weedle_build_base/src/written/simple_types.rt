@@ -30,13 +30,13 @@ use crate::at::At;
 use crate::build::{Build, BuildResult};
 use crate::structs::two_fields;
 use std::alloc::Global;
+use weedle_base::term::{Boolean, Byte, Double, Float, Long, Octet, Short, Unrestricted, Unsigned};
 use weedle_parts::common::Identifier;
 use weedle_parts::types::{
     ConstType, DoubleType, FloatType, FloatingPointType, IntegerType, LongLongType, LongType,
     MayBeNull, ShortType,
 };
 use weedle_rules::{Ends, Rule};
-use weedle_term::{Boolean, Byte, Double, Float, Long, Octet, Short, Unrestricted, Unsigned};
 
 impl<'a> Build<'a> for LongLongType {
     type Value = Self;

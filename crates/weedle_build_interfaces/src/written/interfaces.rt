@@ -20,6 +20,7 @@ ghost use Rattle.weedle_interfaces.specs.written.Trees.{
 use crate::part::InterfacePart;
 use std::alloc::Global;
 use weedle_async_iterables::AsyncIterableInterfaceMember;
+use weedle_base::term::{Callback, Interface, Partial, SemiColon};
 use weedle_build_base::{
     At, Build, BuildResult, alternative, choice, eight_fields, seven_fields, six_fields,
 };
@@ -36,7 +37,6 @@ use weedle_members::{
 use weedle_modifier::Inheritance;
 use weedle_parts::common::{Braced, Docstring, Identifier};
 use weedle_rules::{Ends, Rule};
-use weedle_term::{Callback, Interface, Partial, SemiColon};
 
 impl<'a> Build<'a> for InterfacePart<InterfaceMember<'a>> {
     type Value = InterfaceMember<'a>;

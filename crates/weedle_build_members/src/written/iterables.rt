@@ -32,6 +32,7 @@ use std::alloc::Global;
 use weedle_async_iterables::{
     AsyncIterableInterfaceMember, DoubleTypedAsyncIterable, SingleTypedAsyncIterable,
 };
+use weedle_base::term::{Async, Iterable, Maplike, ReadOnly, SemiColon, Setlike};
 use weedle_build_base::{At, Build, BuildResult, alternative, choice, five_fields, four_fields};
 use weedle_build_types::{Arguments, Attributes};
 use weedle_iterables::{
@@ -39,7 +40,6 @@ use weedle_iterables::{
     SingleTypedIterable,
 };
 use weedle_rules::{Ends, Rule};
-use weedle_term::{Async, Iterable, Maplike, ReadOnly, SemiColon, Setlike};
 
 impl<'a> Build<'a> for MemberPart<SingleTypedIterable<'a>> {
     type Value = SingleTypedIterable<'a>;

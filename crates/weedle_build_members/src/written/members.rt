@@ -21,20 +21,20 @@ ghost use Rattle.weedle_members.specs.written.Trees.{
 
 use crate::part::MemberPart;
 use std::alloc::Global;
+use weedle_base::term::{Assign, Attribute, Const, Constructor, ReadOnly, SemiColon, Stringifier};
 use weedle_build_base::{
     At, Build, BuildResult, eight_fields, five_fields, seven_fields, three_fields,
 };
 use weedle_build_types::{Arguments, Attributes, Held};
-use weedle_literal::ConstValue;
 use weedle_members::{
     AttributeInterfaceMember, ConstMember, ConstructorInterfaceMember, OperationInterfaceMember,
     StringifierMember,
 };
 use weedle_modifier::{Special, StringifierOrInheritOrStatic, StringifierOrStatic};
 use weedle_parts::common::{Docstring, Identifier};
+use weedle_parts::literal::ConstValue;
 use weedle_parts::types::ConstType;
 use weedle_rules::{Ends, Rule};
-use weedle_term::{Assign, Attribute, Const, Constructor, ReadOnly, SemiColon, Stringifier};
 use weedle_types::types::{AttributedType, ReturnType};
 
 impl<'a> Build<'a> for MemberPart<ConstMember<'a>> {

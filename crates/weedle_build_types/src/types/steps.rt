@@ -18,7 +18,8 @@ pub(crate) fn optional<'a, T: Build<'a>>(
 ) -> BuildResult<Option<T::Value>>
     requires fit { T.fits item }
     requires place { IsPlace table.now.text at.place }
-    ensures { (r : ℕ) → IsOption item r → Answers table.now.text r (option_tree T.tree) at.place at.visits result }
+    ensures { (r : ℕ) → IsOption item r
+        → Answers table.now.text r (option_tree T.tree) at.place at.visits result }
 {
     match table.end(item, at.place) {
         Some(_) => {

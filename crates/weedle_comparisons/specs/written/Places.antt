@@ -7,14 +7,14 @@ use Rattle.weedle_parts.specs.declared.types.floating_point.FloatingPointType.{F
 use Rattle.weedle_parts.specs.declared.types.floating_point.FloatingPointType.TheVariants.{Float as FloatingPointType-Float, Double as FloatingPointType-Double}
 use Rattle.weedle_parts.specs.declared.types.integer.IntegerType.{IntegerType}
 use Rattle.weedle_parts.specs.declared.types.integer.IntegerType.TheVariants.{LongLong as IntegerType-LongLong, Long as IntegerType-Long, Short as IntegerType-Short}
-use Rattle.weedle_literal.specs.declared.float.FloatLit.{FloatLit}
-use Rattle.weedle_literal.specs.declared.float.FloatLit.TheVariants.{Value as FloatLit-Value, NegInfinity as FloatLit-NegInfinity, Infinity as FloatLit-Infinity, NaN as FloatLit-NaN}
-use Rattle.weedle_literal.specs.declared.integer.IntegerLit.{IntegerLit}
-use Rattle.weedle_literal.specs.declared.integer.IntegerLit.TheVariants.{Dec as IntegerLit-Dec, Hex as IntegerLit-Hex, Oct as IntegerLit-Oct}
-use Rattle.weedle_literal.specs.declared.value.DefaultValue.{DefaultValue}
-use Rattle.weedle_literal.specs.declared.value.DefaultValue.TheVariants.{Boolean as DefaultValue-Boolean, EmptyArray as DefaultValue-EmptyArray, EmptyDictionary as DefaultValue-EmptyDictionary, Float as DefaultValue-Float, Integer as DefaultValue-Integer, Null as DefaultValue-Null, String as DefaultValue-String}
-use Rattle.weedle_literal.specs.declared.value.ConstValue.{ConstValue}
-use Rattle.weedle_literal.specs.declared.value.ConstValue.TheVariants.{Boolean as ConstValue-Boolean, Float as ConstValue-Float, Integer as ConstValue-Integer, Null as ConstValue-Null}
+use Rattle.weedle_parts.specs.declared.literal.float.FloatLit.{FloatLit}
+use Rattle.weedle_parts.specs.declared.literal.float.FloatLit.TheVariants.{Value as FloatLit-Value, NegInfinity as FloatLit-NegInfinity, Infinity as FloatLit-Infinity, NaN as FloatLit-NaN}
+use Rattle.weedle_parts.specs.declared.literal.integer.IntegerLit.{IntegerLit}
+use Rattle.weedle_parts.specs.declared.literal.integer.IntegerLit.TheVariants.{Dec as IntegerLit-Dec, Hex as IntegerLit-Hex, Oct as IntegerLit-Oct}
+use Rattle.weedle_parts.specs.declared.literal.value.DefaultValue.{DefaultValue}
+use Rattle.weedle_parts.specs.declared.literal.value.DefaultValue.TheVariants.{Boolean as DefaultValue-Boolean, EmptyArray as DefaultValue-EmptyArray, EmptyDictionary as DefaultValue-EmptyDictionary, Float as DefaultValue-Float, Integer as DefaultValue-Integer, Null as DefaultValue-Null, String as DefaultValue-String}
+use Rattle.weedle_parts.specs.declared.literal.value.ConstValue.{ConstValue}
+use Rattle.weedle_parts.specs.declared.literal.value.ConstValue.TheVariants.{Boolean as ConstValue-Boolean, Float as ConstValue-Float, Integer as ConstValue-Integer, Null as ConstValue-Null}
 use Rattle.weedle_modifier.specs.declared.modifier.Special.{Special}
 use Rattle.weedle_modifier.specs.declared.modifier.Special.TheVariants.{Getter as Special-Getter, Setter as Special-Setter, Deleter as Special-Deleter, LegacyCaller as Special-LegacyCaller}
 use Rattle.weedle_modifier.specs.declared.modifier.StringifierOrInheritOrStatic.{StringifierOrInheritOrStatic}
@@ -39,6 +39,18 @@ use Rattle.weedle_types.specs.declared.types.NonAnyType.{NonAnyType}
 use Rattle.weedle_types.specs.declared.types.NonAnyType.TheVariants.{Promise' as NonAnyType-Promise', Integer as NonAnyType-Integer, FloatingPoint as NonAnyType-FloatingPoint, Boolean as NonAnyType-Boolean, Byte as NonAnyType-Byte, Octet as NonAnyType-Octet, ByteString as NonAnyType-ByteString, DOMString as NonAnyType-DOMString, USVString as NonAnyType-USVString, Sequence' as NonAnyType-Sequence', Object as NonAnyType-Object, Symbol as NonAnyType-Symbol, Error as NonAnyType-Error, ArrayBuffer as NonAnyType-ArrayBuffer, DataView as NonAnyType-DataView, Int8Array as NonAnyType-Int8Array, Int16Array as NonAnyType-Int16Array, Int32Array as NonAnyType-Int32Array, Uint8Array as NonAnyType-Uint8Array, Uint16Array as NonAnyType-Uint16Array, Uint32Array as NonAnyType-Uint32Array, Uint8ClampedArray as NonAnyType-Uint8ClampedArray, Float32Array as NonAnyType-Float32Array, Float64Array as NonAnyType-Float64Array, ArrayBufferView as NonAnyType-ArrayBufferView, BufferSource as NonAnyType-BufferSource, FrozenArrayType' as NonAnyType-FrozenArrayType', RecordType' as NonAnyType-RecordType', Identifier as NonAnyType-Identifier}
 use Rattle.weedle_types.specs.declared.types.UnionMemberType.{UnionMemberType}
 use Rattle.weedle_types.specs.declared.types.UnionMemberType.TheVariants.{Single' as UnionMemberType-Single', Union' as UnionMemberType-Union'}
+use Rattle.weedle_iterables.specs.declared.iterable.IterableInterfaceMember.{IterableInterfaceMember}
+use Rattle.weedle_iterables.specs.declared.iterable.IterableInterfaceMember.TheVariants.{Single as IterableInterfaceMember-Single, Double as IterableInterfaceMember-Double}
+use Rattle.weedle_async_iterables.specs.declared.async_iterable.AsyncIterableInterfaceMember.{AsyncIterableInterfaceMember}
+use Rattle.weedle_async_iterables.specs.declared.async_iterable.AsyncIterableInterfaceMember.TheVariants.{Single as AsyncIterableInterfaceMember-Single, Double as AsyncIterableInterfaceMember-Double}
+use Rattle.weedle_namespaces.specs.declared.namespace.NamespaceMember.{NamespaceMember}
+use Rattle.weedle_namespaces.specs.declared.namespace.NamespaceMember.TheVariants.{Operation as NamespaceMember-Operation, Attribute as NamespaceMember-Attribute}
+use Rattle.weedle_interfaces.specs.declared.member.InterfaceMember.{InterfaceMember}
+use Rattle.weedle_interfaces.specs.declared.member.InterfaceMember.TheVariants.{Const as InterfaceMember-Const, Attribute as InterfaceMember-Attribute, Constructor as InterfaceMember-Constructor, Operation as InterfaceMember-Operation, Iterable as InterfaceMember-Iterable, AsyncIterable as InterfaceMember-AsyncIterable, Maplike as InterfaceMember-Maplike, Setlike as InterfaceMember-Setlike, Stringifier as InterfaceMember-Stringifier}
+use Rattle.weedle_mixins.specs.declared.mixin.MixinMember.{MixinMember}
+use Rattle.weedle_mixins.specs.declared.mixin.MixinMember.TheVariants.{Const as MixinMember-Const, Operation as MixinMember-Operation, Attribute as MixinMember-Attribute, Stringifier as MixinMember-Stringifier}
+use Rattle.weedle_idl.specs.declared.definition.Definition.{Definition}
+use Rattle.weedle_idl.specs.declared.definition.Definition.TheVariants.{Callback as Definition-Callback, CallbackInterface as Definition-CallbackInterface, Interface as Definition-Interface, InterfaceMixin as Definition-InterfaceMixin, Namespace as Definition-Namespace, Dictionary as Definition-Dictionary, PartialInterface as Definition-PartialInterface, PartialInterfaceMixin as Definition-PartialInterfaceMixin, PartialDictionary as Definition-PartialDictionary, PartialNamespace as Definition-PartialNamespace, Enum as Definition-Enum, Typedef as Definition-Typedef, IncludesStatement as Definition-IncludesStatement, Implements as Definition-Implements}
 
 -- `ConstType`
 abbrev pub const_type_place : ConstType → ℕ
@@ -184,3 +196,54 @@ non_any_type_place (NonAnyType-Identifier _) = 28
 abbrev pub union_member_type_place : UnionMemberType → ℕ
 union_member_type_place (UnionMemberType-Single' _ _) = 0
 union_member_type_place (UnionMemberType-Union' _ _ _ _ _ _) = 1
+
+-- `IterableInterfaceMember`
+abbrev pub iterable_interface_member_place : IterableInterfaceMember → ℕ
+iterable_interface_member_place (IterableInterfaceMember-Single _) = 0
+iterable_interface_member_place (IterableInterfaceMember-Double _) = 1
+
+-- `AsyncIterableInterfaceMember`
+abbrev pub async_iterable_interface_member_place : AsyncIterableInterfaceMember → ℕ
+async_iterable_interface_member_place (AsyncIterableInterfaceMember-Single _) = 0
+async_iterable_interface_member_place (AsyncIterableInterfaceMember-Double _) = 1
+
+-- `NamespaceMember`
+abbrev pub namespace_member_place : NamespaceMember → ℕ
+namespace_member_place (NamespaceMember-Operation _) = 0
+namespace_member_place (NamespaceMember-Attribute _) = 1
+
+-- `InterfaceMember`
+abbrev pub interface_member_place : InterfaceMember → ℕ
+interface_member_place (InterfaceMember-Const _) = 0
+interface_member_place (InterfaceMember-Attribute _) = 1
+interface_member_place (InterfaceMember-Constructor _) = 2
+interface_member_place (InterfaceMember-Operation _) = 3
+interface_member_place (InterfaceMember-Iterable _) = 4
+interface_member_place (InterfaceMember-AsyncIterable _) = 5
+interface_member_place (InterfaceMember-Maplike _) = 6
+interface_member_place (InterfaceMember-Setlike _) = 7
+interface_member_place (InterfaceMember-Stringifier _) = 8
+
+-- `MixinMember`
+abbrev pub mixin_member_place : MixinMember → ℕ
+mixin_member_place (MixinMember-Const _) = 0
+mixin_member_place (MixinMember-Operation _) = 1
+mixin_member_place (MixinMember-Attribute _) = 2
+mixin_member_place (MixinMember-Stringifier _) = 3
+
+-- `Definition`
+abbrev pub definition_place : Definition → ℕ
+definition_place (Definition-Callback _) = 0
+definition_place (Definition-CallbackInterface _) = 1
+definition_place (Definition-Interface _) = 2
+definition_place (Definition-InterfaceMixin _) = 3
+definition_place (Definition-Namespace _) = 4
+definition_place (Definition-Dictionary _) = 5
+definition_place (Definition-PartialInterface _) = 6
+definition_place (Definition-PartialInterfaceMixin _) = 7
+definition_place (Definition-PartialDictionary _) = 8
+definition_place (Definition-PartialNamespace _) = 9
+definition_place (Definition-Enum _) = 10
+definition_place (Definition-Typedef _) = 11
+definition_place (Definition-IncludesStatement _) = 12
+definition_place (Definition-Implements _) = 13

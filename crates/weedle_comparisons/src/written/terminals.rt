@@ -5,7 +5,7 @@
 ghost use Rattle.std.specs.Prelude.{◌≡◌, ◌↔◌};
 
 use std::cmp::Ordering;
-use weedle_term::{
+use weedle_base::term::{
     Any, ArrayBuffer, ArrayBufferView, Assign, Async, Attribute, Boolean, BufferSource, Byte,
     ByteString, Callback, CloseBrace, CloseBracket, CloseParen, Colon, Comma, Const, Constructor,
     DOMString, DataView, Deleter, Dictionary, Dot, Double, Ellipsis, Enum, Error, False, Float,
@@ -21,11 +21,15 @@ use weedle_term::{
 /// A law, which does nothing: the default of each of the symbols is its one value.
 pub fn defaults_of_symbols()
     ensures open_paren { (v : OpenParen) → ⟦<OpenParen as Default>⟧.is_default v ↔ v ≡ record {} }
-    ensures close_paren { (v : CloseParen) → ⟦<CloseParen as Default>⟧.is_default v ↔ v ≡ record {} }
-    ensures open_bracket { (v : OpenBracket) → ⟦<OpenBracket as Default>⟧.is_default v ↔ v ≡ record {} }
-    ensures close_bracket { (v : CloseBracket) → ⟦<CloseBracket as Default>⟧.is_default v ↔ v ≡ record {} }
+    ensures close_paren { (v : CloseParen) → ⟦<CloseParen as Default>⟧.is_default v
+        ↔ v ≡ record {} }
+    ensures open_bracket { (v : OpenBracket) → ⟦<OpenBracket as Default>⟧.is_default v
+        ↔ v ≡ record {} }
+    ensures close_bracket { (v : CloseBracket) → ⟦<CloseBracket as Default>⟧.is_default v
+        ↔ v ≡ record {} }
     ensures open_brace { (v : OpenBrace) → ⟦<OpenBrace as Default>⟧.is_default v ↔ v ≡ record {} }
-    ensures close_brace { (v : CloseBrace) → ⟦<CloseBrace as Default>⟧.is_default v ↔ v ≡ record {} }
+    ensures close_brace { (v : CloseBrace) → ⟦<CloseBrace as Default>⟧.is_default v
+        ↔ v ≡ record {} }
     ensures comma { (v : Comma) → ⟦<Comma as Default>⟧.is_default v ↔ v ≡ record {} }
     ensures minus { (v : Minus) → ⟦<Minus as Default>⟧.is_default v ↔ v ≡ record {} }
     ensures dot { (v : Dot) → ⟦<Dot as Default>⟧.is_default v ↔ v ≡ record {} }
@@ -34,7 +38,8 @@ pub fn defaults_of_symbols()
     ensures semi_colon { (v : SemiColon) → ⟦<SemiColon as Default>⟧.is_default v ↔ v ≡ record {} }
     ensures less_than { (v : LessThan) → ⟦<LessThan as Default>⟧.is_default v ↔ v ≡ record {} }
     ensures assign { (v : Assign) → ⟦<Assign as Default>⟧.is_default v ↔ v ≡ record {} }
-    ensures greater_than { (v : GreaterThan) → ⟦<GreaterThan as Default>⟧.is_default v ↔ v ≡ record {} }
+    ensures greater_than { (v : GreaterThan) → ⟦<GreaterThan as Default>⟧.is_default v
+        ↔ v ≡ record {} }
     ensures q_mark { (v : QMark) → ⟦<QMark as Default>⟧.is_default v ↔ v ≡ record {} }
 {}
 
@@ -43,7 +48,8 @@ pub fn orders_of_symbols()
     ensures open_paren { (a b : OpenParen) → ⟦<OpenParen as Ord>⟧.cmp a b ≡ Ordering.Equal }
     ensures close_paren { (a b : CloseParen) → ⟦<CloseParen as Ord>⟧.cmp a b ≡ Ordering.Equal }
     ensures open_bracket { (a b : OpenBracket) → ⟦<OpenBracket as Ord>⟧.cmp a b ≡ Ordering.Equal }
-    ensures close_bracket { (a b : CloseBracket) → ⟦<CloseBracket as Ord>⟧.cmp a b ≡ Ordering.Equal }
+    ensures close_bracket { (a b : CloseBracket)
+        → ⟦<CloseBracket as Ord>⟧.cmp a b ≡ Ordering.Equal }
     ensures open_brace { (a b : OpenBrace) → ⟦<OpenBrace as Ord>⟧.cmp a b ≡ Ordering.Equal }
     ensures close_brace { (a b : CloseBrace) → ⟦<CloseBrace as Ord>⟧.cmp a b ≡ Ordering.Equal }
     ensures comma { (a b : Comma) → ⟦<Comma as Ord>⟧.cmp a b ≡ Ordering.Equal }
@@ -80,13 +86,16 @@ pub fn defaults_of_definition_keywords()
     ensures setlike { (v : Setlike) → ⟦<Setlike as Default>⟧.is_default v ↔ v ≡ record {} }
     ensures setter { (v : Setter) → ⟦<Setter as Default>⟧.is_default v ↔ v ≡ record {} }
     ensures static_ { (v : Static) → ⟦<Static as Default>⟧.is_default v ↔ v ≡ record {} }
-    ensures stringifier { (v : Stringifier) → ⟦<Stringifier as Default>⟧.is_default v ↔ v ≡ record {} }
+    ensures stringifier { (v : Stringifier) → ⟦<Stringifier as Default>⟧.is_default v
+        ↔ v ≡ record {} }
     ensures typedef { (v : Typedef) → ⟦<Typedef as Default>⟧.is_default v ↔ v ≡ record {} }
     ensures read_only { (v : ReadOnly) → ⟦<ReadOnly as Default>⟧.is_default v ↔ v ≡ record {} }
     ensures mixin { (v : Mixin) → ⟦<Mixin as Default>⟧.is_default v ↔ v ≡ record {} }
     ensures implements { (v : Implements) → ⟦<Implements as Default>⟧.is_default v ↔ v ≡ record {} }
-    ensures legacy_caller { (v : LegacyCaller) → ⟦<LegacyCaller as Default>⟧.is_default v ↔ v ≡ record {} }
-    ensures constructor { (v : Constructor) → ⟦<Constructor as Default>⟧.is_default v ↔ v ≡ record {} }
+    ensures legacy_caller { (v : LegacyCaller) → ⟦<LegacyCaller as Default>⟧.is_default v
+        ↔ v ≡ record {} }
+    ensures constructor { (v : Constructor) → ⟦<Constructor as Default>⟧.is_default v
+        ↔ v ≡ record {} }
 {}
 
 /// A law, which does nothing: of two values of one of the keywords of definitions and their members
@@ -116,7 +125,8 @@ pub fn orders_of_definition_keywords()
     ensures read_only { (a b : ReadOnly) → ⟦<ReadOnly as Ord>⟧.cmp a b ≡ Ordering.Equal }
     ensures mixin { (a b : Mixin) → ⟦<Mixin as Ord>⟧.cmp a b ≡ Ordering.Equal }
     ensures implements { (a b : Implements) → ⟦<Implements as Ord>⟧.cmp a b ≡ Ordering.Equal }
-    ensures legacy_caller { (a b : LegacyCaller) → ⟦<LegacyCaller as Ord>⟧.cmp a b ≡ Ordering.Equal }
+    ensures legacy_caller { (a b : LegacyCaller)
+        → ⟦<LegacyCaller as Ord>⟧.cmp a b ≡ Ordering.Equal }
     ensures constructor { (a b : Constructor) → ⟦<Constructor as Ord>⟧.cmp a b ≡ Ordering.Equal }
 {}
 
@@ -125,7 +135,8 @@ pub fn orders_of_definition_keywords()
 pub fn defaults_of_type_keywords()
     ensures or { (v : Or) → ⟦<Or as Default>⟧.is_default v ↔ v ≡ record {} }
     ensures optional { (v : Optional) → ⟦<Optional as Default>⟧.is_default v ↔ v ≡ record {} }
-    ensures unrestricted { (v : Unrestricted) → ⟦<Unrestricted as Default>⟧.is_default v ↔ v ≡ record {} }
+    ensures unrestricted { (v : Unrestricted) → ⟦<Unrestricted as Default>⟧.is_default v
+        ↔ v ≡ record {} }
     ensures symbol { (v : Symbol) → ⟦<Symbol as Default>⟧.is_default v ↔ v ≡ record {} }
     ensures any { (v : Any) → ⟦<Any as Default>⟧.is_default v ↔ v ≡ record {} }
     ensures boolean { (v : Boolean) → ⟦<Boolean as Default>⟧.is_default v ↔ v ≡ record {} }
@@ -172,28 +183,42 @@ pub fn orders_of_type_keywords()
 
 /// A law, which does nothing: the default of each of the keywords with capitals is its one value.
 pub fn defaults_of_capitalized_keywords()
-    ensures byte_string { (v : ByteString) → ⟦<ByteString as Default>⟧.is_default v ↔ v ≡ record {} }
+    ensures byte_string { (v : ByteString) → ⟦<ByteString as Default>⟧.is_default v
+        ↔ v ≡ record {} }
     ensures dom_string { (v : DOMString) → ⟦<DOMString as Default>⟧.is_default v ↔ v ≡ record {} }
-    ensures frozen_array { (v : FrozenArray) → ⟦<FrozenArray as Default>⟧.is_default v ↔ v ≡ record {} }
+    ensures frozen_array { (v : FrozenArray) → ⟦<FrozenArray as Default>⟧.is_default v
+        ↔ v ≡ record {} }
     ensures infinity { (v : Infinity) → ⟦<Infinity as Default>⟧.is_default v ↔ v ≡ record {} }
     ensures nan { (v : NaN) → ⟦<NaN as Default>⟧.is_default v ↔ v ≡ record {} }
     ensures usv_string { (v : USVString) → ⟦<USVString as Default>⟧.is_default v ↔ v ≡ record {} }
-    ensures array_buffer { (v : ArrayBuffer) → ⟦<ArrayBuffer as Default>⟧.is_default v ↔ v ≡ record {} }
+    ensures array_buffer { (v : ArrayBuffer) → ⟦<ArrayBuffer as Default>⟧.is_default v
+        ↔ v ≡ record {} }
     ensures data_view { (v : DataView) → ⟦<DataView as Default>⟧.is_default v ↔ v ≡ record {} }
     ensures int8_array { (v : Int8Array) → ⟦<Int8Array as Default>⟧.is_default v ↔ v ≡ record {} }
-    ensures int16_array { (v : Int16Array) → ⟦<Int16Array as Default>⟧.is_default v ↔ v ≡ record {} }
-    ensures int32_array { (v : Int32Array) → ⟦<Int32Array as Default>⟧.is_default v ↔ v ≡ record {} }
-    ensures uint8_array { (v : Uint8Array) → ⟦<Uint8Array as Default>⟧.is_default v ↔ v ≡ record {} }
-    ensures uint16_array { (v : Uint16Array) → ⟦<Uint16Array as Default>⟧.is_default v ↔ v ≡ record {} }
-    ensures uint32_array { (v : Uint32Array) → ⟦<Uint32Array as Default>⟧.is_default v ↔ v ≡ record {} }
-    ensures uint8_clamped_array { (v : Uint8ClampedArray) → ⟦<Uint8ClampedArray as Default>⟧.is_default v ↔ v ≡ record {} }
-    ensures float32_array { (v : Float32Array) → ⟦<Float32Array as Default>⟧.is_default v ↔ v ≡ record {} }
-    ensures float64_array { (v : Float64Array) → ⟦<Float64Array as Default>⟧.is_default v ↔ v ≡ record {} }
-    ensures array_buffer_view { (v : ArrayBufferView) → ⟦<ArrayBufferView as Default>⟧.is_default v ↔ v ≡ record {} }
-    ensures buffer_source { (v : BufferSource) → ⟦<BufferSource as Default>⟧.is_default v ↔ v ≡ record {} }
+    ensures int16_array { (v : Int16Array) → ⟦<Int16Array as Default>⟧.is_default v
+        ↔ v ≡ record {} }
+    ensures int32_array { (v : Int32Array) → ⟦<Int32Array as Default>⟧.is_default v
+        ↔ v ≡ record {} }
+    ensures uint8_array { (v : Uint8Array) → ⟦<Uint8Array as Default>⟧.is_default v
+        ↔ v ≡ record {} }
+    ensures uint16_array { (v : Uint16Array) → ⟦<Uint16Array as Default>⟧.is_default v
+        ↔ v ≡ record {} }
+    ensures uint32_array { (v : Uint32Array) → ⟦<Uint32Array as Default>⟧.is_default v
+        ↔ v ≡ record {} }
+    ensures uint8_clamped_array { (v : Uint8ClampedArray)
+        → ⟦<Uint8ClampedArray as Default>⟧.is_default v ↔ v ≡ record {} }
+    ensures float32_array { (v : Float32Array) → ⟦<Float32Array as Default>⟧.is_default v
+        ↔ v ≡ record {} }
+    ensures float64_array { (v : Float64Array) → ⟦<Float64Array as Default>⟧.is_default v
+        ↔ v ≡ record {} }
+    ensures array_buffer_view { (v : ArrayBufferView) → ⟦<ArrayBufferView as Default>⟧.is_default v
+        ↔ v ≡ record {} }
+    ensures buffer_source { (v : BufferSource) → ⟦<BufferSource as Default>⟧.is_default v
+        ↔ v ≡ record {} }
     ensures promise { (v : Promise) → ⟦<Promise as Default>⟧.is_default v ↔ v ≡ record {} }
     ensures error { (v : Error) → ⟦<Error as Default>⟧.is_default v ↔ v ≡ record {} }
-    ensures neg_infinity { (v : NegInfinity) → ⟦<NegInfinity as Default>⟧.is_default v ↔ v ≡ record {} }
+    ensures neg_infinity { (v : NegInfinity) → ⟦<NegInfinity as Default>⟧.is_default v
+        ↔ v ≡ record {} }
 {}
 
 /// A law, which does nothing: of two values of one of the keywords with capitals neither stands
@@ -213,11 +238,16 @@ pub fn orders_of_capitalized_keywords()
     ensures uint8_array { (a b : Uint8Array) → ⟦<Uint8Array as Ord>⟧.cmp a b ≡ Ordering.Equal }
     ensures uint16_array { (a b : Uint16Array) → ⟦<Uint16Array as Ord>⟧.cmp a b ≡ Ordering.Equal }
     ensures uint32_array { (a b : Uint32Array) → ⟦<Uint32Array as Ord>⟧.cmp a b ≡ Ordering.Equal }
-    ensures uint8_clamped_array { (a b : Uint8ClampedArray) → ⟦<Uint8ClampedArray as Ord>⟧.cmp a b ≡ Ordering.Equal }
-    ensures float32_array { (a b : Float32Array) → ⟦<Float32Array as Ord>⟧.cmp a b ≡ Ordering.Equal }
-    ensures float64_array { (a b : Float64Array) → ⟦<Float64Array as Ord>⟧.cmp a b ≡ Ordering.Equal }
-    ensures array_buffer_view { (a b : ArrayBufferView) → ⟦<ArrayBufferView as Ord>⟧.cmp a b ≡ Ordering.Equal }
-    ensures buffer_source { (a b : BufferSource) → ⟦<BufferSource as Ord>⟧.cmp a b ≡ Ordering.Equal }
+    ensures uint8_clamped_array { (a b : Uint8ClampedArray)
+        → ⟦<Uint8ClampedArray as Ord>⟧.cmp a b ≡ Ordering.Equal }
+    ensures float32_array { (a b : Float32Array)
+        → ⟦<Float32Array as Ord>⟧.cmp a b ≡ Ordering.Equal }
+    ensures float64_array { (a b : Float64Array)
+        → ⟦<Float64Array as Ord>⟧.cmp a b ≡ Ordering.Equal }
+    ensures array_buffer_view { (a b : ArrayBufferView)
+        → ⟦<ArrayBufferView as Ord>⟧.cmp a b ≡ Ordering.Equal }
+    ensures buffer_source { (a b : BufferSource)
+        → ⟦<BufferSource as Ord>⟧.cmp a b ≡ Ordering.Equal }
     ensures promise { (a b : Promise) → ⟦<Promise as Ord>⟧.cmp a b ≡ Ordering.Equal }
     ensures error { (a b : Error) → ⟦<Error as Ord>⟧.cmp a b ≡ Ordering.Equal }
     ensures neg_infinity { (a b : NegInfinity) → ⟦<NegInfinity as Ord>⟧.cmp a b ≡ Ordering.Equal }

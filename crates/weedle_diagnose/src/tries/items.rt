@@ -1,6 +1,6 @@
 //! Rows of items: repetitions and lists.
 
-ghost use Rattle.std.specs.Prelude.{◌≡◌, ◌<◌, ◌*◌, ℕ, length};
+ghost use Rattle.std.specs.Prelude.{◌^◌, ◌≡◌, ◌<◌, ◌*◌, ℕ, length};
 ghost use Rattle.weedle_grammar.specs.Rows.{Many, Tail};
 ghost use Rattle.weedle_grammar.specs.written.Table.{row_of};
 ghost use Rattle.weedle_diagnose.specs.Tries.{Tries, TriesListed};
@@ -20,7 +20,7 @@ pub(crate) fn many(
     item: Rule,
 )
     requires last { last ≡ length ends.now.text }
-    requires fits { 64 * length marks.old < 18446744073709551616 }
+    requires fits { 64 * length marks.old < 2 ^ 64 }
     requires here { HasBit last (length marks.old) rule place }
     requires row { row_of rule ≡ Many item }
     ensures { Adds last marks.old marks.new (Tries ends.now.text rule place) }
@@ -46,8 +46,9 @@ pub(crate) fn listed(
     tail: Rule,
 )
     requires last { last ≡ length ends.now.text }
-    requires fits { 64 * length marks.old < 18446744073709551616 }
-    requires inside { (x q : ℕ) → TriesListed ends.now.text item tail place x q → HasBit last (length marks.old) x q }
+    requires fits { 64 * length marks.old < 2 ^ 64 }
+    requires inside { (x q : ℕ) → TriesListed ends.now.text item tail place x q
+        → HasBit last (length marks.old) x q }
     ensures { Adds last marks.old marks.new (TriesListed ends.now.text item tail place) }
 {
     mark(marks, last, item, place);
@@ -68,7 +69,7 @@ pub(crate) fn tail(
     separator: Rule,
 )
     requires last { last ≡ length ends.now.text }
-    requires fits { 64 * length marks.old < 18446744073709551616 }
+    requires fits { 64 * length marks.old < 2 ^ 64 }
     requires here { HasBit last (length marks.old) rule place }
     requires row { row_of rule ≡ Tail item separator }
     ensures { Adds last marks.old marks.new (Tries ends.now.text rule place) }

@@ -1,6 +1,6 @@
 //! Rows of several parts: sequences, choices, and sequences whose last part has a condition.
 
-ghost use Rattle.std.specs.Prelude.{◌≡◌, ◌≤◌, ◌<◌, ◌*◌, ℕ, length, MatchOption, if◌then◌else◌};
+ghost use Rattle.std.specs.Prelude.{◌^◌, ◌≡◌, ◌≤◌, ◌<◌, ◌*◌, ℕ, length, MatchOption, if◌then◌else◌};
 ghost use Rattle.weedle_grammar.specs.written.Bound.{rule_count};
 ghost use Rattle.weedle_grammar.specs.Rows.{If};
 ghost use Rattle.weedle_grammar.specs.written.Table.{row_of};
@@ -15,8 +15,9 @@ use weedle_rules::Ends;
 /// Marks the parts, each where the one before it ends, up to the first that fails.
 pub(crate) fn in_turn(marks: &mut [u64], ends: &Ends<'_>, last: usize, place: usize, parts: Parts)
     requires last { last ≡ length ends.now.text }
-    requires fits { 64 * length marks.old < 18446744073709551616 }
-    requires inside { (x q : ℕ) → TriesInTurn ends.now.text (numbers_of parts) place x q → HasBit last (length marks.old) x q }
+    requires fits { 64 * length marks.old < 2 ^ 64 }
+    requires inside { (x q : ℕ) → TriesInTurn ends.now.text (numbers_of parts) place x q
+        → HasBit last (length marks.old) x q }
     ensures { Adds last marks.old marks.new (TriesInTurn ends.now.text (numbers_of parts) place) }
 {
     let mut end = place;
@@ -33,8 +34,9 @@ pub(crate) fn in_turn(marks: &mut [u64], ends: &Ends<'_>, last: usize, place: us
 /// Marks the parts of a choice, up to the first that fits.
 pub(crate) fn by_choice(marks: &mut [u64], ends: &Ends<'_>, last: usize, place: usize, parts: Parts)
     requires last { last ≡ length ends.now.text }
-    requires fits { 64 * length marks.old < 18446744073709551616 }
-    requires inside { (x q : ℕ) → TriesByChoice ends.now.text (numbers_of parts) place x q → HasBit last (length marks.old) x q }
+    requires fits { 64 * length marks.old < 2 ^ 64 }
+    requires inside { (x q : ℕ) → TriesByChoice ends.now.text (numbers_of parts) place x q
+        → HasBit last (length marks.old) x q }
     ensures { Adds last marks.old marks.new (TriesByChoice ends.now.text (numbers_of parts) place) }
 {
     for i in 0..parts.len() {
@@ -67,7 +69,8 @@ fn end_with(
     requires within { place ≤ length ends.now.text }
     requires low { rule < rule_count }
     requires row { row_of rule ≡ If (numbers_of parts) k y }
-    ensures { MatchOption result ((q : ℕ) → EndsWith ends.now.text (numbers_of parts) k place q → ⊥) (λ q. EndsWith ends.now.text (numbers_of parts) k place q) }
+    ensures { MatchOption result ((q : ℕ) → EndsWith ends.now.text (numbers_of parts) k place q → ⊥)
+        (λ q. EndsWith ends.now.text (numbers_of parts) k place q) }
 {
     let mut end = place;
     let mut present = false;
@@ -95,7 +98,7 @@ pub(crate) fn conditional(
     y: Rule,
 )
     requires last { last ≡ length ends.now.text }
-    requires fits { 64 * length marks.old < 18446744073709551616 }
+    requires fits { 64 * length marks.old < 2 ^ 64 }
     requires here { HasBit last (length marks.old) rule place }
     requires row { row_of rule ≡ If (numbers_of parts) k y }
     ensures { Adds last marks.old marks.new (Tries ends.now.text rule place) }

@@ -10,6 +10,10 @@ use Rattle.weedle_base.specs.Reading.{Faults, Got, Reading}
 use Rattle.weedle_base.specs.Rules.{IsRule, option_tree}
 use Rattle.weedle_base.specs.declared.fault.Err.{Err as Fault}
 use Rattle.weedle_base.specs.declared.fault.Error.{Error}
+use Rattle.weedle_base.specs.declared.term.written.definition_keywords.Callback.{Callback}
+use Rattle.weedle_base.specs.declared.term.written.definition_keywords.Interface.{Interface}
+use Rattle.weedle_base.specs.declared.term.written.definition_keywords.Partial.{Partial}
+use Rattle.weedle_base.specs.declared.term.written.symbols.SemiColon.{SemiColon}
 use Rattle.weedle_grammar.specs.Trees.{Mark, Node, trees}
 use Rattle.weedle_grammar.specs.written.Table.Definitions.{CALLBACK_INTERFACE_DEFINITION, INTERFACE_DEFINITION, PARTIAL_INTERFACE_DEFINITION}
 use Rattle.weedle_grammar.specs.written.Table.InterfaceMembers.{BRACED_INTERFACE_MEMBERS, INHERITANCE, INTERFACE_MEMBER, INTERFACE_MEMBERS, OPT_DOCSTRING, OPT_INHERITANCE}
@@ -29,10 +33,6 @@ use Rattle.weedle_parts.specs.ValueTrees.{braced_tree, docstring_tree, identifie
 use Rattle.weedle_parts.specs.declared.common.brackets.Braced.{Braced}
 use Rattle.weedle_parts.specs.declared.common.docstring.Docstring.{Docstring}
 use Rattle.weedle_parts.specs.declared.common.identifier.Identifier.{Identifier}
-use Rattle.weedle_term.specs.declared.written.definition_keywords.Callback.{Callback}
-use Rattle.weedle_term.specs.declared.written.definition_keywords.Interface.{Interface}
-use Rattle.weedle_term.specs.declared.written.definition_keywords.Partial.{Partial}
-use Rattle.weedle_term.specs.declared.written.symbols.SemiColon.{SemiColon}
 use Rattle.weedle_types.proofs.SharedRules.{attributes_reading, attributes_rule, members_reading, members_rule, perhaps, word}
 use Rattle.weedle_types.specs.PartTrees.{Attributes, members_tree}
 use Rattle.weedle_types.specs.Steps.{members}

@@ -21,19 +21,20 @@ use super::{CallbackInterfaceDefinition, InterfaceDefinition, PartialInterfaceDe
 use crate::InterfaceMembers;
 use crate::members::copy_interface_members;
 use std::alloc::{AllocError, Global};
+use weedle_base::term::{Callback, Interface, Partial, SemiColon};
 use weedle_base::{IResult, Parse, TryClone};
 use weedle_fields::{
     attributes_and_five, docstring_attributes_and_five, docstring_attributes_and_six,
 };
 use weedle_modifier::Inheritance;
 use weedle_parts::common::{Braced, Docstring, Identifier};
-use weedle_term::{Callback, Interface, Partial, SemiColon};
 use weedle_types::attribute::ExtendedAttributeList;
 use weedle_types::copies::{copy_attributes, copy_docstring};
 
 #[tactic(auto, using(crate::proofs::written::DefinitionRules::callback_interface_definition_steps))]
 impl<'a> Parse<'a> for CallbackInterfaceDefinition<'a> {
-    ghost reading = { own CALLBACK_INTERFACE_DEFINITION callback_interface_definition_tree (Unit {0}) };
+    ghost reading = { own CALLBACK_INTERFACE_DEFINITION callback_interface_definition_tree
+        (Unit {0}) };
 
     fn parse(alloc: Global, input: &'a str) -> IResult<&'a str, Self> {
         match docstring_attributes_and_six(alloc, input) {
@@ -68,11 +69,13 @@ impl<'a> Parse<'a> for CallbackInterfaceDefinition<'a> {
         }
     }
 
-    ghost lawful = { own_lawful CALLBACK_INTERFACE_DEFINITION callback_interface_definition_tree (Unit {0}) };
+    ghost lawful = { own_lawful CALLBACK_INTERFACE_DEFINITION callback_interface_definition_tree
+        (Unit {0}) };
 }
 
 impl TryClone for CallbackInterfaceDefinition<'_> {
-    ghost alike = { λ a b. callback_interface_definition_tree a ≡ callback_interface_definition_tree b };
+    ghost alike = { λ a b. callback_interface_definition_tree a
+        ≡ callback_interface_definition_tree b };
 
     fn try_clone(&self, alloc: Global) -> Result<Self, AllocError> {
         Ok(CallbackInterfaceDefinition {
@@ -242,7 +245,8 @@ impl<'a> InterfaceDefinition<'a> {
 
 #[tactic(auto, using(crate::proofs::written::DefinitionRules::partial_interface_definition_steps))]
 impl<'a> Parse<'a> for PartialInterfaceDefinition<'a> {
-    ghost reading = { own PARTIAL_INTERFACE_DEFINITION partial_interface_definition_tree (Unit {0}) };
+    ghost reading = { own PARTIAL_INTERFACE_DEFINITION partial_interface_definition_tree
+        (Unit {0}) };
 
     fn parse(alloc: Global, input: &'a str) -> IResult<&'a str, Self> {
         match attributes_and_five(alloc, input) {
@@ -261,11 +265,13 @@ impl<'a> Parse<'a> for PartialInterfaceDefinition<'a> {
         }
     }
 
-    ghost lawful = { own_lawful PARTIAL_INTERFACE_DEFINITION partial_interface_definition_tree (Unit {0}) };
+    ghost lawful = { own_lawful PARTIAL_INTERFACE_DEFINITION partial_interface_definition_tree
+        (Unit {0}) };
 }
 
 impl TryClone for PartialInterfaceDefinition<'_> {
-    ghost alike = { λ a b. partial_interface_definition_tree a ≡ partial_interface_definition_tree b };
+    ghost alike = { λ a b. partial_interface_definition_tree a
+        ≡ partial_interface_definition_tree b };
 
     fn try_clone(&self, alloc: Global) -> Result<Self, AllocError> {
         Ok(PartialInterfaceDefinition {

@@ -9,6 +9,10 @@ use Rattle.weedle_base.specs.Reading.{Faults, Got, Reading}
 use Rattle.weedle_base.specs.Rules.{IsRule, mark_tree, option_tree}
 use Rattle.weedle_base.specs.declared.fault.Err.{Err as Fault}
 use Rattle.weedle_base.specs.declared.fault.Error.{Error}
+use Rattle.weedle_base.specs.declared.term.written.definition_keywords.Maplike.{Maplike}
+use Rattle.weedle_base.specs.declared.term.written.definition_keywords.ReadOnly.{ReadOnly}
+use Rattle.weedle_base.specs.declared.term.written.definition_keywords.Setlike.{Setlike}
+use Rattle.weedle_base.specs.declared.term.written.symbols.SemiColon.{SemiColon}
 use Rattle.weedle_grammar.specs.Trees.{Mark, Node, trees}
 use Rattle.weedle_grammar.specs.written.Table.InterfaceMembers.{MAPLIKE_INTERFACE_MEMBER, OPT_READ_ONLY, SETLIKE_INTERFACE_MEMBER}
 use Rattle.weedle_grammar.specs.written.Table.Keywords.{MAPLIKE, READ_ONLY, SETLIKE}
@@ -16,10 +20,6 @@ use Rattle.weedle_grammar.specs.written.Table.Symbols.{SEMI_COLON}
 use Rattle.weedle_iterables.specs.declared.collection.MaplikeInterfaceMember.{MaplikeInterfaceMember}
 use Rattle.weedle_iterables.specs.declared.collection.SetlikeInterfaceMember.{SetlikeInterfaceMember}
 use Rattle.weedle_iterables.specs.written.Trees.{maplike_interface_member_tree, setlike_interface_member_tree}
-use Rattle.weedle_term.specs.declared.written.definition_keywords.Maplike.{Maplike}
-use Rattle.weedle_term.specs.declared.written.definition_keywords.ReadOnly.{ReadOnly}
-use Rattle.weedle_term.specs.declared.written.definition_keywords.Setlike.{Setlike}
-use Rattle.weedle_term.specs.declared.written.symbols.SemiColon.{SemiColon}
 use Rattle.weedle_types.proofs.GenericsRules.{one_type_reading, one_type_rule, two_types_reading, two_types_rule}
 use Rattle.weedle_types.proofs.SharedRules.{attributes_reading, attributes_rule, perhaps, word}
 use Rattle.weedle_types.specs.GenericsTrees.{OneType, TwoTypes, one_type_tree, two_types_tree}

@@ -14,6 +14,8 @@ use Rattle.weedle_base.specs.declared.choice.Choice.TheVariants.{First, Second}
 use Rattle.weedle_base.specs.declared.choice.Choice.{Choice}
 use Rattle.weedle_base.specs.declared.fault.Err.{Err as Fault}
 use Rattle.weedle_base.specs.declared.fault.Error.{Error}
+use Rattle.weedle_base.specs.declared.term.written.definition_keywords.Iterable.{Iterable}
+use Rattle.weedle_base.specs.declared.term.written.symbols.SemiColon.{SemiColon}
 use Rattle.weedle_grammar.specs.Trees.{Alt, Mark, Node, trees}
 use Rattle.weedle_grammar.specs.written.Table.InterfaceMembers.{DOUBLE_TYPED_ITERABLE, ITERABLE_INTERFACE_MEMBER, SINGLE_TYPED_ITERABLE}
 use Rattle.weedle_grammar.specs.written.Table.Keywords.{ITERABLE}
@@ -23,8 +25,6 @@ use Rattle.weedle_iterables.specs.declared.iterable.IterableInterfaceMember.TheV
 use Rattle.weedle_iterables.specs.declared.iterable.IterableInterfaceMember.{IterableInterfaceMember}
 use Rattle.weedle_iterables.specs.declared.iterable.SingleTypedIterable.{SingleTypedIterable}
 use Rattle.weedle_iterables.specs.written.Trees.{double_typed_iterable_tree, iterable_interface_member_tree, single_typed_iterable_tree}
-use Rattle.weedle_term.specs.declared.written.definition_keywords.Iterable.{Iterable}
-use Rattle.weedle_term.specs.declared.written.symbols.SemiColon.{SemiColon}
 use Rattle.weedle_types.proofs.GenericsRules.{one_type_reading, one_type_rule, two_types_reading, two_types_rule}
 use Rattle.weedle_types.proofs.SharedRules.{attributes_reading, attributes_rule, word}
 use Rattle.weedle_types.specs.GenericsTrees.{OneType, TwoTypes, one_type_tree, two_types_tree}

@@ -20,10 +20,10 @@ ghost use Rattle.weedle_iterables.specs.written.Trees.{
 use super::{DoubleTypedIterable, IterableInterfaceMember, SingleTypedIterable};
 use std::alloc::{AllocError, Global};
 use weedle_base::Choice::{self, First, Second};
+use weedle_base::term::{Comma, Iterable, SemiColon};
 use weedle_base::{IResult, Parse, TryClone};
 use weedle_fields::attributes_and_three;
 use weedle_parts::common::Generics;
-use weedle_term::{Comma, Iterable, SemiColon};
 use weedle_types::attribute::ExtendedAttributeList;
 use weedle_types::copies::{copy_attributes, copy_one_type, copy_two_types};
 use weedle_types::types::AttributedType;
@@ -169,7 +169,8 @@ impl<'a> Parse<'a> for IterableInterfaceMember<'a> {
         Ok((rest, member))
     }
 
-    ghost lawful = { own_lawful ITERABLE_INTERFACE_MEMBER iterable_interface_member_tree (Unit {0}) };
+    ghost lawful = { own_lawful ITERABLE_INTERFACE_MEMBER iterable_interface_member_tree
+        (Unit {0}) };
 }
 
 impl TryClone for IterableInterfaceMember<'_> {

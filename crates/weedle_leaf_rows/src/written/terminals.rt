@@ -5,7 +5,7 @@
 use std::alloc::Global;
 use std::process::Abort;
 use weedle_base::Parse;
-use weedle_term::*;
+use weedle_base::term::*;
 use weedle_testing::Wanted;
 
 /// Reads a terminal that stands between blanks and before `anything`: with all of it, and alone,

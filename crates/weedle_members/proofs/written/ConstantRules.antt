@@ -9,6 +9,9 @@ use Rattle.weedle_base.specs.Reading.{Faults, Got, Reading}
 use Rattle.weedle_base.specs.Rules.{IsRule}
 use Rattle.weedle_base.specs.declared.fault.Err.{Err as Fault}
 use Rattle.weedle_base.specs.declared.fault.Error.{Error}
+use Rattle.weedle_base.specs.declared.term.written.definition_keywords.Const.{Const}
+use Rattle.weedle_base.specs.declared.term.written.symbols.Assign.{Assign}
+use Rattle.weedle_base.specs.declared.term.written.symbols.SemiColon.{SemiColon}
 use Rattle.weedle_grammar.specs.Trees.{Mark, Node, trees}
 use Rattle.weedle_grammar.specs.written.Table.InterfaceMembers.{CONST_MEMBER}
 use Rattle.weedle_grammar.specs.written.Table.Keywords.{CONST}
@@ -16,16 +19,13 @@ use Rattle.weedle_grammar.specs.written.Table.Leaves.{IDENTIFIER}
 use Rattle.weedle_grammar.specs.written.Table.Literals.{CONST_VALUE}
 use Rattle.weedle_grammar.specs.written.Table.SimpleTypes.{CONST_TYPE}
 use Rattle.weedle_grammar.specs.written.Table.Symbols.{ASSIGN, SEMI_COLON}
-use Rattle.weedle_literal.specs.LiteralTrees.{const_value_tree}
-use Rattle.weedle_literal.specs.declared.value.ConstValue.{ConstValue}
 use Rattle.weedle_members.specs.declared.constant.ConstMember.{ConstMember}
 use Rattle.weedle_members.specs.written.Trees.{const_member_tree}
+use Rattle.weedle_parts.specs.LiteralTrees.{const_value_tree}
 use Rattle.weedle_parts.specs.ValueTrees.{const_type_tree, identifier_tree}
 use Rattle.weedle_parts.specs.declared.common.identifier.Identifier.{Identifier}
+use Rattle.weedle_parts.specs.declared.literal.value.ConstValue.{ConstValue}
 use Rattle.weedle_parts.specs.declared.types.const_type.ConstType.{ConstType}
-use Rattle.weedle_term.specs.declared.written.definition_keywords.Const.{Const}
-use Rattle.weedle_term.specs.declared.written.symbols.Assign.{Assign}
-use Rattle.weedle_term.specs.declared.written.symbols.SemiColon.{SemiColon}
 use Rattle.weedle_types.proofs.SharedRules.{attributes_reading, attributes_rule, word}
 use Rattle.weedle_types.specs.PartTrees.{Attributes}
 use Rattle.weedle_types.specs.Trees.{attributes_tree}

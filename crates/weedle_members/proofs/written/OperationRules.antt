@@ -10,6 +10,8 @@ use Rattle.weedle_base.specs.Reading.{Faults, Got, Reading}
 use Rattle.weedle_base.specs.Rules.{IsRule, option_tree}
 use Rattle.weedle_base.specs.declared.fault.Err.{Err as Fault}
 use Rattle.weedle_base.specs.declared.fault.Error.{Error}
+use Rattle.weedle_base.specs.declared.term.written.definition_keywords.Constructor.{Constructor}
+use Rattle.weedle_base.specs.declared.term.written.symbols.SemiColon.{SemiColon}
 use Rattle.weedle_grammar.specs.Trees.{Mark, Node, trees}
 use Rattle.weedle_grammar.specs.written.Table.InterfaceMembers.{CONSTRUCTOR_INTERFACE_MEMBER, OPERATION_INTERFACE_MEMBER, OPT_DOCSTRING, OPT_IDENTIFIER, OPT_SPECIAL, OPT_STRINGIFIER_OR_STATIC, SPECIAL, STRINGIFIER_OR_STATIC}
 use Rattle.weedle_grammar.specs.written.Table.Keywords.{CONSTRUCTOR}
@@ -25,8 +27,6 @@ use Rattle.weedle_modifier.specs.written.Trees.{special_tree, stringifier_or_sta
 use Rattle.weedle_parts.specs.ValueTrees.{docstring_tree, identifier_tree}
 use Rattle.weedle_parts.specs.declared.common.docstring.Docstring.{Docstring}
 use Rattle.weedle_parts.specs.declared.common.identifier.Identifier.{Identifier}
-use Rattle.weedle_term.specs.declared.written.definition_keywords.Constructor.{Constructor}
-use Rattle.weedle_term.specs.declared.written.symbols.SemiColon.{SemiColon}
 use Rattle.weedle_types.proofs.SharedRules.{attributes_reading, attributes_rule, perhaps, word}
 use Rattle.weedle_types.specs.PartTrees.{Attributes}
 use Rattle.weedle_types.specs.Trees.{arguments_tree, attributes_tree, return_type_tree}

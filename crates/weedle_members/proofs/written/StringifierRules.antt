@@ -10,14 +10,14 @@ use Rattle.weedle_base.specs.Reading.{Faults, Got, Reading}
 use Rattle.weedle_base.specs.Rules.{IsRule}
 use Rattle.weedle_base.specs.declared.fault.Err.{Err as Fault}
 use Rattle.weedle_base.specs.declared.fault.Error.{Error}
+use Rattle.weedle_base.specs.declared.term.written.definition_keywords.Stringifier.{Stringifier}
+use Rattle.weedle_base.specs.declared.term.written.symbols.SemiColon.{SemiColon}
 use Rattle.weedle_grammar.specs.Trees.{Mark, Node, trees}
 use Rattle.weedle_grammar.specs.written.Table.InterfaceMembers.{STRINGIFIER_MEMBER}
 use Rattle.weedle_grammar.specs.written.Table.Keywords.{STRINGIFIER}
 use Rattle.weedle_grammar.specs.written.Table.Symbols.{SEMI_COLON}
 use Rattle.weedle_members.specs.declared.stringifier.StringifierMember.{StringifierMember}
 use Rattle.weedle_members.specs.written.Trees.{stringifier_member_tree}
-use Rattle.weedle_term.specs.declared.written.definition_keywords.Stringifier.{Stringifier}
-use Rattle.weedle_term.specs.declared.written.symbols.SemiColon.{SemiColon}
 use Rattle.weedle_types.proofs.SharedRules.{attributes_reading, attributes_rule, word}
 use Rattle.weedle_types.specs.PartTrees.{Attributes}
 use Rattle.weedle_types.specs.Trees.{attributes_tree}

@@ -11,11 +11,11 @@ ghost use Rattle.weedle_members.specs.written.Trees.{attribute_interface_member_
 
 use super::AttributeInterfaceMember;
 use std::alloc::{AllocError, Global};
+use weedle_base::term::{Attribute, ReadOnly, SemiColon};
 use weedle_base::{IResult, Parse, TryClone};
 use weedle_fields::attributes_and_six;
 use weedle_modifier::StringifierOrInheritOrStatic;
 use weedle_parts::common::Identifier;
-use weedle_term::{Attribute, ReadOnly, SemiColon};
 use weedle_types::attribute::ExtendedAttributeList;
 use weedle_types::copies::copy_attributes;
 use weedle_types::types::AttributedType;
@@ -44,7 +44,8 @@ impl<'a> Parse<'a> for AttributeInterfaceMember<'a> {
         }
     }
 
-    ghost lawful = { own_lawful ATTRIBUTE_INTERFACE_MEMBER attribute_interface_member_tree (Unit {0}) };
+    ghost lawful = { own_lawful ATTRIBUTE_INTERFACE_MEMBER attribute_interface_member_tree
+        (Unit {0}) };
 }
 
 impl TryClone for AttributeInterfaceMember<'_> {

@@ -11,12 +11,12 @@ ghost use Rattle.weedle_members.specs.written.Trees.{const_member_tree};
 
 use super::ConstMember;
 use std::alloc::{AllocError, Global};
+use weedle_base::term::{Assign, Const, SemiColon};
 use weedle_base::{IResult, Parse, TryClone};
 use weedle_fields::attributes_and_six;
-use weedle_literal::ConstValue;
 use weedle_parts::common::Identifier;
+use weedle_parts::literal::ConstValue;
 use weedle_parts::types::ConstType;
-use weedle_term::{Assign, Const, SemiColon};
 use weedle_types::attribute::ExtendedAttributeList;
 use weedle_types::copies::copy_attributes;
 

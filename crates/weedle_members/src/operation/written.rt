@@ -14,18 +14,19 @@ ghost use Rattle.weedle_members.specs.written.Trees.{
 
 use super::{ConstructorInterfaceMember, OperationInterfaceMember};
 use std::alloc::{AllocError, Global};
+use weedle_base::term::{Constructor, SemiColon};
 use weedle_base::{IResult, Parse, TryClone};
 use weedle_fields::docstring_attributes_and_six;
 use weedle_modifier::{Special, StringifierOrStatic};
 use weedle_parts::common::{Docstring, Identifier};
-use weedle_term::{Constructor, SemiColon};
 use weedle_types::argument::ParenthesizedArgumentList;
 use weedle_types::attribute::ExtendedAttributeList;
 use weedle_types::copies::{copy_attributes, copy_docstring};
 use weedle_types::types::ReturnType;
 
 impl TryClone for ConstructorInterfaceMember<'_> {
-    ghost alike = { λ a b. constructor_interface_member_tree a ≡ constructor_interface_member_tree b };
+    ghost alike = { λ a b. constructor_interface_member_tree a
+        ≡ constructor_interface_member_tree b };
 
     fn try_clone(&self, alloc: Global) -> Result<Self, AllocError> {
         Ok(ConstructorInterfaceMember {
@@ -107,7 +108,8 @@ impl<'a> Parse<'a> for OperationInterfaceMember<'a> {
         }
     }
 
-    ghost lawful = { own_lawful OPERATION_INTERFACE_MEMBER operation_interface_member_tree (Unit {0}) };
+    ghost lawful = { own_lawful OPERATION_INTERFACE_MEMBER operation_interface_member_tree
+        (Unit {0}) };
 }
 
 impl TryClone for OperationInterfaceMember<'_> {

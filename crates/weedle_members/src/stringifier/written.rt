@@ -9,7 +9,7 @@ ghost use Rattle.weedle_members.specs.written.Trees.{stringifier_member_tree};
 use super::StringifierMember;
 use std::alloc::{AllocError, Global};
 use weedle_base::TryClone;
-use weedle_term::{SemiColon, Stringifier};
+use weedle_base::term::{SemiColon, Stringifier};
 use weedle_types::attribute::ExtendedAttributeList;
 use weedle_types::copies::copy_attributes;
 

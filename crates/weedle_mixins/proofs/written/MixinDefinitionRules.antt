@@ -10,6 +10,10 @@ use Rattle.weedle_base.specs.Reading.{Faults, Got, Reading}
 use Rattle.weedle_base.specs.Rules.{IsRule}
 use Rattle.weedle_base.specs.declared.fault.Err.{Err as Fault}
 use Rattle.weedle_base.specs.declared.fault.Error.{Error}
+use Rattle.weedle_base.specs.declared.term.written.definition_keywords.Interface.{Interface}
+use Rattle.weedle_base.specs.declared.term.written.definition_keywords.Mixin.{Mixin}
+use Rattle.weedle_base.specs.declared.term.written.definition_keywords.Partial.{Partial}
+use Rattle.weedle_base.specs.declared.term.written.symbols.SemiColon.{SemiColon}
 use Rattle.weedle_grammar.specs.Trees.{Mark, Node, trees}
 use Rattle.weedle_grammar.specs.written.Table.Definitions.{INTERFACE_MIXIN_DEFINITION, PARTIAL_INTERFACE_MIXIN_DEFINITION}
 use Rattle.weedle_grammar.specs.written.Table.Keywords.{INTERFACE, MIXIN, PARTIAL}
@@ -25,10 +29,6 @@ use Rattle.weedle_parts.specs.Brackets.{braced_reading}
 use Rattle.weedle_parts.specs.ValueTrees.{braced_tree, identifier_tree}
 use Rattle.weedle_parts.specs.declared.common.brackets.Braced.{Braced}
 use Rattle.weedle_parts.specs.declared.common.identifier.Identifier.{Identifier}
-use Rattle.weedle_term.specs.declared.written.definition_keywords.Interface.{Interface}
-use Rattle.weedle_term.specs.declared.written.definition_keywords.Mixin.{Mixin}
-use Rattle.weedle_term.specs.declared.written.definition_keywords.Partial.{Partial}
-use Rattle.weedle_term.specs.declared.written.symbols.SemiColon.{SemiColon}
 use Rattle.weedle_types.proofs.SharedRules.{attributes_reading, attributes_rule, members_reading, members_rule, word}
 use Rattle.weedle_types.specs.PartTrees.{Attributes, members_tree}
 use Rattle.weedle_types.specs.Steps.{members}

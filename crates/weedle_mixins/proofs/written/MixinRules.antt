@@ -14,6 +14,10 @@ use Rattle.weedle_base.specs.declared.choice.Choice.TheVariants.{First, Second}
 use Rattle.weedle_base.specs.declared.choice.Choice.{Choice}
 use Rattle.weedle_base.specs.declared.fault.Err.{Err as Fault}
 use Rattle.weedle_base.specs.declared.fault.Error.{Error}
+use Rattle.weedle_base.specs.declared.term.written.definition_keywords.Attribute.{Attribute}
+use Rattle.weedle_base.specs.declared.term.written.definition_keywords.ReadOnly.{ReadOnly}
+use Rattle.weedle_base.specs.declared.term.written.definition_keywords.Stringifier.{Stringifier}
+use Rattle.weedle_base.specs.declared.term.written.symbols.SemiColon.{SemiColon}
 use Rattle.weedle_grammar.specs.Trees.{Alt, Mark, Node, trees}
 use Rattle.weedle_grammar.specs.written.Table.InterfaceMembers.{CONST_MEMBER, OPT_IDENTIFIER, OPT_READ_ONLY, STRINGIFIER_MEMBER}
 use Rattle.weedle_grammar.specs.written.Table.Keywords.{ATTRIBUTE, READ_ONLY, STRINGIFIER}
@@ -31,10 +35,6 @@ use Rattle.weedle_mixins.specs.declared.mixin.OperationMixinMember.{OperationMix
 use Rattle.weedle_mixins.specs.written.Trees.{attribute_mixin_member_tree, mixin_member_tree, operation_mixin_member_tree}
 use Rattle.weedle_parts.specs.ValueTrees.{identifier_tree}
 use Rattle.weedle_parts.specs.declared.common.identifier.Identifier.{Identifier}
-use Rattle.weedle_term.specs.declared.written.definition_keywords.Attribute.{Attribute}
-use Rattle.weedle_term.specs.declared.written.definition_keywords.ReadOnly.{ReadOnly}
-use Rattle.weedle_term.specs.declared.written.definition_keywords.Stringifier.{Stringifier}
-use Rattle.weedle_term.specs.declared.written.symbols.SemiColon.{SemiColon}
 use Rattle.weedle_types.proofs.SharedRules.{attributes_reading, attributes_rule, perhaps, word}
 use Rattle.weedle_types.specs.PartTrees.{Attributes}
 use Rattle.weedle_types.specs.Trees.{arguments_tree, attributed_type_tree, attributes_tree, return_type_tree}

@@ -19,10 +19,10 @@ use super::{InterfaceMixinDefinition, PartialInterfaceMixinDefinition};
 use crate::copies::copy_mixin_members;
 use crate::mixin::MixinMembers;
 use std::alloc::{AllocError, Global};
+use weedle_base::term::{Interface, Mixin, Partial, SemiColon};
 use weedle_base::{IResult, Parse, TryClone};
 use weedle_fields::{attributes_and_five, attributes_and_six};
 use weedle_parts::common::{Braced, Identifier};
-use weedle_term::{Interface, Mixin, Partial, SemiColon};
 use weedle_types::attribute::ExtendedAttributeList;
 use weedle_types::copies::copy_attributes;
 
@@ -47,7 +47,8 @@ impl<'a> Parse<'a> for InterfaceMixinDefinition<'a> {
         }
     }
 
-    ghost lawful = { own_lawful INTERFACE_MIXIN_DEFINITION interface_mixin_definition_tree (Unit {0}) };
+    ghost lawful = { own_lawful INTERFACE_MIXIN_DEFINITION interface_mixin_definition_tree
+        (Unit {0}) };
 }
 
 impl TryClone for InterfaceMixinDefinition<'_> {
@@ -105,7 +106,8 @@ impl<'a> InterfaceMixinDefinition<'a> {
 
 #[tactic(auto, using(crate::proofs::written::MixinDefinitionRules::partial_interface_mixin_definition_steps))]
 impl<'a> Parse<'a> for PartialInterfaceMixinDefinition<'a> {
-    ghost reading = { own PARTIAL_INTERFACE_MIXIN_DEFINITION partial_interface_mixin_definition_tree (Unit {0}) };
+    ghost reading = { own PARTIAL_INTERFACE_MIXIN_DEFINITION partial_interface_mixin_definition_tree
+        (Unit {0}) };
 
     fn parse(alloc: Global, input: &'a str) -> IResult<&'a str, Self> {
         match attributes_and_six(alloc, input) {
@@ -126,11 +128,13 @@ impl<'a> Parse<'a> for PartialInterfaceMixinDefinition<'a> {
         }
     }
 
-    ghost lawful = { own_lawful PARTIAL_INTERFACE_MIXIN_DEFINITION partial_interface_mixin_definition_tree (Unit {0}) };
+    ghost lawful = { own_lawful PARTIAL_INTERFACE_MIXIN_DEFINITION
+        partial_interface_mixin_definition_tree (Unit {0}) };
 }
 
 impl TryClone for PartialInterfaceMixinDefinition<'_> {
-    ghost alike = { λ a b. partial_interface_mixin_definition_tree a ≡ partial_interface_mixin_definition_tree b };
+    ghost alike = { λ a b. partial_interface_mixin_definition_tree a
+        ≡ partial_interface_mixin_definition_tree b };
 
     fn try_clone(&self, alloc: Global) -> Result<Self, AllocError> {
         Ok(PartialInterfaceMixinDefinition {
@@ -144,7 +148,8 @@ impl TryClone for PartialInterfaceMixinDefinition<'_> {
         })
     }
 
-    ghost equivalence = { seen_equivalence partial_interface_mixin_definition_tree equal_equivalence };
+    ghost equivalence = { seen_equivalence partial_interface_mixin_definition_tree
+        equal_equivalence };
 }
 
 impl<'a> PartialInterfaceMixinDefinition<'a> {

@@ -9,6 +9,7 @@ use Rattle.weedle_base.specs.Reading.{Faults, Got, Reading}
 use Rattle.weedle_base.specs.Rules.{IsRule}
 use Rattle.weedle_base.specs.declared.fault.Err.{Err as Fault}
 use Rattle.weedle_base.specs.declared.fault.Error.{Error}
+use Rattle.weedle_base.specs.declared.term.written.symbols.Colon.{Colon}
 use Rattle.weedle_grammar.specs.Trees.{Mark, Node, trees}
 use Rattle.weedle_grammar.specs.written.Table.InterfaceMembers.{INHERITANCE}
 use Rattle.weedle_grammar.specs.written.Table.Leaves.{IDENTIFIER}
@@ -17,7 +18,6 @@ use Rattle.weedle_modifier.specs.declared.inheritance.Inheritance.{Inheritance}
 use Rattle.weedle_modifier.specs.written.Trees.{inheritance_tree}
 use Rattle.weedle_parts.specs.ValueTrees.{identifier_tree}
 use Rattle.weedle_parts.specs.declared.common.identifier.Identifier.{Identifier}
-use Rattle.weedle_term.specs.declared.written.symbols.Colon.{Colon}
 
 -- a colon and a name
 abbrev inheritance_parts : Reading (Colon × Identifier)

@@ -14,6 +14,13 @@ use Rattle.weedle_base.specs.declared.choice.Choice.TheVariants.{First, Second}
 use Rattle.weedle_base.specs.declared.choice.Choice.{Choice}
 use Rattle.weedle_base.specs.declared.fault.Err.{Err as Fault}
 use Rattle.weedle_base.specs.declared.fault.Error.{Error}
+use Rattle.weedle_base.specs.declared.term.written.definition_keywords.Deleter.{Deleter}
+use Rattle.weedle_base.specs.declared.term.written.definition_keywords.Getter.{Getter}
+use Rattle.weedle_base.specs.declared.term.written.definition_keywords.Inherit.{Inherit}
+use Rattle.weedle_base.specs.declared.term.written.definition_keywords.LegacyCaller.{LegacyCaller}
+use Rattle.weedle_base.specs.declared.term.written.definition_keywords.Setter.{Setter}
+use Rattle.weedle_base.specs.declared.term.written.definition_keywords.Static.{Static}
+use Rattle.weedle_base.specs.declared.term.written.definition_keywords.Stringifier.{Stringifier}
 use Rattle.weedle_grammar.specs.Trees.{Alt, Mark}
 use Rattle.weedle_grammar.specs.written.Table.InterfaceMembers.{SPECIAL, STRINGIFIER_OR_INHERIT_OR_STATIC, STRINGIFIER_OR_STATIC}
 use Rattle.weedle_grammar.specs.written.Table.Keywords.{DELETER, GETTER, INHERIT, LEGACY_CALLER, SETTER, STATIC, STRINGIFIER}
@@ -24,13 +31,6 @@ use Rattle.weedle_modifier.specs.declared.modifier.StringifierOrInheritOrStatic.
 use Rattle.weedle_modifier.specs.declared.modifier.StringifierOrStatic.TheVariants.{Stringifier as IsStringifier, Static as IsStatic}
 use Rattle.weedle_modifier.specs.declared.modifier.StringifierOrStatic.{StringifierOrStatic}
 use Rattle.weedle_modifier.specs.written.Trees.{special_tree, stringifier_or_inherit_or_static_tree, stringifier_or_static_tree}
-use Rattle.weedle_term.specs.declared.written.definition_keywords.Deleter.{Deleter}
-use Rattle.weedle_term.specs.declared.written.definition_keywords.Getter.{Getter}
-use Rattle.weedle_term.specs.declared.written.definition_keywords.Inherit.{Inherit}
-use Rattle.weedle_term.specs.declared.written.definition_keywords.LegacyCaller.{LegacyCaller}
-use Rattle.weedle_term.specs.declared.written.definition_keywords.Setter.{Setter}
-use Rattle.weedle_term.specs.declared.written.definition_keywords.Static.{Static}
-use Rattle.weedle_term.specs.declared.written.definition_keywords.Stringifier.{Stringifier}
 
 -- one of four words
 abbrev special_parts : Reading (Choice Getter (Choice Setter (Choice Deleter LegacyCaller)))

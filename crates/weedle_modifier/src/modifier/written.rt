@@ -19,8 +19,8 @@ ghost use Rattle.weedle_modifier.specs.written.Trees.{
 use super::{Special, StringifierOrInheritOrStatic, StringifierOrStatic};
 use std::alloc::Global;
 use weedle_base::Choice::{self, First, Second};
+use weedle_base::term::{Deleter, Getter, Inherit, LegacyCaller, Setter, Static, Stringifier};
 use weedle_base::{IResult, Parse};
-use weedle_term::{Deleter, Getter, Inherit, LegacyCaller, Setter, Static, Stringifier};
 
 #[tactic(auto, using(crate::proofs::written::ModifierRules::special_steps))]
 impl<'a> Parse<'a> for Special {
@@ -82,7 +82,8 @@ impl From<LegacyCaller> for Special {
 
 #[tactic(auto, using(crate::proofs::written::ModifierRules::stringifier_or_inherit_or_static_steps))]
 impl<'a> Parse<'a> for StringifierOrInheritOrStatic {
-    ghost reading = { own STRINGIFIER_OR_INHERIT_OR_STATIC stringifier_or_inherit_or_static_tree ⊥ };
+    ghost reading = { own STRINGIFIER_OR_INHERIT_OR_STATIC stringifier_or_inherit_or_static_tree
+        ⊥ };
 
     fn parse(alloc: Global, input: &'a str) -> IResult<&'a str, Self> {
         let (rest, read) = Choice::parse(alloc, input)?;
@@ -94,7 +95,8 @@ impl<'a> Parse<'a> for StringifierOrInheritOrStatic {
         Ok((rest, member))
     }
 
-    ghost lawful = { own_lawful STRINGIFIER_OR_INHERIT_OR_STATIC stringifier_or_inherit_or_static_tree ⊥ };
+    ghost lawful = { own_lawful STRINGIFIER_OR_INHERIT_OR_STATIC
+        stringifier_or_inherit_or_static_tree ⊥ };
 }
 
 impl From<Stringifier> for StringifierOrInheritOrStatic {

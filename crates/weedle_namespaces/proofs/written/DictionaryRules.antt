@@ -9,6 +9,8 @@ use Rattle.weedle_base.specs.Reading.{Faults, Got, Reading}
 use Rattle.weedle_base.specs.Rules.{IsRule, mark_tree, option_tree}
 use Rattle.weedle_base.specs.declared.fault.Err.{Err as Fault}
 use Rattle.weedle_base.specs.declared.fault.Error.{Error}
+use Rattle.weedle_base.specs.declared.term.written.definition_keywords.Required.{Required}
+use Rattle.weedle_base.specs.declared.term.written.symbols.SemiColon.{SemiColon}
 use Rattle.weedle_grammar.specs.Trees.{Mark, Node, trees}
 use Rattle.weedle_grammar.specs.written.Table.InterfaceMembers.{OPT_DOCSTRING}
 use Rattle.weedle_grammar.specs.written.Table.Keywords.{REQUIRED}
@@ -17,15 +19,13 @@ use Rattle.weedle_grammar.specs.written.Table.Literals.{DEFAULT}
 use Rattle.weedle_grammar.specs.written.Table.OtherMembers.{DICTIONARY_MEMBER, OPT_REQUIRED}
 use Rattle.weedle_grammar.specs.written.Table.Symbols.{SEMI_COLON}
 use Rattle.weedle_grammar.specs.written.Table.Types.{OPT_DEFAULT, TYPE}
-use Rattle.weedle_literal.specs.LiteralTrees.{default_tree}
-use Rattle.weedle_literal.specs.declared.default.Default.{Default}
 use Rattle.weedle_namespaces.specs.declared.dictionary.DictionaryMember.{DictionaryMember}
 use Rattle.weedle_namespaces.specs.written.Trees.{dictionary_member_tree}
+use Rattle.weedle_parts.specs.LiteralTrees.{default_tree}
 use Rattle.weedle_parts.specs.ValueTrees.{docstring_tree, identifier_tree}
 use Rattle.weedle_parts.specs.declared.common.docstring.Docstring.{Docstring}
 use Rattle.weedle_parts.specs.declared.common.identifier.Identifier.{Identifier}
-use Rattle.weedle_term.specs.declared.written.definition_keywords.Required.{Required}
-use Rattle.weedle_term.specs.declared.written.symbols.SemiColon.{SemiColon}
+use Rattle.weedle_parts.specs.declared.literal.default.Default.{Default}
 use Rattle.weedle_types.proofs.SharedRules.{attributes_reading, attributes_rule, perhaps, word}
 use Rattle.weedle_types.specs.PartTrees.{Attributes}
 use Rattle.weedle_types.specs.Trees.{attributes_tree, type_tree}

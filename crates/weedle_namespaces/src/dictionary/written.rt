@@ -11,11 +11,11 @@ ghost use Rattle.weedle_namespaces.specs.written.Trees.{dictionary_member_tree};
 
 use super::DictionaryMember;
 use std::alloc::{AllocError, Global};
+use weedle_base::term::{Required, SemiColon};
 use weedle_base::{IResult, Parse, TryClone};
 use weedle_fields::docstring_attributes_and_five;
-use weedle_literal::Default;
 use weedle_parts::common::{Docstring, Identifier};
-use weedle_term::{Required, SemiColon};
+use weedle_parts::literal::Default;
 use weedle_types::attribute::ExtendedAttributeList;
 use weedle_types::copies::{copy_attributes, copy_docstring};
 use weedle_types::types::Type;

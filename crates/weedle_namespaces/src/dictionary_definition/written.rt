@@ -19,11 +19,11 @@ use super::{DictionaryDefinition, PartialDictionaryDefinition};
 use crate::copies::copy_dictionary_members;
 use crate::dictionary::DictionaryMembers;
 use std::alloc::{AllocError, Global};
+use weedle_base::term::{Dictionary, Partial, SemiColon};
 use weedle_base::{IResult, Parse, TryClone};
 use weedle_fields::{attributes_and_five, docstring_attributes_and_five};
 use weedle_modifier::Inheritance;
 use weedle_parts::common::{Braced, Docstring, Identifier};
-use weedle_term::{Dictionary, Partial, SemiColon};
 use weedle_types::attribute::ExtendedAttributeList;
 use weedle_types::copies::{copy_attributes, copy_docstring};
 
@@ -130,7 +130,8 @@ impl<'a> DictionaryDefinition<'a> {
 
 #[tactic(auto, using(crate::proofs::written::DictionaryDefinitionRules::partial_dictionary_definition_steps))]
 impl<'a> Parse<'a> for PartialDictionaryDefinition<'a> {
-    ghost reading = { own PARTIAL_DICTIONARY_DEFINITION partial_dictionary_definition_tree (Unit {0}) };
+    ghost reading = { own PARTIAL_DICTIONARY_DEFINITION partial_dictionary_definition_tree
+        (Unit {0}) };
 
     fn parse(alloc: Global, input: &'a str) -> IResult<&'a str, Self> {
         match attributes_and_five(alloc, input) {
@@ -149,11 +150,13 @@ impl<'a> Parse<'a> for PartialDictionaryDefinition<'a> {
         }
     }
 
-    ghost lawful = { own_lawful PARTIAL_DICTIONARY_DEFINITION partial_dictionary_definition_tree (Unit {0}) };
+    ghost lawful = { own_lawful PARTIAL_DICTIONARY_DEFINITION partial_dictionary_definition_tree
+        (Unit {0}) };
 }
 
 impl TryClone for PartialDictionaryDefinition<'_> {
-    ghost alike = { λ a b. partial_dictionary_definition_tree a ≡ partial_dictionary_definition_tree b };
+    ghost alike = { λ a b. partial_dictionary_definition_tree a
+        ≡ partial_dictionary_definition_tree b };
 
     fn try_clone(&self, alloc: Global) -> Result<Self, AllocError> {
         Ok(PartialDictionaryDefinition {

@@ -20,10 +20,10 @@ ghost use Rattle.weedle_namespaces.specs.written.Trees.{
 use super::{AttributeNamespaceMember, NamespaceMember, OperationNamespaceMember};
 use std::alloc::{AllocError, Global};
 use weedle_base::Choice::{self, First, Second};
+use weedle_base::term::{Attribute, ReadOnly, SemiColon};
 use weedle_base::{IResult, Parse, TryClone};
 use weedle_fields::{docstring_attributes_and_five, docstring_attributes_and_four};
 use weedle_parts::common::{Docstring, Identifier};
-use weedle_term::{Attribute, ReadOnly, SemiColon};
 use weedle_types::argument::ParenthesizedArgumentList;
 use weedle_types::attribute::ExtendedAttributeList;
 use weedle_types::copies::{copy_attributes, copy_docstring};
@@ -50,7 +50,8 @@ impl<'a> Parse<'a> for OperationNamespaceMember<'a> {
         }
     }
 
-    ghost lawful = { own_lawful OPERATION_NAMESPACE_MEMBER operation_namespace_member_tree (Unit {0}) };
+    ghost lawful = { own_lawful OPERATION_NAMESPACE_MEMBER operation_namespace_member_tree
+        (Unit {0}) };
 }
 
 impl TryClone for OperationNamespaceMember<'_> {
@@ -135,7 +136,8 @@ impl<'a> Parse<'a> for AttributeNamespaceMember<'a> {
         }
     }
 
-    ghost lawful = { own_lawful ATTRIBUTE_NAMESPACE_MEMBER attribute_namespace_member_tree (Unit {0}) };
+    ghost lawful = { own_lawful ATTRIBUTE_NAMESPACE_MEMBER attribute_namespace_member_tree
+        (Unit {0}) };
 }
 
 impl TryClone for AttributeNamespaceMember<'_> {

@@ -19,10 +19,10 @@ use super::{NamespaceDefinition, PartialNamespaceDefinition};
 use crate::copies::copy_namespace_members;
 use crate::namespace::NamespaceMembers;
 use std::alloc::{AllocError, Global};
+use weedle_base::term::{Namespace, Partial, SemiColon};
 use weedle_base::{IResult, Parse, TryClone};
 use weedle_fields::{attributes_and_five, docstring_attributes_and_four};
 use weedle_parts::common::{Braced, Docstring, Identifier};
-use weedle_term::{Namespace, Partial, SemiColon};
 use weedle_types::attribute::ExtendedAttributeList;
 use weedle_types::copies::{copy_attributes, copy_docstring};
 
@@ -107,7 +107,8 @@ impl<'a> NamespaceDefinition<'a> {
 
 #[tactic(auto, using(crate::proofs::written::NamespaceDefinitionRules::partial_namespace_definition_steps))]
 impl<'a> Parse<'a> for PartialNamespaceDefinition<'a> {
-    ghost reading = { own PARTIAL_NAMESPACE_DEFINITION partial_namespace_definition_tree (Unit {0}) };
+    ghost reading = { own PARTIAL_NAMESPACE_DEFINITION partial_namespace_definition_tree
+        (Unit {0}) };
 
     fn parse(alloc: Global, input: &'a str) -> IResult<&'a str, Self> {
         match attributes_and_five(alloc, input) {
@@ -126,11 +127,13 @@ impl<'a> Parse<'a> for PartialNamespaceDefinition<'a> {
         }
     }
 
-    ghost lawful = { own_lawful PARTIAL_NAMESPACE_DEFINITION partial_namespace_definition_tree (Unit {0}) };
+    ghost lawful = { own_lawful PARTIAL_NAMESPACE_DEFINITION partial_namespace_definition_tree
+        (Unit {0}) };
 }
 
 impl TryClone for PartialNamespaceDefinition<'_> {
-    ghost alike = { λ a b. partial_namespace_definition_tree a ≡ partial_namespace_definition_tree b };
+    ghost alike = { λ a b. partial_namespace_definition_tree a
+        ≡ partial_namespace_definition_tree b };
 
     fn try_clone(&self, alloc: Global) -> Result<Self, AllocError> {
         Ok(PartialNamespaceDefinition {

@@ -24,10 +24,10 @@ ghost use Rattle.weedle_parts.specs.Brackets.{
 };
 
 use std::alloc::{AllocError, Global};
-use weedle_base::{IResult, Parse, TryClone};
-use weedle_term::{
+use weedle_base::term::{
     CloseBrace, CloseBracket, CloseParen, GreaterThan, LessThan, OpenBrace, OpenBracket, OpenParen,
 };
+use weedle_base::{IResult, Parse, TryClone};
 
 /// A body in parentheses, as `(a, b)`: `(`, what the body reads, `)`. Where one of the three isn't
 /// there it is a mismatch. It takes the memory that the body takes.

@@ -25,7 +25,8 @@ pub struct Punctuated<T, S> {
 
 #[tactic(auto, unfolding(weedle_base::specs::Generic::pair_reading, weedle_base::specs::Generic::option_reading, crate::specs::Lists::punctuated_reading))]
 impl<'a, T: Parse<'a>, S: Parse<'a> + Default> Parse<'a> for Punctuated<T, S> {
-    ghost reading = { punctuated_reading T.reading S.reading (λ p. p.list.items) (λ p. S.is_default p.separator) };
+    ghost reading = { punctuated_reading T.reading S.reading (λ p. p.list.items)
+        (λ p. S.is_default p.separator) };
 
     fn parse(alloc: Global, input: &'a str) -> IResult<&'a str, Self> {
         match T::parse(alloc, input) {
@@ -44,11 +45,13 @@ impl<'a, T: Parse<'a>, S: Parse<'a> + Default> Parse<'a> for Punctuated<T, S> {
         }
     }
 
-    ghost lawful = { punctuated_lawful T.reading S.reading T.lawful S.lawful (λ p. p.list.items) (λ p. S.is_default p.separator) };
+    ghost lawful = { punctuated_lawful T.reading S.reading T.lawful S.lawful (λ p. p.list.items)
+        (λ p. S.is_default p.separator) };
 }
 
 impl<T: TryClone, S: TryClone> TryClone for Punctuated<T, S> {
-    ghost alike = { λ a b. all_alike T.alike a.list.items b.list.items × S.alike a.separator b.separator };
+    ghost alike = { λ a b. all_alike T.alike a.list.items b.list.items
+        × S.alike a.separator b.separator };
 
     fn try_clone(&self, alloc: Global) -> Result<Self, AllocError> {
         let list = self.list.try_clone(alloc)?;
@@ -56,7 +59,8 @@ impl<T: TryClone, S: TryClone> TryClone for Punctuated<T, S> {
         Ok(Punctuated { list, separator })
     }
 
-    ghost equivalence = { seen_equivalence (λ p. (p.list.items, p.separator)) (pair_equivalence (all_equivalence T.equivalence) S.equivalence) };
+    ghost equivalence = { seen_equivalence (λ p. (p.list.items, p.separator))
+        (pair_equivalence (all_equivalence T.equivalence) S.equivalence) };
 }
 
 /// Items with a separator between each two, one item at least, and one separator more where it
@@ -71,7 +75,8 @@ pub struct PunctuatedNonEmpty<T, S> {
 
 #[tactic(auto, unfolding(weedle_base::specs::Generic::pair_reading, weedle_base::specs::Generic::option_reading, crate::specs::Lists::punctuated_non_empty_reading))]
 impl<'a, T: Parse<'a>, S: Parse<'a> + Default> Parse<'a> for PunctuatedNonEmpty<T, S> {
-    ghost reading = { punctuated_non_empty_reading T.reading S.reading (λ p. p.list.items) (λ p. S.is_default p.separator) };
+    ghost reading = { punctuated_non_empty_reading T.reading S.reading (λ p. p.list.items)
+        (λ p. S.is_default p.separator) };
 
     fn parse(alloc: Global, input: &'a str) -> IResult<&'a str, Self> {
         let (rest, first) = T::parse(alloc, input)?;
@@ -82,11 +87,13 @@ impl<'a, T: Parse<'a>, S: Parse<'a> + Default> Parse<'a> for PunctuatedNonEmpty<
         Ok((rest, PunctuatedNonEmpty { list, separator }))
     }
 
-    ghost lawful = { punctuated_non_empty_lawful T.reading S.reading T.lawful S.lawful (λ p. p.list.items) (λ p. S.is_default p.separator) };
+    ghost lawful = { punctuated_non_empty_lawful T.reading S.reading T.lawful S.lawful
+        (λ p. p.list.items) (λ p. S.is_default p.separator) };
 }
 
 impl<T: TryClone, S: TryClone> TryClone for PunctuatedNonEmpty<T, S> {
-    ghost alike = { λ a b. all_alike T.alike a.list.items b.list.items × S.alike a.separator b.separator };
+    ghost alike = { λ a b. all_alike T.alike a.list.items b.list.items
+        × S.alike a.separator b.separator };
 
     fn try_clone(&self, alloc: Global) -> Result<Self, AllocError> {
         let list = self.list.try_clone(alloc)?;
@@ -94,7 +101,8 @@ impl<T: TryClone, S: TryClone> TryClone for PunctuatedNonEmpty<T, S> {
         Ok(PunctuatedNonEmpty { list, separator })
     }
 
-    ghost equivalence = { seen_equivalence (λ p. (p.list.items, p.separator)) (pair_equivalence (all_equivalence T.equivalence) S.equivalence) };
+    ghost equivalence = { seen_equivalence (λ p. (p.list.items, p.separator))
+        (pair_equivalence (all_equivalence T.equivalence) S.equivalence) };
 }
 
 /// Reads the items after the first, each behind its separator.

@@ -1,18 +1,19 @@
 //! The types that a constant may have.
 
-ghost use Rattle.std.specs.Prelude.{◌≡◌};
 ghost use Rattle.weedle_grammar.specs.written.Table.SimpleTypes.{CONST_TYPE};
 ghost use Rattle.weedle_base.specs.Own.{own};
 ghost use Rattle.weedle_base.specs.OwnLaws.{own_lawful};
 ghost use Rattle.weedle_parts.specs.ValueTrees.{const_type_tree};
 
-use super::floating_point::FloatingPointType;
-use super::integer::IntegerType;
-use super::may_be_null::MayBeNull;
+mod written;
+
 use crate::common::Identifier;
+use crate::types::floating_point::FloatingPointType;
+use crate::types::integer::IntegerType;
+use crate::types::may_be_null::MayBeNull;
 use std::alloc::Global;
+use weedle_base::term::{Boolean, Byte, Octet};
 use weedle_base::{IResult, Parse};
-use weedle_term::{Boolean, Byte, Octet};
 
 /// The type of a constant, as `long?`: a type of numbers, `boolean`, `byte`, `octet` or a name, and
 /// `?` where it may be null. It takes no memory. Of what its variants read, `?` may be absent.
@@ -57,68 +58,4 @@ impl<'a> Parse<'a> for ConstType<'a> {
     }
 
     ghost lawful = { own_lawful CONST_TYPE const_type_tree ⊥ };
-}
-
-impl From<MayBeNull<IntegerType>> for ConstType<'_> {
-    ghost use Rattle.weedle_parts.specs.declared.types.const_type.ConstType.TheVariants.{Integer};
-
-    ghost from_gives = { λ v e. e ≡ Integer v };
-
-    fn from(value: MayBeNull<IntegerType>) -> Self {
-        ConstType::Integer(value)
-    }
-}
-
-impl From<MayBeNull<FloatingPointType>> for ConstType<'_> {
-    ghost use Rattle.weedle_parts.specs.declared.types.const_type.ConstType.TheVariants.{
-      FloatingPoint,
-    };
-
-    ghost from_gives = { λ v e. e ≡ FloatingPoint v };
-
-    fn from(value: MayBeNull<FloatingPointType>) -> Self {
-        ConstType::FloatingPoint(value)
-    }
-}
-
-impl From<MayBeNull<Boolean>> for ConstType<'_> {
-    ghost use Rattle.weedle_parts.specs.declared.types.const_type.ConstType.TheVariants.{Boolean};
-
-    ghost from_gives = { λ v e. e ≡ Boolean v };
-
-    fn from(value: MayBeNull<Boolean>) -> Self {
-        ConstType::Boolean(value)
-    }
-}
-
-impl From<MayBeNull<Byte>> for ConstType<'_> {
-    ghost use Rattle.weedle_parts.specs.declared.types.const_type.ConstType.TheVariants.{Byte};
-
-    ghost from_gives = { λ v e. e ≡ Byte v };
-
-    fn from(value: MayBeNull<Byte>) -> Self {
-        ConstType::Byte(value)
-    }
-}
-
-impl From<MayBeNull<Octet>> for ConstType<'_> {
-    ghost use Rattle.weedle_parts.specs.declared.types.const_type.ConstType.TheVariants.{Octet};
-
-    ghost from_gives = { λ v e. e ≡ Octet v };
-
-    fn from(value: MayBeNull<Octet>) -> Self {
-        ConstType::Octet(value)
-    }
-}
-
-impl<'a> From<MayBeNull<Identifier<'a>>> for ConstType<'a> {
-    ghost use Rattle.weedle_parts.specs.declared.types.const_type.ConstType.TheVariants.{
-      Identifier,
-    };
-
-    ghost from_gives = { λ v e. e ≡ Identifier v };
-
-    fn from(value: MayBeNull<Identifier<'a>>) -> Self {
-        ConstType::Identifier(value)
-    }
 }

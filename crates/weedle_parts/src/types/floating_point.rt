@@ -1,6 +1,5 @@
 //! The types of floating-point numbers.
 
-ghost use Rattle.std.specs.Prelude.{◌≡◌};
 ghost use Rattle.weedle_grammar.specs.written.Table.SimpleTypes.{
   FLOAT_TYPE,
   DOUBLE_TYPE,
@@ -14,9 +13,11 @@ ghost use Rattle.weedle_parts.specs.ValueTrees.{
   floating_point_type_tree,
 };
 
+mod written;
+
 use std::alloc::Global;
+use weedle_base::term::{Double, Float, Unrestricted};
 use weedle_base::{IResult, Parse};
-use weedle_term::{Double, Float, Unrestricted};
 
 /// `float` or `unrestricted float`.
 #[derive(Clone, Copy, Debug, PartialEq, Eq, PartialOrd, Ord, Hash)]
@@ -96,28 +97,4 @@ impl<'a> Parse<'a> for FloatingPointType {
     }
 
     ghost lawful = { own_lawful FLOATING_POINT_TYPE floating_point_type_tree ⊥ };
-}
-
-impl From<FloatType> for FloatingPointType {
-    ghost use Rattle.weedle_parts.specs.declared.types.floating_point.FloatingPointType.TheVariants.{
-      Float,
-    };
-
-    ghost from_gives = { λ v e. e ≡ Float v };
-
-    fn from(value: FloatType) -> Self {
-        FloatingPointType::Float(value)
-    }
-}
-
-impl From<DoubleType> for FloatingPointType {
-    ghost use Rattle.weedle_parts.specs.declared.types.floating_point.FloatingPointType.TheVariants.{
-      Double,
-    };
-
-    ghost from_gives = { λ v e. e ≡ Double v };
-
-    fn from(value: DoubleType) -> Self {
-        FloatingPointType::Double(value)
-    }
 }

@@ -1,6 +1,5 @@
 //! The types of integers.
 
-ghost use Rattle.std.specs.Prelude.{◌≡◌};
 ghost use Rattle.weedle_grammar.specs.written.Table.SimpleTypes.{
   LONG_LONG_TYPE,
   LONG_TYPE,
@@ -16,9 +15,11 @@ ghost use Rattle.weedle_parts.specs.ValueTrees.{
   integer_type_tree,
 };
 
+mod written;
+
 use std::alloc::Global;
+use weedle_base::term::{Long, Short, Unsigned};
 use weedle_base::{IResult, Parse};
-use weedle_term::{Long, Short, Unsigned};
 
 /// `long long` or `unsigned long long`.
 #[derive(Clone, Copy, Debug, PartialEq, Eq, PartialOrd, Ord, Hash)]
@@ -120,34 +121,4 @@ impl<'a> Parse<'a> for IntegerType {
     }
 
     ghost lawful = { own_lawful INTEGER_TYPE integer_type_tree ⊥ };
-}
-
-impl From<LongLongType> for IntegerType {
-    ghost use Rattle.weedle_parts.specs.declared.types.integer.IntegerType.TheVariants.{LongLong};
-
-    ghost from_gives = { λ v e. e ≡ LongLong v };
-
-    fn from(value: LongLongType) -> Self {
-        IntegerType::LongLong(value)
-    }
-}
-
-impl From<LongType> for IntegerType {
-    ghost use Rattle.weedle_parts.specs.declared.types.integer.IntegerType.TheVariants.{Long};
-
-    ghost from_gives = { λ v e. e ≡ Long v };
-
-    fn from(value: LongType) -> Self {
-        IntegerType::Long(value)
-    }
-}
-
-impl From<ShortType> for IntegerType {
-    ghost use Rattle.weedle_parts.specs.declared.types.integer.IntegerType.TheVariants.{Short};
-
-    ghost from_gives = { λ v e. e ≡ Short v };
-
-    fn from(value: ShortType) -> Self {
-        IntegerType::Short(value)
-    }
 }

@@ -10,8 +10,8 @@ ghost use Rattle.weedle_parts.specs.MayBeNull.{may_be_null_reading};
 ghost use Rattle.weedle_parts.specs.PartLaws.{may_be_null_lawful};
 
 use std::alloc::{AllocError, Global};
+use weedle_base::term::QMark;
 use weedle_base::{IResult, Parse, TryClone};
-use weedle_term::QMark;
 
 /// A type, and `?` where it may be null, as `long?`.
 #[derive(Clone, Copy, Debug, Drop, PartialEq, Eq, PartialOrd, Ord, Hash)]
@@ -44,5 +44,6 @@ impl<T: TryClone> TryClone for MayBeNull<T> {
         Ok(MayBeNull { type_, q_mark })
     }
 
-    ghost equivalence = { seen_equivalence (λ m. (m.type_, m.q_mark)) (pair_equivalence T.equivalence equal_equivalence) };
+    ghost equivalence = { seen_equivalence (λ m. (m.type_, m.q_mark))
+        (pair_equivalence T.equivalence equal_equivalence) };
 }

@@ -142,9 +142,9 @@ fn is_misplaced(
     comes_further(alloc, raw, start, past_token(raw, place), change)
 }
 
-/// Whether the definition at `start` is read further with a change than up to `place`, and past what
-/// was changed. It is read up to the next `;` alone. Where that doesn't suit descent, or nests deep,
-/// it isn't read.
+/// Whether the definition at `start` is read further with a change than up to `place`, and past
+/// what was changed. It is read up to the next `;` alone. Where that doesn't suit descent, or nests
+/// deep, it isn't read.
 fn comes_further(
     alloc: Global,
     raw: &str,

@@ -1,6 +1,6 @@
 //! Rows without parts: bytes, a byte of a class, a run of them, everything past some bytes.
 
-ghost use Rattle.std.specs.Prelude.{◌≡◌, ◌≤◌, ◌<◌, true, length, drop};
+ghost use Rattle.std.specs.Prelude.{◌^◌, ◌≡◌, ◌≤◌, ◌<◌, true, length, drop};
 ghost use Rattle.weedle_grammar.specs.Rows.{
   begins as begins_with,
   Bytes,
@@ -28,7 +28,7 @@ fn stand_at<C: Cell>(
     requires opened { reader.now.is_open ≡ true }
     requires fresh { working.old.count ≡ 0 }
     requires within { place ≤ length reader.now.text }
-    requires fits { length reader.now.text < 18446744073709551616 }
+    requires fits { length reader.now.text < 2 ^ 64 }
     requires some { 0 < length bytes.now }
     requires few { length bytes.now < READS }
     ensures value { result ≡ begins_with bytes.now (drop place reader.now.text) }

@@ -1,6 +1,6 @@
 //! The laws of names, numbers, strings and docstrings.
 
-ghost use Rattle.weedle_literal.specs.LiteralTrees.{
+ghost use Rattle.weedle_parts.specs.LiteralTrees.{
   dec_tree,
   hex_tree,
   oct_tree,

@@ -1,6 +1,6 @@
 //! The laws of literals and defaults.
 
-ghost use Rattle.weedle_literal.specs.LiteralTrees.{
+ghost use Rattle.weedle_parts.specs.LiteralTrees.{
   integer_tree,
   float_tree,
   boolean_tree,

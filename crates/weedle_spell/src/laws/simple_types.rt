@@ -72,7 +72,8 @@ pub fn double_type()
 /// `unrestricted double`, spells its value.
 #[tactic(auto, using(crate::proofs::SimpleTypeLaws::floating_point_type_law))]
 pub fn floating_point_type()
-    ensures { SpellsValues FLOATING_POINT_TYPE floating_point_type_tree floating_point_type_spelling }
+    ensures { SpellsValues FLOATING_POINT_TYPE floating_point_type_tree
+        floating_point_type_spelling }
 {}
 
 /// A law, which does nothing: the text of the type of a constant, as `long?` or `Name`, spells its

@@ -9,6 +9,9 @@ use Rattle.weedle_base.specs.Reading.{Faults, Got, Reading}
 use Rattle.weedle_base.specs.Rules.{IsRule}
 use Rattle.weedle_base.specs.declared.fault.Err.{Err as Fault}
 use Rattle.weedle_base.specs.declared.fault.Error.{Error}
+use Rattle.weedle_base.specs.declared.term.written.definition_keywords.Callback.{Callback}
+use Rattle.weedle_base.specs.declared.term.written.symbols.Assign.{Assign}
+use Rattle.weedle_base.specs.declared.term.written.symbols.SemiColon.{SemiColon}
 use Rattle.weedle_grammar.specs.Trees.{Mark, Node, trees}
 use Rattle.weedle_grammar.specs.written.Table.Definitions.{CALLBACK_DEFINITION}
 use Rattle.weedle_grammar.specs.written.Table.Keywords.{CALLBACK}
@@ -19,9 +22,6 @@ use Rattle.weedle_parts.specs.ValueTrees.{identifier_tree}
 use Rattle.weedle_parts.specs.declared.common.identifier.Identifier.{Identifier}
 use Rattle.weedle_statements.specs.declared.callback.CallbackDefinition.{CallbackDefinition}
 use Rattle.weedle_statements.specs.written.Trees.{callback_definition_tree}
-use Rattle.weedle_term.specs.declared.written.definition_keywords.Callback.{Callback}
-use Rattle.weedle_term.specs.declared.written.symbols.Assign.{Assign}
-use Rattle.weedle_term.specs.declared.written.symbols.SemiColon.{SemiColon}
 use Rattle.weedle_types.proofs.SharedRules.{attributes_reading, attributes_rule, word}
 use Rattle.weedle_types.specs.PartTrees.{Attributes}
 use Rattle.weedle_types.specs.Trees.{arguments_tree, attributes_tree, return_type_tree}

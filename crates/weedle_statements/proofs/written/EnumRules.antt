@@ -10,6 +10,8 @@ use Rattle.weedle_base.specs.Reading.{Faults, Got, Reading}
 use Rattle.weedle_base.specs.Rules.{IsRule, option_tree}
 use Rattle.weedle_base.specs.declared.fault.Err.{Err as Fault}
 use Rattle.weedle_base.specs.declared.fault.Error.{Error}
+use Rattle.weedle_base.specs.declared.term.written.definition_keywords.Enum.{Enum}
+use Rattle.weedle_base.specs.declared.term.written.symbols.SemiColon.{SemiColon}
 use Rattle.weedle_grammar.specs.Trees.{Mark, Node, trees}
 use Rattle.weedle_grammar.specs.written.Table.Definitions.{ENUM_DEFINITION}
 use Rattle.weedle_grammar.specs.written.Table.InterfaceMembers.{OPT_DOCSTRING}
@@ -22,8 +24,6 @@ use Rattle.weedle_parts.specs.declared.common.identifier.Identifier.{Identifier}
 use Rattle.weedle_statements.proofs.EnumValueRules.{enum_values_reading, enum_values_rule}
 use Rattle.weedle_statements.specs.declared.enums.EnumDefinition.{EnumDefinition}
 use Rattle.weedle_statements.specs.written.Trees.{EnumValues, enum_definition_tree, enum_values_tree}
-use Rattle.weedle_term.specs.declared.written.definition_keywords.Enum.{Enum}
-use Rattle.weedle_term.specs.declared.written.symbols.SemiColon.{SemiColon}
 use Rattle.weedle_types.proofs.SharedRules.{attributes_reading, attributes_rule, word}
 use Rattle.weedle_types.specs.PartTrees.{Attributes}
 use Rattle.weedle_types.specs.Trees.{attributes_tree}

@@ -13,10 +13,10 @@ use Rattle.weedle_grammar.specs.Trees.{Node, trees}
 use Rattle.weedle_grammar.specs.written.Table.InterfaceMembers.{OPT_DOCSTRING}
 use Rattle.weedle_grammar.specs.written.Table.Leaves.{DOCSTRING, STRING_LIT}
 use Rattle.weedle_grammar.specs.written.Table.OtherMembers.{ENUM_VARIANT}
-use Rattle.weedle_literal.specs.LiteralTrees.{string_tree}
-use Rattle.weedle_literal.specs.declared.string.StringLit.{StringLit}
+use Rattle.weedle_parts.specs.LiteralTrees.{string_tree}
 use Rattle.weedle_parts.specs.ValueTrees.{docstring_tree}
 use Rattle.weedle_parts.specs.declared.common.docstring.Docstring.{Docstring}
+use Rattle.weedle_parts.specs.declared.literal.string.StringLit.{StringLit}
 use Rattle.weedle_statements.specs.declared.enums.EnumVariant.{EnumVariant}
 use Rattle.weedle_statements.specs.written.Trees.{enum_variant_tree}
 

@@ -1,8 +1,9 @@
 -- The trees of definitions without members. Written by tools/trees.py, and not edited by hand.
 use Rattle.std.specs.Prelude.{[], ◌∷◌}
 use Rattle.weedle_base.specs.Rules.{option_tree}
+use Rattle.weedle_base.specs.declared.term.written.symbols.Comma.{Comma}
 use Rattle.weedle_grammar.specs.Trees.{Mark, Node, Tree, trees}
-use Rattle.weedle_literal.specs.LiteralTrees.{string_tree}
+use Rattle.weedle_parts.specs.LiteralTrees.{string_tree}
 use Rattle.weedle_parts.specs.ValueTrees.{braced_tree, docstring_tree, identifier_tree, punctuated_non_empty_tree}
 use Rattle.weedle_parts.specs.declared.common.brackets.Braced.{Braced}
 use Rattle.weedle_parts.specs.declared.common.punctuated.PunctuatedNonEmpty.{PunctuatedNonEmpty}
@@ -12,7 +13,6 @@ use Rattle.weedle_statements.specs.declared.enums.EnumVariant.{EnumVariant}
 use Rattle.weedle_statements.specs.declared.statement.ImplementsDefinition.{ImplementsDefinition}
 use Rattle.weedle_statements.specs.declared.statement.IncludesStatementDefinition.{IncludesStatementDefinition}
 use Rattle.weedle_statements.specs.declared.typedef.TypedefDefinition.{TypedefDefinition}
-use Rattle.weedle_term.specs.declared.written.symbols.Comma.{Comma}
 use Rattle.weedle_types.specs.Trees.{arguments_tree, attributed_type_tree, attributes_tree, return_type_tree}
 
 -- a callback: its extended attributes where they stand, `callback`, its name, `=`, the type of its result,

@@ -11,10 +11,10 @@ ghost use Rattle.weedle_statements.specs.written.Trees.{callback_definition_tree
 
 use super::CallbackDefinition;
 use std::alloc::{AllocError, Global};
+use weedle_base::term::{Assign, Callback, SemiColon};
 use weedle_base::{IResult, Parse, TryClone};
 use weedle_fields::attributes_and_six;
 use weedle_parts::common::Identifier;
-use weedle_term::{Assign, Callback, SemiColon};
 use weedle_types::argument::ParenthesizedArgumentList;
 use weedle_types::attribute::ExtendedAttributeList;
 use weedle_types::copies::copy_attributes;

@@ -12,10 +12,10 @@ ghost use Rattle.weedle_statements.specs.written.Trees.{enum_definition_tree, en
 use super::{EnumDefinition, EnumValueList, EnumVariant};
 use crate::copies::copy_enum_values;
 use std::alloc::{AllocError, Global};
+use weedle_base::term::{Enum, SemiColon};
 use weedle_base::{IResult, Parse, TryClone};
-use weedle_literal::StringLit;
 use weedle_parts::common::{Braced, Docstring, Identifier};
-use weedle_term::{Enum, SemiColon};
+use weedle_parts::literal::StringLit;
 use weedle_types::attribute::ExtendedAttributeList;
 use weedle_types::copies::{copy_attributes, copy_docstring};
 

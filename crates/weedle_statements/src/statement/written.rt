@@ -14,16 +14,17 @@ ghost use Rattle.weedle_statements.specs.written.Trees.{
 
 use super::{ImplementsDefinition, IncludesStatementDefinition};
 use std::alloc::{AllocError, Global};
+use weedle_base::term::{Implements, Includes, SemiColon};
 use weedle_base::{IResult, Parse, TryClone};
 use weedle_fields::attributes_and_four;
 use weedle_parts::common::Identifier;
-use weedle_term::{Implements, Includes, SemiColon};
 use weedle_types::attribute::ExtendedAttributeList;
 use weedle_types::copies::copy_attributes;
 
 #[tactic(auto, using(crate::proofs::written::StatementRules::includes_statement_definition_steps))]
 impl<'a> Parse<'a> for IncludesStatementDefinition<'a> {
-    ghost reading = { own INCLUDES_STATEMENT_DEFINITION includes_statement_definition_tree (Unit {0}) };
+    ghost reading = { own INCLUDES_STATEMENT_DEFINITION includes_statement_definition_tree
+        (Unit {0}) };
 
     fn parse(alloc: Global, input: &'a str) -> IResult<&'a str, Self> {
         match attributes_and_four(alloc, input) {
@@ -41,11 +42,13 @@ impl<'a> Parse<'a> for IncludesStatementDefinition<'a> {
         }
     }
 
-    ghost lawful = { own_lawful INCLUDES_STATEMENT_DEFINITION includes_statement_definition_tree (Unit {0}) };
+    ghost lawful = { own_lawful INCLUDES_STATEMENT_DEFINITION includes_statement_definition_tree
+        (Unit {0}) };
 }
 
 impl TryClone for IncludesStatementDefinition<'_> {
-    ghost alike = { λ a b. includes_statement_definition_tree a ≡ includes_statement_definition_tree b };
+    ghost alike = { λ a b. includes_statement_definition_tree a
+        ≡ includes_statement_definition_tree b };
 
     fn try_clone(&self, alloc: Global) -> Result<Self, AllocError> {
         Ok(IncludesStatementDefinition {

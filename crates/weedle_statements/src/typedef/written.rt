@@ -11,10 +11,10 @@ ghost use Rattle.weedle_statements.specs.written.Trees.{typedef_definition_tree}
 
 use super::TypedefDefinition;
 use std::alloc::{AllocError, Global};
+use weedle_base::term::{SemiColon, Typedef};
 use weedle_base::{IResult, Parse, TryClone};
 use weedle_fields::attributes_and_four;
 use weedle_parts::common::Identifier;
-use weedle_term::{SemiColon, Typedef};
 use weedle_types::attribute::ExtendedAttributeList;
 use weedle_types::copies::copy_attributes;
 use weedle_types::types::AttributedType;

@@ -1,6 +1,6 @@
 //! What a node reads directly, by its row: a function for each kind of row.
 
-ghost use Rattle.std.specs.Prelude.{◌≡◌, ◌≤◌, ◌<◌, ◌+◌, [], length, OnOk};
+ghost use Rattle.std.specs.Prelude.{◌^◌, ◌≡◌, ◌≤◌, ◌<◌, ◌+◌, [], length, OnOk};
 ghost use Rattle.weedle_grammar.specs.written.Bound.{rule_count};
 ghost use Rattle.weedle_grammar.specs.written.Table.{row_of as the_row_of};
 ghost use Rattle.weedle_rules.specs.Outcomes.{EndsAt};
@@ -20,7 +20,7 @@ pub(crate) fn lay_parts(
     node: Node,
 ) -> Result<(), AllocError>
     requires empty { inner.old.items ≡ [] }
-    requires shallow { node.depth + 1 < 18446744073709551616 }
+    requires shallow { node.depth + 1 < 2 ^ 64 }
     requires within { node.start ≤ length ends.now.text }
     requires low { node.rule < rule_count }
     requires reads { EndsAt ends.now.text node.rule node.start node.end }

@@ -3,11 +3,11 @@
 use super::{LESS, LONG, UNSIGNED_SHORT, docstring, inherited, name_list};
 use std::cmp::Ordering;
 use std::test::Fail;
+use weedle_base::term::{Comma, Deleter, NaN};
 use weedle_comparisons::laws::{compare, compare_partially, copy, hash_alike, hash_of};
-use weedle_literal::{BooleanLit, ConstValue, FloatLit, HexLit, IntegerLit};
 use weedle_modifier::Special;
 use weedle_parts::common::Identifier;
-use weedle_term::{Comma, Deleter, NaN};
+use weedle_parts::literal::{BooleanLit, ConstValue, FloatLit, HexLit, IntegerLit};
 
 #[test]
 fn laws_hold_of_names(rt: HostRuntime) {

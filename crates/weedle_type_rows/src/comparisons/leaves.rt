@@ -2,11 +2,11 @@
 
 use super::{EQUAL, GREATER, LESS, LONG, UNSIGNED_LONG, UNSIGNED_SHORT, docstring, name_list};
 use std::test::Fail;
+use weedle_base::term::{Comma, Long, QMark, Unsigned};
 use weedle_base::{Err, Error, ErrorKind};
 use weedle_comparisons::leaves::*;
 use weedle_parts::common::Identifier;
 use weedle_parts::types::{IntegerType, LongLongType, MayBeNull};
-use weedle_term::{Comma, Long, QMark, Unsigned};
 
 #[test]
 fn a_terminal_has_one_value(rt: HostRuntime) -> Result<(), Fail> {

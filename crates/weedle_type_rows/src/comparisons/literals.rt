@@ -2,12 +2,12 @@
 
 use super::{EQUAL, GREATER, LESS};
 use std::test::Fail;
+use weedle_base::term::{Assign, CloseBrace, CloseBracket, NegInfinity, Null, OpenBrace, OpenBracket};
 use weedle_comparisons::literals::*;
-use weedle_literal::{
+use weedle_parts::literal::{
     BooleanLit, ConstValue, DecLit, Default, DefaultValue, EmptyArrayLit, EmptyDictionaryLit,
     FloatLit, FloatValueLit, HexLit, IntegerLit, OctLit, StringLit,
 };
-use weedle_term::{Assign, CloseBrace, CloseBracket, NegInfinity, Null, OpenBrace, OpenBracket};
 
 const NO_ITEMS: EmptyArrayLit = EmptyArrayLit {
     open_bracket: OpenBracket,

@@ -5,12 +5,12 @@ use std::alloc::{AllocError, Global};
 use std::cmp::Ordering;
 use std::process::Abort;
 use std::test::Fail;
+use weedle_base::term::{Assign, CloseParen, OpenParen};
 use weedle_base::{Parse, TryClone};
 use weedle_comparisons::laws::{compare, hash_alike};
 use weedle_comparisons::types::*;
-use weedle_literal::StringLit;
 use weedle_parts::common::{Identifier, Parenthesized};
-use weedle_term::{Assign, CloseParen, OpenParen};
+use weedle_parts::literal::StringLit;
 use weedle_types::attribute::{
     ExtendedAttributeIdent, ExtendedAttributeIdentList, IdentifierOrString,
 };

@@ -17,26 +17,26 @@ use Rattle.weedle_base.specs.Rules.{IsRule, mark_tree, option_tree}
 use Rattle.weedle_base.specs.declared.fault.Err.TheVariants.{Error as Recoverable, Failure}
 use Rattle.weedle_base.specs.declared.fault.Err.{Err as Fault}
 use Rattle.weedle_base.specs.declared.fault.Error.{Error}
+use Rattle.weedle_base.specs.declared.term.written.symbols.CloseParen.{CloseParen}
+use Rattle.weedle_base.specs.declared.term.written.symbols.Comma.{Comma}
+use Rattle.weedle_base.specs.declared.term.written.symbols.Ellipsis.{Ellipsis}
+use Rattle.weedle_base.specs.declared.term.written.symbols.OpenParen.{OpenParen}
+use Rattle.weedle_base.specs.declared.term.written.type_keywords.Optional.{Optional}
 use Rattle.weedle_grammar.specs.Trees.{Alt, Node, trees}
 use Rattle.weedle_grammar.specs.written.Table.Keywords.{OPTIONAL}
 use Rattle.weedle_grammar.specs.written.Table.Leaves.{IDENTIFIER}
 use Rattle.weedle_grammar.specs.written.Table.Literals.{DEFAULT}
 use Rattle.weedle_grammar.specs.written.Table.Symbols.{CLOSE_PAREN, COMMA, ELLIPSIS, OPEN_PAREN}
 use Rattle.weedle_grammar.specs.written.Table.Types.{ARGUMENT, ARGUMENT_LIST, ATTRIBUTED_TYPE, OPT_DEFAULT, OPT_EXTENDED_ATTRIBUTE_LIST, OPT_OPTIONAL, PARENTHESIZED_ARGUMENT_LIST, SINGLE_ARGUMENT, TAIL_ARGUMENT_COMMA, TYPE, VARIADIC_ARGUMENT}
-use Rattle.weedle_literal.specs.LiteralTrees.{default_tree}
-use Rattle.weedle_literal.specs.declared.default.Default.{Default}
 use Rattle.weedle_parts.proofs.ListRules.{punctuated_rule}
 use Rattle.weedle_parts.proofs.ListSteps.{fault_some, got_none, got_some}
 use Rattle.weedle_parts.specs.Lists.{after_first, punctuated_reading}
+use Rattle.weedle_parts.specs.LiteralTrees.{default_tree}
 use Rattle.weedle_parts.specs.ValueTrees.{identifier_tree}
 use Rattle.weedle_parts.specs.declared.common.brackets.Bracketed.{Bracketed}
 use Rattle.weedle_parts.specs.declared.common.identifier.Identifier.{Identifier}
 use Rattle.weedle_parts.specs.declared.common.punctuated.Punctuated.{Punctuated}
-use Rattle.weedle_term.specs.declared.written.symbols.CloseParen.{CloseParen}
-use Rattle.weedle_term.specs.declared.written.symbols.Comma.{Comma}
-use Rattle.weedle_term.specs.declared.written.symbols.Ellipsis.{Ellipsis}
-use Rattle.weedle_term.specs.declared.written.symbols.OpenParen.{OpenParen}
-use Rattle.weedle_term.specs.declared.written.type_keywords.Optional.{Optional}
+use Rattle.weedle_parts.specs.declared.literal.default.Default.{Default}
 use Rattle.weedle_types.proofs.Direct.{direct_choice, list_stop, pair_takes, refused_by, seen_takes}
 use Rattle.weedle_types.proofs.IfRows.{asked_last, asked_next, fault_parts, fault_when, got_unless, got_when, if_reading, if_rule, is_some, present_some, some_at}
 use Rattle.weedle_types.proofs.TreeLaws.{argument_single_of, argument_variadic_of}

@@ -17,6 +17,10 @@ use Rattle.weedle_base.specs.Rules.{IsRule, option_tree}
 use Rattle.weedle_base.specs.declared.fault.Err.TheVariants.{Error as Recoverable, Failure}
 use Rattle.weedle_base.specs.declared.fault.Err.{Err as Fault}
 use Rattle.weedle_base.specs.declared.fault.Error.{Error}
+use Rattle.weedle_base.specs.declared.term.written.symbols.Assign.{Assign}
+use Rattle.weedle_base.specs.declared.term.written.symbols.CloseBracket.{CloseBracket}
+use Rattle.weedle_base.specs.declared.term.written.symbols.Comma.{Comma}
+use Rattle.weedle_base.specs.declared.term.written.symbols.OpenBracket.{OpenBracket}
 use Rattle.weedle_grammar.specs.Trees.{Alt}
 use Rattle.weedle_grammar.specs.written.Table.Leaves.{IDENTIFIER}
 use Rattle.weedle_grammar.specs.written.Table.Symbols.{ASSIGN, CLOSE_BRACKET, COMMA, OPEN_BRACKET}
@@ -28,10 +32,6 @@ use Rattle.weedle_parts.specs.ValueTrees.{identifier_tree}
 use Rattle.weedle_parts.specs.declared.common.brackets.Bracketed.{Bracketed}
 use Rattle.weedle_parts.specs.declared.common.identifier.Identifier.{Identifier}
 use Rattle.weedle_parts.specs.declared.common.punctuated.Punctuated.{Punctuated}
-use Rattle.weedle_term.specs.declared.written.symbols.Assign.{Assign}
-use Rattle.weedle_term.specs.declared.written.symbols.CloseBracket.{CloseBracket}
-use Rattle.weedle_term.specs.declared.written.symbols.Comma.{Comma}
-use Rattle.weedle_term.specs.declared.written.symbols.OpenBracket.{OpenBracket}
 use Rattle.weedle_types.proofs.Direct.{direct_choice, direct_none, direct_some, direct_stop, list_stop, pair_takes, refused_by, seen_takes}
 use Rattle.weedle_types.proofs.TreeLaws.{arg_list_of, named_arg_list_of}
 use Rattle.weedle_types.specs.Trees.{arguments_tree, extended_attribute_arg_list_tree, extended_attribute_ident_list_tree, extended_attribute_ident_tree, extended_attribute_list_tree, extended_attribute_named_arg_list_tree, extended_attribute_no_args_tree, extended_attribute_tree, extended_attributes_tree}

@@ -13,6 +13,14 @@ use Rattle.weedle_base.specs.Own.{own}
 use Rattle.weedle_base.specs.Reading.{Faults, Got, Reading}
 use Rattle.weedle_base.specs.declared.fault.Err.{Err as Fault}
 use Rattle.weedle_base.specs.declared.fault.Error.{Error}
+use Rattle.weedle_base.specs.declared.term.written.capitalized_keywords.FrozenArray.{FrozenArray}
+use Rattle.weedle_base.specs.declared.term.written.capitalized_keywords.Promise.{Promise}
+use Rattle.weedle_base.specs.declared.term.written.symbols.Comma.{Comma}
+use Rattle.weedle_base.specs.declared.term.written.symbols.GreaterThan.{GreaterThan}
+use Rattle.weedle_base.specs.declared.term.written.symbols.LessThan.{LessThan}
+use Rattle.weedle_base.specs.declared.term.written.symbols.QMark.{QMark}
+use Rattle.weedle_base.specs.declared.term.written.type_keywords.Record.{Record}
+use Rattle.weedle_base.specs.declared.term.written.type_keywords.Sequence.{Sequence}
 use Rattle.weedle_grammar.specs.written.Table.CapitalizedKeywords.{FROZEN_ARRAY, PROMISE}
 use Rattle.weedle_grammar.specs.written.Table.Keywords.{RECORD, SEQUENCE}
 use Rattle.weedle_grammar.specs.written.Table.SimpleTypes.{OPT_Q_MARK}
@@ -21,14 +29,6 @@ use Rattle.weedle_grammar.specs.written.Table.Types.{FROZEN_ARRAY_TYPE, GENERICS
 use Rattle.weedle_parts.specs.ValueTrees.{generics_tree, may_be_null_tree}
 use Rattle.weedle_parts.specs.declared.common.brackets.Generics.{Generics}
 use Rattle.weedle_parts.specs.declared.types.may_be_null.MayBeNull.{MayBeNull}
-use Rattle.weedle_term.specs.declared.written.capitalized_keywords.FrozenArray.{FrozenArray}
-use Rattle.weedle_term.specs.declared.written.capitalized_keywords.Promise.{Promise}
-use Rattle.weedle_term.specs.declared.written.symbols.Comma.{Comma}
-use Rattle.weedle_term.specs.declared.written.symbols.GreaterThan.{GreaterThan}
-use Rattle.weedle_term.specs.declared.written.symbols.LessThan.{LessThan}
-use Rattle.weedle_term.specs.declared.written.symbols.QMark.{QMark}
-use Rattle.weedle_term.specs.declared.written.type_keywords.Record.{Record}
-use Rattle.weedle_term.specs.declared.written.type_keywords.Sequence.{Sequence}
 use Rattle.weedle_types.proofs.Direct.{memory_fault}
 use Rattle.weedle_types.specs.Steps.{OutOfMemory}
 use Rattle.weedle_types.specs.Trees.{boxed_return_type_tree, boxed_type_tree, frozen_array_type_tree, promise_type_tree, record_key_type_tree, record_type_tree, record_types_tree, return_type_tree, sequence_type_tree, type_tree}

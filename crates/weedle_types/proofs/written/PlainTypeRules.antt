@@ -13,6 +13,28 @@ use Rattle.weedle_base.specs.Reading.{Faults, Got, Reading}
 use Rattle.weedle_base.specs.Rules.{mark_tree}
 use Rattle.weedle_base.specs.declared.fault.Err.{Err as Fault}
 use Rattle.weedle_base.specs.declared.fault.Error.{Error}
+use Rattle.weedle_base.specs.declared.term.written.capitalized_keywords.ArrayBuffer.{ArrayBuffer}
+use Rattle.weedle_base.specs.declared.term.written.capitalized_keywords.ArrayBufferView.{ArrayBufferView}
+use Rattle.weedle_base.specs.declared.term.written.capitalized_keywords.BufferSource.{BufferSource}
+use Rattle.weedle_base.specs.declared.term.written.capitalized_keywords.ByteString.{ByteString}
+use Rattle.weedle_base.specs.declared.term.written.capitalized_keywords.DOMString.{DOMString}
+use Rattle.weedle_base.specs.declared.term.written.capitalized_keywords.DataView.{DataView}
+use Rattle.weedle_base.specs.declared.term.written.capitalized_keywords.Error.{Error as ErrorKeyword}
+use Rattle.weedle_base.specs.declared.term.written.capitalized_keywords.Float32Array.{Float32Array}
+use Rattle.weedle_base.specs.declared.term.written.capitalized_keywords.Float64Array.{Float64Array}
+use Rattle.weedle_base.specs.declared.term.written.capitalized_keywords.Int16Array.{Int16Array}
+use Rattle.weedle_base.specs.declared.term.written.capitalized_keywords.Int32Array.{Int32Array}
+use Rattle.weedle_base.specs.declared.term.written.capitalized_keywords.Int8Array.{Int8Array}
+use Rattle.weedle_base.specs.declared.term.written.capitalized_keywords.USVString.{USVString}
+use Rattle.weedle_base.specs.declared.term.written.capitalized_keywords.Uint16Array.{Uint16Array}
+use Rattle.weedle_base.specs.declared.term.written.capitalized_keywords.Uint32Array.{Uint32Array}
+use Rattle.weedle_base.specs.declared.term.written.capitalized_keywords.Uint8Array.{Uint8Array}
+use Rattle.weedle_base.specs.declared.term.written.capitalized_keywords.Uint8ClampedArray.{Uint8ClampedArray}
+use Rattle.weedle_base.specs.declared.term.written.type_keywords.Boolean.{Boolean}
+use Rattle.weedle_base.specs.declared.term.written.type_keywords.Byte.{Byte}
+use Rattle.weedle_base.specs.declared.term.written.type_keywords.Object.{Object}
+use Rattle.weedle_base.specs.declared.term.written.type_keywords.Octet.{Octet}
+use Rattle.weedle_base.specs.declared.term.written.type_keywords.Symbol.{Symbol}
 use Rattle.weedle_grammar.specs.Trees.{Alt}
 use Rattle.weedle_grammar.specs.written.Table.CapitalizedKeywords.{ARRAY_BUFFER, ARRAY_BUFFER_VIEW, BUFFER_SOURCE, BYTE_STRING, DATA_VIEW, DOM_STRING, ERROR, FLOAT32_ARRAY, FLOAT64_ARRAY, INT16_ARRAY, INT32_ARRAY, INT8_ARRAY, UINT16_ARRAY, UINT32_ARRAY, UINT8_ARRAY, UINT8_CLAMPED_ARRAY, USV_STRING}
 use Rattle.weedle_grammar.specs.written.Table.Keywords.{BOOLEAN, BYTE, OBJECT, OCTET, SYMBOL}
@@ -24,28 +46,6 @@ use Rattle.weedle_parts.specs.ValueTrees.{floating_point_type_tree, integer_type
 use Rattle.weedle_parts.specs.declared.types.floating_point.FloatingPointType.{FloatingPointType}
 use Rattle.weedle_parts.specs.declared.types.integer.IntegerType.{IntegerType}
 use Rattle.weedle_parts.specs.declared.types.may_be_null.MayBeNull.{MayBeNull}
-use Rattle.weedle_term.specs.declared.written.capitalized_keywords.ArrayBuffer.{ArrayBuffer}
-use Rattle.weedle_term.specs.declared.written.capitalized_keywords.ArrayBufferView.{ArrayBufferView}
-use Rattle.weedle_term.specs.declared.written.capitalized_keywords.BufferSource.{BufferSource}
-use Rattle.weedle_term.specs.declared.written.capitalized_keywords.ByteString.{ByteString}
-use Rattle.weedle_term.specs.declared.written.capitalized_keywords.DOMString.{DOMString}
-use Rattle.weedle_term.specs.declared.written.capitalized_keywords.DataView.{DataView}
-use Rattle.weedle_term.specs.declared.written.capitalized_keywords.Error.{Error as ErrorKeyword}
-use Rattle.weedle_term.specs.declared.written.capitalized_keywords.Float32Array.{Float32Array}
-use Rattle.weedle_term.specs.declared.written.capitalized_keywords.Float64Array.{Float64Array}
-use Rattle.weedle_term.specs.declared.written.capitalized_keywords.Int16Array.{Int16Array}
-use Rattle.weedle_term.specs.declared.written.capitalized_keywords.Int32Array.{Int32Array}
-use Rattle.weedle_term.specs.declared.written.capitalized_keywords.Int8Array.{Int8Array}
-use Rattle.weedle_term.specs.declared.written.capitalized_keywords.USVString.{USVString}
-use Rattle.weedle_term.specs.declared.written.capitalized_keywords.Uint16Array.{Uint16Array}
-use Rattle.weedle_term.specs.declared.written.capitalized_keywords.Uint32Array.{Uint32Array}
-use Rattle.weedle_term.specs.declared.written.capitalized_keywords.Uint8Array.{Uint8Array}
-use Rattle.weedle_term.specs.declared.written.capitalized_keywords.Uint8ClampedArray.{Uint8ClampedArray}
-use Rattle.weedle_term.specs.declared.written.type_keywords.Boolean.{Boolean}
-use Rattle.weedle_term.specs.declared.written.type_keywords.Byte.{Byte}
-use Rattle.weedle_term.specs.declared.written.type_keywords.Object.{Object}
-use Rattle.weedle_term.specs.declared.written.type_keywords.Octet.{Octet}
-use Rattle.weedle_term.specs.declared.written.type_keywords.Symbol.{Symbol}
 use Rattle.weedle_types.proofs.Direct.{direct_choice, fault_members, first_piece, got_members, members_first, pair_takes, seen_takes}
 use Rattle.weedle_types.specs.Pieces.{after_sequence_rules, before_sequence_rules, float_arrays_rules, numbers_rules, objects_rules, signed_arrays_rules, strings_rules, unsigned_arrays_rules}
 use Rattle.weedle_types.specs.Steps.{members}

@@ -14,6 +14,13 @@ use Rattle.weedle_base.specs.Reading.{Faults, Got, Reading}
 use Rattle.weedle_base.specs.Rules.{IsRule, mark_tree, option_tree}
 use Rattle.weedle_base.specs.declared.fault.Err.{Err as Fault}
 use Rattle.weedle_base.specs.declared.fault.Error.{Error}
+use Rattle.weedle_base.specs.declared.term.written.capitalized_keywords.ByteString.{ByteString}
+use Rattle.weedle_base.specs.declared.term.written.capitalized_keywords.DOMString.{DOMString}
+use Rattle.weedle_base.specs.declared.term.written.capitalized_keywords.USVString.{USVString}
+use Rattle.weedle_base.specs.declared.term.written.symbols.Comma.{Comma}
+use Rattle.weedle_base.specs.declared.term.written.type_keywords.Any.{Any}
+use Rattle.weedle_base.specs.declared.term.written.type_keywords.Or.{Or}
+use Rattle.weedle_base.specs.declared.term.written.type_keywords.Undefined.{Undefined}
 use Rattle.weedle_grammar.specs.Trees.{Alt}
 use Rattle.weedle_grammar.specs.written.Table.CapitalizedKeywords.{BYTE_STRING, DOM_STRING, USV_STRING}
 use Rattle.weedle_grammar.specs.written.Table.Keywords.{ANY, UNDEFINED}
@@ -28,13 +35,6 @@ use Rattle.weedle_parts.specs.declared.common.brackets.Parenthesized.{Parenthesi
 use Rattle.weedle_parts.specs.declared.common.identifier.Identifier.{Identifier}
 use Rattle.weedle_parts.specs.declared.common.punctuated.Punctuated.{Punctuated}
 use Rattle.weedle_parts.specs.declared.types.may_be_null.MayBeNull.{MayBeNull}
-use Rattle.weedle_term.specs.declared.written.capitalized_keywords.ByteString.{ByteString}
-use Rattle.weedle_term.specs.declared.written.capitalized_keywords.DOMString.{DOMString}
-use Rattle.weedle_term.specs.declared.written.capitalized_keywords.USVString.{USVString}
-use Rattle.weedle_term.specs.declared.written.symbols.Comma.{Comma}
-use Rattle.weedle_term.specs.declared.written.type_keywords.Any.{Any}
-use Rattle.weedle_term.specs.declared.written.type_keywords.Or.{Or}
-use Rattle.weedle_term.specs.declared.written.type_keywords.Undefined.{Undefined}
 use Rattle.weedle_types.proofs.Direct.{direct_choice, first_piece, members_first, pair_takes, seen_takes, still_first}
 use Rattle.weedle_types.proofs.TreeLaws.{promise_of, record_of, single_type_of, union_of}
 use Rattle.weedle_types.specs.Pieces.{after_sequence_rules, before_sequence_rules}

@@ -17,6 +17,10 @@ use Rattle.weedle_base.specs.Rules.{IsRule}
 use Rattle.weedle_base.specs.declared.fault.Err.TheVariants.{Error as Recoverable, Failure}
 use Rattle.weedle_base.specs.declared.fault.Err.{Err as Fault}
 use Rattle.weedle_base.specs.declared.fault.Error.{Error}
+use Rattle.weedle_base.specs.declared.term.written.symbols.CloseParen.{CloseParen}
+use Rattle.weedle_base.specs.declared.term.written.symbols.OpenParen.{OpenParen}
+use Rattle.weedle_base.specs.declared.term.written.symbols.QMark.{QMark}
+use Rattle.weedle_base.specs.declared.term.written.type_keywords.Or.{Or}
 use Rattle.weedle_grammar.specs.Trees.{Alt}
 use Rattle.weedle_grammar.specs.written.Table.Keywords.{OR}
 use Rattle.weedle_grammar.specs.written.Table.SimpleTypes.{OPT_Q_MARK}
@@ -29,10 +33,6 @@ use Rattle.weedle_parts.specs.ValueTrees.{may_be_null_tree}
 use Rattle.weedle_parts.specs.declared.common.brackets.Parenthesized.{Parenthesized}
 use Rattle.weedle_parts.specs.declared.common.punctuated.Punctuated.{Punctuated}
 use Rattle.weedle_parts.specs.declared.types.may_be_null.MayBeNull.{MayBeNull}
-use Rattle.weedle_term.specs.declared.written.symbols.CloseParen.{CloseParen}
-use Rattle.weedle_term.specs.declared.written.symbols.OpenParen.{OpenParen}
-use Rattle.weedle_term.specs.declared.written.symbols.QMark.{QMark}
-use Rattle.weedle_term.specs.declared.written.type_keywords.Or.{Or}
 use Rattle.weedle_types.proofs.Direct.{direct_choice, list_stop, pair_takes, refused_by, seen_takes}
 use Rattle.weedle_types.proofs.TreeLaws.{member_single_of, member_union_of}
 use Rattle.weedle_types.specs.Trees.{attributed_non_any_type_tree, union_member_type_tree, union_member_types_tree, union_type_tree}

@@ -9,8 +9,8 @@ use super::{
     ExtendedAttributeIdentList, ExtendedAttributeNamedArgList, ExtendedAttributeNoArgs,
     IdentifierOrString,
 };
-use weedle_literal::StringLit;
 use weedle_parts::common::Identifier;
+use weedle_parts::literal::StringLit;
 
 impl<'a> From<ExtendedAttributeArgList<'a>> for ExtendedAttribute<'a> {
     ghost use Rattle.weedle_types.specs.declared.attribute.ExtendedAttribute.TheVariants.{ArgList};

@@ -27,9 +27,9 @@ use crate::argument::{
     Argument, ArgumentList, ParenthesizedArgumentList, SingleArgument, VariadicArgument,
 };
 use std::alloc::Global;
+use weedle_base::term::Comma;
 use weedle_base::{Err, IResult, out_of_memory};
 use weedle_parts::common::Punctuated;
-use weedle_term::Comma;
 
 /// Reads an argument, as `long x` or `long... xs`.
 #[cycle(group)]
@@ -38,11 +38,7 @@ pub(crate) fn argument<'a>(alloc: Global, input: &'a str) -> IResult<&'a str, Ar
     ensures reads { Answers (own ARGUMENT argument_tree (Unit {0})) input.now result }
     ensures shorter { IfOk result (λ x. length x.0.now < length input.now) }
 {
-    match single_argument(alloc, input) {
-        Ok((rest, member)) => return Ok((rest, Argument::Single(member))),
-        Err(Err::Error(_)) => {}
-        Err(Err::Failure(e)) => return Err(Err::Failure(e)),
-    }
+    read_or_next!(single_argument(alloc, input), Argument::Single);
     let (rest, member) = variadic_argument(alloc, input)?;
     Ok((rest, Argument::Variadic(member)))
 }
@@ -95,7 +91,8 @@ pub(crate) fn variadic_argument<'a>(
     alloc: Global,
     input: &'a str,
 ) -> IResult<&'a str, VariadicArgument<'a>>
-    ensures reads { Answers (own VARIADIC_ARGUMENT variadic_argument_tree (Unit {0})) input.now result }
+    ensures reads { Answers (own VARIADIC_ARGUMENT variadic_argument_tree (Unit {0})) input.now
+        result }
     ensures shorter { IfOk result (λ x. length x.0.now < length input.now) }
 {
     let (rest, attributes) = attributes(alloc, input)?;
@@ -120,7 +117,8 @@ pub(crate) fn arguments<'a>(
     alloc: Global,
     input: &'a str,
 ) -> IResult<&'a str, ParenthesizedArgumentList<'a>>
-    ensures reads { Answers (own PARENTHESIZED_ARGUMENT_LIST arguments_tree (Unit {0})) input.now result }
+    ensures reads { Answers (own PARENTHESIZED_ARGUMENT_LIST arguments_tree (Unit {0})) input.now
+        result }
     ensures shorter { IfOk result (λ x. length x.0.now < length input.now) }
 {
     let (rest, open_paren) = word(alloc, input)?;
@@ -177,7 +175,9 @@ pub(crate) fn more_arguments<'a>(
     first: Argument<'a>,
     input: &'a str,
 ) -> IResult<&'a str, Vec<Argument<'a>>>
-    ensures reads { Answers (after_first (own ARGUMENT argument_tree (Unit {0})) comma_reading (λ l. l.items) first.entry) input.now result }
+    ensures reads { Answers
+        (after_first (own ARGUMENT argument_tree (Unit {0})) comma_reading (λ l. l.items)
+        first.entry) input.now result }
     ensures no_longer { IfOk result (λ x. length x.0.now ≤ length input.now) }
 {
     let mut list = Vec::new(alloc);

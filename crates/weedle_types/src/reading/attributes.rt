@@ -29,9 +29,9 @@ use crate::attribute::{
     ExtendedAttributeNamedArgList,
 };
 use std::alloc::Global;
+use weedle_base::term::Comma;
 use weedle_base::{Err, IResult, out_of_memory};
 use weedle_parts::common::{Bracketed, Punctuated};
-use weedle_term::Comma;
 
 /// Reads extended attributes in brackets, where they stand.
 #[cycle(group)]
@@ -40,7 +40,9 @@ pub(crate) fn attributes<'a>(
     alloc: Global,
     input: &'a str,
 ) -> IResult<&'a str, Option<ExtendedAttributeList<'a>>>
-    ensures reads { Answers (own OPT_EXTENDED_ATTRIBUTE_LIST (option_tree extended_attribute_list_tree) (Unit {0})) input.now result }
+    ensures reads { Answers
+        (own OPT_EXTENDED_ATTRIBUTE_LIST (option_tree extended_attribute_list_tree) (Unit {0}))
+        input.now result }
     ensures no_longer { IfOk result (λ x. length x.0.now ≤ length input.now) }
 {
     match extended_attribute_list(alloc, input) {
@@ -57,7 +59,8 @@ pub(crate) fn extended_attribute_list<'a>(
     alloc: Global,
     input: &'a str,
 ) -> IResult<&'a str, ExtendedAttributeList<'a>>
-    ensures reads { Answers (own EXTENDED_ATTRIBUTE_LIST extended_attribute_list_tree (Unit {0})) input.now result }
+    ensures reads { Answers (own EXTENDED_ATTRIBUTE_LIST extended_attribute_list_tree (Unit {0}))
+        input.now result }
     ensures shorter { IfOk result (λ x. length x.0.now < length input.now) }
 {
     let (rest, open_bracket) = word(alloc, input)?;
@@ -80,29 +83,20 @@ pub(crate) fn extended_attribute<'a>(
     alloc: Global,
     input: &'a str,
 ) -> IResult<&'a str, ExtendedAttribute<'a>>
-    ensures reads { Answers (own EXTENDED_ATTRIBUTE extended_attribute_tree (Unit {0})) input.now result }
+    ensures reads { Answers (own EXTENDED_ATTRIBUTE extended_attribute_tree (Unit {0})) input.now
+        result }
     ensures shorter { IfOk result (λ x. length x.0.now < length input.now) }
 {
-    match extended_attribute_arg_list(alloc, input) {
-        Ok((rest, member)) => return Ok((rest, ExtendedAttribute::ArgList(member))),
-        Err(Err::Error(_)) => {}
-        Err(Err::Failure(e)) => return Err(Err::Failure(e)),
-    }
-    match extended_attribute_named_arg_list(alloc, input) {
-        Ok((rest, member)) => return Ok((rest, ExtendedAttribute::NamedArgList(member))),
-        Err(Err::Error(_)) => {}
-        Err(Err::Failure(e)) => return Err(Err::Failure(e)),
-    }
-    match word(alloc, input) {
-        Ok((rest, member)) => return Ok((rest, ExtendedAttribute::IdentList(member))),
-        Err(Err::Error(_)) => {}
-        Err(Err::Failure(e)) => return Err(Err::Failure(e)),
-    }
-    match word(alloc, input) {
-        Ok((rest, member)) => return Ok((rest, ExtendedAttribute::Ident(member))),
-        Err(Err::Error(_)) => {}
-        Err(Err::Failure(e)) => return Err(Err::Failure(e)),
-    }
+    read_or_next!(
+        extended_attribute_arg_list(alloc, input),
+        ExtendedAttribute::ArgList
+    );
+    read_or_next!(
+        extended_attribute_named_arg_list(alloc, input),
+        ExtendedAttribute::NamedArgList
+    );
+    read_or_next!(word(alloc, input), ExtendedAttribute::IdentList);
+    read_or_next!(word(alloc, input), ExtendedAttribute::Ident);
     let (rest, member) = word(alloc, input)?;
     Ok((rest, ExtendedAttribute::NoArgs(member)))
 }
@@ -114,7 +108,9 @@ pub(crate) fn extended_attribute_arg_list<'a>(
     alloc: Global,
     input: &'a str,
 ) -> IResult<&'a str, ExtendedAttributeArgList<'a>>
-    ensures reads { Answers (own EXTENDED_ATTRIBUTE_ARG_LIST extended_attribute_arg_list_tree (Unit {0})) input.now result }
+    ensures reads { Answers
+        (own EXTENDED_ATTRIBUTE_ARG_LIST extended_attribute_arg_list_tree (Unit {0})) input.now
+        result }
     ensures shorter { IfOk result (λ x. length x.0.now < length input.now) }
 {
     let (rest, identifier) = part(alloc, input)?;
@@ -129,7 +125,9 @@ pub(crate) fn extended_attribute_named_arg_list<'a>(
     alloc: Global,
     input: &'a str,
 ) -> IResult<&'a str, ExtendedAttributeNamedArgList<'a>>
-    ensures reads { Answers (own EXTENDED_ATTRIBUTE_NAMED_ARG_LIST extended_attribute_named_arg_list_tree (Unit {0})) input.now result }
+    ensures reads { Answers
+        (own EXTENDED_ATTRIBUTE_NAMED_ARG_LIST extended_attribute_named_arg_list_tree (Unit {0}))
+        input.now result }
     ensures shorter { IfOk result (λ x. length x.0.now < length input.now) }
 {
     let (rest, lhs_identifier) = part(alloc, input)?;
@@ -154,7 +152,8 @@ pub(crate) fn extended_attributes<'a>(
     alloc: Global,
     input: &'a str,
 ) -> IResult<&'a str, Punctuated<ExtendedAttribute<'a>, Comma>>
-    ensures reads { Answers (own LIST_EXTENDED_ATTRIBUTE_COMMA extended_attributes_tree (Unit {0})) input.now result }
+    ensures reads { Answers (own LIST_EXTENDED_ATTRIBUTE_COMMA extended_attributes_tree (Unit {0}))
+        input.now result }
     ensures no_longer { IfOk result (λ x. length x.0.now ≤ length input.now) }
 {
     match extended_attribute(alloc, input) {
@@ -191,7 +190,9 @@ pub(crate) fn more_extended_attributes<'a>(
     first: ExtendedAttribute<'a>,
     input: &'a str,
 ) -> IResult<&'a str, Vec<ExtendedAttribute<'a>>>
-    ensures reads { Answers (after_first (own EXTENDED_ATTRIBUTE extended_attribute_tree (Unit {0})) comma_reading (λ l. l.items) first.entry) input.now result }
+    ensures reads { Answers
+        (after_first (own EXTENDED_ATTRIBUTE extended_attribute_tree (Unit {0})) comma_reading
+        (λ l. l.items) first.entry) input.now result }
     ensures no_longer { IfOk result (λ x. length x.0.now ≤ length input.now) }
 {
     let mut list = Vec::new(alloc);

@@ -56,7 +56,8 @@ pub(crate) fn frozen_array_type<'a>(
     alloc: Global,
     input: &'a str,
 ) -> IResult<&'a str, FrozenArrayType<'a>>
-    ensures reads { Answers (own FROZEN_ARRAY_TYPE frozen_array_type_tree (Unit {0})) input.now result }
+    ensures reads { Answers (own FROZEN_ARRAY_TYPE frozen_array_type_tree (Unit {0})) input.now
+        result }
     ensures shorter { IfOk result (λ x. length x.0.now < length input.now) }
 {
     let (rest, frozen_array) = part(alloc, input)?;
@@ -101,7 +102,9 @@ pub(crate) fn nullable_sequence_type<'a>(
     alloc: Global,
     input: &'a str,
 ) -> IResult<&'a str, MayBeNull<SequenceType<'a>>>
-    ensures reads { Answers (own MAY_BE_NULL_SEQUENCE_TYPE (may_be_null_tree sequence_type_tree) (Unit {0})) input.now result }
+    ensures reads { Answers
+        (own MAY_BE_NULL_SEQUENCE_TYPE (may_be_null_tree sequence_type_tree) (Unit {0})) input.now
+        result }
     ensures shorter { IfOk result (λ x. length x.0.now < length input.now) }
 {
     let (rest, type_) = sequence_type(alloc, input)?;
@@ -116,7 +119,9 @@ pub(crate) fn nullable_frozen_array_type<'a>(
     alloc: Global,
     input: &'a str,
 ) -> IResult<&'a str, MayBeNull<FrozenArrayType<'a>>>
-    ensures reads { Answers (own MAY_BE_NULL_FROZEN_ARRAY_TYPE (may_be_null_tree frozen_array_type_tree) (Unit {0})) input.now result }
+    ensures reads { Answers
+        (own MAY_BE_NULL_FROZEN_ARRAY_TYPE (may_be_null_tree frozen_array_type_tree) (Unit {0}))
+        input.now result }
     ensures shorter { IfOk result (λ x. length x.0.now < length input.now) }
 {
     let (rest, type_) = frozen_array_type(alloc, input)?;
@@ -131,7 +136,9 @@ pub(crate) fn nullable_record_type<'a>(
     alloc: Global,
     input: &'a str,
 ) -> IResult<&'a str, MayBeNull<RecordType<'a>>>
-    ensures reads { Answers (own MAY_BE_NULL_RECORD_TYPE (may_be_null_tree record_type_tree) (Unit {0})) input.now result }
+    ensures reads { Answers
+        (own MAY_BE_NULL_RECORD_TYPE (may_be_null_tree record_type_tree) (Unit {0})) input.now
+        result }
     ensures shorter { IfOk result (λ x. length x.0.now < length input.now) }
 {
     let (rest, type_) = record_type(alloc, input)?;
@@ -146,7 +153,8 @@ pub(crate) fn generics_type<'a>(
     alloc: Global,
     input: &'a str,
 ) -> IResult<&'a str, Generics<Box<Type<'a>>>>
-    ensures reads { Answers (own GENERICS_TYPE (generics_tree boxed_type_tree) (Unit {0})) input.now result }
+    ensures reads { Answers (own GENERICS_TYPE (generics_tree boxed_type_tree) (Unit {0})) input.now
+        result }
     ensures shorter { IfOk result (λ x. length x.0.now < length input.now) }
 {
     let (rest, open_angle) = word(alloc, input)?;
@@ -170,7 +178,9 @@ pub(crate) fn generics_return_type<'a>(
     alloc: Global,
     input: &'a str,
 ) -> IResult<&'a str, Generics<Box<ReturnType<'a>>>>
-    ensures reads { Answers (own GENERICS_RETURN_TYPE (generics_tree boxed_return_type_tree) (Unit {0})) input.now result }
+    ensures reads { Answers
+        (own GENERICS_RETURN_TYPE (generics_tree boxed_return_type_tree) (Unit {0})) input.now
+        result }
     ensures shorter { IfOk result (λ x. length x.0.now < length input.now) }
 {
     let (rest, open_angle) = word(alloc, input)?;
@@ -194,7 +204,8 @@ pub(crate) fn generics_record_types<'a>(
     alloc: Global,
     input: &'a str,
 ) -> IResult<&'a str, Generics<RecordTypes<'a>>>
-    ensures reads { Answers (own GENERICS_RECORD_TYPES (generics_tree record_types_tree) (Unit {0})) input.now result }
+    ensures reads { Answers (own GENERICS_RECORD_TYPES (generics_tree record_types_tree) (Unit {0}))
+        input.now result }
     ensures shorter { IfOk result (λ x. length x.0.now < length input.now) }
 {
     let (rest, open_angle) = word(alloc, input)?;

@@ -27,21 +27,9 @@ pub(crate) fn numbers<'a>(alloc: Global, input: &'a str) -> IResult<&'a str, Non
     ensures reads { Answers (members numbers_rules 1 non_any_type_tree ⊥) input.now result }
     ensures shorter { IfOk result (λ x. length x.0.now < length input.now) }
 {
-    match word(alloc, input) {
-        Ok((rest, member)) => return Ok((rest, NonAnyType::Integer(member))),
-        Err(Err::Error(_)) => {}
-        Err(Err::Failure(e)) => return Err(Err::Failure(e)),
-    }
-    match word(alloc, input) {
-        Ok((rest, member)) => return Ok((rest, NonAnyType::FloatingPoint(member))),
-        Err(Err::Error(_)) => {}
-        Err(Err::Failure(e)) => return Err(Err::Failure(e)),
-    }
-    match word(alloc, input) {
-        Ok((rest, member)) => return Ok((rest, NonAnyType::Boolean(member))),
-        Err(Err::Error(_)) => {}
-        Err(Err::Failure(e)) => return Err(Err::Failure(e)),
-    }
+    read_or_next!(word(alloc, input), NonAnyType::Integer);
+    read_or_next!(word(alloc, input), NonAnyType::FloatingPoint);
+    read_or_next!(word(alloc, input), NonAnyType::Boolean);
     let (rest, member) = word(alloc, input)?;
     Ok((rest, NonAnyType::Byte(member)))
 }
@@ -52,21 +40,9 @@ pub(crate) fn strings<'a>(alloc: Global, input: &'a str) -> IResult<&'a str, Non
     ensures reads { Answers (members strings_rules 5 non_any_type_tree ⊥) input.now result }
     ensures shorter { IfOk result (λ x. length x.0.now < length input.now) }
 {
-    match word(alloc, input) {
-        Ok((rest, member)) => return Ok((rest, NonAnyType::Octet(member))),
-        Err(Err::Error(_)) => {}
-        Err(Err::Failure(e)) => return Err(Err::Failure(e)),
-    }
-    match word(alloc, input) {
-        Ok((rest, member)) => return Ok((rest, NonAnyType::ByteString(member))),
-        Err(Err::Error(_)) => {}
-        Err(Err::Failure(e)) => return Err(Err::Failure(e)),
-    }
-    match word(alloc, input) {
-        Ok((rest, member)) => return Ok((rest, NonAnyType::DOMString(member))),
-        Err(Err::Error(_)) => {}
-        Err(Err::Failure(e)) => return Err(Err::Failure(e)),
-    }
+    read_or_next!(word(alloc, input), NonAnyType::Octet);
+    read_or_next!(word(alloc, input), NonAnyType::ByteString);
+    read_or_next!(word(alloc, input), NonAnyType::DOMString);
     let (rest, member) = word(alloc, input)?;
     Ok((rest, NonAnyType::USVString(member)))
 }
@@ -77,21 +53,9 @@ pub(crate) fn objects<'a>(alloc: Global, input: &'a str) -> IResult<&'a str, Non
     ensures reads { Answers (members objects_rules 10 non_any_type_tree ⊥) input.now result }
     ensures shorter { IfOk result (λ x. length x.0.now < length input.now) }
 {
-    match word(alloc, input) {
-        Ok((rest, member)) => return Ok((rest, NonAnyType::Object(member))),
-        Err(Err::Error(_)) => {}
-        Err(Err::Failure(e)) => return Err(Err::Failure(e)),
-    }
-    match word(alloc, input) {
-        Ok((rest, member)) => return Ok((rest, NonAnyType::Symbol(member))),
-        Err(Err::Error(_)) => {}
-        Err(Err::Failure(e)) => return Err(Err::Failure(e)),
-    }
-    match word(alloc, input) {
-        Ok((rest, member)) => return Ok((rest, NonAnyType::Error(member))),
-        Err(Err::Error(_)) => {}
-        Err(Err::Failure(e)) => return Err(Err::Failure(e)),
-    }
+    read_or_next!(word(alloc, input), NonAnyType::Object);
+    read_or_next!(word(alloc, input), NonAnyType::Symbol);
+    read_or_next!(word(alloc, input), NonAnyType::Error);
     let (rest, member) = word(alloc, input)?;
     Ok((rest, NonAnyType::ArrayBuffer(member)))
 }
@@ -102,21 +66,9 @@ pub(crate) fn signed_arrays<'a>(alloc: Global, input: &'a str) -> IResult<&'a st
     ensures reads { Answers (members signed_arrays_rules 14 non_any_type_tree ⊥) input.now result }
     ensures shorter { IfOk result (λ x. length x.0.now < length input.now) }
 {
-    match word(alloc, input) {
-        Ok((rest, member)) => return Ok((rest, NonAnyType::DataView(member))),
-        Err(Err::Error(_)) => {}
-        Err(Err::Failure(e)) => return Err(Err::Failure(e)),
-    }
-    match word(alloc, input) {
-        Ok((rest, member)) => return Ok((rest, NonAnyType::Int8Array(member))),
-        Err(Err::Error(_)) => {}
-        Err(Err::Failure(e)) => return Err(Err::Failure(e)),
-    }
-    match word(alloc, input) {
-        Ok((rest, member)) => return Ok((rest, NonAnyType::Int16Array(member))),
-        Err(Err::Error(_)) => {}
-        Err(Err::Failure(e)) => return Err(Err::Failure(e)),
-    }
+    read_or_next!(word(alloc, input), NonAnyType::DataView);
+    read_or_next!(word(alloc, input), NonAnyType::Int8Array);
+    read_or_next!(word(alloc, input), NonAnyType::Int16Array);
     let (rest, member) = word(alloc, input)?;
     Ok((rest, NonAnyType::Int32Array(member)))
 }
@@ -124,24 +76,13 @@ pub(crate) fn signed_arrays<'a>(alloc: Global, input: &'a str) -> IResult<&'a st
 /// Reads an array of unsigned numbers, as `Uint8Array`.
 #[tactic(auto, using(crate::proofs::written::PlainTypeRules::unsigned_arrays_steps))]
 pub(crate) fn unsigned_arrays<'a>(alloc: Global, input: &'a str) -> IResult<&'a str, NonAnyType<'a>>
-    ensures reads { Answers (members unsigned_arrays_rules 18 non_any_type_tree ⊥) input.now result }
+    ensures reads { Answers (members unsigned_arrays_rules 18 non_any_type_tree ⊥) input.now
+        result }
     ensures shorter { IfOk result (λ x. length x.0.now < length input.now) }
 {
-    match word(alloc, input) {
-        Ok((rest, member)) => return Ok((rest, NonAnyType::Uint8Array(member))),
-        Err(Err::Error(_)) => {}
-        Err(Err::Failure(e)) => return Err(Err::Failure(e)),
-    }
-    match word(alloc, input) {
-        Ok((rest, member)) => return Ok((rest, NonAnyType::Uint16Array(member))),
-        Err(Err::Error(_)) => {}
-        Err(Err::Failure(e)) => return Err(Err::Failure(e)),
-    }
-    match word(alloc, input) {
-        Ok((rest, member)) => return Ok((rest, NonAnyType::Uint32Array(member))),
-        Err(Err::Error(_)) => {}
-        Err(Err::Failure(e)) => return Err(Err::Failure(e)),
-    }
+    read_or_next!(word(alloc, input), NonAnyType::Uint8Array);
+    read_or_next!(word(alloc, input), NonAnyType::Uint16Array);
+    read_or_next!(word(alloc, input), NonAnyType::Uint32Array);
     let (rest, member) = word(alloc, input)?;
     Ok((rest, NonAnyType::Uint8ClampedArray(member)))
 }
@@ -152,21 +93,9 @@ pub(crate) fn float_arrays<'a>(alloc: Global, input: &'a str) -> IResult<&'a str
     ensures reads { Answers (members float_arrays_rules 22 non_any_type_tree ⊥) input.now result }
     ensures shorter { IfOk result (λ x. length x.0.now < length input.now) }
 {
-    match word(alloc, input) {
-        Ok((rest, member)) => return Ok((rest, NonAnyType::Float32Array(member))),
-        Err(Err::Error(_)) => {}
-        Err(Err::Failure(e)) => return Err(Err::Failure(e)),
-    }
-    match word(alloc, input) {
-        Ok((rest, member)) => return Ok((rest, NonAnyType::Float64Array(member))),
-        Err(Err::Error(_)) => {}
-        Err(Err::Failure(e)) => return Err(Err::Failure(e)),
-    }
-    match word(alloc, input) {
-        Ok((rest, member)) => return Ok((rest, NonAnyType::ArrayBufferView(member))),
-        Err(Err::Error(_)) => {}
-        Err(Err::Failure(e)) => return Err(Err::Failure(e)),
-    }
+    read_or_next!(word(alloc, input), NonAnyType::Float32Array);
+    read_or_next!(word(alloc, input), NonAnyType::Float64Array);
+    read_or_next!(word(alloc, input), NonAnyType::ArrayBufferView);
     let (rest, member) = word(alloc, input)?;
     Ok((rest, NonAnyType::BufferSource(member)))
 }
@@ -177,11 +106,7 @@ pub(crate) fn before_sequence<'a>(alloc: Global, input: &'a str) -> IResult<&'a 
     ensures reads { Answers (members before_sequence_rules 1 non_any_type_tree ⊥) input.now result }
     ensures shorter { IfOk result (λ x. length x.0.now < length input.now) }
 {
-    match numbers(alloc, input) {
-        Ok((rest, member)) => return Ok((rest, member)),
-        Err(Err::Error(_)) => {}
-        Err(Err::Failure(e)) => return Err(Err::Failure(e)),
-    }
+    read_or_next!(numbers(alloc, input));
     let (rest, member) = strings(alloc, input)?;
     Ok((rest, member))
 }
@@ -192,21 +117,9 @@ pub(crate) fn after_sequence<'a>(alloc: Global, input: &'a str) -> IResult<&'a s
     ensures reads { Answers (members after_sequence_rules 10 non_any_type_tree ⊥) input.now result }
     ensures shorter { IfOk result (λ x. length x.0.now < length input.now) }
 {
-    match objects(alloc, input) {
-        Ok((rest, member)) => return Ok((rest, member)),
-        Err(Err::Error(_)) => {}
-        Err(Err::Failure(e)) => return Err(Err::Failure(e)),
-    }
-    match signed_arrays(alloc, input) {
-        Ok((rest, member)) => return Ok((rest, member)),
-        Err(Err::Error(_)) => {}
-        Err(Err::Failure(e)) => return Err(Err::Failure(e)),
-    }
-    match unsigned_arrays(alloc, input) {
-        Ok((rest, member)) => return Ok((rest, member)),
-        Err(Err::Error(_)) => {}
-        Err(Err::Failure(e)) => return Err(Err::Failure(e)),
-    }
+    read_or_next!(objects(alloc, input));
+    read_or_next!(signed_arrays(alloc, input));
+    read_or_next!(unsigned_arrays(alloc, input));
     let (rest, member) = float_arrays(alloc, input)?;
     Ok((rest, member))
 }

@@ -43,11 +43,7 @@ pub(crate) fn type_<'a>(alloc: Global, input: &'a str) -> IResult<&'a str, Type<
     ensures reads { Answers (own TYPE type_tree (Unit {0})) input.now result }
     ensures shorter { IfOk result (λ x. length x.0.now < length input.now) }
 {
-    match single_type(alloc, input) {
-        Ok((rest, member)) => return Ok((rest, Type::Single(member))),
-        Err(Err::Error(_)) => {}
-        Err(Err::Failure(e)) => return Err(Err::Failure(e)),
-    }
+    read_or_next!(single_type(alloc, input), Type::Single);
     let (rest, member) = nullable_union_type(alloc, input)?;
     Ok((rest, Type::Union(member)))
 }
@@ -59,11 +55,7 @@ pub(crate) fn single_type<'a>(alloc: Global, input: &'a str) -> IResult<&'a str,
     ensures reads { Answers (own SINGLE_TYPE single_type_tree (Unit {0})) input.now result }
     ensures shorter { IfOk result (λ x. length x.0.now < length input.now) }
 {
-    match word(alloc, input) {
-        Ok((rest, member)) => return Ok((rest, SingleType::Any(member))),
-        Err(Err::Error(_)) => {}
-        Err(Err::Failure(e)) => return Err(Err::Failure(e)),
-    }
+    read_or_next!(word(alloc, input), SingleType::Any);
     let (rest, member) = non_any_type(alloc, input)?;
     Ok((rest, SingleType::NonAny(member)))
 }
@@ -75,36 +67,15 @@ pub(crate) fn non_any_type<'a>(alloc: Global, input: &'a str) -> IResult<&'a str
     ensures reads { Answers (own NON_ANY_TYPE non_any_type_tree (Unit {0})) input.now result }
     ensures shorter { IfOk result (λ x. length x.0.now < length input.now) }
 {
-    match promise_type(alloc, input) {
-        Ok((rest, member)) => return Ok((rest, NonAnyType::Promise(member))),
-        Err(Err::Error(_)) => {}
-        Err(Err::Failure(e)) => return Err(Err::Failure(e)),
-    }
-    match before_sequence(alloc, input) {
-        Ok((rest, member)) => return Ok((rest, member)),
-        Err(Err::Error(_)) => {}
-        Err(Err::Failure(e)) => return Err(Err::Failure(e)),
-    }
-    match nullable_sequence_type(alloc, input) {
-        Ok((rest, member)) => return Ok((rest, NonAnyType::Sequence(member))),
-        Err(Err::Error(_)) => {}
-        Err(Err::Failure(e)) => return Err(Err::Failure(e)),
-    }
-    match after_sequence(alloc, input) {
-        Ok((rest, member)) => return Ok((rest, member)),
-        Err(Err::Error(_)) => {}
-        Err(Err::Failure(e)) => return Err(Err::Failure(e)),
-    }
-    match nullable_frozen_array_type(alloc, input) {
-        Ok((rest, member)) => return Ok((rest, NonAnyType::FrozenArrayType(member))),
-        Err(Err::Error(_)) => {}
-        Err(Err::Failure(e)) => return Err(Err::Failure(e)),
-    }
-    match nullable_record_type(alloc, input) {
-        Ok((rest, member)) => return Ok((rest, NonAnyType::RecordType(member))),
-        Err(Err::Error(_)) => {}
-        Err(Err::Failure(e)) => return Err(Err::Failure(e)),
-    }
+    read_or_next!(promise_type(alloc, input), NonAnyType::Promise);
+    read_or_next!(before_sequence(alloc, input));
+    read_or_next!(nullable_sequence_type(alloc, input), NonAnyType::Sequence);
+    read_or_next!(after_sequence(alloc, input));
+    read_or_next!(
+        nullable_frozen_array_type(alloc, input),
+        NonAnyType::FrozenArrayType
+    );
+    read_or_next!(nullable_record_type(alloc, input), NonAnyType::RecordType);
     let (rest, member) = word(alloc, input)?;
     Ok((rest, NonAnyType::Identifier(member)))
 }
@@ -119,21 +90,9 @@ pub(crate) fn record_key_type<'a>(
     ensures reads { Answers (own RECORD_KEY_TYPE record_key_type_tree (Unit {0})) input.now result }
     ensures shorter { IfOk result (λ x. length x.0.now < length input.now) }
 {
-    match word(alloc, input) {
-        Ok((rest, member)) => return Ok((rest, RecordKeyType::Byte(member))),
-        Err(Err::Error(_)) => {}
-        Err(Err::Failure(e)) => return Err(Err::Failure(e)),
-    }
-    match word(alloc, input) {
-        Ok((rest, member)) => return Ok((rest, RecordKeyType::DOM(member))),
-        Err(Err::Error(_)) => {}
-        Err(Err::Failure(e)) => return Err(Err::Failure(e)),
-    }
-    match word(alloc, input) {
-        Ok((rest, member)) => return Ok((rest, RecordKeyType::USV(member))),
-        Err(Err::Error(_)) => {}
-        Err(Err::Failure(e)) => return Err(Err::Failure(e)),
-    }
+    read_or_next!(word(alloc, input), RecordKeyType::Byte);
+    read_or_next!(word(alloc, input), RecordKeyType::DOM);
+    read_or_next!(word(alloc, input), RecordKeyType::USV);
     let (rest, member) = non_any_type(alloc, input)?;
     Ok((rest, RecordKeyType::NonAny(member)))
 }
@@ -145,11 +104,7 @@ pub(crate) fn return_type<'a>(alloc: Global, input: &'a str) -> IResult<&'a str,
     ensures reads { Answers (own RETURN_TYPE return_type_tree (Unit {0})) input.now result }
     ensures shorter { IfOk result (λ x. length x.0.now < length input.now) }
 {
-    match word(alloc, input) {
-        Ok((rest, member)) => return Ok((rest, ReturnType::Undefined(member))),
-        Err(Err::Error(_)) => {}
-        Err(Err::Failure(e)) => return Err(Err::Failure(e)),
-    }
+    read_or_next!(word(alloc, input), ReturnType::Undefined);
     let (rest, member) = type_(alloc, input)?;
     Ok((rest, ReturnType::Type_(member)))
 }
@@ -180,7 +135,8 @@ pub(crate) fn attributed_non_any_type<'a>(
     alloc: Global,
     input: &'a str,
 ) -> IResult<&'a str, AttributedNonAnyType<'a>>
-    ensures reads { Answers (own ATTRIBUTED_NON_ANY_TYPE attributed_non_any_type_tree (Unit {0})) input.now result }
+    ensures reads { Answers (own ATTRIBUTED_NON_ANY_TYPE attributed_non_any_type_tree (Unit {0}))
+        input.now result }
     ensures shorter { IfOk result (λ x. length x.0.now < length input.now) }
 {
     let (rest, attributes) = attributes(alloc, input)?;

@@ -22,10 +22,10 @@ use super::steps::{part, word};
 use super::types::attributed_non_any_type;
 use crate::types::{UnionMemberType, UnionType};
 use std::alloc::Global;
+use weedle_base::term::Or;
 use weedle_base::{Err, IResult, out_of_memory};
 use weedle_parts::common::{Parenthesized, Punctuated};
 use weedle_parts::types::MayBeNull;
-use weedle_term::Or;
 
 /// Reads a union, as `(long or DOMString)`.
 #[cycle(group)]
@@ -54,7 +54,9 @@ pub(crate) fn nullable_union_type<'a>(
     alloc: Global,
     input: &'a str,
 ) -> IResult<&'a str, MayBeNull<UnionType<'a>>>
-    ensures reads { Answers (own MAY_BE_NULL_UNION_TYPE (may_be_null_tree union_type_tree) (Unit {0})) input.now result }
+    ensures reads { Answers
+        (own MAY_BE_NULL_UNION_TYPE (may_be_null_tree union_type_tree) (Unit {0})) input.now
+        result }
     ensures shorter { IfOk result (λ x. length x.0.now < length input.now) }
 {
     let (rest, type_) = union_type(alloc, input)?;
@@ -69,14 +71,14 @@ pub(crate) fn union_member_type<'a>(
     alloc: Global,
     input: &'a str,
 ) -> IResult<&'a str, UnionMemberType<'a>>
-    ensures reads { Answers (own UNION_MEMBER_TYPE union_member_type_tree (Unit {0})) input.now result }
+    ensures reads { Answers (own UNION_MEMBER_TYPE union_member_type_tree (Unit {0})) input.now
+        result }
     ensures shorter { IfOk result (λ x. length x.0.now < length input.now) }
 {
-    match attributed_non_any_type(alloc, input) {
-        Ok((rest, member)) => return Ok((rest, UnionMemberType::Single(member))),
-        Err(Err::Error(_)) => {}
-        Err(Err::Failure(e)) => return Err(Err::Failure(e)),
-    }
+    read_or_next!(
+        attributed_non_any_type(alloc, input),
+        UnionMemberType::Single
+    );
     let (rest, member) = nullable_union_type(alloc, input)?;
     Ok((rest, UnionMemberType::Union(member)))
 }
@@ -88,7 +90,8 @@ pub(crate) fn union_member_types<'a>(
     alloc: Global,
     input: &'a str,
 ) -> IResult<&'a str, Punctuated<UnionMemberType<'a>, Or>>
-    ensures reads { Answers (own LIST_UNION_MEMBER_TYPE_OR union_member_types_tree (Unit {0})) input.now result }
+    ensures reads { Answers (own LIST_UNION_MEMBER_TYPE_OR union_member_types_tree (Unit {0}))
+        input.now result }
     ensures no_longer { IfOk result (λ x. length x.0.now ≤ length input.now) }
 {
     match union_member_type(alloc, input) {
@@ -127,7 +130,9 @@ pub(crate) fn more_union_member_types<'a>(
     first: UnionMemberType<'a>,
     input: &'a str,
 ) -> IResult<&'a str, Vec<UnionMemberType<'a>>>
-    ensures reads { Answers (after_first (own UNION_MEMBER_TYPE union_member_type_tree (Unit {0})) or_reading (λ l. l.items) first.entry) input.now result }
+    ensures reads { Answers
+        (after_first (own UNION_MEMBER_TYPE union_member_type_tree (Unit {0})) or_reading
+        (λ l. l.items) first.entry) input.now result }
     ensures no_longer { IfOk result (λ x. length x.0.now ≤ length input.now) }
 {
     let mut list = Vec::new(alloc);

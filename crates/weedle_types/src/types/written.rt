@@ -10,8 +10,8 @@ use super::{
     AttributedNonAnyType, NonAnyType, RecordKeyType, ReturnType, SingleType, Type, UnionMemberType,
     UnionType,
 };
+use weedle_base::term::{Any, ByteString, DOMString, USVString, Undefined};
 use weedle_parts::types::MayBeNull;
-use weedle_term::{Any, ByteString, DOMString, USVString, Undefined};
 
 impl From<Any> for SingleType<'_> {
     ghost use Rattle.weedle_types.specs.declared.formers.SingleType.TheVariants.{Any};

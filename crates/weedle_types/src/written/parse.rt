@@ -219,17 +219,20 @@ impl<'a> Parse<'a> for ExtendedAttributeArgList<'a> {
         extended_attribute_arg_list(alloc, input)
     }
 
-    ghost lawful = { own_lawful EXTENDED_ATTRIBUTE_ARG_LIST extended_attribute_arg_list_tree (Unit {0}) };
+    ghost lawful = { own_lawful EXTENDED_ATTRIBUTE_ARG_LIST extended_attribute_arg_list_tree
+        (Unit {0}) };
 }
 
 impl<'a> Parse<'a> for ExtendedAttributeNamedArgList<'a> {
-    ghost reading = { own EXTENDED_ATTRIBUTE_NAMED_ARG_LIST extended_attribute_named_arg_list_tree (Unit {0}) };
+    ghost reading = { own EXTENDED_ATTRIBUTE_NAMED_ARG_LIST extended_attribute_named_arg_list_tree
+        (Unit {0}) };
 
     fn parse(alloc: Global, input: &'a str) -> IResult<&'a str, Self> {
         extended_attribute_named_arg_list(alloc, input)
     }
 
-    ghost lawful = { own_lawful EXTENDED_ATTRIBUTE_NAMED_ARG_LIST extended_attribute_named_arg_list_tree (Unit {0}) };
+    ghost lawful = { own_lawful EXTENDED_ATTRIBUTE_NAMED_ARG_LIST
+        extended_attribute_named_arg_list_tree (Unit {0}) };
 }
 
 impl<'a> Parse<'a> for Argument<'a> {

@@ -197,7 +197,8 @@ impl<'a> TryClone for ExtendedAttribute<'a> {
 }
 
 impl<'a> TryClone for ExtendedAttributeArgList<'a> {
-    ghost alike = { λ a b. extended_attribute_arg_list_tree a ≡ extended_attribute_arg_list_tree b };
+    ghost alike = { λ a b. extended_attribute_arg_list_tree a
+        ≡ extended_attribute_arg_list_tree b };
 
     fn try_clone(&self, alloc: Global) -> Result<Self, AllocError> {
         clone_extended_attribute_arg_list(self, alloc)
@@ -207,13 +208,15 @@ impl<'a> TryClone for ExtendedAttributeArgList<'a> {
 }
 
 impl<'a> TryClone for ExtendedAttributeNamedArgList<'a> {
-    ghost alike = { λ a b. extended_attribute_named_arg_list_tree a ≡ extended_attribute_named_arg_list_tree b };
+    ghost alike = { λ a b. extended_attribute_named_arg_list_tree a
+        ≡ extended_attribute_named_arg_list_tree b };
 
     fn try_clone(&self, alloc: Global) -> Result<Self, AllocError> {
         clone_extended_attribute_named_arg_list(self, alloc)
     }
 
-    ghost equivalence = { seen_equivalence extended_attribute_named_arg_list_tree equal_equivalence };
+    ghost equivalence = { seen_equivalence extended_attribute_named_arg_list_tree
+        equal_equivalence };
 }
 
 impl<'a> TryClone for Argument<'a> {
@@ -257,7 +260,8 @@ impl<'a> TryClone for ParenthesizedArgumentList<'a> {
 }
 
 impl<'a> TryClone for ExtendedAttributeIdentList<'a> {
-    ghost alike = { λ a b. extended_attribute_ident_list_tree a ≡ extended_attribute_ident_list_tree b };
+    ghost alike = { λ a b. extended_attribute_ident_list_tree a
+        ≡ extended_attribute_ident_list_tree b };
 
     fn try_clone(&self, alloc: Global) -> Result<Self, AllocError> {
         clone_extended_attribute_ident_list(self, alloc)

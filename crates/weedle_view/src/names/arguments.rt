@@ -28,7 +28,8 @@ pub(crate) fn push_argument_items<'a>(
     arguments: &Vec<Argument<'a>>,
     names: &mut Vec<Identifier<'a>>,
 ) -> Result<(), AllocError>
-    ensures { OnOk result (names.new.items ≡ names.old.items ++ flat_map names_in_argument arguments.now.items) }
+    ensures { OnOk result
+        (names.new.items ≡ names.old.items ++ flat_map names_in_argument arguments.now.items) }
 {
     for argument in arguments {
         push_argument(argument, names)?;

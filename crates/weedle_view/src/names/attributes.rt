@@ -15,7 +15,8 @@ pub(crate) fn push_attributes<'a>(
     attributes: &Option<ExtendedAttributeList<'a>>,
     names: &mut Vec<Identifier<'a>>,
 ) -> Result<(), AllocError>
-    ensures { OnOk result (names.new.items ≡ names.old.items ++ names_in_attributes attributes.now) }
+    ensures { OnOk result
+        (names.new.items ≡ names.old.items ++ names_in_attributes attributes.now) }
 {
     match attributes {
         Some(attributes) => push_attribute_items(&attributes.body.list, names),
@@ -30,7 +31,8 @@ pub(crate) fn push_attribute_items<'a>(
     attributes: &Vec<ExtendedAttribute<'a>>,
     names: &mut Vec<Identifier<'a>>,
 ) -> Result<(), AllocError>
-    ensures { OnOk result (names.new.items ≡ names.old.items ++ flat_map names_in_attribute attributes.now.items) }
+    ensures { OnOk result
+        (names.new.items ≡ names.old.items ++ flat_map names_in_attribute attributes.now.items) }
 {
     for attribute in attributes {
         push_attribute(attribute, names)?;

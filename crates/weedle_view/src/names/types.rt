@@ -84,7 +84,8 @@ pub(crate) fn push_return_type<'a>(
     return_type: &ReturnType<'a>,
     names: &mut Vec<Identifier<'a>>,
 ) -> Result<(), AllocError>
-    ensures { OnOk result (names.new.items ≡ names.old.items ++ names_in_return_type return_type.now) }
+    ensures { OnOk result
+        (names.new.items ≡ names.old.items ++ names_in_return_type return_type.now) }
 {
     match return_type {
         ReturnType::Undefined(_) => Ok(()),
@@ -98,7 +99,8 @@ pub(crate) fn push_attributed_type<'a>(
     type_: &AttributedType<'a>,
     names: &mut Vec<Identifier<'a>>,
 ) -> Result<(), AllocError>
-    ensures { OnOk result (names.new.items ≡ names.old.items ++ names_in_attributed_type type_.now) }
+    ensures { OnOk result
+        (names.new.items ≡ names.old.items ++ names_in_attributed_type type_.now) }
 {
     push_attributes(&type_.attributes, names)?;
     push_type(&type_.type_, names)

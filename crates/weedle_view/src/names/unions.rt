@@ -17,7 +17,8 @@ pub(crate) fn push_union_members<'a>(
     members: &Vec<UnionMemberType<'a>>,
     names: &mut Vec<Identifier<'a>>,
 ) -> Result<(), AllocError>
-    ensures { OnOk result (names.new.items ≡ names.old.items ++ flat_map names_in_union_member members.now.items) }
+    ensures { OnOk result
+        (names.new.items ≡ names.old.items ++ flat_map names_in_union_member members.now.items) }
 {
     for member in members {
         push_union_member(member, names)?;

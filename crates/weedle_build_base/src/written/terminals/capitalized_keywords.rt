@@ -32,12 +32,12 @@ ghost use Rattle.weedle_base.specs.Rules.{mark_tree};
 use crate::at::At;
 use crate::build::{Build, BuildResult, mark};
 use std::alloc::Global;
-use weedle_rules::{Ends, Rule};
-use weedle_term::{
+use weedle_base::term::{
     ArrayBuffer, ArrayBufferView, BufferSource, ByteString, DOMString, DataView, Error,
     Float32Array, Float64Array, FrozenArray, Infinity, Int8Array, Int16Array, Int32Array, NaN,
     NegInfinity, Promise, USVString, Uint8Array, Uint8ClampedArray, Uint16Array, Uint32Array,
 };
+use weedle_rules::{Ends, Rule};
 
 impl<'a> Build<'a> for ByteString {
     type Value = Self;

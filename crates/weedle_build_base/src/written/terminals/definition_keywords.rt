@@ -36,12 +36,12 @@ ghost use Rattle.weedle_base.specs.Rules.{mark_tree};
 use crate::at::At;
 use crate::build::{Build, BuildResult, mark};
 use std::alloc::Global;
-use weedle_rules::{Ends, Rule};
-use weedle_term::{
+use weedle_base::term::{
     Async, Attribute, Callback, Const, Constructor, Deleter, Dictionary, Enum, Getter, Implements,
     Includes, Inherit, Interface, Iterable, LegacyCaller, Maplike, Mixin, Namespace, Partial,
     ReadOnly, Required, Setlike, Setter, Static, Stringifier, Typedef,
 };
+use weedle_rules::{Ends, Rule};
 
 impl<'a> Build<'a> for Async {
     type Value = Self;

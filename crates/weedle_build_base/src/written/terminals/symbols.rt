@@ -26,11 +26,11 @@ ghost use Rattle.weedle_base.specs.Rules.{mark_tree};
 use crate::at::At;
 use crate::build::{Build, BuildResult, mark};
 use std::alloc::Global;
-use weedle_rules::{Ends, Rule};
-use weedle_term::{
+use weedle_base::term::{
     Assign, CloseBrace, CloseBracket, CloseParen, Colon, Comma, Dot, Ellipsis, GreaterThan,
     LessThan, Minus, OpenBrace, OpenBracket, OpenParen, QMark, SemiColon,
 };
+use weedle_rules::{Ends, Rule};
 
 impl<'a> Build<'a> for OpenParen {
     type Value = Self;

@@ -30,11 +30,11 @@ ghost use Rattle.weedle_base.specs.Rules.{mark_tree};
 use crate::at::At;
 use crate::build::{Build, BuildResult, mark};
 use std::alloc::Global;
-use weedle_rules::{Ends, Rule};
-use weedle_term::{
+use weedle_base::term::{
     Any, Boolean, Byte, Double, False, Float, Long, Null, Object, Octet, Optional, Or, Record,
     Sequence, Short, Symbol, True, Undefined, Unrestricted, Unsigned,
 };
+use weedle_rules::{Ends, Rule};
 
 impl<'a> Build<'a> for Or {
     type Value = Self;

@@ -22,11 +22,11 @@ use super::super::steps::{keep, optional};
 use super::attributes::attributes;
 use super::kinds::{attributed_type, type_};
 use std::alloc::Global;
+use weedle_base::term::{CloseParen, Comma, Ellipsis, OpenParen, Optional};
 use weedle_build_base::{At, Build, BuildResult, choice, visit};
-use weedle_literal::Default;
 use weedle_parts::common::{Identifier, Punctuated};
+use weedle_parts::literal::Default;
 use weedle_rules::{Ends, Rule};
-use weedle_term::{CloseParen, Comma, Ellipsis, OpenParen, Optional};
 use weedle_types::argument::{
     Argument, ArgumentList, ParenthesizedArgumentList, SingleArgument, VariadicArgument,
 };
@@ -58,7 +58,8 @@ pub(crate) fn single_argument<'a>(
     at: At,
 ) -> BuildResult<SingleArgument<'a>>
     requires { Due table.now.text SINGLE_ARGUMENT at.place }
-    ensures { Answers table.now.text SINGLE_ARGUMENT single_argument_tree at.place at.visits result }
+    ensures { Answers table.now.text SINGLE_ARGUMENT single_argument_tree at.place at.visits
+        result }
 {
     let (attributes, at) = attributes(alloc, table, at)?;
     let (modifier, at) = optional::<Optional>(alloc, table, Rule::OPTIONAL, at)?;
@@ -97,7 +98,8 @@ pub(crate) fn variadic_argument<'a>(
     at: At,
 ) -> BuildResult<VariadicArgument<'a>>
     requires { Due table.now.text VARIADIC_ARGUMENT at.place }
-    ensures { Answers table.now.text VARIADIC_ARGUMENT variadic_argument_tree at.place at.visits result }
+    ensures { Answers table.now.text VARIADIC_ARGUMENT variadic_argument_tree at.place at.visits
+        result }
 {
     let (attributes, at) = attributes(alloc, table, at)?;
     let (type_, at) = type_(alloc, table, at)?;
@@ -122,7 +124,8 @@ pub(crate) fn arguments<'a>(
     at: At,
 ) -> BuildResult<ParenthesizedArgumentList<'a>>
     requires { Due table.now.text PARENTHESIZED_ARGUMENT_LIST at.place }
-    ensures { Answers table.now.text PARENTHESIZED_ARGUMENT_LIST arguments_tree at.place at.visits result }
+    ensures { Answers table.now.text PARENTHESIZED_ARGUMENT_LIST arguments_tree at.place at.visits
+        result }
 {
     let (open_paren, at) = OpenParen::build(alloc, table, Rule::OPEN_PAREN, at)?;
     let (body, at) = argument_list(alloc, table, at)?;

@@ -24,10 +24,10 @@ use super::super::steps::keep;
 use super::arguments::arguments;
 use crate::held::Held;
 use std::alloc::Global;
+use weedle_base::term::{Assign, CloseBracket, Comma, OpenBracket};
 use weedle_build_base::{At, Build, BuildResult, alternative, choice, visit};
 use weedle_parts::common::{Bracketed, Identifier, Punctuated};
 use weedle_rules::{Ends, Rule};
-use weedle_term::{Assign, CloseBracket, Comma, OpenBracket};
 use weedle_types::attribute::{
     ExtendedAttribute, ExtendedAttributeArgList, ExtendedAttributeIdent,
     ExtendedAttributeIdentList, ExtendedAttributeList, ExtendedAttributeNamedArgList,
@@ -42,7 +42,8 @@ pub(crate) fn attributes<'a>(
     at: At,
 ) -> BuildResult<Option<ExtendedAttributeList<'a>>>
     requires { Due table.now.text OPT_EXTENDED_ATTRIBUTE_LIST at.place }
-    ensures { Answers table.now.text OPT_EXTENDED_ATTRIBUTE_LIST attributes_tree at.place at.visits result }
+    ensures { Answers table.now.text OPT_EXTENDED_ATTRIBUTE_LIST attributes_tree at.place at.visits
+        result }
 {
     match table.end(Rule::EXTENDED_ATTRIBUTE_LIST, at.place) {
         Some(_) => {
@@ -61,7 +62,8 @@ pub(crate) fn extended_attribute_list<'a>(
     at: At,
 ) -> BuildResult<ExtendedAttributeList<'a>>
     requires { Due table.now.text EXTENDED_ATTRIBUTE_LIST at.place }
-    ensures { Answers table.now.text EXTENDED_ATTRIBUTE_LIST extended_attribute_list_tree at.place at.visits result }
+    ensures { Answers table.now.text EXTENDED_ATTRIBUTE_LIST extended_attribute_list_tree at.place
+        at.visits result }
 {
     let (open_bracket, at) = OpenBracket::build(alloc, table, Rule::OPEN_BRACKET, at)?;
     let (body, at) = extended_attributes(alloc, table, at)?;
@@ -84,7 +86,8 @@ pub(crate) fn extended_attribute<'a>(
     at: At,
 ) -> BuildResult<ExtendedAttribute<'a>>
     requires { Due table.now.text EXTENDED_ATTRIBUTE at.place }
-    ensures { Answers table.now.text EXTENDED_ATTRIBUTE extended_attribute_tree at.place at.visits result }
+    ensures { Answers table.now.text EXTENDED_ATTRIBUTE extended_attribute_tree at.place at.visits
+        result }
 {
     match choice(table, Rule::EXTENDED_ATTRIBUTE, at.place) {
         0 => {
@@ -137,7 +140,8 @@ pub(crate) fn extended_attribute_arg_list<'a>(
     at: At,
 ) -> BuildResult<ExtendedAttributeArgList<'a>>
     requires { Due table.now.text EXTENDED_ATTRIBUTE_ARG_LIST at.place }
-    ensures { Answers table.now.text EXTENDED_ATTRIBUTE_ARG_LIST extended_attribute_arg_list_tree at.place at.visits result }
+    ensures { Answers table.now.text EXTENDED_ATTRIBUTE_ARG_LIST extended_attribute_arg_list_tree
+        at.place at.visits result }
 {
     let (identifier, at) = Identifier::build(alloc, table, Rule::IDENTIFIER, at)?;
     let (args, at) = arguments(alloc, table, at)?;
@@ -152,7 +156,8 @@ pub(crate) fn extended_attribute_named_arg_list<'a>(
     at: At,
 ) -> BuildResult<ExtendedAttributeNamedArgList<'a>>
     requires { Due table.now.text EXTENDED_ATTRIBUTE_NAMED_ARG_LIST at.place }
-    ensures { Answers table.now.text EXTENDED_ATTRIBUTE_NAMED_ARG_LIST extended_attribute_named_arg_list_tree at.place at.visits result }
+    ensures { Answers table.now.text EXTENDED_ATTRIBUTE_NAMED_ARG_LIST
+        extended_attribute_named_arg_list_tree at.place at.visits result }
 {
     let (lhs_identifier, at) = Identifier::build(alloc, table, Rule::IDENTIFIER, at)?;
     let (assign, at) = Assign::build(alloc, table, Rule::ASSIGN, at)?;
@@ -177,7 +182,8 @@ pub(crate) fn extended_attributes<'a>(
     at: At,
 ) -> BuildResult<Punctuated<ExtendedAttribute<'a>, Comma>>
     requires { Due table.now.text LIST_EXTENDED_ATTRIBUTE_COMMA at.place }
-    ensures { Answers table.now.text LIST_EXTENDED_ATTRIBUTE_COMMA extended_attributes_tree at.place at.visits result }
+    ensures { Answers table.now.text LIST_EXTENDED_ATTRIBUTE_COMMA extended_attributes_tree at.place
+        at.visits result }
 {
     let mut list = Vec::new(alloc);
     let separator = Comma;

@@ -30,11 +30,13 @@ ghost use Rattle.weedle_build_base.specs.Built.{Answers, Due};
 use super::super::steps::optional;
 use super::kinds::{record_key_type, return_type, type_};
 use std::alloc::Global;
+use weedle_base::term::{
+    Comma, FrozenArray, GreaterThan, LessThan, Promise, QMark, Record, Sequence,
+};
 use weedle_build_base::{At, Build, BuildResult, visit};
 use weedle_parts::common::Generics;
 use weedle_parts::types::MayBeNull;
 use weedle_rules::{Ends, Rule};
-use weedle_term::{Comma, FrozenArray, GreaterThan, LessThan, Promise, QMark, Record, Sequence};
 use weedle_types::types::{
     FrozenArrayType, PromiseType, RecordType, RecordTypes, ReturnType, SequenceType, Type,
 };
@@ -62,7 +64,8 @@ pub(crate) fn frozen_array_type<'a>(
     at: At,
 ) -> BuildResult<FrozenArrayType<'a>>
     requires { Due table.now.text FROZEN_ARRAY_TYPE at.place }
-    ensures { Answers table.now.text FROZEN_ARRAY_TYPE frozen_array_type_tree at.place at.visits result }
+    ensures { Answers table.now.text FROZEN_ARRAY_TYPE frozen_array_type_tree at.place at.visits
+        result }
 {
     let (frozen_array, at) = FrozenArray::build(alloc, table, Rule::FROZEN_ARRAY, at)?;
     let (generics, at) = generics_type(alloc, table, at)?;
@@ -113,7 +116,8 @@ pub(crate) fn nullable_sequence_type<'a>(
     at: At,
 ) -> BuildResult<MayBeNull<SequenceType<'a>>>
     requires { Due table.now.text MAY_BE_NULL_SEQUENCE_TYPE at.place }
-    ensures { Answers table.now.text MAY_BE_NULL_SEQUENCE_TYPE (may_be_null_tree sequence_type_tree) at.place at.visits result }
+    ensures { Answers table.now.text MAY_BE_NULL_SEQUENCE_TYPE (may_be_null_tree sequence_type_tree)
+        at.place at.visits result }
 {
     let (type_, at) = sequence_type(alloc, table, at)?;
     let (q_mark, at) = optional::<QMark>(alloc, table, Rule::Q_MARK, at)?;
@@ -128,7 +132,8 @@ pub(crate) fn nullable_frozen_array_type<'a>(
     at: At,
 ) -> BuildResult<MayBeNull<FrozenArrayType<'a>>>
     requires { Due table.now.text MAY_BE_NULL_FROZEN_ARRAY_TYPE at.place }
-    ensures { Answers table.now.text MAY_BE_NULL_FROZEN_ARRAY_TYPE (may_be_null_tree frozen_array_type_tree) at.place at.visits result }
+    ensures { Answers table.now.text MAY_BE_NULL_FROZEN_ARRAY_TYPE
+        (may_be_null_tree frozen_array_type_tree) at.place at.visits result }
 {
     let (type_, at) = frozen_array_type(alloc, table, at)?;
     let (q_mark, at) = optional::<QMark>(alloc, table, Rule::Q_MARK, at)?;
@@ -143,7 +148,8 @@ pub(crate) fn nullable_record_type<'a>(
     at: At,
 ) -> BuildResult<MayBeNull<RecordType<'a>>>
     requires { Due table.now.text MAY_BE_NULL_RECORD_TYPE at.place }
-    ensures { Answers table.now.text MAY_BE_NULL_RECORD_TYPE (may_be_null_tree record_type_tree) at.place at.visits result }
+    ensures { Answers table.now.text MAY_BE_NULL_RECORD_TYPE (may_be_null_tree record_type_tree)
+        at.place at.visits result }
 {
     let (type_, at) = record_type(alloc, table, at)?;
     let (q_mark, at) = optional::<QMark>(alloc, table, Rule::Q_MARK, at)?;
@@ -158,7 +164,8 @@ pub(crate) fn generics_type<'a>(
     at: At,
 ) -> BuildResult<Generics<Box<Type<'a>>>>
     requires { Due table.now.text GENERICS_TYPE at.place }
-    ensures { Answers table.now.text GENERICS_TYPE (generics_tree boxed_type_tree) at.place at.visits result }
+    ensures { Answers table.now.text GENERICS_TYPE (generics_tree boxed_type_tree) at.place
+        at.visits result }
 {
     let (open_angle, at) = LessThan::build(alloc, table, Rule::LESS_THAN, at)?;
     let (body, at) = type_(alloc, table, at)?;
@@ -182,7 +189,8 @@ pub(crate) fn generics_return_type<'a>(
     at: At,
 ) -> BuildResult<Generics<Box<ReturnType<'a>>>>
     requires { Due table.now.text GENERICS_RETURN_TYPE at.place }
-    ensures { Answers table.now.text GENERICS_RETURN_TYPE (generics_tree boxed_return_type_tree) at.place at.visits result }
+    ensures { Answers table.now.text GENERICS_RETURN_TYPE (generics_tree boxed_return_type_tree)
+        at.place at.visits result }
 {
     let (open_angle, at) = LessThan::build(alloc, table, Rule::LESS_THAN, at)?;
     let (body, at) = return_type(alloc, table, at)?;
@@ -206,7 +214,8 @@ pub(crate) fn generics_record_types<'a>(
     at: At,
 ) -> BuildResult<Generics<RecordTypes<'a>>>
     requires { Due table.now.text GENERICS_RECORD_TYPES at.place }
-    ensures { Answers table.now.text GENERICS_RECORD_TYPES (generics_tree record_types_tree) at.place at.visits result }
+    ensures { Answers table.now.text GENERICS_RECORD_TYPES (generics_tree record_types_tree)
+        at.place at.visits result }
 {
     let (open_angle, at) = LessThan::build(alloc, table, Rule::LESS_THAN, at)?;
     let (body, at) = record_types(alloc, table, at)?;

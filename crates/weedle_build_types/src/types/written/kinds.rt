@@ -29,9 +29,9 @@ use super::generic_types::{
 use super::plain_types::plain_type;
 use super::unions::nullable_union_type;
 use std::alloc::Global;
+use weedle_base::term::{Any, ByteString, DOMString, USVString, Undefined};
 use weedle_build_base::{At, BuildResult, alternative, choice, visit};
 use weedle_rules::{Ends, Rule};
-use weedle_term::{Any, ByteString, DOMString, USVString, Undefined};
 use weedle_types::types::{
     AttributedNonAnyType, AttributedType, NonAnyType, RecordKeyType, ReturnType, SingleType, Type,
 };
@@ -117,7 +117,8 @@ pub(crate) fn record_key_type<'a>(
     at: At,
 ) -> BuildResult<RecordKeyType<'a>>
     requires { Due table.now.text RECORD_KEY_TYPE at.place }
-    ensures { Answers table.now.text RECORD_KEY_TYPE record_key_type_tree at.place at.visits result }
+    ensures { Answers table.now.text RECORD_KEY_TYPE record_key_type_tree at.place at.visits
+        result }
 {
     match choice(table, Rule::RECORD_KEY_TYPE, at.place) {
         0 => {
@@ -189,7 +190,8 @@ pub(crate) fn attributed_type<'a>(
     at: At,
 ) -> BuildResult<AttributedType<'a>>
     requires { Due table.now.text ATTRIBUTED_TYPE at.place }
-    ensures { Answers table.now.text ATTRIBUTED_TYPE attributed_type_tree at.place at.visits result }
+    ensures { Answers table.now.text ATTRIBUTED_TYPE attributed_type_tree at.place at.visits
+        result }
 {
     let (attributes, at) = attributes(alloc, table, at)?;
     let (type_, at) = type_(alloc, table, at)?;
@@ -208,7 +210,8 @@ pub(crate) fn attributed_non_any_type<'a>(
     at: At,
 ) -> BuildResult<AttributedNonAnyType<'a>>
     requires { Due table.now.text ATTRIBUTED_NON_ANY_TYPE at.place }
-    ensures { Answers table.now.text ATTRIBUTED_NON_ANY_TYPE attributed_non_any_type_tree at.place at.visits result }
+    ensures { Answers table.now.text ATTRIBUTED_NON_ANY_TYPE attributed_non_any_type_tree at.place
+        at.visits result }
 {
     let (attributes, at) = attributes(alloc, table, at)?;
     let (type_, at) = non_any_type(alloc, table, at)?;

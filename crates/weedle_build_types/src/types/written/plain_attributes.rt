@@ -19,13 +19,13 @@ ghost use Rattle.weedle_types.specs.Trees.{
 
 use crate::held::Held;
 use std::alloc::Global;
+use weedle_base::term::{Assign, Comma};
 use weedle_build_base::{
     At, Build, BuildResult, Last, alternative, choice, sequence, three_fields,
 };
-use weedle_literal::StringLit;
 use weedle_parts::common::{Identifier, Parenthesized, Punctuated};
+use weedle_parts::literal::StringLit;
 use weedle_rules::{Ends, Rule};
-use weedle_term::{Assign, Comma};
 use weedle_types::attribute::{
     ExtendedAttributeIdent, ExtendedAttributeIdentList, ExtendedAttributeNoArgs, IdentifierOrString,
 };

@@ -9,15 +9,15 @@ ghost use Rattle.weedle_types.specs.Trees.{non_any_type_tree};
 ghost use Rattle.weedle_build_base.specs.Built.{Answers, IsChosen};
 
 use std::alloc::Global;
-use weedle_build_base::{At, BuildResult, alternative};
-use weedle_parts::common::Identifier;
-use weedle_parts::types::{FloatingPointType, IntegerType, MayBeNull};
-use weedle_rules::{Ends, Rule};
-use weedle_term::{
+use weedle_base::term::{
     ArrayBuffer, ArrayBufferView, Boolean, BufferSource, Byte, ByteString, DOMString, DataView,
     Error, Float32Array, Float64Array, Int8Array, Int16Array, Int32Array, Object, Octet, Symbol,
     USVString, Uint8Array, Uint8ClampedArray, Uint16Array, Uint32Array,
 };
+use weedle_build_base::{At, BuildResult, alternative};
+use weedle_parts::common::Identifier;
+use weedle_parts::types::{FloatingPointType, IntegerType, MayBeNull};
+use weedle_rules::{Ends, Rule};
 use weedle_types::types::NonAnyType;
 
 /// Builds a type that holds no other, as `long?`: the variant of this number, which is the first

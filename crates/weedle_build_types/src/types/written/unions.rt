@@ -22,11 +22,11 @@ ghost use Rattle.weedle_build_types.specs.Steps.{Adds, KeepsAs};
 use super::super::steps::optional;
 use super::kinds::attributed_non_any_type;
 use std::alloc::{AllocError, Global};
+use weedle_base::term::{CloseParen, OpenParen, Or, QMark};
 use weedle_build_base::{At, Build, BuildResult, choice, visit};
 use weedle_parts::common::{Parenthesized, Punctuated};
 use weedle_parts::types::MayBeNull;
 use weedle_rules::{Ends, Rule};
-use weedle_term::{CloseParen, OpenParen, Or, QMark};
 use weedle_types::types::{AttributedNonAnyType, UnionMemberType, UnionType};
 
 /// Builds a union, as `(long or DOMString)`.
@@ -56,7 +56,8 @@ pub(crate) fn nullable_union_type<'a>(
     at: At,
 ) -> BuildResult<MayBeNull<UnionType<'a>>>
     requires { Due table.now.text MAY_BE_NULL_UNION_TYPE at.place }
-    ensures { Answers table.now.text MAY_BE_NULL_UNION_TYPE (may_be_null_tree union_type_tree) at.place at.visits result }
+    ensures { Answers table.now.text MAY_BE_NULL_UNION_TYPE (may_be_null_tree union_type_tree)
+        at.place at.visits result }
 {
     let (type_, at) = union_type(alloc, table, at)?;
     let (q_mark, at) = optional::<QMark>(alloc, table, Rule::Q_MARK, at)?;
@@ -69,7 +70,9 @@ fn keep_single<'a>(
     list: &mut Vec<UnionMemberType<'a>>,
     built: BuildResult<AttributedNonAnyType<'a>>,
 ) -> Result<At, AllocError>
-    ensures { IfOk result (λ at. KeepsAs attributed_non_any_type_tree union_member_type_tree 0 list.old.items list.new.items built.entry at) }
+    ensures { IfOk result
+        (λ at. KeepsAs attributed_non_any_type_tree union_member_type_tree 0 list.old.items
+        list.new.items built.entry at) }
 {
     let (member, at) = built?;
     list.push(UnionMemberType::Single(member))?;
@@ -82,7 +85,9 @@ fn keep_union<'a>(
     list: &mut Vec<UnionMemberType<'a>>,
     built: BuildResult<MayBeNull<UnionType<'a>>>,
 ) -> Result<At, AllocError>
-    ensures { IfOk result (λ at. KeepsAs (may_be_null_tree union_type_tree) union_member_type_tree 1 list.old.items list.new.items built.entry at) }
+    ensures { IfOk result
+        (λ at. KeepsAs (may_be_null_tree union_type_tree) union_member_type_tree 1 list.old.items
+        list.new.items built.entry at) }
 {
     let (member, at) = built?;
     list.push(UnionMemberType::Union(member))?;
@@ -100,7 +105,9 @@ pub(crate) fn add_union_member_type<'a>(
     at: At,
 ) -> Result<At, AllocError>
     requires { Due table.now.text UNION_MEMBER_TYPE at.place }
-    ensures { IfOk result (λ here. Adds table.now.text UNION_MEMBER_TYPE union_member_type_tree list.old.items list.new.items at.place at.visits here.place here.visits) }
+    ensures { IfOk result
+        (λ here. Adds table.now.text UNION_MEMBER_TYPE union_member_type_tree list.old.items
+        list.new.items at.place at.visits here.place here.visits) }
 {
     match choice(table, Rule::UNION_MEMBER_TYPE, at.place) {
         0 => keep_single(list, attributed_non_any_type(alloc, table, at)),
@@ -117,7 +124,8 @@ pub(crate) fn union_member_types<'a>(
     at: At,
 ) -> BuildResult<Punctuated<UnionMemberType<'a>, Or>>
     requires { Due table.now.text LIST_UNION_MEMBER_TYPE_OR at.place }
-    ensures { Answers table.now.text LIST_UNION_MEMBER_TYPE_OR union_member_types_tree at.place at.visits result }
+    ensures { Answers table.now.text LIST_UNION_MEMBER_TYPE_OR union_member_types_tree at.place
+        at.visits result }
 {
     let mut list = Vec::new(alloc);
     let separator = Or;

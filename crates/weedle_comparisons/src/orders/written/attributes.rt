@@ -11,9 +11,9 @@ ghost use Rattle.weedle_comparisons.specs.written.Places.{
 };
 
 use std::cmp::Ordering;
-use weedle_literal::{Default, StringLit};
+use weedle_base::term::{Assign, CloseParen, Ellipsis, OpenParen, Optional};
 use weedle_parts::common::{Identifier, Parenthesized};
-use weedle_term::{Assign, CloseParen, Ellipsis, OpenParen, Optional};
+use weedle_parts::literal::{Default, StringLit};
 use weedle_types::argument::{
     Argument, ArgumentList, ParenthesizedArgumentList, SingleArgument, VariadicArgument,
 };

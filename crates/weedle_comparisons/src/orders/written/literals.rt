@@ -12,12 +12,12 @@ ghost use Rattle.weedle_comparisons.specs.written.Places.{
 };
 
 use std::cmp::Ordering;
-use weedle_literal::{
+use weedle_base::term::{
+    Assign, CloseBrace, CloseBracket, Infinity, NaN, NegInfinity, Null, OpenBrace, OpenBracket,
+};
+use weedle_parts::literal::{
     BooleanLit, ConstValue, DecLit, Default, DefaultValue, EmptyArrayLit, EmptyDictionaryLit,
     FloatLit, FloatValueLit, HexLit, IntegerLit, OctLit, StringLit,
-};
-use weedle_term::{
-    Assign, CloseBrace, CloseBracket, Infinity, NaN, NegInfinity, Null, OpenBrace, OpenBracket,
 };
 
 /// A law, which does nothing: `cmp` of `BooleanLit` goes by its fields, in order.

@@ -5,15 +5,15 @@
 ghost use Rattle.std.specs.Prelude.{◌≡◌};
 ghost use Rattle.std.specs.Ordering.{ordering_then};
 
-use weedle_literal::ConstValue;
+use weedle_base::term::{Assign, Attribute, Const, Constructor, ReadOnly, SemiColon, Stringifier};
 use weedle_members::{
     AttributeInterfaceMember, ConstMember, ConstructorInterfaceMember, OperationInterfaceMember,
     StringifierMember,
 };
 use weedle_modifier::{Special, StringifierOrInheritOrStatic, StringifierOrStatic};
 use weedle_parts::common::{Docstring, Identifier};
+use weedle_parts::literal::ConstValue;
 use weedle_parts::types::ConstType;
-use weedle_term::{Assign, Attribute, Const, Constructor, ReadOnly, SemiColon, Stringifier};
 use weedle_types::argument::ParenthesizedArgumentList;
 use weedle_types::attribute::ExtendedAttributeList;
 use weedle_types::types::{AttributedType, ReturnType};

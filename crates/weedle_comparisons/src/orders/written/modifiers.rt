@@ -11,9 +11,11 @@ ghost use Rattle.weedle_comparisons.specs.written.Places.{
 };
 
 use std::cmp::Ordering;
+use weedle_base::term::{
+    Colon, Deleter, Getter, Inherit, LegacyCaller, Setter, Static, Stringifier,
+};
 use weedle_modifier::{Inheritance, Special, StringifierOrInheritOrStatic, StringifierOrStatic};
 use weedle_parts::common::Identifier;
-use weedle_term::{Colon, Deleter, Getter, Inherit, LegacyCaller, Setter, Static, Stringifier};
 
 /// A law, which does nothing: `cmp` of `Inheritance` goes by its fields, in order.
 pub fn inheritance<'a>()

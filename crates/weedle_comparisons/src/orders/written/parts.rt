@@ -11,6 +11,10 @@ ghost use Rattle.weedle_comparisons.specs.written.Places.{
 };
 
 use std::cmp::Ordering;
+use weedle_base::term::{
+    Boolean, Byte, CloseBrace, CloseBracket, CloseParen, Double, Float, GreaterThan, LessThan,
+    Long, Octet, OpenBrace, OpenBracket, OpenParen, QMark, Short, Unrestricted, Unsigned,
+};
 use weedle_parts::common::{
     Braced, Bracketed, Docstring, Generics, Identifier, Parenthesized, Punctuated,
     PunctuatedNonEmpty,
@@ -18,10 +22,6 @@ use weedle_parts::common::{
 use weedle_parts::types::{
     ConstType, DoubleType, FloatType, FloatingPointType, IntegerType, LongLongType, LongType,
     MayBeNull, ShortType,
-};
-use weedle_term::{
-    Boolean, Byte, CloseBrace, CloseBracket, CloseParen, Double, Float, GreaterThan, LessThan,
-    Long, Octet, OpenBrace, OpenBracket, OpenParen, QMark, Short, Unrestricted, Unsigned,
 };
 
 /// A law, which does nothing: `cmp` of `Parenthesized` goes by its fields, in order.

@@ -39,14 +39,14 @@ ghost use Rattle.weedle_types.specs.declared.formers.ReturnType.TheVariants.{
 };
 
 use std::cmp::Ordering;
-use weedle_parts::common::{Generics, Identifier, Parenthesized, Punctuated};
-use weedle_parts::types::{FloatingPointType, IntegerType, MayBeNull};
-use weedle_term::{
+use weedle_base::term::{
     Any, ArrayBuffer, ArrayBufferView, Boolean, BufferSource, Byte, ByteString, Comma, DOMString,
     DataView, Error, Float32Array, Float64Array, FrozenArray, Int8Array, Int16Array, Int32Array,
     Object, Octet, Or, Promise, Record, Sequence, Symbol, USVString, Uint8Array, Uint8ClampedArray,
     Uint16Array, Uint32Array, Undefined,
 };
+use weedle_parts::common::{Generics, Identifier, Parenthesized, Punctuated};
+use weedle_parts::types::{FloatingPointType, IntegerType, MayBeNull};
 use weedle_types::attribute::ExtendedAttributeList;
 use weedle_types::types::{
     AttributedNonAnyType, AttributedType, FrozenArrayType, NonAnyType, PromiseType, RecordKeyType,

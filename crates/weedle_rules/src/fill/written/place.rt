@@ -25,8 +25,10 @@ mod types;
 #[inline(always)]
 pub(crate) fn fill_place<C: Cell>(reader: &mut Reader<'_, C>, place: usize)
     requires within { place ≤ length reader.old.text }
-    requires next { IsFilled reader.old reader.old.text ((length reader.old.text - place) * rule_count) }
-    ensures { IsFilled reader.new reader.old.text ((length reader.old.text - place) * rule_count + rule_count) }
+    requires next { IsFilled reader.old reader.old.text
+        ((length reader.old.text - place) * rule_count) }
+    ensures { IsFilled reader.new reader.old.text
+        ((length reader.old.text - place) * rule_count + rule_count) }
 {
     reader.lay();
     trivia::fill(reader, place);

@@ -1,4 +1,4 @@
-use Rattle.std.proofs.Common.{sym, subst, ◌∙◌, ap, inl, inr, get_or}
+use Rattle.std.proofs.Common.{◌^◌, ◌-◌, sym, subst, ◌∙◌, ap, inl, inr, get_or}
 use Rattle.std.specs.Prelude.{bit_or}
 use Rattle.std.proofs.lemmas.Nat.Bits.{bit_at_ones}
 use Rattle.weedle_grammar.specs.View.{numbers_of, row_view}
@@ -7,7 +7,7 @@ use Rattle.weedle_syntax.proofs.WordFacts.{leads_more, within_left, within_right
 use Rattle.weedle_syntax.proofs.starts.word_of_rule.Goals as goal
 
 pub returns-in-Past : goal.returns-in-Past
-returns-in-Past c = subst (λ row. Begins c.args.words.now c.args.takes.now row 340282366920938463463374607431768211455) c.in-Past.ensures (λ b l. bit_at_ones 128 b l)
+returns-in-Past c = subst (λ row. Begins c.args.words.now c.args.takes.now row (2 ^ 128 - 1)) c.in-Past.ensures (λ b l. bit_at_ones 128 b l)
 
 pub returns-in-If : goal.returns-in-If
 returns-in-If c =

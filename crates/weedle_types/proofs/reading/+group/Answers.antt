@@ -8,13 +8,13 @@ use Rattle.weedle_base.proofs.Reached.{reached_none}
 use Rattle.weedle_base.proofs.RuleFacts.{mark}
 use Rattle.weedle_base.proofs.Steps.{exit_answers, got_pair}
 use Rattle.weedle_base.specs.Own.{own}
+use Rattle.weedle_base.specs.declared.term.written.symbols.Comma.{Comma}
+use Rattle.weedle_base.specs.declared.term.written.type_keywords.Or.{Or}
 use Rattle.weedle_grammar.specs.written.Table.Keywords.{OR}
 use Rattle.weedle_grammar.specs.written.Table.Symbols.{COMMA}
 use Rattle.weedle_grammar.specs.written.Table.Types.{ARGUMENT, EXTENDED_ATTRIBUTE, UNION_MEMBER_TYPE}
 use Rattle.weedle_parts.proofs.ReachedLists.{ends_behind, item_fault, list_ends, list_full, reached_next, separator_fault}
 use Rattle.weedle_parts.specs.Lists.{next_step}
-use Rattle.weedle_term.specs.declared.written.symbols.Comma.{Comma}
-use Rattle.weedle_term.specs.declared.written.type_keywords.Or.{Or}
 use Rattle.weedle_types.proofs.Direct.{direct_stop, refused_by}
 use Rattle.weedle_types.proofs.reading.+group.Goals as goal
 use Rattle.weedle_types.proofs.written.ArgumentRules.{argument_fault, argument_got_0, argument_got_1, argument_list_fault, argument_list_none, argument_list_some, single_argument_fault_when, single_argument_when}

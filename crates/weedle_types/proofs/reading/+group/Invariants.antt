@@ -5,13 +5,13 @@ use Rattle.std.specs.Prelude.{List, length, ◌*◌, ◌+◌, ◌∷◌, ◌≡�
 use Rattle.weedle_base.proofs.Reached.{Reached}
 use Rattle.weedle_base.proofs.RuleFacts.{mark}
 use Rattle.weedle_base.specs.Own.{own}
+use Rattle.weedle_base.specs.declared.term.written.symbols.Comma.{Comma}
+use Rattle.weedle_base.specs.declared.term.written.type_keywords.Or.{Or}
 use Rattle.weedle_grammar.specs.written.Bound.{rule_count}
 use Rattle.weedle_grammar.specs.written.Table.Keywords.{OR}
 use Rattle.weedle_grammar.specs.written.Table.Symbols.{COMMA}
 use Rattle.weedle_grammar.specs.written.Table.Types.{ARGUMENT, ARGUMENT_LIST, ATTRIBUTED_NON_ANY_TYPE, ATTRIBUTED_TYPE, EXTENDED_ATTRIBUTE, EXTENDED_ATTRIBUTE_ARG_LIST, EXTENDED_ATTRIBUTE_LIST, EXTENDED_ATTRIBUTE_NAMED_ARG_LIST, FROZEN_ARRAY_TYPE, GENERICS_RECORD_TYPES, GENERICS_RETURN_TYPE, GENERICS_TYPE, LIST_EXTENDED_ATTRIBUTE_COMMA, LIST_UNION_MEMBER_TYPE_OR, MAY_BE_NULL_FROZEN_ARRAY_TYPE, MAY_BE_NULL_RECORD_TYPE, MAY_BE_NULL_SEQUENCE_TYPE, MAY_BE_NULL_UNION_TYPE, NON_ANY_TYPE, OPT_EXTENDED_ATTRIBUTE_LIST, PARENTHESIZED_ARGUMENT_LIST, PROMISE_TYPE, RECORD_KEY_TYPE, RECORD_TYPE, RECORD_TYPES, RETURN_TYPE, SEQUENCE_TYPE, SINGLE_ARGUMENT, SINGLE_TYPE, TAIL_ARGUMENT_COMMA, TAIL_EXTENDED_ATTRIBUTE_COMMA, TAIL_UNION_MEMBER_TYPE_OR, TYPE, UNION_MEMBER_TYPE, UNION_TYPE, VARIADIC_ARGUMENT}
 use Rattle.weedle_parts.specs.Lists.{next_step}
-use Rattle.weedle_term.specs.declared.written.symbols.Comma.{Comma}
-use Rattle.weedle_term.specs.declared.written.type_keywords.Or.{Or}
 use Rattle.weedle_types.proofs.reading.+group.Given as goal
 use Rattle.weedle_types.specs.Trees.{argument_tree, extended_attribute_tree, union_member_type_tree}
 use Rattle.weedle_types.specs.declared.argument.Argument.{Argument}

@@ -49,7 +49,9 @@ pub(crate) fn clone_extended_attributes<'a>(
     original: &Vec<ExtendedAttribute<'a>>,
     alloc: Global,
 ) -> Result<Vec<ExtendedAttribute<'a>>, AllocError>
-    ensures { IfOk result (λ v. map extended_attribute_tree v.items ≡ map extended_attribute_tree original.now.items) }
+    ensures { IfOk result
+        (λ v. map extended_attribute_tree v.items
+        ≡ map extended_attribute_tree original.now.items) }
 {
     let mut clones = Vec::new(alloc);
     for item in original {
@@ -87,7 +89,8 @@ pub(crate) fn clone_extended_attribute_arg_list<'a>(
     original: &ExtendedAttributeArgList<'a>,
     alloc: Global,
 ) -> Result<ExtendedAttributeArgList<'a>, AllocError>
-    ensures { IfOk result (λ v. extended_attribute_arg_list_tree v ≡ extended_attribute_arg_list_tree original.now) }
+    ensures { IfOk result
+        (λ v. extended_attribute_arg_list_tree v ≡ extended_attribute_arg_list_tree original.now) }
 {
     Ok(ExtendedAttributeArgList {
         identifier: original.identifier,
@@ -101,7 +104,9 @@ pub(crate) fn clone_extended_attribute_named_arg_list<'a>(
     original: &ExtendedAttributeNamedArgList<'a>,
     alloc: Global,
 ) -> Result<ExtendedAttributeNamedArgList<'a>, AllocError>
-    ensures { IfOk result (λ v. extended_attribute_named_arg_list_tree v ≡ extended_attribute_named_arg_list_tree original.now) }
+    ensures { IfOk result
+        (λ v. extended_attribute_named_arg_list_tree v
+        ≡ extended_attribute_named_arg_list_tree original.now) }
 {
     Ok(ExtendedAttributeNamedArgList {
         lhs_identifier: original.lhs_identifier,
@@ -116,7 +121,9 @@ pub(crate) fn clone_extended_attribute_ident_list<'a>(
     original: &ExtendedAttributeIdentList<'a>,
     alloc: Global,
 ) -> Result<ExtendedAttributeIdentList<'a>, AllocError>
-    ensures { IfOk result (λ v. extended_attribute_ident_list_tree v ≡ extended_attribute_ident_list_tree original.now) }
+    ensures { IfOk result
+        (λ v. extended_attribute_ident_list_tree v
+        ≡ extended_attribute_ident_list_tree original.now) }
 {
     Ok(ExtendedAttributeIdentList {
         identifier: original.identifier,
@@ -137,7 +144,8 @@ pub(crate) fn clone_identifiers<'a>(
     original: &Vec<Identifier<'a>>,
     alloc: Global,
 ) -> Result<Vec<Identifier<'a>>, AllocError>
-    ensures { IfOk result (λ v. map identifier_tree v.items ≡ map identifier_tree original.now.items) }
+    ensures { IfOk result
+        (λ v. map identifier_tree v.items ≡ map identifier_tree original.now.items) }
 {
     let mut clones = Vec::new(alloc);
     for item in original {

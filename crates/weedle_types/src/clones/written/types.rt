@@ -153,7 +153,8 @@ pub(crate) fn clone_attributed_non_any_type<'a>(
     original: &AttributedNonAnyType<'a>,
     alloc: Global,
 ) -> Result<AttributedNonAnyType<'a>, AllocError>
-    ensures { IfOk result (λ v. attributed_non_any_type_tree v ≡ attributed_non_any_type_tree original.now) }
+    ensures { IfOk result
+        (λ v. attributed_non_any_type_tree v ≡ attributed_non_any_type_tree original.now) }
 {
     Ok(AttributedNonAnyType {
         attributes: clone_attributes(&original.attributes, alloc)?,

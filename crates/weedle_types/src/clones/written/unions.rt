@@ -19,7 +19,8 @@ pub(crate) fn clone_nullable_union_type<'a>(
     original: &MayBeNull<UnionType<'a>>,
     alloc: Global,
 ) -> Result<MayBeNull<UnionType<'a>>, AllocError>
-    ensures { IfOk result (λ v. may_be_null_tree union_type_tree v ≡ may_be_null_tree union_type_tree original.now) }
+    ensures { IfOk result
+        (λ v. may_be_null_tree union_type_tree v ≡ may_be_null_tree union_type_tree original.now) }
 {
     Ok(MayBeNull {
         type_: Parenthesized {
@@ -41,7 +42,8 @@ pub(crate) fn clone_union_members<'a>(
     original: &Vec<UnionMemberType<'a>>,
     alloc: Global,
 ) -> Result<Vec<UnionMemberType<'a>>, AllocError>
-    ensures { IfOk result (λ v. map union_member_type_tree v.items ≡ map union_member_type_tree original.now.items) }
+    ensures { IfOk result
+        (λ v. map union_member_type_tree v.items ≡ map union_member_type_tree original.now.items) }
 {
     let mut clones = Vec::new(alloc);
     for item in original {

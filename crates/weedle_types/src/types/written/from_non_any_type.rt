@@ -5,13 +5,13 @@
 ghost use Rattle.std.specs.Prelude.{◌≡◌};
 
 use super::super::{FrozenArrayType, NonAnyType, PromiseType, RecordType, SequenceType};
-use weedle_parts::common::Identifier;
-use weedle_parts::types::{FloatingPointType, IntegerType, MayBeNull};
-use weedle_term::{
+use weedle_base::term::{
     ArrayBuffer, ArrayBufferView, Boolean, BufferSource, Byte, ByteString, DOMString, DataView,
     Error, Float32Array, Float64Array, Int8Array, Int16Array, Int32Array, Object, Octet, Symbol,
     USVString, Uint8Array, Uint8ClampedArray, Uint16Array, Uint32Array,
 };
+use weedle_parts::common::Identifier;
+use weedle_parts::types::{FloatingPointType, IntegerType, MayBeNull};
 
 impl<'a> From<PromiseType<'a>> for NonAnyType<'a> {
     ghost use Rattle.weedle_types.specs.declared.types.NonAnyType.TheVariants.{Promise};

@@ -1,6 +1,0 @@
-//! What scripts write.
-//!
-//! Written by tools/modules.py, and not edited by hand.
-
-pub mod dictionaries;
-pub mod namespaces;

@@ -1,5 +1,0 @@
-//! What scripts write.
-//!
-//! Written by tools/modules.py, and not edited by hand.
-
-pub mod statements;

@@ -1,0 +1,11 @@
+use Rattle.std.proofs.Common.{refl}
+use Rattle.weedle_grammar.specs.written.Table.Leaves.{DIGITS}
+use Rattle.weedle_grammar.proofs.Suffix.{fails, no_node}
+use Rattle.weedle_base.proofs.SilentRules.{exit, along, last, took_seq}
+use Rattle.weedle_parts.proofs.literal.float.after_digits.Goals as goal
+
+pub returns-in_err-first : goal.returns-in_err-first
+returns-in_err-first c = exit DIGITS c.from_residual.ensures (no_node refl (fails c.in_err-first.ensures))
+
+pub returns : goal.returns
+returns c = took_seq refl refl (along c.in_ok-first.ensures (last c.after_run.ensures))

@@ -1,4 +1,0 @@
-pub mod RecursiveTypeFacts
-pub mod VariantFacts
-pub mod VariantTreeFacts
-pub mod written

@@ -1,4 +1,0 @@
-pub mod RecursiveTypes
-pub mod Variants
-pub mod VariantTrees
-pub mod written

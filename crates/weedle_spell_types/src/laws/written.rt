@@ -1,7 +1,0 @@
-//! What scripts write.
-//!
-//! Written by tools/modules.py, and not edited by hand.
-
-pub mod attributes;
-pub mod plain_attributes;
-pub mod types;
