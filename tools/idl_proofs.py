@@ -220,10 +220,9 @@ def answers(t, file):
     path = f"{file.module}.{t.name}Parse.parse"
     got = ", ".join(f"{name}_got_{k}" for k in range(last + 1))
     out = [f"-- Alternatives, each where those before it were a mismatch. {HEAD}",
-           f"use {BASE}.proofs.Steps.{{exit_answers}}",
            f"use {in_logic(f'{file.crate}.proofs.{file.name}')}.{{{name}_fault, {got}}}",
            f"use {in_logic(f'{file.crate}.proofs.{path}')}.Goals as goal",
-           f"use {BASE}.proofs.Direct.{{stop_first, stop_next, take_first, take_next}}"]
+           f"use {BASE}.proofs.Direct.{{hand_on, stop_first, stop_next, take_first, take_next}}"]
 
     def behind(step, k, fact):
         for j in reversed(range(k)):
@@ -238,10 +237,10 @@ def answers(t, file):
         goal = f"returns-in-Err-Failure{end}"
         stop = f"(stop_first _ _ c.in-Err-Failure{end}.ensures c.in-Err-Failure{end}.field-0-is)"
         out += ["", f"pub {goal} : goal.{goal}", f"{goal} c = {name}_fault {behind('stop_next', k, stop)}"]
-    out += ["", "pub returns : goal.returns", f"returns c = {name}_got_{last} {behind('take_next', last, 'c.in_ok-rest.ensures')}"]
-    fault = f"({name}_fault {behind('stop_next', last, 'c.in_err-rest.ensures')})"
-    out += ["", "pub returns-in_err-rest : goal.returns-in_err-rest",
-            f"returns-in_err-rest c = exit_answers c.from_residual.result {fault} c.from_residual.ensures.1"]
+    call = f"c.{pieces[last]}"
+    took = f"(λ rest v g. {name}_got_{last} {behind('take_next', last, 'g')})"
+    stopped = f"(λ e f. {name}_fault {behind('stop_next', last, 'f')})"
+    out += ["", "pub returns : goal.returns", f"returns c = hand_on {call}.result {took} {stopped} {call}.ensures"]
     put(TOP, f"{file.crate}/proofs/{path.replace('.', '/')}/Answers.antt", "\n".join(out) + "\n")
 
 

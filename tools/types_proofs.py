@@ -80,7 +80,8 @@ def main():
         return [*uses, f"use {goals} as goal"]
 
     for name, (_, members) in {**PIECES, **JOINED}.items():
-        lines = choice_answers(name, ["word"] * len(members) if name in PIECES else list(members), "", "")
+        calls = ["word"] * len(members) if name in PIECES else list(members)
+        lines = choice_answers(name, calls, "", "", is_handed_on=name in JOINED)
         write(f"reading/plain_types/{name}/Answers.antt", "Alternatives, each where those before it were a mismatch.", lines,
               citing(lines, f"Rattle.weedle_types.proofs.reading.plain_types.{name}.Goals"))
     lines = group_answers()

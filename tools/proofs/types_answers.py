@@ -18,8 +18,8 @@ def labels(calls):
     return found
 
 
-def choice_answers(name, calls, prefix, given):
-    """of calls one after another, the last with `?`"""
+def choice_answers(name, calls, prefix, given, is_handed_on=False):
+    """of calls one after another, the last with `?`, or with its answer handed on"""
     at, last, lines = labels(calls), len(calls) - 1, []
 
     def behind(k, step, inner):
@@ -35,6 +35,12 @@ def choice_answers(name, calls, prefix, given):
         answer(f"returns-in-Ok{at[k]}-clause-reads", f"{name}_got_{k} {behind(k, 'take_next', f'(take_first _ _ {ok}.ensures.reads)')}")
         answer(f"returns-in-Err-Failure{at[k]}-clause-reads",
                f"{name}_fault {behind(k, 'stop_next', f'(stop_first _ _ {failure}.ensures.reads {failure}.field-0-is)')}")
+    if is_handed_on:
+        took = f"(λ rest v g. {name}_got_{last} {behind(last, 'take_next', 'g')})"
+        stopped = f"(λ e f. {name}_fault {behind(last, 'stop_next', 'f')})"
+        call = f"c.{calls[last]}"
+        answer("returns-clause-reads", f"hand_on {call}.result {took} {stopped} {call}.ensures.reads")
+        return lines
     answer("returns-clause-reads", f"{name}_got_{last} {behind(last, 'take_next', 'c.in_ok-rest.ensures.reads')}")
     answer("returns-in_err-rest-clause-reads",
            f"exit_answers c.from_residual.result ({name}_fault {behind(last, 'stop_next', 'c.in_err-rest.ensures.reads')}) c.from_residual.ensures.1")

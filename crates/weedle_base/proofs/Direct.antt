@@ -1,10 +1,10 @@
 -- Alternatives, each tried by a call of its own.
 use Rattle.std.proofs.Common.{refl, subst, inl, inr}
 use Rattle.std.specs.Borrow.{Bor}
-use Rattle.std.specs.Prelude.{◌≡◌, List, ℕ}
+use Rattle.std.specs.Prelude.{◌≡◌, ◌×◌, List, ℕ, Result, Ok, Err}
 use Rattle.weedle_base.specs.Generic.{choice_reading}
 use Rattle.weedle_base.proofs.Steps.{fault_along}
-use Rattle.weedle_base.specs.Reading.{Reading, Got, Faults}
+use Rattle.weedle_base.specs.Reading.{Reading, Got, Faults, Answers}
 use Rattle.weedle_base.specs.declared.fault.Err.TheVariants.{Error as Recoverable, Failure}
 use Rattle.weedle_base.specs.declared.fault.Err.{Err as Fault}
 use Rattle.weedle_base.specs.declared.fault.Error.{Error}
@@ -35,6 +35,13 @@ module _ {V W : Type 0} (R : Reading V) (S : Reading W) {s : List ℕ} where
       → Faults (choice_reading R S) s g
   unfolding choice_reading
   stop_next h i g = fault_along S (choice_reading R S) 0 refl (λ x. (refused h i, x)) (λ r code x. inr (refused h i, x)) g
+
+-- the answer of the call for the last is handed on
+pub hand_on : {V : Type 0} {R S : Reading V} {s : List ℕ} (r : Result (Bor (List ℕ) × V) (Fault (Error (Bor (List ℕ)))))
+    → ((rest : List ℕ) (v : V) → Got S s v rest → Got R s v rest)
+    → ((e : Fault (Error (Bor (List ℕ)))) → Faults S s e → Faults R s e) → Answers S s r → Answers R s r
+hand_on (Ok x) got fault h = got _ _ h
+hand_on (Err e) got fault h = fault _ h
 
 -- what the search for the proof of such a body uses
 pub ruleset direct_steps = (take_first, take_next, stop_first, stop_next)

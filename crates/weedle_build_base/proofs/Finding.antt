@@ -7,7 +7,7 @@ use Rattle.weedle_grammar.specs.written.Table.{row_of, shape_of, Reads}
 use Rattle.weedle_rules.specs.Cells.{HasEnd, end_of}
 use Rattle.weedle_grammar.proofs.Unique.{one_outcome}
 use Rattle.weedle_grammar.proofs.Inversion.{at_row}
-use Rattle.weedle_build_base.specs.Built.{plus, Due, Found, Builds}
+use Rattle.weedle_build_base.specs.Built.{plus, Due, Found, Visits, Builds}
 
 ends_at : {text : List ℕ} {r p e : ℕ} (o : Outcome) → Reads text r p o → Some e ≡ end_of o → Found text r p e
 ends_at Fails d h = cc
@@ -43,6 +43,13 @@ marked {text} {r} {p} {v} {q} {w} s f c =
     let h = at_row refl f.reads in
     let e = marked_from text r p s h.0 h.2 in
     record { reads = subst (λ ts. Reads text r p (Gives ts q)) e f.reads; counts = c }
+
+-- what was built up to a place, with its node visited there
+pub visited : {text : List ℕ} {r p v e q w : ℕ} {t : Tree} → Builds text r t p v e w → Visits e v q w → Builds text r t p v q w
+visited {text} {r} {p} {v} {e} {q} {w} {t} g h = subst (λ z. Builds text r t p v z w) (sym h.same) g
+
+pub marked_there : {text : List ℕ} {r p v e q w : ℕ} → shape_of r ≡ Marked → Found text r p e → Visits e v q w → Builds text r Mark p v q w
+marked_there s f h = visited (marked s f h.counts) h
 
 -- a rule by another name
 pub due_at : {text : List ℕ} {r x p : ℕ} → r ≡ x → Due text r p → Due text x p

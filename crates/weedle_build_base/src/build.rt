@@ -61,15 +61,15 @@ pub fn end_at(table: &Ends, rule: Rule, place: usize) -> usize
 }
 
 /// Where a symbol or a keyword ends, with its node visited. It takes no memory.
-#[tactic(auto, using(crate::proofs::Finding::marked))]
+#[tactic(auto, using(crate::proofs::Finding::marked_there))]
 pub fn mark(table: &Ends, rule: Rule, at: At) -> At
     requires shape { shape_of rule ≡ Marked }
     requires due { Due table.now.text rule at.place }
     ensures { Builds table.now.text rule Mark at.place at.visits result.place result.visits }
 {
     let place = end_at(table, rule, at.place);
-    At {
+    visit(At {
         place,
-        visits: at.visits.saturating_add(1),
-    }
+        visits: at.visits,
+    })
 }

@@ -8,7 +8,7 @@ ghost use Rattle.weedle_parts.specs.ValueTrees.{docstring_tree};
 ghost use Rattle.weedle_build_base.specs.Built.{Due};
 
 use crate::at::At;
-use crate::build::{Build, BuildResult, end_at};
+use crate::build::{Build, BuildResult, end_at, visit};
 use std::alloc::Global;
 use weedle_base::push_line;
 use weedle_parts::common::Docstring;
@@ -43,8 +43,8 @@ impl<'a> Build<'a> for Docstring {
         }
         let end = At {
             place,
-            visits: at.visits.saturating_add(1),
+            visits: at.visits,
         };
-        Ok((Docstring(text), end))
+        Ok((Docstring(text), visit(end)))
     }
 }

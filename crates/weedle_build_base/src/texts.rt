@@ -7,7 +7,7 @@ ghost use Rattle.weedle_build_base.specs.Fits.{is_kept};
 ghost use Rattle.weedle_build_base.specs.Built.{Due, Builds};
 
 use crate::at::At;
-use crate::build::end_at;
+use crate::build::{end_at, visit};
 use crate::fields::part;
 use weedle_rules::{Ends, Rule};
 
@@ -31,9 +31,9 @@ pub fn kept<'a>(table: &Ends<'a>, rule: Rule, k: usize, at: At) -> (&'a str, At)
             let text = table.text();
             let after = At {
                 place: end,
-                visits: at.visits.saturating_add(1),
+                visits: at.visits,
             };
-            return (&text[start..stop], after);
+            return (&text[start..stop], visit(after));
         }
         start = stop;
         i += 1;

@@ -109,8 +109,7 @@ impl<'a> Parse<'a> for Definition<'a> {
             Err(Err::Error(_)) => {}
             Err(Err::Failure(fault)) => return Err(Err::Failure(fault)),
         }
-        let (rest, member) = other_definition(alloc, input)?;
-        Ok((rest, member))
+        other_definition(alloc, input)
     }
 
     ghost lawful = { own_lawful DEFINITION definition_tree (Unit {0}) };

@@ -84,8 +84,7 @@ impl<'a> Parse<'a> for InterfaceMember<'a> {
             Err(Err::Error(_)) => {}
             Err(Err::Failure(fault)) => return Err(Err::Failure(fault)),
         }
-        let (rest, member) = collection_member(alloc, input)?;
-        Ok((rest, member))
+        collection_member(alloc, input)
     }
 
     ghost lawful = { own_lawful INTERFACE_MEMBER interface_member_tree (Unit {0}) };

@@ -107,8 +107,7 @@ pub(crate) fn before_sequence<'a>(alloc: Global, input: &'a str) -> IResult<&'a 
     ensures shorter { IfOk result (λ x. length x.0.now < length input.now) }
 {
     read_or_next!(numbers(alloc, input));
-    let (rest, member) = strings(alloc, input)?;
-    Ok((rest, member))
+    strings(alloc, input)
 }
 
 /// Reads what is tried between sequences and arrays that can't change, as `Uint8Array?`.
@@ -120,6 +119,5 @@ pub(crate) fn after_sequence<'a>(alloc: Global, input: &'a str) -> IResult<&'a s
     read_or_next!(objects(alloc, input));
     read_or_next!(signed_arrays(alloc, input));
     read_or_next!(unsigned_arrays(alloc, input));
-    let (rest, member) = float_arrays(alloc, input)?;
-    Ok((rest, member))
+    float_arrays(alloc, input)
 }

@@ -1,6 +1,7 @@
 use Rattle.std.proofs.Common.{sym, arith, subst, ◌-◌, ◌≡◌, ◌+◌, suc}
 use Rattle.weedle_grammar.specs.Meaning.{between}
 use Rattle.weedle_build_base.proofs.Keeping.{Keeping, keeping_start, keeping_next, keeping_end, part_is_there, part_due, stop_boundary, stop_after}
+use Rattle.weedle_build_base.proofs.Finding.{visited}
 use Rattle.weedle_build_base.proofs.texts.kept.Goals as goal
 
 pub loop-inner-init : goal.loop-inner-init
@@ -24,7 +25,7 @@ pub returns-then-i-k : goal.returns-then-i-k
 returns-then-i-k c =
     let e : c.args.k - c.loop-inner.i ≡ 0 = omega arith in
     let b : c.range.result.now ≡ between c.args.table.now.text c.loop-inner.start c.end_at-stop.result = rw c.text-text.ensures at c.range.ensures.value in
-    keeping_end c.loop-inner.invariant.1 (sym c.in-Some.ensures.found) c.end_at-stop.ensures e c.end_at-end.ensures b c.saturating_add.ensures
+    visited (keeping_end c.loop-inner.invariant.1 (sym c.in-Some.ensures.found) c.end_at-stop.ensures e c.end_at-end.ensures b c.visit.ensures.counts) c.visit.ensures
 
 pub loop-inner-preserved : goal.loop-inner-preserved
 loop-inner-preserved c =

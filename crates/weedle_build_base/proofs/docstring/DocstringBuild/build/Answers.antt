@@ -1,5 +1,5 @@
 use Rattle.std.proofs.Common.{arith}
-use Rattle.weedle_build_base.proofs.Finding.{due_at, builds_at, present}
+use Rattle.weedle_build_base.proofs.Finding.{due_at, builds_at, present, visited}
 use Rattle.weedle_build_base.proofs.LineSteps.{first_due, lining_start, lining_next, lining_takes, lining_end}
 use Rattle.weedle_build_base.proofs.docstring.DocstringBuild.build.Goals as goal
 
@@ -22,4 +22,4 @@ pub loop-line-preserved : goal.loop-line-preserved
 loop-line-preserved c = lining_next c.loop-line.invariant c.doc_line-next.ensures c.in_ok-push_line.ensures
 
 pub returns : goal.returns
-returns c = builds_at c.requires.fit (lining_end c.loop-line.invariant c.in_default.ensures.right c.saturating_add.ensures)
+returns c = builds_at c.requires.fit (visited (lining_end c.loop-line.invariant c.in_default.ensures.right c.visit.ensures.counts) c.visit.ensures)

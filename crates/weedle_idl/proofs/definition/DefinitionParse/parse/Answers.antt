@@ -1,8 +1,7 @@
 -- Alternatives, each where those before it were a mismatch. Written by tools/idl_proofs.py, and not edited by hand.
-use Rattle.weedle_base.proofs.Steps.{exit_answers}
 use Rattle.weedle_idl.proofs.written.DefinitionRules.{definition_fault, definition_got_0, definition_got_1, definition_got_2, definition_got_3}
 use Rattle.weedle_idl.proofs.definition.DefinitionParse.parse.Goals as goal
-use Rattle.weedle_base.proofs.Direct.{stop_first, stop_next, take_first, take_next}
+use Rattle.weedle_base.proofs.Direct.{hand_on, stop_first, stop_next, take_first, take_next}
 
 pub returns-in-Ok : goal.returns-in-Ok
 returns-in-Ok c = definition_got_0 (take_first _ _ c.in-Ok.ensures)
@@ -23,7 +22,4 @@ pub returns-in-Err-Failure-partial_definition : goal.returns-in-Err-Failure-part
 returns-in-Err-Failure-partial_definition c = definition_fault (stop_next _ _ c.in-Err-Error.ensures c.in-Err-Error.field-0-is (stop_next _ _ c.in-Err-Error-main_definition.ensures c.in-Err-Error-main_definition.field-0-is (stop_first _ _ c.in-Err-Failure-partial_definition.ensures c.in-Err-Failure-partial_definition.field-0-is)))
 
 pub returns : goal.returns
-returns c = definition_got_3 (take_next _ _ c.in-Err-Error.ensures c.in-Err-Error.field-0-is (take_next _ _ c.in-Err-Error-main_definition.ensures c.in-Err-Error-main_definition.field-0-is (take_next _ _ c.in-Err-Error-partial_definition.ensures c.in-Err-Error-partial_definition.field-0-is c.in_ok-rest.ensures)))
-
-pub returns-in_err-rest : goal.returns-in_err-rest
-returns-in_err-rest c = exit_answers c.from_residual.result (definition_fault (stop_next _ _ c.in-Err-Error.ensures c.in-Err-Error.field-0-is (stop_next _ _ c.in-Err-Error-main_definition.ensures c.in-Err-Error-main_definition.field-0-is (stop_next _ _ c.in-Err-Error-partial_definition.ensures c.in-Err-Error-partial_definition.field-0-is c.in_err-rest.ensures)))) c.from_residual.ensures.1
+returns c = hand_on c.other_definition.result (λ rest v g. definition_got_3 (take_next _ _ c.in-Err-Error.ensures c.in-Err-Error.field-0-is (take_next _ _ c.in-Err-Error-main_definition.ensures c.in-Err-Error-main_definition.field-0-is (take_next _ _ c.in-Err-Error-partial_definition.ensures c.in-Err-Error-partial_definition.field-0-is g)))) (λ e f. definition_fault (stop_next _ _ c.in-Err-Error.ensures c.in-Err-Error.field-0-is (stop_next _ _ c.in-Err-Error-main_definition.ensures c.in-Err-Error-main_definition.field-0-is (stop_next _ _ c.in-Err-Error-partial_definition.ensures c.in-Err-Error-partial_definition.field-0-is f)))) c.other_definition.ensures

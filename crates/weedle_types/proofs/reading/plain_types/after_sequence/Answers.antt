@@ -1,8 +1,7 @@
 -- Alternatives, each where those before it were a mismatch.
 --
 -- Written by tools/types_proofs.py, and not edited by hand.
-use Rattle.weedle_base.proofs.Direct.{stop_first, stop_next, take_first, take_next}
-use Rattle.weedle_base.proofs.Steps.{exit_answers}
+use Rattle.weedle_base.proofs.Direct.{hand_on, stop_first, stop_next, take_first, take_next}
 use Rattle.weedle_types.proofs.reading.plain_types.after_sequence.Goals as goal
 use Rattle.weedle_types.proofs.written.PlainTypeRules.{after_sequence_fault, after_sequence_got_0, after_sequence_got_1, after_sequence_got_2, after_sequence_got_3}
 
@@ -25,7 +24,4 @@ pub returns-in-Err-Failure-unsigned_arrays-clause-reads : goal.returns-in-Err-Fa
 returns-in-Err-Failure-unsigned_arrays-clause-reads c = after_sequence_fault (stop_next _ _ c.in-Err-Error.ensures.reads c.in-Err-Error.field-0-is (stop_next _ _ c.in-Err-Error-signed_arrays.ensures.reads c.in-Err-Error-signed_arrays.field-0-is (stop_first _ _ c.in-Err-Failure-unsigned_arrays.ensures.reads c.in-Err-Failure-unsigned_arrays.field-0-is)))
 
 pub returns-clause-reads : goal.returns-clause-reads
-returns-clause-reads c = after_sequence_got_3 (take_next _ _ c.in-Err-Error.ensures.reads c.in-Err-Error.field-0-is (take_next _ _ c.in-Err-Error-signed_arrays.ensures.reads c.in-Err-Error-signed_arrays.field-0-is (take_next _ _ c.in-Err-Error-unsigned_arrays.ensures.reads c.in-Err-Error-unsigned_arrays.field-0-is c.in_ok-rest.ensures.reads)))
-
-pub returns-in_err-rest-clause-reads : goal.returns-in_err-rest-clause-reads
-returns-in_err-rest-clause-reads c = exit_answers c.from_residual.result (after_sequence_fault (stop_next _ _ c.in-Err-Error.ensures.reads c.in-Err-Error.field-0-is (stop_next _ _ c.in-Err-Error-signed_arrays.ensures.reads c.in-Err-Error-signed_arrays.field-0-is (stop_next _ _ c.in-Err-Error-unsigned_arrays.ensures.reads c.in-Err-Error-unsigned_arrays.field-0-is c.in_err-rest.ensures.reads)))) c.from_residual.ensures.1
+returns-clause-reads c = hand_on c.float_arrays.result (λ rest v g. after_sequence_got_3 (take_next _ _ c.in-Err-Error.ensures.reads c.in-Err-Error.field-0-is (take_next _ _ c.in-Err-Error-signed_arrays.ensures.reads c.in-Err-Error-signed_arrays.field-0-is (take_next _ _ c.in-Err-Error-unsigned_arrays.ensures.reads c.in-Err-Error-unsigned_arrays.field-0-is g)))) (λ e f. after_sequence_fault (stop_next _ _ c.in-Err-Error.ensures.reads c.in-Err-Error.field-0-is (stop_next _ _ c.in-Err-Error-signed_arrays.ensures.reads c.in-Err-Error-signed_arrays.field-0-is (stop_next _ _ c.in-Err-Error-unsigned_arrays.ensures.reads c.in-Err-Error-unsigned_arrays.field-0-is f)))) c.float_arrays.ensures.reads
