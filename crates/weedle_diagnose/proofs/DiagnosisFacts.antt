@@ -30,24 +30,24 @@ tried_within text start fits (by {r = r} {p = p} {x = x} {q = q} d t) =
     (l.low, omega arith, l.within)
 
 -- a row without parts tries nothing
-tries_none : (text : List ℕ) (row : Row) {r p x q : ℕ} → has_no_parts row ≡ true → RowTries text row r p x q → ⊥
-tries_none text (Bytes b) h t = t
-tries_none text (OneOf c) h t = t
-tries_none text (NotNext c) h t = t
-tries_none text (Run c) h t = t
-tries_none text (Past b) h t = t
-tries_none text (Seq parts) h t = never_so h
-tries_none text (First parts) h t = never_so h
-tries_none text (Opt y) h t = never_so h
-tries_none text (Many y) h t = never_so h
-tries_none text (ListOf y s) h t = never_so h
-tries_none text (List1 y s) h t = never_so h
-tries_none text (Tail y s) h t = never_so h
-tries_none text (If parts k y) h t = never_so h
+tries_none : (text : List ℕ) (row : Row) (r p x q : ℕ) → has_no_parts row ≡ true → RowTries text row r p x q → ⊥
+tries_none text (Bytes b) r p x q h t = t
+tries_none text (OneOf c) r p x q h t = t
+tries_none text (NotNext c) r p x q h t = t
+tries_none text (Run c) r p x q h t = t
+tries_none text (Past b) r p x q h t = t
+tries_none text (Seq parts) r p x q h t = never_so h
+tries_none text (First parts) r p x q h t = never_so h
+tries_none text (Opt y) r p x q h t = never_so h
+tries_none text (Many y) r p x q h t = never_so h
+tries_none text (ListOf y s) r p x q h t = never_so h
+tries_none text (List1 y s) r p x q h t = never_so h
+tries_none text (Tail y s) r p x q h t = never_so h
+tries_none text (If parts k y) r p x q h t = never_so h
 
 alone : (text : List ℕ) {x q y p : ℕ} → has_no_parts (row_of y) ≡ true → Leads text x q y p → x ≡ y
 alone text plain (itself s) = s.0
-alone text {y = y} plain (on t l) = absurd (tries_none text (row_of y) plain t)
+alone text {y = y} {p = p} plain (on {y = a} {z = b} t l) = absurd (tries_none text (row_of y) y p a b plain t)
 
 module _ (text : List ℕ) (start : ℕ) (fits : start ≤ length text) (old first : Furthest) (at_start : old.place ≡ start) (unmarked : (x : ℕ) → IsSet old.marks x → ⊥) (n : Notes text (IsUnmetIn text DEFINITIONS start) old first) where
   pub first_within : first.place ≤ length text

@@ -1,11 +1,9 @@
 -- Notes that are put together from those of one part after another.
 use Rattle.std.proofs.Common.{◌≡◌, ◌⊎◌, inl, inr, ℕ, ◌<◌, ◌≤◌, List, length, true, refl, sym, subst, ◌∙◌, arith}
-use Rattle.std.specs.Prelude.{◌↔◌}
 use Rattle.weedle_grammar.specs.written.Bound.{rule_count}
 use Rattle.weedle_grammar.specs.written.Table.{row_of}
 use Rattle.weedle_rules.specs.Outcomes.{FailsAt}
 use Rattle.weedle_starts.specs.Tries.{SameAttempt, TriesHere, has_no_parts}
-use Rattle.weedle_diagnose.specs.Marks.{IsSet}
 use Rattle.weedle_diagnose.specs.Noted.{IsUnmetIn, IsPartOf, Notes, IsNoted}
 use Rattle.weedle_diagnose.specs.declared.noted.Furthest.{Furthest}
 use Rattle.weedle_diagnose.proofs.AddingFacts.{Attempts}

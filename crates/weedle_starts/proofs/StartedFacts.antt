@@ -1,5 +1,5 @@
 -- How far words and flags are written.
-use Rattle.std.proofs.Common.{◌^◌, ◌-◌, ◌≡◌, inl, inr, ℕ, ◌+◌, ◌<◌, ◌≤◌, List, ◌∷◌, length, drop, set, replicate, Bool, true, false, refl, sym, subst, ◌∙◌, ap, arith, length-set}
+use Rattle.std.proofs.Common.{◌^◌, ◌-◌, ◌≡◌, inl, inr, ℕ, ◌+◌, ◌<◌, ◌≤◌, List, length, set, replicate, Bool, true, false, refl, sym, subst, ◌∙◌, ap, arith, length-set}
 use Rattle.std.specs.Prelude.{if◌then◌else◌, slice_index}
 use Rattle.std.specs.Int.{bit_at}
 use Rattle.std.proofs.lemmas.Bool.{cases_lt}

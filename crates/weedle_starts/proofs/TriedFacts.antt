@@ -1,5 +1,5 @@
 -- Where the word of a rule lacks the byte that stands at a place, all that it tries is tried there.
-use Rattle.std.proofs.Common.{◌≡◌, ◌≢◌, inl, inr, ℕ, suc, ◌+◌, ◌-◌, ◌<◌, ◌≤◌, List, [], ◌∷◌, length, drop, set, Bool, true, false, Some, refl, sym, subst, ◌∙◌, ap, arith}
+use Rattle.std.proofs.Common.{◌≡◌, inl, inr, ℕ, suc, ◌+◌, ◌-◌, ◌<◌, ◌≤◌, List, [], ◌∷◌, length, drop, set, Bool, true, sym, subst, ◌∙◌, ap, arith}
 use Rattle.std.specs.Prelude.{◌&&◌, ◌||◌, nat_lt, slice_index}
 use Rattle.std.specs.Int.{bit_at}
 use Rattle.std.proofs.lemmas.Bool.{cases_lt}
@@ -8,13 +8,13 @@ use Rattle.weedle_grammar.specs.Rows.{Row, Bytes, OneOf, NotNext, Run, Past, Seq
 use Rattle.weedle_grammar.specs.Meaning.{last_end}
 use Rattle.weedle_grammar.specs.written.Table.{webidl, row_of}
 use Rattle.weedle_grammar.proofs.Leaves.{both, one_of}
-use Rattle.weedle_grammar.proofs.Ranked.{is_low, low_parts, some_takes}
+use Rattle.weedle_grammar.proofs.Ranked.{is_low, low_parts}
 use Rattle.weedle_grammar.proofs.Takes.{takes}
 use Rattle.weedle_grammar.proofs.Checked.{rank, ranked}
 use Rattle.weedle_grammar.proofs.Exists.{advances, seq_grows}
 use Rattle.weedle_rules.proofs.PartEnds.{below}
 use Rattle.weedle_rules.specs.Outcomes.{EndsAt}
-use Rattle.weedle_starts.specs.Tries.{SameAttempt, TriesInTurn, TriesByChoice, TriesListed, RowTries, Tries, Leads, itself, on, TriesHere}
+use Rattle.weedle_starts.specs.Tries.{SameAttempt, TriesInTurn, TriesByChoice, TriesListed, RowTries, Leads, itself, on, TriesHere}
 use Rattle.weedle_starts.specs.Starts.{IsWithin, flag_of, CoversParts, AllWithin, Begins}
 use Rattle.weedle_starts.proofs.ReadFacts.{ends_after}
 use Rattle.weedle_starts.proofs.LaterFacts.{tries_later}

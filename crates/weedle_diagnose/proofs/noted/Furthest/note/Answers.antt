@@ -1,7 +1,6 @@
-use Rattle.std.proofs.Common.{◌≡◌, ◌⊎◌, inl, inr, ℕ, sym, subst, ap, ◌∙◌, arith}
+use Rattle.std.proofs.Common.{◌≡◌, ◌⊎◌, inr, ℕ, subst, ap, arith}
 use Rattle.std.specs.Prelude.{◌↔◌}
 use Rattle.weedle_diagnose.specs.Marks.{IsSet}
-use Rattle.weedle_diagnose.specs.Noted.{IsNoted, IsMarkedAt}
 use Rattle.weedle_diagnose.proofs.BitFacts.{clear_words}
 use Rattle.weedle_diagnose.proofs.NotedFacts.{marked_alone, marked_too}
 use Rattle.weedle_diagnose.proofs.noted.Furthest.note.Goals.{then-place-self-2, else-place-self-2}
