@@ -23,7 +23,7 @@ const MORE_READS: usize = 20_000;
 /// place on what the rules try there, up to the first definition that isn't read, and nothing
 /// behind that.
 ///
-/// It asks for memory for the list alone. It takes some 10 to 40 nanoseconds for each byte that it
+/// It asks for memory for the list alone. It takes some 30 to 100 nanoseconds for each byte that it
 /// reads, and at most 200 kB of the stack. It gives up where it would have to read more than 64
 /// rules for each byte from the place on and 20,000, as where extended attributes nest, or more
 /// than 600 in one another, as of 100 `sequence<` that are open.
