@@ -9,7 +9,7 @@ use crate::noted::Furthest;
 use weedle_grammar::{RULES, Rule, rule_of};
 use weedle_starts::source::Source;
 
-/// How many rules descent may read in one another. Each takes some 220 bytes of the stack.
+/// How many rules descent may read in one another. Each takes some 270 bytes of the stack.
 const MOST_DEPTH: usize = 600;
 
 /// The furthest place at which something fails where definitions are read from `start` on, and the

@@ -11,7 +11,7 @@ use weedle_starts::source::Source;
 use weedle_starts::starts::starts;
 
 /// How many rules descent may read for each byte of the text from the place on. Of what people
-/// write it reads 4 to 30.
+/// write it reads 2 to 5.
 const READS_A_BYTE: usize = 64;
 
 /// How many more it may read, so that a short definition may have long extended attributes.
@@ -23,8 +23,8 @@ const MORE_READS: usize = 20_000;
 /// place on what the rules try there, up to the first definition that isn't read, and nothing
 /// behind that.
 ///
-/// It asks for memory for the list alone. It takes some 200 to 300 nanoseconds for each byte that
-/// it reads, and at most 140 kB of the stack. It gives up where it would have to read more than 64
+/// It asks for memory for the list alone. It takes some 30 to 100 nanoseconds for each byte that it
+/// reads, and at most 200 kB of the stack. It gives up where it would have to read more than 64
 /// rules for each byte from the place on and 20,000, as where extended attributes nest, or more
 /// than 600 in one another, as of 100 `sequence<` that are open.
 pub fn diagnose_by_descent(
