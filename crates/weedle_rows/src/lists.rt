@@ -39,8 +39,9 @@ fn are_said(entries: &[Entry<'_, '_>], said: &[Said]) -> bool {
 
 /// Whether this is the outline of the list, and a copy is as long.
 fn is_said(alloc: Global, list: &Definitions<'_>, said: &[Said]) -> Result<bool, AllocError> {
+    let is_said = are_said(&outline(alloc, list)?, said);
     let copied = length(list.try_clone(alloc)?);
-    Ok(copied == said.len() && are_said(&outline(alloc, list)?, said))
+    Ok(is_said && copied == said.len())
 }
 
 /// Whether this is the outline of the definitions of a text.
