@@ -3,9 +3,10 @@
 //! The values are those that weedle2 prints, in the port's names.
 
 use crate::users::Fuse;
+use std::alloc::Global;
 use std::test::Fail;
-use weedle_base::Parse;
 use weedle_base::term::{Comma, Dot, Or, SemiColon};
+use weedle_base::{IResult, Parse};
 use weedle_parts::common::{
     Braced, Bracketed, Generics, Identifier, Parenthesized, Punctuated, PunctuatedNonEmpty,
 };
@@ -247,4 +248,15 @@ fn a_failure_of_a_part_ends_the_call(rt: HostRuntime) -> Result<(), Fail> {
     fails_at::<PunctuatedNonEmpty<Comma, Fuse>>(alloc, ",!", "!")?;
     fails_at::<Punctuated<Fuse, Comma>>(alloc, "!x", "!x")?;
     Ok(())
+}
+
+/// What follows the names, and how many they are.
+fn count(alloc: Global, text: &str) -> IResult<&str, usize> {
+    let (rest, names) = Punctuated::<Identifier<'_>, Comma>::parse(alloc, text)?;
+    Ok((rest, names.list.len()))
+}
+
+#[test]
+fn a_separator_that_no_item_follows_is_given_back(rt: HostRuntime) {
+    assert!(rt; count(rt.alloc(), "a, b ,") == Ok((",", 2)));
 }

@@ -10,11 +10,15 @@ mod comments;
 #[cfg(test)]
 mod diagnoses;
 #[cfg(test)]
+mod faults;
+#[cfg(test)]
 mod generic_parts;
 #[cfg(test)]
 mod leaves;
 #[cfg(test)]
 mod messages;
+#[cfg(test)]
+mod nesting;
 #[cfg(test)]
 mod plain_types;
 #[cfg(test)]

@@ -1,21 +1,18 @@
-//! What a text is read as, in each way, told with no memory.
+//! What a text is read as over a table, told with no memory.
 
 ghost use Rattle.std.specs.Prelude.{◌≡◌};
 
 use std::alloc::{AllocError, Global};
 use std::process::Abort;
-use weedle::{
-    Counted, Definitions, Err, Error, ErrorKind, Parse, kind_of, name_of, parse, parse_by_descent,
-    parse_counted, parse_quick,
-};
+use weedle::{Counted, Err, Error, ErrorKind, parse_counted};
 use weedle_build::{Built, build_definitions};
 use weedle_rules::{Ends, READS, RULES};
 
 /// What a reader answers of a text.
 #[derive(Clone, Copy, Debug, PartialEq, Eq)]
 pub enum Outcome<'a> {
-    /// So many definitions, and the kind and the name of the last of them.
-    Read(usize, &'static str, &'a str),
+    /// So many definitions.
+    Read(usize),
     /// This is left of the text.
     Left(&'a str),
     /// Memory was wanted, with this input.
@@ -23,9 +20,6 @@ pub enum Outcome<'a> {
     /// A fault that `parse` has no use for.
     Other,
 }
-
-/// The outcome of a text without definitions.
-pub const NOTHING: Outcome<'static> = Outcome::Read(0, "", "");
 
 /// How much was done for an answer.
 #[derive(Clone, Copy, Debug, PartialEq, Eq)]
@@ -38,47 +32,22 @@ pub struct Counts {
     pub visits: u128,
 }
 
+/// How many items a list has.
+///
+/// A function that names definitions is dear to prove, and one of a list of any type isn't: so it is
+/// told at once how long a list is.
+pub fn length<T: Drop>(list: Vec<T>) -> usize {
+    list.len()
+}
+
 /// The outcome of an answer.
-fn outcome_of<'a>(answer: Result<Definitions<'a>, Err<Error<&'a str>>>) -> Outcome<'a> {
+fn outcome_of<'a, T: Drop>(answer: Result<Vec<T>, Err<Error<&'a str>>>) -> Outcome<'a> {
     match answer {
-        Ok(definitions) => of_list(definitions),
+        Ok(list) => Outcome::Read(length(list)),
         Err(Err::Error(error)) if error.code == ErrorKind::Unread => Outcome::Left(error.input),
         Err(Err::Failure(error)) if error.code == ErrorKind::Memory => Outcome::Memory(error.input),
         Err(_) => Outcome::Other,
     }
-}
-
-/// The outcome where these definitions are read.
-fn of_list(definitions: Definitions<'_>) -> Outcome<'_> {
-    let mut outcome = NOTHING;
-    for definition in definitions {
-        if let Outcome::Read(count, _, _) = outcome {
-            let title = (kind_of(&definition), name_of(&definition));
-            outcome = Outcome::Read(count.saturating_add(1), title.0, title.1);
-        }
-    }
-    outcome
-}
-
-/// What `parse` answers.
-pub fn by_table(alloc: Global, text: &str) -> Outcome<'_> {
-    outcome_of(parse(alloc, text))
-}
-
-/// What `parse_quick` answers.
-pub fn quickly(alloc: Global, text: &str) -> Outcome<'_> {
-    outcome_of(parse_quick(alloc, text))
-}
-
-/// What `parse_by_descent` answers.
-pub fn by_descent(alloc: Global, text: &str) -> Outcome<'_> {
-    outcome_of(parse_by_descent(alloc, text))
-}
-
-/// What the type of lists reads, and what is left behind that.
-pub fn by_type(alloc: Global, text: &str) -> Option<(Outcome<'_>, &str)> {
-    let (rest, definitions) = Definitions::parse(alloc, text).ok()?;
-    Some((of_list(definitions), rest))
 }
 
 /// What `parse_counted` answers, and what it counts.
@@ -97,16 +66,17 @@ pub fn counted(alloc: Global, text: &str) -> (Outcome<'_>, Counts) {
     (outcome_of(answer), counts)
 }
 
-/// What is built along a table, what is left behind that, and how many nodes are visited.
+/// How many definitions are built along a table, what is left behind that, and how many nodes are
+/// visited.
 pub fn built<'a>(
     alloc: Global,
     ends: &Ends<'a>,
     text: &'a str,
-) -> Result<(Outcome<'a>, &'a str, u128), AllocError>
+) -> Result<(usize, &'a str, u128), AllocError>
     requires table { ends.now.text ≡ text.now }
 {
     let Built { list, rest, visits } = build_definitions(alloc, ends, text)?;
-    Ok((of_list(list), rest, visits))
+    Ok((length(list), rest, visits))
 }
 
 /// How many workings-out there are for a text.

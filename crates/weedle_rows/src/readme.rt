@@ -1,14 +1,11 @@
-//! The README's program but for its `main`, and the examples in docs/USING.md of a generic type and
-//! of definitions that are taken apart by move.
+//! The README's program but for its `main`, and the example in docs/USING.md of definitions that are
+//! taken apart by move.
 
 use std::alloc::{AllocError, Global};
 use std::test::Fail;
 use weedle::common::Braced;
 use weedle::interface::{InterfaceMember, InterfaceMembers};
-use weedle::{Definition, Definitions, Err, at_byte, lend, name_of, parse_quick};
-use weedle_base::term::Comma;
-use weedle_base::{IResult, Parse};
-use weedle_parts::common::{Identifier, Punctuated};
+use weedle::{Definition, Definitions, Err, Parse, at_byte, lend, name_of, parse_quick};
 
 /// The interfaces of a text with their attributes, or from where on it can't be read.
 fn listing_of(alloc: Global, text: &str) -> Result<String, AllocError> {
@@ -37,12 +34,6 @@ fn interfaces_of(alloc: Global, definitions: &Definitions<'_>) -> Result<String,
     Ok(listing)
 }
 
-/// What follows the names, and how many they are.
-fn count(alloc: Global, text: &str) -> IResult<&str, usize> {
-    let (rest, names) = Punctuated::<Identifier<'_>, Comma>::parse(alloc, text)?;
-    Ok((rest, names.list.len()))
-}
-
 #[test]
 fn interfaces_are_listed_with_their_attributes(rt: HostRuntime) -> Result<(), Fail> {
     let table = [
@@ -65,11 +56,6 @@ fn interfaces_are_listed_with_their_attributes(rt: HostRuntime) -> Result<(), Fa
         );
     }
     Ok(())
-}
-
-#[test]
-fn a_separator_that_no_item_follows_is_given_back(rt: HostRuntime) {
-    assert!(rt; count(rt.alloc(), "a, b ,") == Ok((",", 2)));
 }
 
 /// All members of the interface of this name and of its parts, in the order of the definitions.
@@ -100,11 +86,8 @@ fn members_in(definition: Definition<'_>) -> Option<Braced<InterfaceMembers<'_>>
     Some(members)
 }
 
-#[test]
-fn members_of_all_parts_are_gathered(rt: HostRuntime) -> Result<(), Fail> {
-    let text = "interface A { void f(); }; interface B { void g(); }; dictionary A {}; \
-                partial interface A { const long x = 5; attribute long y; };";
-    let alloc = rt.alloc();
+/// What those of the interface `A` are called, in a text that is read.
+fn names_in(alloc: Global, text: &str) -> Result<Vec<&str>, Fail> {
     let (_, definitions) = Definitions::parse(alloc, text)?;
     let mut names = Vec::new(alloc);
     for member in members_of(alloc, definitions, "A")? {
@@ -114,6 +97,14 @@ fn members_of_all_parts_are_gathered(rt: HostRuntime) -> Result<(), Fail> {
             _ => "no value",
         })?;
     }
+    Ok(names)
+}
+
+#[test]
+fn members_of_all_parts_are_gathered(rt: HostRuntime) -> Result<(), Fail> {
+    let text = "interface A { void f(); }; interface B { void g(); }; dictionary A {}; \
+                partial interface A { const long x = 5; attribute long y; };";
+    let names = names_in(rt.alloc(), text)?;
     assert!(rt; names.as_slice() == ["no value", "x", "y"].as_slice());
     Ok(())
 }

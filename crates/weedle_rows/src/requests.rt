@@ -1,6 +1,6 @@
-//! Each request for memory refused in turn: readers of whole texts, and both passes.
+//! Each request for memory refused in turn: whole texts over a table, and both passes.
 
-use super::outcomes::{Counts, Outcome, all_workings, assert_bounds, built, by_table, counted};
+use super::outcomes::{Counts, Outcome, all_workings, assert_bounds, built, counted};
 use std::alloc::{AllocError, Global};
 use std::process::Abort;
 use std::test::Fail;
@@ -10,24 +10,21 @@ use weedle_testing::{Wanted, nested_text};
 
 /// Texts, and what is read of each with ample memory.
 const TEXTS: [(&str, Outcome<'static>); 6] = [
-    (WINDOW, Outcome::Read(1, "interface", "Window")),
+    (WINDOW, Outcome::Read(1)),
     (
         "interface A { ///d\n attribute long x; };",
         Outcome::Left("interface A { ///d\n attribute long x; };"),
     ),
-    (
-        "interface A { ///d\n void f(); };",
-        Outcome::Read(1, "interface", "A"),
-    ),
-    ("enum E {\"a\",\"b\",};", Outcome::Read(1, "enum", "E")),
+    ("interface A { ///d\n void f(); };", Outcome::Read(1)),
+    ("enum E {\"a\",\"b\",};", Outcome::Read(1)),
     ("enum E {};", Outcome::Left("enum E {};")),
-    (KINDS, Outcome::Read(14, "implements", "Q")),
+    (KINDS, Outcome::Read(14)),
 ];
 
 /// The outcome of the nested extended attributes.
-const NESTED: Outcome<'static> = Outcome::Read(1, "interface", "I");
+const NESTED: Outcome<'static> = Outcome::Read(1);
 
-/// Asserts that a reader answers so or wants memory, which is told with the text itself; and says
+/// Asserts that an answer is so or wants memory, which is told with the text itself; and says
 /// whether it does.
 fn is_wanted(
     rt: &impl Abort,
@@ -58,7 +55,7 @@ fn assert_counts(rt: &impl Abort, text: &str, counts: Counts, has_none: bool) {
     }
 }
 
-/// Asserts that the readers answer so or want memory.
+/// Asserts that a text is read so, twice, or that memory is wanted.
 fn assert_read(
     rt: &impl Abort,
     alloc: Global,
@@ -67,7 +64,6 @@ fn assert_read(
     expected: Outcome<'_>,
 ) {
     for _ in 0..2 {
-        is_wanted(rt, wanted, text, by_table(alloc, text), expected);
         let (answer, counts) = counted(alloc, text);
         let has_none = is_wanted(rt, wanted, text, answer, expected);
         assert_counts(rt, text, counts, has_none);
@@ -92,14 +88,14 @@ fn assert_pass(
     rt: &impl Abort,
     wanted: &mut Wanted,
     text: &str,
-    pass: Result<(Outcome<'_>, &str, u128), AllocError>,
+    pass: Result<(usize, &str, u128), AllocError>,
     expected: Outcome<'_>,
 ) {
-    if let Some((answer, rest, visits)) = wanted.given(pass) {
+    if let Some((count, rest, visits)) = wanted.given(pass) {
         assert!(rt; visits > 0);
         match expected {
             Outcome::Left(left) => assert_eq!(rt; rest, left, "of {text:?}"),
-            _ => assert_eq!(rt; (answer, rest), (expected, ""), "of {text:?}"),
+            _ => assert_eq!(rt; (Outcome::Read(count), rest), (expected, ""), "of {text:?}"),
         }
     }
 }

@@ -3,7 +3,6 @@
 mod laws;
 mod leaves;
 mod literals;
-mod members;
 mod modifiers;
 mod types;
 

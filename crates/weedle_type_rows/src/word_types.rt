@@ -1,12 +1,10 @@
-//! Types beside `any`, by their own `parse`: words and what holds others; and words that turn into
-//! the types that they are, one of each sort. That each of them gives its variant is proved.
+//! Types beside `any`, by their own `parse`: words and what holds others. That each word turns into
+//! its variant is proved.
 //!
 //! The values are those that weedle2 prints, in the port's names.
 
 use std::test::Fail;
-use weedle_base::term::{ArrayBuffer, Boolean};
-use weedle_parts::types::MayBeNull;
-use weedle_testing::{Wanted, is_printed};
+use weedle_testing::Wanted;
 use weedle_types::types::NonAnyType;
 
 #[test]
@@ -180,34 +178,5 @@ fn types_beside_any_are_read_and_copied_or_want_memory(rt: HostRuntime) -> Resul
         &[],
     )?;
     assert!(rt; wanted.tell(&rt, alloc));
-    Ok(())
-}
-
-/// The type that a word with no `?` behind it turns into.
-fn type_of<'a, W>(word: W) -> NonAnyType<'a>
-where
-    MayBeNull<W>: Into<NonAnyType<'a>>,
-{
-    MayBeNull {
-        type_: word,
-        q_mark: None,
-    }
-    .into()
-}
-
-#[test]
-fn a_word_turns_into_its_type(rt: HostRuntime) -> Result<(), Fail> {
-    assert!(rt;
-        is_printed(
-            &type_of(Boolean),
-            "Boolean(MayBeNull { type_: Boolean, q_mark: None })"
-        )
-    );
-    assert!(rt;
-        is_printed(
-            &type_of(ArrayBuffer),
-            "ArrayBuffer(MayBeNull { type_: ArrayBuffer, q_mark: None })"
-        )
-    );
     Ok(())
 }

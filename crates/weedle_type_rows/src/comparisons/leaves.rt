@@ -3,40 +3,9 @@
 use super::{EQUAL, GREATER, LESS, LONG, UNSIGNED_LONG, UNSIGNED_SHORT, docstring, name_list};
 use std::test::Fail;
 use weedle_base::term::{Comma, Long, QMark, Unsigned};
-use weedle_base::{Err, Error, ErrorKind};
 use weedle_comparisons::leaves::*;
 use weedle_parts::common::Identifier;
 use weedle_parts::types::{IntegerType, LongLongType, MayBeNull};
-
-#[test]
-fn a_terminal_has_one_value(rt: HostRuntime) -> Result<(), Fail> {
-    assert_eq!(rt; compare_commas(Comma, Comma), EQUAL);
-    assert!(rt; commas_hash_alike(Comma, Comma));
-    assert_eq!(rt; clone_comma(&Comma)?, (Comma, true));
-    assert_eq!(rt; default_comma(), Comma);
-    Ok(())
-}
-
-#[test]
-fn faults_are_equal_in_place_and_kind(rt: HostRuntime) -> Result<(), Fail> {
-    let fault = Error {
-        input: "a",
-        code: ErrorKind::Mismatch,
-    };
-    for (input, code, equal) in [
-        ("a", ErrorKind::Mismatch, true),
-        ("b", ErrorKind::Mismatch, false),
-        ("a", ErrorKind::Unread, false),
-    ] {
-        let other = Error { input, code };
-        assert_eq!(rt; equal_kinds(fault.code, code), code == ErrorKind::Mismatch);
-        assert_eq!(rt; equal_errors(fault, other), equal);
-        assert_eq!(rt; equal_ends(Err::Failure(fault), Err::Failure(other)), equal);
-        assert!(rt; !equal_ends(Err::Error(fault), Err::Failure(other)));
-        assert_eq!(rt; clone_error(&other)?, (other, true));
-    }
-    Ok(())
-}
 
 #[test]
 fn names_go_by_their_texts(rt: HostRuntime) -> Result<(), Fail> {

@@ -89,9 +89,3 @@ fn defaults_go_by_their_values(rt: HostRuntime) -> Result<(), Fail> {
     }
     Ok(())
 }
-
-#[test]
-fn empty_literals_have_a_default(rt: HostRuntime) {
-    assert_eq!(rt; default_empty_array(), NO_ITEMS);
-    assert_eq!(rt; default_empty_dictionary(), NO_ENTRIES);
-}

@@ -3,7 +3,7 @@
 use super::{EQUAL, GREATER, LESS, name_list};
 use std::alloc::{AllocError, Global};
 use std::cmp::Ordering;
-use std::process::Abort;
+use std::hash::Hash;
 use std::test::Fail;
 use weedle_base::term::{Assign, CloseParen, OpenParen};
 use weedle_base::{Parse, TryClone};
@@ -32,26 +32,30 @@ fn listing<'a>(
     })
 }
 
-/// Checks the order of the types that these texts are, and that `==`, the hash and a copy agree.
-fn types_compare(
-    rt: &impl Abort,
+/// What tells two values apart: whether they are equal, their order, and whether they hash alike.
+type Told = ((bool, Ordering), bool);
+
+/// What tells the values apart that these texts are, and a copy of the first from it; nothing where
+/// one isn't read whole.
+///
+/// A function that holds types is dear to prove, and one that holds what is read of any type isn't.
+fn told_apart<'a, T: Parse<'a> + TryClone + Ord + Hash>(
     alloc: Global,
-    a: &str,
-    b: &str,
-    order: Ordering,
-) -> Result<(), Fail> {
-    match (Type::parse(alloc, a), Type::parse(alloc, b)) {
+    a: &'a str,
+    b: &'a str,
+) -> Result<Option<(Told, Told)>, AllocError> {
+    match (T::parse(alloc, a), T::parse(alloc, b)) {
         (Ok(("", a)), Ok(("", b))) => {
-            let equal = order == Ordering::Equal;
-            assert_eq!(rt; compare(&a, &b), (equal, order));
-            assert_eq!(rt; hash_alike(&a, &b), equal);
             let copy = a.try_clone(alloc)?;
-            assert_eq!(rt; compare(&copy, &a), EQUAL);
-            assert!(rt; hash_alike(&copy, &a));
+            Ok(Some((told(&a, &b), told(&copy, &a))))
         }
-        _ => assert!(rt; false, "{a:?} or {b:?} is not read whole"),
+        _ => Ok(None),
     }
-    Ok(())
+}
+
+/// What tells one value from another.
+fn told<T: Ord + Hash>(a: &T, b: &T) -> Told {
+    (compare(a, b), hash_alike(a, b))
 }
 
 #[test]
@@ -143,7 +147,11 @@ fn types_go_by_their_variants(rt: HostRuntime) -> Result<(), Fail> {
     ];
     for (i, a) in ordered.iter().enumerate() {
         for (j, b) in ordered.iter().enumerate() {
-            types_compare(&rt, alloc, a, b, i.cmp(&j))?;
+            let wanted = ((i == j, i.cmp(&j)), i == j);
+            assert!(rt;
+                told_apart::<Type<'_>>(alloc, a, b)? == Some((wanted, (EQUAL, true))),
+                "of {a:?} and {b:?}"
+            );
         }
     }
     Ok(())

@@ -4,8 +4,7 @@
 
 use std::process::Abort;
 use std::test::Fail;
-use weedle::{Depths, nesting};
-use weedle_nesting::suits_descent;
+use weedle_nesting::{Depths, nesting, suits_descent};
 use weedle_testing::{nested_attributes, repeated};
 
 /// Asserts how deep a text nests, and whether descent is for it.
