@@ -80,7 +80,7 @@ pub fn built<'a>(
 }
 
 /// How many workings-out there are for a text.
-pub fn all_workings(text: &str) -> u128 {
+fn all_workings(text: &str) -> u128 {
     (RULES as u128).saturating_mul(text.len() as u128 + 1)
 }
 

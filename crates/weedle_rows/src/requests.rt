@@ -1,10 +1,9 @@
-//! Each request for memory refused in turn: whole texts over a table, and both passes.
+//! Each request for memory refused in turn: whole texts, over a table and the pass along it.
 
-use super::outcomes::{Counts, Outcome, all_workings, assert_bounds, built, counted};
-use std::alloc::{AllocError, Global};
+use super::outcomes::{Counts, Outcome, assert_bounds, counted};
+use std::alloc::Global;
 use std::process::Abort;
 use std::test::Fail;
-use weedle_rules::Ends;
 use weedle_testing::examples::{KINDS, WINDOW};
 use weedle_testing::{Wanted, nested_text};
 
@@ -79,62 +78,6 @@ fn texts_are_read_or_want_memory(rt: HostRuntime) -> Result<(), Fail> {
     }
     let text = nested_text(alloc, &mut wanted)?;
     assert_read(&rt, alloc, &mut wanted, &text, NESTED);
-    assert!(rt; wanted.tell(&rt, alloc));
-    Ok(())
-}
-
-/// Asserts what a pass gave, or that memory is wanted.
-fn assert_pass(
-    rt: &impl Abort,
-    wanted: &mut Wanted,
-    text: &str,
-    pass: Result<(usize, &str, u128), AllocError>,
-    expected: Outcome<'_>,
-) {
-    if let Some((count, rest, visits)) = wanted.given(pass) {
-        assert!(rt; visits > 0);
-        match expected {
-            Outcome::Left(left) => assert_eq!(rt; rest, left, "of {text:?}"),
-            _ => assert_eq!(rt; (Outcome::Read(count), rest), (expected, ""), "of {text:?}"),
-        }
-    }
-}
-
-/// Asserts that both passes give this or that memory is wanted, the second made twice.
-fn assert_passes(
-    rt: &impl Abort,
-    alloc: Global,
-    wanted: &mut Wanted,
-    text: &str,
-    expected: Outcome<'_>,
-) {
-    if let Some(ends) = wanted.given(Ends::new_wide(alloc, text)) {
-        assert_eq!(rt; ends.workings(), all_workings(text), "of {text:?}");
-    }
-    match Ends::new(alloc, text) {
-        Ok(ends) => {
-            for _ in 0..2 {
-                let pass = built(alloc, &ends, text);
-                assert_pass(rt, wanted, text, pass, expected);
-            }
-        }
-        Err(_) => wanted.count(),
-    }
-}
-
-#[test]
-fn both_passes_are_made_or_want_memory(rt: HostRuntime) -> Result<(), Fail> {
-    let alloc = rt.alloc();
-    let mut wanted = Wanted::new();
-    for _ in 0..2 {
-        for (text, expected) in TEXTS {
-            assert_passes(&rt, alloc, &mut wanted, text, expected);
-        }
-    }
-    let text = nested_text(alloc, &mut wanted)?;
-    for _ in 0..2 {
-        assert_passes(&rt, alloc, &mut wanted, &text, NESTED);
-    }
     assert!(rt; wanted.tell(&rt, alloc));
     Ok(())
 }
