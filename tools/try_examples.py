@@ -9,7 +9,7 @@ its `use` lines stand at the top of a module, all else in a function that has `r
 what the text around them says get that from AROUND. `rt try --test` runs them.
 
 With --show nothing is run: it prints the modules. Else it prints what `rt` says. It needs the toolchain's
-command `rt` on PATH, 3,000 MB of memory and some minutes; so the gate leaves it out.
+command `rt` on PATH, 3,000 MB of memory and some ten minutes; so the gate leaves it out.
 
 The status is 0 where all examples compile and hold, 1 where one doesn't, 2 where it could not be tried.
 """
