@@ -15,6 +15,8 @@ mod leaves;
 #[cfg(test)]
 mod plain_types;
 #[cfg(test)]
+mod printing;
+#[cfg(test)]
 mod requests;
 #[cfg(test)]
 mod scanners;
