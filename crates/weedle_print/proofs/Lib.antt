@@ -1,0 +1,5 @@
+pub mod AddsFacts
+pub mod EachFacts
+pub mod SeparatedFacts
+pub mod LeafFacts
+pub mod DocFacts

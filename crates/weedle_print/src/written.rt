@@ -1,0 +1,6 @@
+//! What scripts write.
+//!
+//! Written by tools/modules.py, and not edited by hand.
+
+pub mod reserved;
+pub mod terminals;
