@@ -31,7 +31,7 @@ from description.readings import IDL, LEAVES, TYPES
 from description.uses import ghost_line
 from proofs.spelling_terms import Item
 from proofs.spelt import TERMINALS, function
-from spellings import DECLARED, FILES, FORMERS, IDL as SPELT_IDL, TOP, items_of
+from spellings import DECLARED, FILES, FORMERS, SPELL, TOP, items_of
 from written_places import files_in, module_in, put
 
 CRATE = "weedle_print_idl"
@@ -65,11 +65,9 @@ HANDED_ON = {
 }
 # A list that is written with its brackets alone.
 BARE = "ArgumentList"
-# The crates that state spellings, lowest first.
-SPELLINGS = ("weedle_spell", "weedle_spell_types", "weedle_spell_idl")
 # What no `use` brings in.
 KNOWN = ("()", "Box", "Option", "Vec")
-# A spelling as its crate states it, with the type of what is spelt where that is named alone.
+# A spelling as it is stated, with the type of what is spelt where that is named alone.
 STATED = re.compile(r"^ *(?:abbrev )?pub (\w+_spelling) : (?:«?(\w+)»? → Form$)?", re.M)
 PART = re.compile(rf"\b({'|'.join(PART_PATHS)})(?:::)?<")
 
@@ -238,13 +236,12 @@ def use_lines(paths: Iterable[str]) -> str:
 def stated() -> tuple[dict[str, str], dict[str, str]]:
     """The modules that state spellings, by their names; and the spellings of types, by theirs."""
     homes, names = {}, {}
-    for crate in SPELLINGS:
-        top = TOP / "crates" / crate / "specs"
-        for path in files_in(top, ".antt"):
-            module = ".".join(["Rattle", crate, "specs", *module_in(top, path)])
-            for name, type_ in STATED.findall(path.read_text(encoding="utf-8")):
-                homes[name] = module
-                names.setdefault(type_, name)
+    top = TOP / "crates" / SPELL / "specs"
+    for path in files_in(top, ".antt"):
+        module = ".".join(["Rattle", SPELL, "specs", *module_in(top, path)])
+        for name, type_ in STATED.findall(path.read_text(encoding="utf-8")):
+            homes[name] = module
+            names.setdefault(type_, name)
     return homes, names
 
 
@@ -277,7 +274,7 @@ def families() -> Iterator[tuple[str, str, list[Own]]]:
     done = set()
     for file in FILES:
         items = items_of(file, done)
-        if file.crate == SPELT_IDL:
+        if not file.types:
             own = [Own(it) for it in items if it.declaration or it.whole.name == "Vec"]
             yield file.law_module, f"How {file.spelt.replace('spelt', 'written')}.", own
 

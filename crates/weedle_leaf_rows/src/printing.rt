@@ -4,17 +4,17 @@
 
 use std::alloc::Global;
 use std::process::Abort;
-use weedle_literal::{
-    BooleanLit, DecLit, Default, DefaultValue, EmptyArrayLit, EmptyDictionaryLit, FloatLit,
-    FloatValueLit, HexLit, OctLit, StringLit,
-};
-use weedle_parts::common::{Braced, Docstring, Generics, Identifier, PunctuatedNonEmpty};
-use weedle_parts::types::{ConstType, IntegerType, LongLongType, LongType, MayBeNull};
-use weedle_print::{Nullable, Print, PrintError, Reserved, Words, printed};
-use weedle_term::{
+use weedle_base::term::{
     Assign, CloseBrace, CloseBracket, Comma, GreaterThan, Interface, LessThan, Long, NegInfinity,
     OpenBrace, OpenBracket, QMark, SemiColon, Unsigned,
 };
+use weedle_parts::common::{Braced, Docstring, Generics, Identifier, PunctuatedNonEmpty};
+use weedle_parts::literal::{
+    BooleanLit, DecLit, Default, DefaultValue, EmptyArrayLit, EmptyDictionaryLit, FloatLit,
+    FloatValueLit, HexLit, OctLit, StringLit,
+};
+use weedle_parts::types::{ConstType, IntegerType, LongLongType, LongType, MayBeNull};
+use weedle_print::{Nullable, Print, PrintError, Reserved, Words, printed};
 use weedle_testing::Wanted;
 
 /// Asserts that a value is written as this text behind what stands there, or that memory for it is

@@ -8,11 +8,11 @@ use Rattle.weedle_base.specs.Reading.{Got}
 use Rattle.weedle_grammar.specs.Rows.{run_length}
 use Rattle.weedle_grammar.specs.declared.class.Class.TheVariants.{Blank, NotQuote}
 use Rattle.weedle_grammar.specs.written.Table.Leaves.{IDENTIFIER, DEC_LIT, HEX_LIT, OCT_LIT, FLOAT_VALUE_LIT}
-use Rattle.weedle_literal.specs.LiteralTrees.{dec_tree, hex_tree, oct_tree, float_value_tree}
-use Rattle.weedle_literal.specs.declared.float.FloatValueLit.{FloatValueLit}
-use Rattle.weedle_literal.specs.declared.integer.DecLit.{DecLit}
-use Rattle.weedle_literal.specs.declared.integer.HexLit.{HexLit}
-use Rattle.weedle_literal.specs.declared.integer.OctLit.{OctLit}
+use Rattle.weedle_parts.specs.LiteralTrees.{dec_tree, hex_tree, oct_tree, float_value_tree}
+use Rattle.weedle_parts.specs.declared.literal.float.FloatValueLit.{FloatValueLit}
+use Rattle.weedle_parts.specs.declared.literal.integer.DecLit.{DecLit}
+use Rattle.weedle_parts.specs.declared.literal.integer.HexLit.{HexLit}
+use Rattle.weedle_parts.specs.declared.literal.integer.OctLit.{OctLit}
 use Rattle.weedle_parts.specs.ValueTrees.{identifier_tree}
 use Rattle.weedle_parts.specs.declared.common.identifier.Identifier.{Identifier}
 use Rattle.weedle_print.proofs.AddsFacts.{adds_as, adds_then, adds_trivia, adds_no_trivia}

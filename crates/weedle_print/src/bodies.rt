@@ -11,8 +11,8 @@ use crate::layout::Layout;
 use crate::list::{close_list, separate};
 use crate::print::Print;
 use crate::texts::{last_word, push, word};
+use weedle_base::term::Comma;
 use weedle_parts::common::{Braced, PunctuatedNonEmpty};
-use weedle_term::Comma;
 
 /// Writes the brace in front of members, and has each have a line.
 fn open_body(is_empty: bool, out: &mut String, layout: &mut Layout) -> Result<(), PrintError>

@@ -8,9 +8,9 @@ use crate::error::PrintError;
 use crate::fields::{three, two};
 use crate::layout::Layout;
 use crate::print::Print;
+use weedle_base::term::{GreaterThan, LessThan, QMark};
 use weedle_parts::common::Generics;
 use weedle_parts::types::MayBeNull;
-use weedle_term::{GreaterThan, LessThan, QMark};
 
 impl<P: Print> Print for Option<P> {
     type Value = Option<P::Value>;

@@ -16,12 +16,12 @@ use crate::fields::two;
 use crate::layout::Layout;
 use crate::print::Print;
 use crate::texts::word;
-use weedle_literal::{
+use weedle_base::term::{
+    Assign, CloseBrace, CloseBracket, Infinity, NaN, NegInfinity, Null, OpenBrace, OpenBracket,
+};
+use weedle_parts::literal::{
     BooleanLit, ConstValue, DecLit, Default, DefaultValue, EmptyArrayLit, EmptyDictionaryLit,
     FloatLit, FloatValueLit, HexLit, IntegerLit, OctLit, StringLit,
-};
-use weedle_term::{
-    Assign, CloseBrace, CloseBracket, Infinity, NaN, NegInfinity, Null, OpenBrace, OpenBracket,
 };
 
 impl<'a> Print for IntegerLit<'a> {

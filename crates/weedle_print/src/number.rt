@@ -16,7 +16,7 @@ use crate::print::Print;
 use crate::texts::{push, space};
 use std::alloc::Global;
 use weedle_base::Parse;
-use weedle_literal::{DecLit, FloatValueLit, HexLit, OctLit};
+use weedle_parts::literal::{DecLit, FloatValueLit, HexLit, OctLit};
 
 /// Writes a number as it is kept.
 #[tactic(auto, using(crate::proofs::AddsFacts::adds_word))]

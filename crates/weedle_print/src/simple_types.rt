@@ -16,12 +16,12 @@ use crate::error::PrintError;
 use crate::fields::two;
 use crate::layout::Layout;
 use crate::print::Print;
+use weedle_base::term::{Boolean, Byte, Double, Float, Long, Octet, Short, Unrestricted, Unsigned};
 use weedle_parts::common::Identifier;
 use weedle_parts::types::{
     ConstType, DoubleType, FloatType, FloatingPointType, IntegerType, LongLongType, LongType,
     MayBeNull, ShortType,
 };
-use weedle_term::{Boolean, Byte, Double, Float, Long, Octet, Short, Unrestricted, Unsigned};
 
 impl Print for LongLongType {
     type Value = Self;

@@ -10,7 +10,7 @@ use crate::layout::Layout;
 use crate::print::Print;
 use crate::texts::{push, space};
 use memchr::memchr;
-use weedle_literal::StringLit;
+use weedle_parts::literal::StringLit;
 
 /// Whether no quote stands in a text.
 fn is_without_quote(text: &str) -> bool

@@ -1,6 +1,6 @@
 -- What spells the member of a variant spells the variant.
 use Rattle.std.specs.Prelude.{◌↔◌, ℕ, List}
-use Rattle.weedle_term.specs.declared.written.type_keywords.Or.{Or}
+use Rattle.weedle_base.specs.declared.term.written.type_keywords.Or.{Or}
 use Rattle.weedle_parts.specs.declared.common.brackets.Parenthesized.{Parenthesized}
 use Rattle.weedle_parts.specs.declared.common.punctuated.Punctuated.{Punctuated}
 use Rattle.weedle_parts.specs.declared.types.may_be_null.MayBeNull.{MayBeNull}
@@ -26,13 +26,13 @@ use Rattle.weedle_types.specs.declared.types.«Type».TheVariants.{Single as Typ
 use Rattle.weedle_types.specs.declared.types.«Type».{«Type»}
 use Rattle.weedle_spell.specs.Forms.{Form}
 use Rattle.weedle_spell.specs.GenericParts.{may_be_null_spelling}
-use Rattle.weedle_spell_types.specs.written.Arguments.{single_argument_spelling, variadic_argument_spelling, extended_attribute_arg_list_spelling, extended_attribute_named_arg_list_spelling}
-use Rattle.weedle_spell_types.specs.RecursiveTypes.{type_spelling, non_any_type_spelling, union_member_type_spelling, argument_spelling, extended_attribute_spelling}
-use Rattle.weedle_spell_types.specs.written.Types.{single_type_spelling, union_type_spelling, promise_type_spelling, sequence_type_spelling, frozen_array_type_spelling, record_type_spelling, attributed_non_any_type_spelling}
+use Rattle.weedle_spell.specs.written.Arguments.{single_argument_spelling, variadic_argument_spelling, extended_attribute_arg_list_spelling, extended_attribute_named_arg_list_spelling}
+use Rattle.weedle_spell.specs.RecursiveTypes.{type_spelling, non_any_type_spelling, union_member_type_spelling, argument_spelling, extended_attribute_spelling}
+use Rattle.weedle_spell.specs.written.Types.{single_type_spelling, union_type_spelling, promise_type_spelling, sequence_type_spelling, frozen_array_type_spelling, record_type_spelling, attributed_non_any_type_spelling}
 use Rattle.std.specs.Prelude.{ℕ, List}
 use Rattle.weedle_print.proofs.AddsFacts.{adds_as}
 use Rattle.weedle_print.specs.Adds.{Adds}
-use Rattle.weedle_spell_types.proofs.VariantFacts.{variants_law}
+use Rattle.weedle_spell.proofs.VariantFacts.{variants_law}
 
 module _ {x y : List ℕ} where
   pub adds_type_single : (v : SingleType NonAnyType) → Adds (single_type_spelling v) x y → Adds (type_spelling (Type-Single v)) x y

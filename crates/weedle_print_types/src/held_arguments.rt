@@ -1,10 +1,10 @@
 //! How arguments and extended attributes are written.
 
-ghost use Rattle.weedle_spell_types.specs.RecursiveTypes.{
+ghost use Rattle.weedle_spell.specs.RecursiveTypes.{
   argument_spelling,
   extended_attribute_spelling,
 };
-ghost use Rattle.weedle_spell_types.specs.written.Arguments.{
+ghost use Rattle.weedle_spell.specs.written.Arguments.{
   arguments_spelling,
   extended_attribute_arg_list_spelling,
   extended_attribute_list_spelling,
@@ -12,7 +12,7 @@ ghost use Rattle.weedle_spell_types.specs.written.Arguments.{
   single_argument_spelling,
   variadic_argument_spelling,
 };
-ghost use Rattle.weedle_spell_types.specs.written.PlainAttributes.{
+ghost use Rattle.weedle_spell.specs.written.PlainAttributes.{
   extended_attribute_ident_list_spelling,
   extended_attribute_ident_spelling,
   extended_attribute_no_args_spelling,

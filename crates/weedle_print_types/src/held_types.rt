@@ -1,11 +1,11 @@
 //! How types are written.
 
-ghost use Rattle.weedle_spell_types.specs.RecursiveTypes.{
+ghost use Rattle.weedle_spell.specs.RecursiveTypes.{
   non_any_type_spelling,
   type_spelling,
   union_member_type_spelling,
 };
-ghost use Rattle.weedle_spell_types.specs.written.Types.{
+ghost use Rattle.weedle_spell.specs.written.Types.{
   attributed_non_any_type_spelling,
   attributed_type_spelling,
   frozen_array_type_spelling,

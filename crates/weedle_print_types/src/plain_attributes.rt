@@ -5,17 +5,17 @@ ghost use Rattle.std.specs.Prelude.{codes, OnOk, string_bytes};
 ghost use Rattle.weedle_print.specs.Adds.{Adds};
 ghost use Rattle.weedle_spell.specs.GenericParts.{parenthesized_spelling};
 ghost use Rattle.weedle_spell.specs.Leaves.{terminal};
-ghost use Rattle.weedle_spell_types.specs.written.PlainAttributes.{
+ghost use Rattle.weedle_spell.specs.written.PlainAttributes.{
   extended_attribute_ident_list_spelling,
   extended_attribute_ident_spelling,
   identifier_list_spelling,
   identifier_or_string_spelling,
 };
 
-use weedle_literal::StringLit;
+use weedle_parts::literal::StringLit;
 use weedle_parts::common::{Identifier, Parenthesized};
 use weedle_print::{Layout, Print, PrintError, separate};
-use weedle_term::{Assign, CloseParen, OpenParen};
+use weedle_base::term::{Assign, CloseParen, OpenParen};
 use weedle_types::attribute::{
     ExtendedAttributeIdent, ExtendedAttributeIdentList, IdentifierList, IdentifierOrString,
 };

@@ -2,7 +2,7 @@
 //!
 //! Written by tools/prints.py, and not edited by hand.
 
-ghost use Rattle.weedle_spell_idl.specs.written.Interfaces.{
+ghost use Rattle.weedle_spell.specs.written.Interfaces.{
   callback_interface_definition_spelling,
   interface_definition_spelling,
   interface_member_spelling,
@@ -14,6 +14,7 @@ ghost use Rattle.weedle_spell_idl.specs.written.Interfaces.{
 
 use crate::part::{Attributes, IdlPart};
 use crate::write::WriteIdl;
+use weedle_base::term::{Callback, Interface, Mixin, Partial, SemiColon};
 use weedle_interfaces::{
     CallbackInterfaceDefinition, InterfaceDefinition, InterfaceMember, PartialInterfaceDefinition,
 };
@@ -23,7 +24,6 @@ use weedle_modifier::Inheritance;
 use weedle_parts::common::{Braced, Docstring, Identifier};
 use weedle_print::fields::{eight, seven, six};
 use weedle_print::{Layout, Print, PrintError};
-use weedle_term::{Callback, Interface, Mixin, Partial, SemiColon};
 
 impl<'a> WriteIdl for InterfaceMember<'a> {
     ghost spelling = { interface_member_spelling };

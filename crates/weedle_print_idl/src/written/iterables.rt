@@ -2,7 +2,7 @@
 //!
 //! Written by tools/prints.py, and not edited by hand.
 
-ghost use Rattle.weedle_spell_idl.specs.written.Iterables.{
+ghost use Rattle.weedle_spell.specs.written.Iterables.{
   async_iterable_interface_member_spelling,
   double_typed_async_iterable_spelling,
   double_typed_iterable_spelling,
@@ -18,6 +18,7 @@ use crate::write::WriteIdl;
 use weedle_async_iterables::{
     AsyncIterableInterfaceMember, DoubleTypedAsyncIterable, SingleTypedAsyncIterable,
 };
+use weedle_base::term::{Async, Comma, Iterable, Maplike, ReadOnly, SemiColon, Setlike};
 use weedle_iterables::{
     DoubleTypedIterable, IterableInterfaceMember, MaplikeInterfaceMember, SetlikeInterfaceMember,
     SingleTypedIterable,
@@ -26,7 +27,6 @@ use weedle_parts::common::Generics;
 use weedle_print::fields::{five, four};
 use weedle_print::{Layout, PrintError};
 use weedle_print_types::Held;
-use weedle_term::{Async, Comma, Iterable, Maplike, ReadOnly, SemiColon, Setlike};
 use weedle_types::argument::ParenthesizedArgumentList;
 use weedle_types::types::AttributedType;
 

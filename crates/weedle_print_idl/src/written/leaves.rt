@@ -33,11 +33,11 @@ ghost use Rattle.weedle_spell.specs.SimpleTypes.{
 };
 
 use crate::write::WriteIdl;
-use weedle_literal::{
+use weedle_parts::common::{Docstring, Identifier};
+use weedle_parts::literal::{
     BooleanLit, ConstValue, DecLit, Default, DefaultValue, EmptyArrayLit, EmptyDictionaryLit,
     FloatLit, FloatValueLit, HexLit, IntegerLit, OctLit, StringLit,
 };
-use weedle_parts::common::{Docstring, Identifier};
 use weedle_parts::types::{
     ConstType, DoubleType, FloatType, FloatingPointType, IntegerType, LongLongType, LongType,
     ShortType,
@@ -57,70 +57,6 @@ impl<'a> WriteIdl for Identifier<'a> {
 
     fn write_part(&self, out: &mut String, layout: &mut Layout) -> Result<(), PrintError> {
         Identifier::<'a>::print(self, out, layout)
-    }
-}
-
-impl<'a> WriteIdl for ConstType<'a> {
-    ghost spelling = { const_type_spelling };
-
-    fn write_part(&self, out: &mut String, layout: &mut Layout) -> Result<(), PrintError> {
-        ConstType::<'a>::print(self, out, layout)
-    }
-}
-
-impl WriteIdl for FloatType {
-    ghost spelling = { float_type_spelling };
-
-    fn write_part(&self, out: &mut String, layout: &mut Layout) -> Result<(), PrintError> {
-        FloatType::print(self, out, layout)
-    }
-}
-
-impl WriteIdl for DoubleType {
-    ghost spelling = { double_type_spelling };
-
-    fn write_part(&self, out: &mut String, layout: &mut Layout) -> Result<(), PrintError> {
-        DoubleType::print(self, out, layout)
-    }
-}
-
-impl WriteIdl for FloatingPointType {
-    ghost spelling = { floating_point_type_spelling };
-
-    fn write_part(&self, out: &mut String, layout: &mut Layout) -> Result<(), PrintError> {
-        FloatingPointType::print(self, out, layout)
-    }
-}
-
-impl WriteIdl for LongLongType {
-    ghost spelling = { long_long_type_spelling };
-
-    fn write_part(&self, out: &mut String, layout: &mut Layout) -> Result<(), PrintError> {
-        LongLongType::print(self, out, layout)
-    }
-}
-
-impl WriteIdl for LongType {
-    ghost spelling = { long_type_spelling };
-
-    fn write_part(&self, out: &mut String, layout: &mut Layout) -> Result<(), PrintError> {
-        LongType::print(self, out, layout)
-    }
-}
-
-impl WriteIdl for ShortType {
-    ghost spelling = { short_type_spelling };
-
-    fn write_part(&self, out: &mut String, layout: &mut Layout) -> Result<(), PrintError> {
-        ShortType::print(self, out, layout)
-    }
-}
-
-impl WriteIdl for IntegerType {
-    ghost spelling = { integer_type_spelling };
-
-    fn write_part(&self, out: &mut String, layout: &mut Layout) -> Result<(), PrintError> {
-        IntegerType::print(self, out, layout)
     }
 }
 
@@ -225,5 +161,69 @@ impl<'a> WriteIdl for ConstValue<'a> {
 
     fn write_part(&self, out: &mut String, layout: &mut Layout) -> Result<(), PrintError> {
         ConstValue::<'a>::print(self, out, layout)
+    }
+}
+
+impl<'a> WriteIdl for ConstType<'a> {
+    ghost spelling = { const_type_spelling };
+
+    fn write_part(&self, out: &mut String, layout: &mut Layout) -> Result<(), PrintError> {
+        ConstType::<'a>::print(self, out, layout)
+    }
+}
+
+impl WriteIdl for FloatType {
+    ghost spelling = { float_type_spelling };
+
+    fn write_part(&self, out: &mut String, layout: &mut Layout) -> Result<(), PrintError> {
+        FloatType::print(self, out, layout)
+    }
+}
+
+impl WriteIdl for DoubleType {
+    ghost spelling = { double_type_spelling };
+
+    fn write_part(&self, out: &mut String, layout: &mut Layout) -> Result<(), PrintError> {
+        DoubleType::print(self, out, layout)
+    }
+}
+
+impl WriteIdl for FloatingPointType {
+    ghost spelling = { floating_point_type_spelling };
+
+    fn write_part(&self, out: &mut String, layout: &mut Layout) -> Result<(), PrintError> {
+        FloatingPointType::print(self, out, layout)
+    }
+}
+
+impl WriteIdl for LongLongType {
+    ghost spelling = { long_long_type_spelling };
+
+    fn write_part(&self, out: &mut String, layout: &mut Layout) -> Result<(), PrintError> {
+        LongLongType::print(self, out, layout)
+    }
+}
+
+impl WriteIdl for LongType {
+    ghost spelling = { long_type_spelling };
+
+    fn write_part(&self, out: &mut String, layout: &mut Layout) -> Result<(), PrintError> {
+        LongType::print(self, out, layout)
+    }
+}
+
+impl WriteIdl for ShortType {
+    ghost spelling = { short_type_spelling };
+
+    fn write_part(&self, out: &mut String, layout: &mut Layout) -> Result<(), PrintError> {
+        ShortType::print(self, out, layout)
+    }
+}
+
+impl WriteIdl for IntegerType {
+    ghost spelling = { integer_type_spelling };
+
+    fn write_part(&self, out: &mut String, layout: &mut Layout) -> Result<(), PrintError> {
+        IntegerType::print(self, out, layout)
     }
 }

@@ -3,7 +3,7 @@
 //!
 //! Written by tools/prints.py, and not edited by hand.
 
-ghost use Rattle.weedle_spell_idl.specs.written.Members.{
+ghost use Rattle.weedle_spell.specs.written.Members.{
   attribute_interface_member_spelling,
   attribute_mixin_member_spelling,
   const_member_spelling,
@@ -17,7 +17,7 @@ ghost use Rattle.weedle_spell_idl.specs.written.Members.{
 
 use crate::part::{Attributes, IdlPart};
 use crate::write::WriteIdl;
-use weedle_literal::ConstValue;
+use weedle_base::term::{Assign, Attribute, Const, Constructor, ReadOnly, SemiColon, Stringifier};
 use weedle_members::{
     AttributeInterfaceMember, ConstMember, ConstructorInterfaceMember, OperationInterfaceMember,
     StringifierMember,
@@ -25,11 +25,11 @@ use weedle_members::{
 use weedle_mixins::mixin::{AttributeMixinMember, MixinMember, OperationMixinMember};
 use weedle_modifier::{Special, StringifierOrInheritOrStatic, StringifierOrStatic};
 use weedle_parts::common::{Docstring, Identifier};
+use weedle_parts::literal::ConstValue;
 use weedle_parts::types::ConstType;
 use weedle_print::fields::{eight, five, seven, six, three};
 use weedle_print::{Layout, Print, PrintError};
 use weedle_print_types::Held;
-use weedle_term::{Assign, Attribute, Const, Constructor, ReadOnly, SemiColon, Stringifier};
 use weedle_types::argument::ParenthesizedArgumentList;
 use weedle_types::types::{AttributedType, ReturnType};
 

@@ -2,7 +2,7 @@
 //!
 //! Written by tools/prints.py, and not edited by hand.
 
-ghost use Rattle.weedle_spell_idl.specs.written.Modifiers.{
+ghost use Rattle.weedle_spell.specs.written.Modifiers.{
   inheritance_spelling,
   special_spelling,
   stringifier_or_inherit_or_static_spelling,
@@ -10,11 +10,13 @@ ghost use Rattle.weedle_spell_idl.specs.written.Modifiers.{
 };
 
 use crate::write::WriteIdl;
+use weedle_base::term::{
+    Colon, Deleter, Getter, Inherit, LegacyCaller, Setter, Static, Stringifier,
+};
 use weedle_modifier::{Inheritance, Special, StringifierOrInheritOrStatic, StringifierOrStatic};
 use weedle_parts::common::Identifier;
 use weedle_print::fields::two;
 use weedle_print::{Layout, Print, PrintError};
-use weedle_term::{Colon, Deleter, Getter, Inherit, LegacyCaller, Setter, Static, Stringifier};
 
 impl<'a> WriteIdl for Inheritance<'a> {
     ghost spelling = { inheritance_spelling };

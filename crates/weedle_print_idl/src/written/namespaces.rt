@@ -2,7 +2,7 @@
 //!
 //! Written by tools/prints.py, and not edited by hand.
 
-ghost use Rattle.weedle_spell_idl.specs.written.Namespaces.{
+ghost use Rattle.weedle_spell.specs.written.Namespaces.{
   attribute_namespace_member_spelling,
   dictionary_definition_spelling,
   dictionary_member_spelling,
@@ -17,7 +17,7 @@ ghost use Rattle.weedle_spell_idl.specs.written.Namespaces.{
 
 use crate::part::{Attributes, IdlPart};
 use crate::write::WriteIdl;
-use weedle_literal::Default;
+use weedle_base::term::{Attribute, Dictionary, Namespace, Partial, ReadOnly, Required, SemiColon};
 use weedle_modifier::Inheritance;
 use weedle_namespaces::dictionary::DictionaryMember;
 use weedle_namespaces::namespace::{
@@ -28,10 +28,10 @@ use weedle_namespaces::{
     PartialNamespaceDefinition,
 };
 use weedle_parts::common::{Braced, Docstring, Identifier};
+use weedle_parts::literal::Default;
 use weedle_print::fields::{seven, six};
 use weedle_print::{Layout, Print, PrintError};
 use weedle_print_types::Held;
-use weedle_term::{Attribute, Dictionary, Namespace, Partial, ReadOnly, Required, SemiColon};
 use weedle_types::argument::ParenthesizedArgumentList;
 use weedle_types::types::{AttributedType, ReturnType, Type};
 

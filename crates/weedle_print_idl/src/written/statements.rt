@@ -2,7 +2,7 @@
 //!
 //! Written by tools/prints.py, and not edited by hand.
 
-ghost use Rattle.weedle_spell_idl.specs.written.Statements.{
+ghost use Rattle.weedle_spell.specs.written.Statements.{
   callback_definition_spelling,
   enum_definition_spelling,
   enum_variant_spelling,
@@ -13,8 +13,9 @@ ghost use Rattle.weedle_spell_idl.specs.written.Statements.{
 
 use crate::part::{Attributes, IdlPart};
 use crate::write::WriteIdl;
-use weedle_literal::StringLit;
+use weedle_base::term::{Assign, Callback, Comma, Enum, Implements, Includes, SemiColon, Typedef};
 use weedle_parts::common::{Braced, Docstring, Identifier, PunctuatedNonEmpty};
+use weedle_parts::literal::StringLit;
 use weedle_print::fields::{five, seven, six, two};
 use weedle_print::{Layout, PrintError};
 use weedle_print_types::Held;
@@ -22,7 +23,6 @@ use weedle_statements::{
     CallbackDefinition, EnumDefinition, EnumVariant, ImplementsDefinition,
     IncludesStatementDefinition, TypedefDefinition,
 };
-use weedle_term::{Assign, Callback, Comma, Enum, Implements, Includes, SemiColon, Typedef};
 use weedle_types::argument::ParenthesizedArgumentList;
 use weedle_types::types::{AttributedType, ReturnType};
 

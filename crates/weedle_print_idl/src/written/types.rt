@@ -2,14 +2,14 @@
 //!
 //! Written by tools/prints.py, and not edited by hand.
 
-ghost use Rattle.weedle_spell_types.specs.RecursiveTypes.{
+ghost use Rattle.weedle_spell.specs.RecursiveTypes.{
   argument_spelling,
   extended_attribute_spelling,
   non_any_type_spelling,
   type_spelling,
   union_member_type_spelling,
 };
-ghost use Rattle.weedle_spell_types.specs.written.Arguments.{
+ghost use Rattle.weedle_spell.specs.written.Arguments.{
   arguments_spelling,
   extended_attribute_arg_list_spelling,
   extended_attribute_list_spelling,
@@ -17,14 +17,14 @@ ghost use Rattle.weedle_spell_types.specs.written.Arguments.{
   single_argument_spelling,
   variadic_argument_spelling,
 };
-ghost use Rattle.weedle_spell_types.specs.written.PlainAttributes.{
+ghost use Rattle.weedle_spell.specs.written.PlainAttributes.{
   extended_attribute_ident_list_spelling,
   extended_attribute_ident_spelling,
   extended_attribute_no_args_spelling,
   identifier_list_spelling,
   identifier_or_string_spelling,
 };
-ghost use Rattle.weedle_spell_types.specs.written.Types.{
+ghost use Rattle.weedle_spell.specs.written.Types.{
   attributed_non_any_type_spelling,
   attributed_type_spelling,
   frozen_array_type_spelling,

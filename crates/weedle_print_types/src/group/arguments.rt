@@ -5,8 +5,8 @@ ghost use Rattle.std.specs.Prelude.{codes, OnOk, string_bytes};
 ghost use Rattle.weedle_print.specs.Adds.{Adds};
 ghost use Rattle.weedle_spell.specs.Forms.{◌then◌, separated_by};
 ghost use Rattle.weedle_spell.specs.Tokens.{word as the_word};
-ghost use Rattle.weedle_spell_types.specs.RecursiveTypes.{argument_spelling};
-ghost use Rattle.weedle_spell_types.specs.written.Arguments.{
+ghost use Rattle.weedle_spell.specs.RecursiveTypes.{argument_spelling};
+ghost use Rattle.weedle_spell.specs.written.Arguments.{
   arguments_spelling,
   single_argument_spelling,
   variadic_argument_spelling,
@@ -17,7 +17,7 @@ use super::types::{print_attributed_type, print_type};
 use crate::defaults::print_default;
 use weedle_parts::common::Identifier;
 use weedle_print::{Layout, Print, PrintError, close_list, push, separate, word};
-use weedle_term::{Ellipsis, Optional};
+use weedle_base::term::{Ellipsis, Optional};
 use weedle_types::argument::{
     Argument, ParenthesizedArgumentList, SingleArgument, VariadicArgument,
 };

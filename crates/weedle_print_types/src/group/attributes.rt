@@ -5,8 +5,8 @@ ghost use Rattle.std.specs.Prelude.{codes, OnOk, string_bytes};
 ghost use Rattle.weedle_print.specs.Adds.{Adds};
 ghost use Rattle.weedle_spell.specs.Forms.{◌then◌, separated_by};
 ghost use Rattle.weedle_spell.specs.Tokens.{word as the_word};
-ghost use Rattle.weedle_spell_types.specs.RecursiveTypes.{extended_attribute_spelling};
-ghost use Rattle.weedle_spell_types.specs.written.Arguments.{
+ghost use Rattle.weedle_spell.specs.RecursiveTypes.{extended_attribute_spelling};
+ghost use Rattle.weedle_spell.specs.written.Arguments.{
   attributes_spelling,
   extended_attribute_arg_list_spelling,
   extended_attribute_list_spelling,

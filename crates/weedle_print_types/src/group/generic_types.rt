@@ -4,7 +4,7 @@
 ghost use Rattle.std.specs.Prelude.{OnOk, string_bytes};
 ghost use Rattle.weedle_print.specs.Adds.{Adds};
 ghost use Rattle.weedle_spell.specs.GenericParts.{may_be_null_spelling};
-ghost use Rattle.weedle_spell_types.specs.written.Types.{
+ghost use Rattle.weedle_spell.specs.written.Types.{
   frozen_array_type_spelling,
   promise_type_spelling,
   record_type_spelling,
@@ -15,7 +15,7 @@ ghost use Rattle.weedle_spell_types.specs.written.Types.{
 use super::types::{print_record_key_type, print_return_type, print_type};
 use weedle_parts::types::MayBeNull;
 use weedle_print::{Layout, Print, PrintError};
-use weedle_term::{Comma, FrozenArray, GreaterThan, LessThan, Promise, QMark, Record, Sequence};
+use weedle_base::term::{Comma, FrozenArray, GreaterThan, LessThan, Promise, QMark, Record, Sequence};
 use weedle_types::types::{FrozenArrayType, PromiseType, RecordType, RecordTypes, SequenceType};
 
 /// Writes a sequence, as `sequence<long>`.

@@ -3,8 +3,8 @@
 
 ghost use Rattle.std.specs.Prelude.{OnOk, string_bytes};
 ghost use Rattle.weedle_print.specs.Adds.{Adds};
-ghost use Rattle.weedle_spell_types.specs.RecursiveTypes.{non_any_type_spelling, type_spelling};
-ghost use Rattle.weedle_spell_types.specs.written.Types.{
+ghost use Rattle.weedle_spell.specs.RecursiveTypes.{non_any_type_spelling, type_spelling};
+ghost use Rattle.weedle_spell.specs.written.Types.{
   attributed_non_any_type_spelling,
   attributed_type_spelling,
   record_key_type_spelling,
@@ -20,7 +20,7 @@ use super::generic_types::{
 use super::unions::print_nullable_union_type;
 use crate::plain_types::print_plain_type;
 use weedle_print::{Layout, Print, PrintError};
-use weedle_term::{Any, ByteString, DOMString, USVString, Undefined};
+use weedle_base::term::{Any, ByteString, DOMString, USVString, Undefined};
 use weedle_types::types::{
     AttributedNonAnyType, AttributedType, NonAnyType, RecordKeyType, ReturnType, SingleType, Type,
 };

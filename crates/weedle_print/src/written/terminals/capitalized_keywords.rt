@@ -10,7 +10,7 @@ use crate::layout::Layout;
 use crate::print::Print;
 use crate::texts::word;
 use crate::words::Words;
-use weedle_term::{
+use weedle_base::term::{
     ArrayBuffer, ArrayBufferView, BufferSource, ByteString, DOMString, DataView, Error,
     Float32Array, Float64Array, FrozenArray, Infinity, Int8Array, Int16Array, Int32Array, NaN,
     NegInfinity, Promise, USVString, Uint8Array, Uint8ClampedArray, Uint16Array, Uint32Array,

@@ -10,7 +10,7 @@ use crate::layout::Layout;
 use crate::print::Print;
 use crate::texts::word;
 use crate::words::Words;
-use weedle_term::{
+use weedle_base::term::{
     Async, Attribute, Callback, Const, Constructor, Deleter, Dictionary, Enum, Getter, Implements,
     Includes, Inherit, Interface, Iterable, LegacyCaller, Maplike, Mixin, Namespace, Partial,
     ReadOnly, Required, Setlike, Setter, Static, Stringifier, Typedef,

@@ -10,7 +10,7 @@ use crate::layout::Layout;
 use crate::print::Print;
 use crate::texts::{last_word, word};
 use crate::words::Words;
-use weedle_term::{
+use weedle_base::term::{
     Assign, CloseBrace, CloseBracket, CloseParen, Colon, Comma, Dot, Ellipsis, GreaterThan,
     LessThan, Minus, OpenBrace, OpenBracket, OpenParen, QMark, SemiColon,
 };

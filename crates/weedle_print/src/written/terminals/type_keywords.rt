@@ -10,7 +10,7 @@ use crate::layout::Layout;
 use crate::print::Print;
 use crate::texts::word;
 use crate::words::Words;
-use weedle_term::{
+use weedle_base::term::{
     Any, Boolean, Byte, Double, False, Float, Long, Null, Object, Octet, Optional, Or, Record,
     Sequence, Short, Symbol, True, Undefined, Unrestricted, Unsigned,
 };

@@ -5,7 +5,7 @@ use Rattle.weedle_grammar.specs.Trees.{trees}
 use Rattle.weedle_parts.specs.ValueTrees.{may_be_null_tree}
 use Rattle.weedle_print.proofs.SeparatedFacts.{SeparatedSoFar}
 use Rattle.weedle_spell.specs.Tokens.{word}
-use Rattle.weedle_spell_types.specs.RecursiveTypes.{argument_spelling, extended_attribute_spelling, union_member_type_spelling}
+use Rattle.weedle_spell.specs.RecursiveTypes.{argument_spelling, extended_attribute_spelling, union_member_type_spelling}
 use Rattle.weedle_types.specs.TreeSize.{tree_size, trees_size}
 use Rattle.weedle_types.specs.Trees.{argument_tree, arguments_tree, attributed_non_any_type_tree, attributed_type_tree, attributes_tree, extended_attribute_arg_list_tree, extended_attribute_list_tree, extended_attribute_named_arg_list_tree, extended_attribute_tree, frozen_array_type_tree, non_any_type_tree, promise_type_tree, record_key_type_tree, record_type_tree, record_types_tree, return_type_tree, sequence_type_tree, single_argument_tree, single_type_tree, type_tree, union_member_type_tree, union_type_tree, variadic_argument_tree}
 use Rattle.weedle_print_types.proofs.group.+prints.Given as goal
