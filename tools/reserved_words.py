@@ -1,5 +1,5 @@
 #!/usr/bin/env python3
-"""Writes which names would be read as words of the grammar, and behind which word, from the rows.
+"""Writes which names would be read as words of the grammar behind which word, from the rows.
 
 tools/write.py runs it.
 
@@ -102,12 +102,6 @@ class Neighbours:
         self.last.setdefault(name, set()).update(ended)
 
 
-def words(rules):
-    """The keywords that a name may have the letters of, in their order."""
-    found = (it for it in texts_of(rules).values() if it and it[0].isalpha())
-    return sorted(set(found))
-
-
 def read_behind(rules):
     """By the word before a name, the keywords that may be read there; only where there are some."""
     known = Neighbours(rules)
@@ -143,15 +137,10 @@ fn is_among(text: &str, texts: &str) -> bool {
     false
 }
 
-/// Whether a name is a word of the grammar.
-pub(crate) fn is_word(name: &str) -> bool {
-    is_among(name, WORDS)
-}
-
 /// Whether a name is read as a word of the grammar behind this word. What stands there is `a` for
 /// any name, and nothing for the front of a text, a docstring, a string and a number.
 pub(crate) fn is_read_behind(before: &str, name: &str) -> bool {
-    if before.is_empty() || !is_word(name) {
+    if before.is_empty() {
         return is_word(name);
     }
 """
@@ -164,8 +153,8 @@ def table(rules):
     grouped = {}
     for before, read in found.items():
         grouped.setdefault(tuple(read), []).append(before)
-    out = ["//! Which names are read as words of the grammar.\n//!\n//! Written by tools/reserved_words.py, and not edited by hand.\n",
-           constant("WORDS", "The words of the grammar that have the letters of a name.", words(rules))]
+    out = ["//! Which names are read as words of the grammar, by the word before them.\n//!\n"
+           "//! Written by tools/reserved_words.py, and not edited by hand.\n\nuse crate::reserved::is_word;\n"]
     calls = []
     for read, befores in grouped.items():
         first = rule_of[befores[0]]
@@ -182,7 +171,7 @@ def table(rules):
 def main():
     found = read_behind(RULES)
     put(TOP, OUT, table(RULES))
-    print(f"{len(words(RULES))} words, {len(found)} words before")
+    print(f"{len(found)} words before")
 
 
 if __name__ == "__main__":

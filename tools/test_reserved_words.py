@@ -32,9 +32,6 @@ class ReservedWordsTest(unittest.TestCase):
         self.assertEqual(known.behind["MARK"], {"LONG"})
         self.assertEqual(known.behind["IDENTIFIER"], {"MARK"})
 
-    def test_words_are_the_keywords_with_letters(self):
-        self.assertEqual(reserved_words.words(MADE_UP), ["long"])
-
     def test_behind_interface_a_mixin_may_be_read_and_behind_a_dictionary_nothing(self):
         found = reserved_words.read_behind(RULES)
         self.assertEqual(found["interface"], ["mixin"])
@@ -51,7 +48,6 @@ class ReservedWordsTest(unittest.TestCase):
 
     def test_the_table_has_each_list_once(self):
         text = reserved_words.table(MADE_UP)
-        self.assertIn('const WORDS: &str = "long";', text)
         self.assertIn('const BEHIND_LONG: &str = "long";', text)
         self.assertIn('    (is_among(before, "long") && is_among(name, BEHIND_LONG))', text)
         self.assertEqual(reserved_words.table(RULES).count("const BEHIND_OPEN_PAREN: "), 1)

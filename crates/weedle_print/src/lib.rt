@@ -31,6 +31,7 @@ mod name;
 mod null;
 mod number;
 mod print;
+mod reserved;
 mod simple_types;
 mod statement;
 mod string;

@@ -1,28 +1,34 @@
 //! Names.
 
-ghost use Rattle.std.specs.Prelude.{◌≡◌, codes, IsTrue, OnOk, string_bytes};
+ghost use Rattle.std.specs.Prelude.{◌≡◌, ◌↔◌, ℕ, List, codes, IsTrue, OnOk, string_bytes};
 ghost use Rattle.weedle_spell.specs.Forms.{exactly, perhaps};
 ghost use Rattle.weedle_spell.specs.Leaves.{identifier_spelling};
 ghost use Rattle.weedle_spell.specs.Tokens.{name as the_name};
 ghost use Rattle.weedle_print.specs.Adds.{Adds};
+ghost use Rattle.weedle_print.specs.Reserved.{IsWord};
 
 use crate::error::PrintError;
 use crate::layout::Layout;
 use crate::print::Print;
+use crate::reserved::is_word;
 use crate::texts::{push, space};
-use crate::written::reserved::is_word;
 use std::alloc::Global;
 use weedle_base::Parse;
 use weedle_parts::common::Identifier;
 
 /// A name that may have the letters of a keyword.
 pub trait Reserved {
+    ghost letters: { Self → List ℕ };
+
     /// Whether the name has the letters of a keyword, as `interface`, so that in some places it is
-    /// written `_interface`. It takes no memory.
-    fn is_reserved(&self) -> bool;
+    /// written `_interface`. It looks at each rule of the grammar, and takes no memory.
+    fn is_reserved(&self) -> bool
+        ensures { IsTrue result ↔ IsWord (letters self.now) };
 }
 
 impl<'a> Reserved for Identifier<'a> {
+    ghost letters = { λ v. v.0.now };
+
     fn is_reserved(&self) -> bool {
         is_word(self.0)
     }

@@ -1,16 +1,8 @@
-//! Which names are read as words of the grammar.
+//! Which names are read as words of the grammar, by the word before them.
 //!
 //! Written by tools/reserved_words.py, and not edited by hand.
 
-/// The words of the grammar that have the letters of a name.
-const WORDS: &str =
-    "ArrayBuffer ArrayBufferView BufferSource ByteString DOMString DataView Error Float32Array \
-    Float64Array FrozenArray Infinity Int16Array Int32Array Int8Array NaN Promise USVString \
-    Uint16Array Uint32Array Uint8Array Uint8ClampedArray any async attribute boolean byte callback \
-    const constructor deleter dictionary double enum false float getter implements includes \
-    inherit interface iterable legacycaller long maplike mixin namespace null object octet \
-    optional or partial readonly record required sequence setlike setter short static stringifier \
-    symbol true typedef undefined unrestricted unsigned";
+use crate::reserved::is_word;
 
 /// What is read behind `(` and its like.
 const BEHIND_OPEN_PAREN: &str =
@@ -129,15 +121,10 @@ fn is_among(text: &str, texts: &str) -> bool {
     false
 }
 
-/// Whether a name is a word of the grammar.
-pub(crate) fn is_word(name: &str) -> bool {
-    is_among(name, WORDS)
-}
-
 /// Whether a name is read as a word of the grammar behind this word. What stands there is `a` for
 /// any name, and nothing for the front of a text, a docstring, a string and a number.
 pub(crate) fn is_read_behind(before: &str, name: &str) -> bool {
-    if before.is_empty() || !is_word(name) {
+    if before.is_empty() {
         return is_word(name);
     }
     (is_among(before, AS_OPEN_PAREN) && is_among(name, BEHIND_OPEN_PAREN))

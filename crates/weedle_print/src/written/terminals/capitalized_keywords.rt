@@ -9,20 +9,11 @@ use crate::error::PrintError;
 use crate::layout::Layout;
 use crate::print::Print;
 use crate::texts::word;
-use crate::words::Words;
 use weedle_base::term::{
     ArrayBuffer, ArrayBufferView, BufferSource, ByteString, DOMString, DataView, Error,
     Float32Array, Float64Array, FrozenArray, Infinity, Int8Array, Int16Array, Int32Array, NaN,
     NegInfinity, Promise, USVString, Uint8Array, Uint8ClampedArray, Uint16Array, Uint32Array,
 };
-
-impl Words for ByteString {
-    ghost words = { λ v. codes "ByteString" };
-
-    fn as_str(&self) -> &'static str {
-        "ByteString"
-    }
-}
 
 impl Print for ByteString {
     type Value = Self;
@@ -34,14 +25,6 @@ impl Print for ByteString {
     }
 }
 
-impl Words for DOMString {
-    ghost words = { λ v. codes "DOMString" };
-
-    fn as_str(&self) -> &'static str {
-        "DOMString"
-    }
-}
-
 impl Print for DOMString {
     type Value = Self;
 
@@ -49,14 +32,6 @@ impl Print for DOMString {
 
     fn print(_value: &DOMString, out: &mut String, layout: &mut Layout) -> Result<(), PrintError> {
         word(out, layout, "DOMString")
-    }
-}
-
-impl Words for FrozenArray {
-    ghost words = { λ v. codes "FrozenArray" };
-
-    fn as_str(&self) -> &'static str {
-        "FrozenArray"
     }
 }
 
@@ -74,14 +49,6 @@ impl Print for FrozenArray {
     }
 }
 
-impl Words for Infinity {
-    ghost words = { λ v. codes "Infinity" };
-
-    fn as_str(&self) -> &'static str {
-        "Infinity"
-    }
-}
-
 impl Print for Infinity {
     type Value = Self;
 
@@ -89,14 +56,6 @@ impl Print for Infinity {
 
     fn print(_value: &Infinity, out: &mut String, layout: &mut Layout) -> Result<(), PrintError> {
         word(out, layout, "Infinity")
-    }
-}
-
-impl Words for NaN {
-    ghost words = { λ v. codes "NaN" };
-
-    fn as_str(&self) -> &'static str {
-        "NaN"
     }
 }
 
@@ -110,14 +69,6 @@ impl Print for NaN {
     }
 }
 
-impl Words for USVString {
-    ghost words = { λ v. codes "USVString" };
-
-    fn as_str(&self) -> &'static str {
-        "USVString"
-    }
-}
-
 impl Print for USVString {
     type Value = Self;
 
@@ -125,14 +76,6 @@ impl Print for USVString {
 
     fn print(_value: &USVString, out: &mut String, layout: &mut Layout) -> Result<(), PrintError> {
         word(out, layout, "USVString")
-    }
-}
-
-impl Words for ArrayBuffer {
-    ghost words = { λ v. codes "ArrayBuffer" };
-
-    fn as_str(&self) -> &'static str {
-        "ArrayBuffer"
     }
 }
 
@@ -150,14 +93,6 @@ impl Print for ArrayBuffer {
     }
 }
 
-impl Words for DataView {
-    ghost words = { λ v. codes "DataView" };
-
-    fn as_str(&self) -> &'static str {
-        "DataView"
-    }
-}
-
 impl Print for DataView {
     type Value = Self;
 
@@ -165,14 +100,6 @@ impl Print for DataView {
 
     fn print(_value: &DataView, out: &mut String, layout: &mut Layout) -> Result<(), PrintError> {
         word(out, layout, "DataView")
-    }
-}
-
-impl Words for Int8Array {
-    ghost words = { λ v. codes "Int8Array" };
-
-    fn as_str(&self) -> &'static str {
-        "Int8Array"
     }
 }
 
@@ -186,14 +113,6 @@ impl Print for Int8Array {
     }
 }
 
-impl Words for Int16Array {
-    ghost words = { λ v. codes "Int16Array" };
-
-    fn as_str(&self) -> &'static str {
-        "Int16Array"
-    }
-}
-
 impl Print for Int16Array {
     type Value = Self;
 
@@ -201,14 +120,6 @@ impl Print for Int16Array {
 
     fn print(_value: &Int16Array, out: &mut String, layout: &mut Layout) -> Result<(), PrintError> {
         word(out, layout, "Int16Array")
-    }
-}
-
-impl Words for Int32Array {
-    ghost words = { λ v. codes "Int32Array" };
-
-    fn as_str(&self) -> &'static str {
-        "Int32Array"
     }
 }
 
@@ -222,14 +133,6 @@ impl Print for Int32Array {
     }
 }
 
-impl Words for Uint8Array {
-    ghost words = { λ v. codes "Uint8Array" };
-
-    fn as_str(&self) -> &'static str {
-        "Uint8Array"
-    }
-}
-
 impl Print for Uint8Array {
     type Value = Self;
 
@@ -237,14 +140,6 @@ impl Print for Uint8Array {
 
     fn print(_value: &Uint8Array, out: &mut String, layout: &mut Layout) -> Result<(), PrintError> {
         word(out, layout, "Uint8Array")
-    }
-}
-
-impl Words for Uint16Array {
-    ghost words = { λ v. codes "Uint16Array" };
-
-    fn as_str(&self) -> &'static str {
-        "Uint16Array"
     }
 }
 
@@ -262,14 +157,6 @@ impl Print for Uint16Array {
     }
 }
 
-impl Words for Uint32Array {
-    ghost words = { λ v. codes "Uint32Array" };
-
-    fn as_str(&self) -> &'static str {
-        "Uint32Array"
-    }
-}
-
 impl Print for Uint32Array {
     type Value = Self;
 
@@ -281,14 +168,6 @@ impl Print for Uint32Array {
         layout: &mut Layout,
     ) -> Result<(), PrintError> {
         word(out, layout, "Uint32Array")
-    }
-}
-
-impl Words for Uint8ClampedArray {
-    ghost words = { λ v. codes "Uint8ClampedArray" };
-
-    fn as_str(&self) -> &'static str {
-        "Uint8ClampedArray"
     }
 }
 
@@ -306,14 +185,6 @@ impl Print for Uint8ClampedArray {
     }
 }
 
-impl Words for Float32Array {
-    ghost words = { λ v. codes "Float32Array" };
-
-    fn as_str(&self) -> &'static str {
-        "Float32Array"
-    }
-}
-
 impl Print for Float32Array {
     type Value = Self;
 
@@ -325,14 +196,6 @@ impl Print for Float32Array {
         layout: &mut Layout,
     ) -> Result<(), PrintError> {
         word(out, layout, "Float32Array")
-    }
-}
-
-impl Words for Float64Array {
-    ghost words = { λ v. codes "Float64Array" };
-
-    fn as_str(&self) -> &'static str {
-        "Float64Array"
     }
 }
 
@@ -350,14 +213,6 @@ impl Print for Float64Array {
     }
 }
 
-impl Words for ArrayBufferView {
-    ghost words = { λ v. codes "ArrayBufferView" };
-
-    fn as_str(&self) -> &'static str {
-        "ArrayBufferView"
-    }
-}
-
 impl Print for ArrayBufferView {
     type Value = Self;
 
@@ -369,14 +224,6 @@ impl Print for ArrayBufferView {
         layout: &mut Layout,
     ) -> Result<(), PrintError> {
         word(out, layout, "ArrayBufferView")
-    }
-}
-
-impl Words for BufferSource {
-    ghost words = { λ v. codes "BufferSource" };
-
-    fn as_str(&self) -> &'static str {
-        "BufferSource"
     }
 }
 
@@ -394,14 +241,6 @@ impl Print for BufferSource {
     }
 }
 
-impl Words for Promise {
-    ghost words = { λ v. codes "Promise" };
-
-    fn as_str(&self) -> &'static str {
-        "Promise"
-    }
-}
-
 impl Print for Promise {
     type Value = Self;
 
@@ -412,14 +251,6 @@ impl Print for Promise {
     }
 }
 
-impl Words for Error {
-    ghost words = { λ v. codes "Error" };
-
-    fn as_str(&self) -> &'static str {
-        "Error"
-    }
-}
-
 impl Print for Error {
     type Value = Self;
 
@@ -427,14 +258,6 @@ impl Print for Error {
 
     fn print(_value: &Error, out: &mut String, layout: &mut Layout) -> Result<(), PrintError> {
         word(out, layout, "Error")
-    }
-}
-
-impl Words for NegInfinity {
-    ghost words = { λ v. codes "-Infinity" };
-
-    fn as_str(&self) -> &'static str {
-        "-Infinity"
     }
 }
 

@@ -9,20 +9,11 @@ use crate::error::PrintError;
 use crate::layout::Layout;
 use crate::print::Print;
 use crate::texts::word;
-use crate::words::Words;
 use weedle_base::term::{
     Async, Attribute, Callback, Const, Constructor, Deleter, Dictionary, Enum, Getter, Implements,
     Includes, Inherit, Interface, Iterable, LegacyCaller, Maplike, Mixin, Namespace, Partial,
     ReadOnly, Required, Setlike, Setter, Static, Stringifier, Typedef,
 };
-
-impl Words for Async {
-    ghost words = { λ v. codes "async" };
-
-    fn as_str(&self) -> &'static str {
-        "async"
-    }
-}
 
 impl Print for Async {
     type Value = Self;
@@ -31,14 +22,6 @@ impl Print for Async {
 
     fn print(_value: &Async, out: &mut String, layout: &mut Layout) -> Result<(), PrintError> {
         word(out, layout, "async")
-    }
-}
-
-impl Words for Attribute {
-    ghost words = { λ v. codes "attribute" };
-
-    fn as_str(&self) -> &'static str {
-        "attribute"
     }
 }
 
@@ -52,14 +35,6 @@ impl Print for Attribute {
     }
 }
 
-impl Words for Callback {
-    ghost words = { λ v. codes "callback" };
-
-    fn as_str(&self) -> &'static str {
-        "callback"
-    }
-}
-
 impl Print for Callback {
     type Value = Self;
 
@@ -67,14 +42,6 @@ impl Print for Callback {
 
     fn print(_value: &Callback, out: &mut String, layout: &mut Layout) -> Result<(), PrintError> {
         word(out, layout, "callback")
-    }
-}
-
-impl Words for Const {
-    ghost words = { λ v. codes "const" };
-
-    fn as_str(&self) -> &'static str {
-        "const"
     }
 }
 
@@ -88,14 +55,6 @@ impl Print for Const {
     }
 }
 
-impl Words for Deleter {
-    ghost words = { λ v. codes "deleter" };
-
-    fn as_str(&self) -> &'static str {
-        "deleter"
-    }
-}
-
 impl Print for Deleter {
     type Value = Self;
 
@@ -103,14 +62,6 @@ impl Print for Deleter {
 
     fn print(_value: &Deleter, out: &mut String, layout: &mut Layout) -> Result<(), PrintError> {
         word(out, layout, "deleter")
-    }
-}
-
-impl Words for Dictionary {
-    ghost words = { λ v. codes "dictionary" };
-
-    fn as_str(&self) -> &'static str {
-        "dictionary"
     }
 }
 
@@ -124,14 +75,6 @@ impl Print for Dictionary {
     }
 }
 
-impl Words for Enum {
-    ghost words = { λ v. codes "enum" };
-
-    fn as_str(&self) -> &'static str {
-        "enum"
-    }
-}
-
 impl Print for Enum {
     type Value = Self;
 
@@ -139,14 +82,6 @@ impl Print for Enum {
 
     fn print(_value: &Enum, out: &mut String, layout: &mut Layout) -> Result<(), PrintError> {
         word(out, layout, "enum")
-    }
-}
-
-impl Words for Getter {
-    ghost words = { λ v. codes "getter" };
-
-    fn as_str(&self) -> &'static str {
-        "getter"
     }
 }
 
@@ -160,14 +95,6 @@ impl Print for Getter {
     }
 }
 
-impl Words for Includes {
-    ghost words = { λ v. codes "includes" };
-
-    fn as_str(&self) -> &'static str {
-        "includes"
-    }
-}
-
 impl Print for Includes {
     type Value = Self;
 
@@ -175,14 +102,6 @@ impl Print for Includes {
 
     fn print(_value: &Includes, out: &mut String, layout: &mut Layout) -> Result<(), PrintError> {
         word(out, layout, "includes")
-    }
-}
-
-impl Words for Inherit {
-    ghost words = { λ v. codes "inherit" };
-
-    fn as_str(&self) -> &'static str {
-        "inherit"
     }
 }
 
@@ -196,14 +115,6 @@ impl Print for Inherit {
     }
 }
 
-impl Words for Interface {
-    ghost words = { λ v. codes "interface" };
-
-    fn as_str(&self) -> &'static str {
-        "interface"
-    }
-}
-
 impl Print for Interface {
     type Value = Self;
 
@@ -211,14 +122,6 @@ impl Print for Interface {
 
     fn print(_value: &Interface, out: &mut String, layout: &mut Layout) -> Result<(), PrintError> {
         word(out, layout, "interface")
-    }
-}
-
-impl Words for Iterable {
-    ghost words = { λ v. codes "iterable" };
-
-    fn as_str(&self) -> &'static str {
-        "iterable"
     }
 }
 
@@ -232,14 +135,6 @@ impl Print for Iterable {
     }
 }
 
-impl Words for Maplike {
-    ghost words = { λ v. codes "maplike" };
-
-    fn as_str(&self) -> &'static str {
-        "maplike"
-    }
-}
-
 impl Print for Maplike {
     type Value = Self;
 
@@ -247,14 +142,6 @@ impl Print for Maplike {
 
     fn print(_value: &Maplike, out: &mut String, layout: &mut Layout) -> Result<(), PrintError> {
         word(out, layout, "maplike")
-    }
-}
-
-impl Words for Namespace {
-    ghost words = { λ v. codes "namespace" };
-
-    fn as_str(&self) -> &'static str {
-        "namespace"
     }
 }
 
@@ -268,14 +155,6 @@ impl Print for Namespace {
     }
 }
 
-impl Words for Partial {
-    ghost words = { λ v. codes "partial" };
-
-    fn as_str(&self) -> &'static str {
-        "partial"
-    }
-}
-
 impl Print for Partial {
     type Value = Self;
 
@@ -283,14 +162,6 @@ impl Print for Partial {
 
     fn print(_value: &Partial, out: &mut String, layout: &mut Layout) -> Result<(), PrintError> {
         word(out, layout, "partial")
-    }
-}
-
-impl Words for Required {
-    ghost words = { λ v. codes "required" };
-
-    fn as_str(&self) -> &'static str {
-        "required"
     }
 }
 
@@ -304,14 +175,6 @@ impl Print for Required {
     }
 }
 
-impl Words for Setlike {
-    ghost words = { λ v. codes "setlike" };
-
-    fn as_str(&self) -> &'static str {
-        "setlike"
-    }
-}
-
 impl Print for Setlike {
     type Value = Self;
 
@@ -319,14 +182,6 @@ impl Print for Setlike {
 
     fn print(_value: &Setlike, out: &mut String, layout: &mut Layout) -> Result<(), PrintError> {
         word(out, layout, "setlike")
-    }
-}
-
-impl Words for Setter {
-    ghost words = { λ v. codes "setter" };
-
-    fn as_str(&self) -> &'static str {
-        "setter"
     }
 }
 
@@ -340,14 +195,6 @@ impl Print for Setter {
     }
 }
 
-impl Words for Static {
-    ghost words = { λ v. codes "static" };
-
-    fn as_str(&self) -> &'static str {
-        "static"
-    }
-}
-
 impl Print for Static {
     type Value = Self;
 
@@ -355,14 +202,6 @@ impl Print for Static {
 
     fn print(_value: &Static, out: &mut String, layout: &mut Layout) -> Result<(), PrintError> {
         word(out, layout, "static")
-    }
-}
-
-impl Words for Stringifier {
-    ghost words = { λ v. codes "stringifier" };
-
-    fn as_str(&self) -> &'static str {
-        "stringifier"
     }
 }
 
@@ -380,14 +219,6 @@ impl Print for Stringifier {
     }
 }
 
-impl Words for Typedef {
-    ghost words = { λ v. codes "typedef" };
-
-    fn as_str(&self) -> &'static str {
-        "typedef"
-    }
-}
-
 impl Print for Typedef {
     type Value = Self;
 
@@ -395,14 +226,6 @@ impl Print for Typedef {
 
     fn print(_value: &Typedef, out: &mut String, layout: &mut Layout) -> Result<(), PrintError> {
         word(out, layout, "typedef")
-    }
-}
-
-impl Words for ReadOnly {
-    ghost words = { λ v. codes "readonly" };
-
-    fn as_str(&self) -> &'static str {
-        "readonly"
     }
 }
 
@@ -416,14 +239,6 @@ impl Print for ReadOnly {
     }
 }
 
-impl Words for Mixin {
-    ghost words = { λ v. codes "mixin" };
-
-    fn as_str(&self) -> &'static str {
-        "mixin"
-    }
-}
-
 impl Print for Mixin {
     type Value = Self;
 
@@ -434,14 +249,6 @@ impl Print for Mixin {
     }
 }
 
-impl Words for Implements {
-    ghost words = { λ v. codes "implements" };
-
-    fn as_str(&self) -> &'static str {
-        "implements"
-    }
-}
-
 impl Print for Implements {
     type Value = Self;
 
@@ -449,14 +256,6 @@ impl Print for Implements {
 
     fn print(_value: &Implements, out: &mut String, layout: &mut Layout) -> Result<(), PrintError> {
         word(out, layout, "implements")
-    }
-}
-
-impl Words for LegacyCaller {
-    ghost words = { λ v. codes "legacycaller" };
-
-    fn as_str(&self) -> &'static str {
-        "legacycaller"
     }
 }
 
@@ -471,14 +270,6 @@ impl Print for LegacyCaller {
         layout: &mut Layout,
     ) -> Result<(), PrintError> {
         word(out, layout, "legacycaller")
-    }
-}
-
-impl Words for Constructor {
-    ghost words = { λ v. codes "constructor" };
-
-    fn as_str(&self) -> &'static str {
-        "constructor"
     }
 }
 

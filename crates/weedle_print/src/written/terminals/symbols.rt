@@ -9,19 +9,10 @@ use crate::error::PrintError;
 use crate::layout::Layout;
 use crate::print::Print;
 use crate::texts::{last_word, word};
-use crate::words::Words;
 use weedle_base::term::{
     Assign, CloseBrace, CloseBracket, CloseParen, Colon, Comma, Dot, Ellipsis, GreaterThan,
     LessThan, Minus, OpenBrace, OpenBracket, OpenParen, QMark, SemiColon,
 };
-
-impl Words for OpenParen {
-    ghost words = { λ v. codes "(" };
-
-    fn as_str(&self) -> &'static str {
-        "("
-    }
-}
 
 impl Print for OpenParen {
     type Value = Self;
@@ -33,14 +24,6 @@ impl Print for OpenParen {
     }
 }
 
-impl Words for CloseParen {
-    ghost words = { λ v. codes ")" };
-
-    fn as_str(&self) -> &'static str {
-        ")"
-    }
-}
-
 impl Print for CloseParen {
     type Value = Self;
 
@@ -48,14 +31,6 @@ impl Print for CloseParen {
 
     fn print(_value: &CloseParen, out: &mut String, layout: &mut Layout) -> Result<(), PrintError> {
         word(out, layout, ")")
-    }
-}
-
-impl Words for OpenBracket {
-    ghost words = { λ v. codes "[" };
-
-    fn as_str(&self) -> &'static str {
-        "["
     }
 }
 
@@ -73,14 +48,6 @@ impl Print for OpenBracket {
     }
 }
 
-impl Words for CloseBracket {
-    ghost words = { λ v. codes "]" };
-
-    fn as_str(&self) -> &'static str {
-        "]"
-    }
-}
-
 impl Print for CloseBracket {
     type Value = Self;
 
@@ -95,14 +62,6 @@ impl Print for CloseBracket {
     }
 }
 
-impl Words for OpenBrace {
-    ghost words = { λ v. codes "{" };
-
-    fn as_str(&self) -> &'static str {
-        "{"
-    }
-}
-
 impl Print for OpenBrace {
     type Value = Self;
 
@@ -110,14 +69,6 @@ impl Print for OpenBrace {
 
     fn print(_value: &OpenBrace, out: &mut String, layout: &mut Layout) -> Result<(), PrintError> {
         word(out, layout, "{")
-    }
-}
-
-impl Words for CloseBrace {
-    ghost words = { λ v. codes "}" };
-
-    fn as_str(&self) -> &'static str {
-        "}"
     }
 }
 
@@ -131,14 +82,6 @@ impl Print for CloseBrace {
     }
 }
 
-impl Words for Comma {
-    ghost words = { λ v. codes "," };
-
-    fn as_str(&self) -> &'static str {
-        ","
-    }
-}
-
 impl Print for Comma {
     type Value = Self;
 
@@ -146,14 +89,6 @@ impl Print for Comma {
 
     fn print(_value: &Comma, out: &mut String, layout: &mut Layout) -> Result<(), PrintError> {
         word(out, layout, ",")
-    }
-}
-
-impl Words for Minus {
-    ghost words = { λ v. codes "-" };
-
-    fn as_str(&self) -> &'static str {
-        "-"
     }
 }
 
@@ -167,14 +102,6 @@ impl Print for Minus {
     }
 }
 
-impl Words for Dot {
-    ghost words = { λ v. codes "." };
-
-    fn as_str(&self) -> &'static str {
-        "."
-    }
-}
-
 impl Print for Dot {
     type Value = Self;
 
@@ -182,14 +109,6 @@ impl Print for Dot {
 
     fn print(_value: &Dot, out: &mut String, layout: &mut Layout) -> Result<(), PrintError> {
         word(out, layout, ".")
-    }
-}
-
-impl Words for Ellipsis {
-    ghost words = { λ v. codes "..." };
-
-    fn as_str(&self) -> &'static str {
-        "..."
     }
 }
 
@@ -203,14 +122,6 @@ impl Print for Ellipsis {
     }
 }
 
-impl Words for Colon {
-    ghost words = { λ v. codes ":" };
-
-    fn as_str(&self) -> &'static str {
-        ":"
-    }
-}
-
 impl Print for Colon {
     type Value = Self;
 
@@ -218,14 +129,6 @@ impl Print for Colon {
 
     fn print(_value: &Colon, out: &mut String, layout: &mut Layout) -> Result<(), PrintError> {
         word(out, layout, ":")
-    }
-}
-
-impl Words for SemiColon {
-    ghost words = { λ v. codes ";" };
-
-    fn as_str(&self) -> &'static str {
-        ";"
     }
 }
 
@@ -239,14 +142,6 @@ impl Print for SemiColon {
     }
 }
 
-impl Words for LessThan {
-    ghost words = { λ v. codes "<" };
-
-    fn as_str(&self) -> &'static str {
-        "<"
-    }
-}
-
 impl Print for LessThan {
     type Value = Self;
 
@@ -257,14 +152,6 @@ impl Print for LessThan {
     }
 }
 
-impl Words for Assign {
-    ghost words = { λ v. codes "=" };
-
-    fn as_str(&self) -> &'static str {
-        "="
-    }
-}
-
 impl Print for Assign {
     type Value = Self;
 
@@ -272,14 +159,6 @@ impl Print for Assign {
 
     fn print(_value: &Assign, out: &mut String, layout: &mut Layout) -> Result<(), PrintError> {
         word(out, layout, "=")
-    }
-}
-
-impl Words for GreaterThan {
-    ghost words = { λ v. codes ">" };
-
-    fn as_str(&self) -> &'static str {
-        ">"
     }
 }
 
@@ -294,14 +173,6 @@ impl Print for GreaterThan {
         layout: &mut Layout,
     ) -> Result<(), PrintError> {
         word(out, layout, ">")
-    }
-}
-
-impl Words for QMark {
-    ghost words = { λ v. codes "?" };
-
-    fn as_str(&self) -> &'static str {
-        "?"
     }
 }
 

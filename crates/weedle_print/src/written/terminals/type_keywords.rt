@@ -9,19 +9,10 @@ use crate::error::PrintError;
 use crate::layout::Layout;
 use crate::print::Print;
 use crate::texts::word;
-use crate::words::Words;
 use weedle_base::term::{
     Any, Boolean, Byte, Double, False, Float, Long, Null, Object, Octet, Optional, Or, Record,
     Sequence, Short, Symbol, True, Undefined, Unrestricted, Unsigned,
 };
-
-impl Words for Or {
-    ghost words = { λ v. codes "or" };
-
-    fn as_str(&self) -> &'static str {
-        "or"
-    }
-}
 
 impl Print for Or {
     type Value = Self;
@@ -33,14 +24,6 @@ impl Print for Or {
     }
 }
 
-impl Words for Optional {
-    ghost words = { λ v. codes "optional" };
-
-    fn as_str(&self) -> &'static str {
-        "optional"
-    }
-}
-
 impl Print for Optional {
     type Value = Self;
 
@@ -48,14 +31,6 @@ impl Print for Optional {
 
     fn print(_value: &Optional, out: &mut String, layout: &mut Layout) -> Result<(), PrintError> {
         word(out, layout, "optional")
-    }
-}
-
-impl Words for Unrestricted {
-    ghost words = { λ v. codes "unrestricted" };
-
-    fn as_str(&self) -> &'static str {
-        "unrestricted"
     }
 }
 
@@ -73,14 +48,6 @@ impl Print for Unrestricted {
     }
 }
 
-impl Words for Symbol {
-    ghost words = { λ v. codes "symbol" };
-
-    fn as_str(&self) -> &'static str {
-        "symbol"
-    }
-}
-
 impl Print for Symbol {
     type Value = Self;
 
@@ -88,14 +55,6 @@ impl Print for Symbol {
 
     fn print(_value: &Symbol, out: &mut String, layout: &mut Layout) -> Result<(), PrintError> {
         word(out, layout, "symbol")
-    }
-}
-
-impl Words for Any {
-    ghost words = { λ v. codes "any" };
-
-    fn as_str(&self) -> &'static str {
-        "any"
     }
 }
 
@@ -109,14 +68,6 @@ impl Print for Any {
     }
 }
 
-impl Words for Boolean {
-    ghost words = { λ v. codes "boolean" };
-
-    fn as_str(&self) -> &'static str {
-        "boolean"
-    }
-}
-
 impl Print for Boolean {
     type Value = Self;
 
@@ -124,14 +75,6 @@ impl Print for Boolean {
 
     fn print(_value: &Boolean, out: &mut String, layout: &mut Layout) -> Result<(), PrintError> {
         word(out, layout, "boolean")
-    }
-}
-
-impl Words for Byte {
-    ghost words = { λ v. codes "byte" };
-
-    fn as_str(&self) -> &'static str {
-        "byte"
     }
 }
 
@@ -145,14 +88,6 @@ impl Print for Byte {
     }
 }
 
-impl Words for Double {
-    ghost words = { λ v. codes "double" };
-
-    fn as_str(&self) -> &'static str {
-        "double"
-    }
-}
-
 impl Print for Double {
     type Value = Self;
 
@@ -160,14 +95,6 @@ impl Print for Double {
 
     fn print(_value: &Double, out: &mut String, layout: &mut Layout) -> Result<(), PrintError> {
         word(out, layout, "double")
-    }
-}
-
-impl Words for False {
-    ghost words = { λ v. codes "false" };
-
-    fn as_str(&self) -> &'static str {
-        "false"
     }
 }
 
@@ -181,14 +108,6 @@ impl Print for False {
     }
 }
 
-impl Words for Float {
-    ghost words = { λ v. codes "float" };
-
-    fn as_str(&self) -> &'static str {
-        "float"
-    }
-}
-
 impl Print for Float {
     type Value = Self;
 
@@ -196,14 +115,6 @@ impl Print for Float {
 
     fn print(_value: &Float, out: &mut String, layout: &mut Layout) -> Result<(), PrintError> {
         word(out, layout, "float")
-    }
-}
-
-impl Words for Long {
-    ghost words = { λ v. codes "long" };
-
-    fn as_str(&self) -> &'static str {
-        "long"
     }
 }
 
@@ -217,14 +128,6 @@ impl Print for Long {
     }
 }
 
-impl Words for Null {
-    ghost words = { λ v. codes "null" };
-
-    fn as_str(&self) -> &'static str {
-        "null"
-    }
-}
-
 impl Print for Null {
     type Value = Self;
 
@@ -232,14 +135,6 @@ impl Print for Null {
 
     fn print(_value: &Null, out: &mut String, layout: &mut Layout) -> Result<(), PrintError> {
         word(out, layout, "null")
-    }
-}
-
-impl Words for Object {
-    ghost words = { λ v. codes "object" };
-
-    fn as_str(&self) -> &'static str {
-        "object"
     }
 }
 
@@ -253,14 +148,6 @@ impl Print for Object {
     }
 }
 
-impl Words for Octet {
-    ghost words = { λ v. codes "octet" };
-
-    fn as_str(&self) -> &'static str {
-        "octet"
-    }
-}
-
 impl Print for Octet {
     type Value = Self;
 
@@ -268,14 +155,6 @@ impl Print for Octet {
 
     fn print(_value: &Octet, out: &mut String, layout: &mut Layout) -> Result<(), PrintError> {
         word(out, layout, "octet")
-    }
-}
-
-impl Words for Sequence {
-    ghost words = { λ v. codes "sequence" };
-
-    fn as_str(&self) -> &'static str {
-        "sequence"
     }
 }
 
@@ -289,14 +168,6 @@ impl Print for Sequence {
     }
 }
 
-impl Words for Short {
-    ghost words = { λ v. codes "short" };
-
-    fn as_str(&self) -> &'static str {
-        "short"
-    }
-}
-
 impl Print for Short {
     type Value = Self;
 
@@ -304,14 +175,6 @@ impl Print for Short {
 
     fn print(_value: &Short, out: &mut String, layout: &mut Layout) -> Result<(), PrintError> {
         word(out, layout, "short")
-    }
-}
-
-impl Words for True {
-    ghost words = { λ v. codes "true" };
-
-    fn as_str(&self) -> &'static str {
-        "true"
     }
 }
 
@@ -325,14 +188,6 @@ impl Print for True {
     }
 }
 
-impl Words for Unsigned {
-    ghost words = { λ v. codes "unsigned" };
-
-    fn as_str(&self) -> &'static str {
-        "unsigned"
-    }
-}
-
 impl Print for Unsigned {
     type Value = Self;
 
@@ -343,14 +198,6 @@ impl Print for Unsigned {
     }
 }
 
-impl Words for Undefined {
-    ghost words = { λ v. codes "undefined" };
-
-    fn as_str(&self) -> &'static str {
-        "undefined"
-    }
-}
-
 impl Print for Undefined {
     type Value = Self;
 
@@ -358,14 +205,6 @@ impl Print for Undefined {
 
     fn print(_value: &Undefined, out: &mut String, layout: &mut Layout) -> Result<(), PrintError> {
         word(out, layout, "undefined")
-    }
-}
-
-impl Words for Record {
-    ghost words = { λ v. codes "record" };
-
-    fn as_str(&self) -> &'static str {
-        "record"
     }
 }
 
