@@ -101,7 +101,7 @@ class Files(unittest.TestCase):
     def test_each_declared_type_is_written_once(self) -> None:
         names = [it.type.name for _, _, impls in [*prints.handed_on(), *prints.families()] for it in impls]
         self.assertEqual(len(names), len(set(names)))
-        declared = {it.name for it in prints.DECLARED.types.values() if it.crate != prints.TERMINALS}
+        declared = {it.name for it in prints.DECLARED.types.values() if it.home != prints.TERMINALS}
         generic = {name for name in declared if not prints.is_written(prints.DECLARED.types[name])}
         self.assertLessEqual(declared - generic, set(names))
 
