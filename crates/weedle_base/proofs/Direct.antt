@@ -1,7 +1,7 @@
 -- Alternatives, each tried by a call of its own.
 use Rattle.std.proofs.Common.{refl, subst, inl, inr}
 use Rattle.std.specs.Borrow.{Bor}
-use Rattle.std.specs.Prelude.{◌≡◌, ◌×◌, List, ℕ, Result, Ok, Err}
+use Rattle.std.specs.Prelude.{◌≡◌, List, ℕ, Result, Ok, Err}
 use Rattle.weedle_base.specs.Generic.{choice_reading}
 use Rattle.weedle_base.proofs.Steps.{fault_along}
 use Rattle.weedle_base.specs.Reading.{Reading, Got, Faults, Answers}

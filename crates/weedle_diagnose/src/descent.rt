@@ -13,9 +13,7 @@ ghost use Rattle.weedle_rules.specs.Cells.{HasEnd};
 ghost use Rattle.weedle_diagnose.specs.Noted.{IsUnmetIn, Notes};
 
 use crate::noted::Furthest;
-use weedle_grammar::leaf_ends::{
-    end_of_bytes, end_of_not_next, end_of_one, end_of_run, end_past,
-};
+use weedle_grammar::leaf_ends::{end_of_bytes, end_of_not_next, end_of_one, end_of_run, end_past};
 use weedle_grammar::{Parts, Row, Rule, row_of};
 
 /// The descent gave up: it would have to read more rules than it may, or deeper in one another.

@@ -43,8 +43,8 @@ pub fn attributes_and_four<'a, A: Parse<'a>, B: Parse<'a>, C: Parse<'a>, D: Pars
     input: &'a str,
 ) -> IResult<&'a str, (Option<ExtendedAttributeList<'a>>, A, B, C, D)>
     ensures { AnswersInPairs (attributes_then (pair_reading A.reading (pair_reading B.reading
-        (pair_reading C.reading D.reading)))) (λ v. (v.0, (v.1, (v.2,
-        (v.3, v.4))))) input.now result }
+        (pair_reading C.reading D.reading))))
+        (λ v. (v.0, (v.1, (v.2, (v.3, v.4))))) input.now result }
 {
     let (rest, (attributes, (first, (second, (third, fourth))))) = attributes_and(alloc, input)?;
     Ok((rest, (attributes, first, second, third, fourth)))
@@ -65,8 +65,8 @@ pub fn attributes_and_five<
     input: &'a str,
 ) -> IResult<&'a str, (Option<ExtendedAttributeList<'a>>, A, B, C, D, E)>
     ensures { AnswersInPairs (attributes_then (pair_reading A.reading (pair_reading B.reading
-        (pair_reading C.reading (pair_reading D.reading E.reading))))) (λ v. (v.0, (v.1, (v.2, (v.3,
-        (v.4, v.5)))))) input.now result }
+        (pair_reading C.reading (pair_reading D.reading E.reading)))))
+        (λ v. (v.0, (v.1, (v.2, (v.3, (v.4, v.5)))))) input.now result }
 {
     let (rest, (attributes, (first, (second, (third, (fourth, fifth)))))) = attributes_and(
         alloc, input,

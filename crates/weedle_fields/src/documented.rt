@@ -27,8 +27,8 @@ pub fn docstring_attributes_and_four<'a, A: Parse<'a>, B: Parse<'a>, C: Parse<'a
     ),
 >
     ensures { AnswersInPairs (docstring_then (attributes_then (pair_reading A.reading
-        (pair_reading B.reading (pair_reading C.reading D.reading))))) (λ v. (v.0, (v.1, (v.2, (v.3,
-        (v.4, v.5)))))) input.now result }
+        (pair_reading B.reading (pair_reading C.reading D.reading)))))
+        (λ v. (v.0, (v.1, (v.2, (v.3, (v.4, v.5)))))) input.now result }
 {
     let (rest, docstring) = Option::parse(alloc, input)?;
     let (rest, (attributes, first, second, third, fourth)) = attributes_and_four(alloc, rest)?;
@@ -103,8 +103,8 @@ pub fn docstring_attributes_and_six<
 >
     ensures { AnswersInPairs (docstring_then (attributes_then (pair_reading A.reading
         (pair_reading B.reading (pair_reading C.reading (pair_reading D.reading
-        (pair_reading E.reading F.reading))))))) (λ v. (v.0, (v.1, (v.2, (v.3, (v.4, (v.5,
-        (v.6, v.7)))))))) input.now result }
+        (pair_reading E.reading F.reading)))))))
+        (λ v. (v.0, (v.1, (v.2, (v.3, (v.4, (v.5, (v.6, v.7)))))))) input.now result }
 {
     let (rest, docstring) = Option::parse(alloc, input)?;
     let (rest, (attributes, first, second, third, fourth, fifth, sixth)) = attributes_and_six(

@@ -2,7 +2,9 @@
 
 use super::{EQUAL, GREATER, LESS};
 use std::test::Fail;
-use weedle_base::term::{Assign, CloseBrace, CloseBracket, NegInfinity, Null, OpenBrace, OpenBracket};
+use weedle_base::term::{
+    Assign, CloseBrace, CloseBracket, NegInfinity, Null, OpenBrace, OpenBracket,
+};
 use weedle_comparisons::literals::*;
 use weedle_parts::literal::{
     BooleanLit, ConstValue, DecLit, Default, DefaultValue, EmptyArrayLit, EmptyDictionaryLit,
