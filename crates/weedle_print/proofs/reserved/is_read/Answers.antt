@@ -7,4 +7,4 @@ use Rattle.weedle_print.proofs.reserved.is_read.Goals as goal
 pub returns : goal.returns
 returns c =
     let past : rule_count ≤ c.rules.number = omega (arith, c.rules-test.false) in
-    (λ t. absurd t, none_reads c.rules.number past c.rules.invariant)
+    (λ t. cc, λ read. absurd (none_reads c.rules.number past c.rules.invariant read))
