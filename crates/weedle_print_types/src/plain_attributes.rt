@@ -87,6 +87,13 @@ pub(crate) fn print_names(
     CloseParen::print(&names.close_paren, out, layout)
 }
 
+/// Has a name of a list stand with nothing in front, but for the first one.
+fn join_next(is_first: bool, layout: &mut Layout) {
+    if !is_first {
+        layout.join();
+    }
+}
+
 /// Writes names with commas between them, as `Window,Worker`.
 #[tactic(auto, using(weedle_print::proofs::SeparatedFacts::separated_steps))]
 pub(crate) fn print_identifier_list(
@@ -99,9 +106,7 @@ pub(crate) fn print_identifier_list(
     let mut is_first = true;
     for name in &names.list {
         separate(is_first, out, layout, ",")?;
-        if !is_first {
-            layout.join();
-        }
+        join_next(is_first, layout);
         Identifier::print(name, out, layout)?;
         is_first = false;
     }

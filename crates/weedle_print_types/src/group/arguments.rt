@@ -102,7 +102,8 @@ pub(crate) fn print_single_argument(
     Option::<Optional>::print(&argument.optional, out, layout)?;
     print_attributed_type(&argument.type_, out, layout)?;
     Identifier::print(&argument.identifier, out, layout)?;
-    print_default(&argument.optional, &argument.default, out, layout)
+    print_default(&argument.optional, &argument.default, out, layout)?;
+    Ok(())
 }
 
 /// Writes an argument that stands for any number of values, as `long... x`.
