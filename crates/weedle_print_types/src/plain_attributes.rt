@@ -3,8 +3,10 @@
 
 ghost use Rattle.std.specs.Prelude.{codes, OnOk, string_bytes};
 ghost use Rattle.weedle_print.specs.Adds.{Adds};
+ghost use Rattle.weedle_spell.specs.Forms.{separated_by};
 ghost use Rattle.weedle_spell.specs.GenericParts.{parenthesized_spelling};
-ghost use Rattle.weedle_spell.specs.Leaves.{terminal};
+ghost use Rattle.weedle_spell.specs.Leaves.{identifier_spelling, terminal};
+ghost use Rattle.weedle_spell.specs.Tokens.{word as the_word};
 ghost use Rattle.weedle_spell.specs.written.PlainAttributes.{
   extended_attribute_ident_list_spelling,
   extended_attribute_ident_spelling,
@@ -95,7 +97,6 @@ fn join_next(is_first: bool, layout: &mut Layout) {
 }
 
 /// Writes names with commas between them, as `Window,Worker`.
-#[tactic(auto, using(weedle_print::proofs::SeparatedFacts::separated_steps))]
 pub(crate) fn print_identifier_list(
     names: &IdentifierList<'_>,
     out: &mut String,
@@ -103,8 +104,20 @@ pub(crate) fn print_identifier_list(
 ) -> Result<(), PrintError>
     ensures { OnOk result (Adds (identifier_list_spelling names.now) (string_bytes out.old) (string_bytes out.new)) }
 {
+    push_names(&names.list, out, layout)
+}
+
+/// Writes the names of a list, with commas between them.
+#[tactic(auto, using(weedle_print::proofs::SeparatedFacts::separated_steps))]
+fn push_names(
+    names: &Vec<Identifier<'_>>,
+    out: &mut String,
+    layout: &mut Layout,
+) -> Result<(), PrintError>
+    ensures { OnOk result (Adds (separated_by identifier_spelling (the_word (codes ",")) names.now.items) (string_bytes out.old) (string_bytes out.new)) }
+{
     let mut is_first = true;
-    for name in &names.list {
+    for name in names {
         separate(is_first, out, layout, ",")?;
         join_next(is_first, layout);
         Identifier::print(name, out, layout)?;
