@@ -5,7 +5,7 @@ ghost use Rattle.std.specs.Prelude.{codes, OnOk, string_bytes};
 ghost use Rattle.weedle_print.specs.Adds.{Adds};
 ghost use Rattle.weedle_spell.specs.Forms.{separated_by};
 ghost use Rattle.weedle_spell.specs.GenericParts.{parenthesized_spelling};
-ghost use Rattle.weedle_spell.specs.Leaves.{identifier_spelling, terminal};
+ghost use Rattle.weedle_spell.specs.Leaves.{terminal};
 ghost use Rattle.weedle_spell.specs.Tokens.{word as the_word};
 ghost use Rattle.weedle_spell.specs.written.PlainAttributes.{
   extended_attribute_ident_list_spelling,
@@ -89,7 +89,7 @@ pub(crate) fn print_names(
     CloseParen::print(&names.close_paren, out, layout)
 }
 
-/// Has a name of a list stand with nothing in front, but for the first one.
+/// Has a value of a list stand with nothing in front, but for the first one.
 fn join_next(is_first: bool, layout: &mut Layout) {
     if !is_first {
         layout.join();
@@ -104,23 +104,23 @@ pub(crate) fn print_identifier_list(
 ) -> Result<(), PrintError>
     ensures { OnOk result (Adds (identifier_list_spelling names.now) (string_bytes out.old) (string_bytes out.new)) }
 {
-    push_names(&names.list, out, layout)
+    push_joined::<Identifier<'_>>(&names.list, out, layout)
 }
 
-/// Writes the names of a list, with commas between them.
+/// Writes values with commas between them, and nothing behind a comma.
 #[tactic(auto, using(weedle_print::proofs::SeparatedFacts::separated_steps))]
-fn push_names(
-    names: &Vec<Identifier<'_>>,
+fn push_joined<P: Print>(
+    values: &Vec<P::Value>,
     out: &mut String,
     layout: &mut Layout,
 ) -> Result<(), PrintError>
-    ensures { OnOk result (Adds (separated_by identifier_spelling (the_word (codes ",")) names.now.items) (string_bytes out.old) (string_bytes out.new)) }
+    ensures { OnOk result (Adds (separated_by P.spelling (the_word (codes ",")) values.now.items) (string_bytes out.old) (string_bytes out.new)) }
 {
     let mut is_first = true;
-    for name in names {
+    for value in values {
         separate(is_first, out, layout, ",")?;
         join_next(is_first, layout);
-        Identifier::print(name, out, layout)?;
+        P::print(value, out, layout)?;
         is_first = false;
     }
     Ok(())
