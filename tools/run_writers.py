@@ -27,7 +27,7 @@ TOOLS = Path(__file__).resolve().parent
 # others name them, and of written files when they are there.
 WRITERS = (
     "grammar terminals reserved_words drops in_step modules trees types_impls types_proofs build_types "
-    "build_types_proofs idl_proofs builds spellings prints impls orders modules c_header "
+    "build_types_proofs idl_proofs builds spellings impls orders modules c_header "
     "python_types"
 ).split()
 KEPT = ("crates", "description")
