@@ -28,12 +28,12 @@ import statistics
 import subprocess
 import sys
 import tempfile
-import time
 from pathlib import Path
 
 from compare_with_weedle2 import WEEDLE2, NoUse, files_of, output_of
 from mixed_text import Mixed
 from speed_with_weedle2 import joined, whole_of
+from timed import nanoseconds
 
 # How many readings of weedle2 are measured together.
 MORE = 50
@@ -110,16 +110,6 @@ WAYS = {
 }
 
 
-def nanoseconds(way, data, rounds):
-    """The median of some readings, a byte."""
-    taken = []
-    for _ in range(rounds):
-        began = time.process_time_ns()
-        way(data)
-        taken.append(time.process_time_ns() - began)
-    return statistics.median(taken) / len(data)
-
-
 def seconds(words):
     """The processor time of a program."""
     before = resource.getrusage(resource.RUSAGE_CHILDREN)
@@ -162,7 +152,8 @@ def measure(name, text, wanted):
         measure_weedle2(wanted.weedle2, file, len(data))
         empty = held(file, "nothing")
         for way, function in WAYS.items():
-            taken, kept = nanoseconds(function, data, wanted.rounds), held(file, way) - empty
+            taken = statistics.median(nanoseconds(function, data, wanted.rounds))
+            kept = held(file, way) - empty
             print(f"  {way}: {taken:.0f} ns a byte, {kept} kB", flush=True)
 
 

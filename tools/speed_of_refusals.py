@@ -15,10 +15,10 @@ The last line is of many interfaces of so many bytes, the first of them with a s
 """
 
 import sys
-import time
 from pathlib import Path
 
 from command_line import parser_of
+from timed import nanoseconds
 
 TOP = Path(__file__).resolve().parent.parent
 sys.path.insert(0, str(TOP / "python"))
@@ -46,16 +46,6 @@ def text_of(front, part, end, size):
     return "".join([*parts, end]).encode()
 
 
-def nanoseconds(call, data, rounds):
-    """What the quickest of so many calls took, a byte."""
-    taken = []
-    for _ in range(rounds):
-        began = time.process_time_ns()
-        call(data)
-        taken.append(time.process_time_ns() - began)
-    return min(taken) / len(data)
-
-
 def read_only(library):
     """A reading that keeps no nodes, and finds that the text is refused."""
     def read(data):
@@ -69,13 +59,13 @@ def read_only(library):
 def measure(library, size, rounds):
     for name, (front, part, end) in TEXTS.items():
         marked, slipped = (text_of(front, part, it, size) for it in (MARK, end))
-        read = nanoseconds(read_only(library), marked, rounds)
-        diagnosed = nanoseconds(library.explain, marked, rounds) - read
-        hinted = nanoseconds(library.explain, slipped, rounds) - read
+        read = min(nanoseconds(read_only(library), marked, rounds))
+        diagnosed = min(nanoseconds(library.explain, marked, rounds)) - read
+        hinted = min(nanoseconds(library.explain, slipped, rounds)) - read
         print(f"{name}, {len(marked)} bytes: read {read:.0f} ns a byte, "
               f"diagnosed {diagnosed:.0f}, with hints {hinted:.0f}", flush=True)
     many = (SLIP + "".join(WHOLE.format(number) for number in range(size // 40))).encode()
-    taken = nanoseconds(library.explain, many, rounds) * len(many)
+    taken = min(nanoseconds(library.explain, many, rounds)) * len(many)
     print(f"a slip in front of {len(many)} bytes: {taken / 1e6:.2f} ms")
 
 

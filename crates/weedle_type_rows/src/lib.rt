@@ -13,4 +13,6 @@ mod members;
 #[cfg(test)]
 mod types;
 #[cfg(test)]
+mod walks;
+#[cfg(test)]
 mod word_types;

@@ -16,6 +16,17 @@ use weedle_types::attribute::ExtendedAttributeList;
 /// The extended attributes of a definition, as `[Exposed=Window]` of
 /// `[Exposed=Window] interface A {};`: None where no brackets stand. Every kind may have them. It
 /// takes no memory.
+///
+/// ```rust
+/// use weedle_base::Parse;
+/// use weedle_idl::Definition;
+/// use weedle_view::extended_attributes_of;
+///
+/// let text = "[Global, Exposed=Window] interface A {};";
+/// let (_, definition) = Definition::parse(rt.alloc(), text).expect(rt, "definition");
+/// let attributes = extended_attributes_of(&definition);
+/// assert!(rt; attributes.is_some_and(|attributes| attributes.body.list.len() == 2));
+/// ```
 pub fn extended_attributes_of<'d, 'a>(
     definition: &'d Definition<'a>,
 ) -> Option<&'d ExtendedAttributeList<'a>>
@@ -41,6 +52,17 @@ pub fn extended_attributes_of<'d, 'a>(
 
 /// The docstring in front of a definition, where it has one: a callback, a mixin, a part, a typedef
 /// and a statement never have. It takes no memory.
+///
+/// ```rust
+/// use weedle_base::Parse;
+/// use weedle_idl::Definition;
+/// use weedle_view::docstring_of;
+///
+/// let text = "/// A page,\n/// shown.\ninterface Window {};";
+/// let (_, definition) = Definition::parse(rt.alloc(), text).expect(rt, "definition");
+/// let docstring = docstring_of(&definition);
+/// assert!(rt; docstring.is_some_and(|docstring| docstring.0.as_str() == " A page,\n shown."));
+/// ```
 pub fn docstring_of<'d>(definition: &'d Definition<'_>) -> Option<&'d Docstring>
     ensures { option_copied result ≡ docstring_of_definition definition.entry.now }
 {
@@ -64,6 +86,17 @@ pub fn docstring_of<'d>(definition: &'d Definition<'_>) -> Option<&'d Docstring>
 
 /// What a definition inherits from, as `: Node` of `interface Element : Node {};`, where it says
 /// so: only interfaces, callback interfaces and dictionaries can. It takes no memory.
+///
+/// ```rust
+/// use weedle_base::Parse;
+/// use weedle_idl::Definition;
+/// use weedle_view::inheritance_of;
+///
+/// let text = "interface Element : Node {};";
+/// let (_, definition) = Definition::parse(rt.alloc(), text).expect(rt, "definition");
+/// let parent = inheritance_of(&definition).map(|inheritance| inheritance.identifier.0);
+/// assert!(rt; parent == Some("Node"));
+/// ```
 pub fn inheritance_of<'d, 'a>(definition: &'d Definition<'a>) -> Option<&'d Inheritance<'a>>
     ensures { option_copied result ≡ inheritance_of_definition definition.entry.now }
 {

@@ -105,6 +105,18 @@ impl<'v, 'a> MemberView<'v, 'a> {
     }
 
     /// The view of a member of a mixin or of a part of one. It takes no memory.
+    ///
+    /// ```rust
+    /// use weedle_base::Parse;
+    /// use weedle_idl::mixin::MixinMember;
+    /// use weedle_view::{MemberKind, MemberView};
+    ///
+    /// let text = "[NewObject] Promise<Blob> blob();";
+    /// let (_, member) = MixinMember::parse(rt.alloc(), text).expect(rt, "member");
+    /// let view = MemberView::of_mixin(&member);
+    /// assert!(rt; view.kind == MemberKind::Operation && view.return_type.is_some());
+    /// assert!(rt; view.identifier.is_some_and(|identifier| identifier.0 == "blob"));
+    /// ```
     pub fn of_mixin(member: &'v MixinMember<'a>) -> Self
         ensures { seen result ≡ mixin_member_view member.entry.now }
     {
@@ -129,6 +141,18 @@ impl<'v, 'a> MemberView<'v, 'a> {
     }
 
     /// The view of a member of a namespace or of a part of one. It takes no memory.
+    ///
+    /// ```rust
+    /// use weedle_base::Parse;
+    /// use weedle_idl::namespace::NamespaceMember;
+    /// use weedle_view::{MemberKind, MemberView};
+    ///
+    /// let text = "/// How loud.\nreadonly attribute double volume;";
+    /// let (_, member) = NamespaceMember::parse(rt.alloc(), text).expect(rt, "member");
+    /// let view = MemberView::of_namespace(&member);
+    /// assert!(rt; view.kind == MemberKind::Attribute && view.return_type.is_none());
+    /// assert!(rt; view.docstring.is_some_and(|docstring| docstring.0.as_str() == " How loud."));
+    /// ```
     pub fn of_namespace(member: &'v NamespaceMember<'a>) -> Self
         ensures { seen result ≡ namespace_member_view member.entry.now }
     {
@@ -153,6 +177,18 @@ impl<'v, 'a> MemberView<'v, 'a> {
     }
 
     /// The view of a member of a dictionary or of a part of one. It takes no memory.
+    ///
+    /// ```rust
+    /// use weedle_base::Parse;
+    /// use weedle_idl::dictionary::DictionaryMember;
+    /// use weedle_view::{MemberKind, MemberView};
+    ///
+    /// let text = "required DOMString name;";
+    /// let (_, member) = DictionaryMember::parse(rt.alloc(), text).expect(rt, "member");
+    /// let view = MemberView::of_dictionary(&member);
+    /// assert!(rt; view.kind == MemberKind::Field && view.type_.is_some());
+    /// assert!(rt; view.identifier.is_some_and(|identifier| identifier.0 == "name"));
+    /// ```
     pub fn of_dictionary(member: &'v DictionaryMember<'a>) -> Self
         ensures { seen result ≡ dictionary_member_view member.entry.now }
     {

@@ -22,6 +22,18 @@ use weedle_idl::namespace::NamespaceMember;
 /// mixin, a namespace or a dictionary, or a part of one; none of any other definition.
 ///
 /// It takes memory for the list, by one request, and fails where that is refused.
+///
+/// ```rust
+/// use weedle_base::Parse;
+/// use weedle_idl::Definition;
+/// use weedle_view::{MemberKind, members_of};
+///
+/// let text = "partial interface A { const long X = 5; long f(); stringifier; };";
+/// let (_, definition) = Definition::parse(rt.alloc(), text).expect(rt, "definition");
+/// let views = members_of(rt.alloc(), &definition)?;
+/// assert!(rt; views.len() == 3 && views[1].identifier.is_some_and(|name| name.0 == "f"));
+/// assert!(rt; views[0].kind == MemberKind::Const && views[2].kind == MemberKind::Stringifier);
+/// ```
 pub fn members_of<'v, 'a>(
     alloc: Global,
     definition: &'v Definition<'a>,

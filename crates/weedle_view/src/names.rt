@@ -28,6 +28,17 @@ use weedle_types::types::{ReturnType, Type};
 /// A union's members may have extended attributes with arguments, as `[A(Node x)] long`; the names
 /// in the types of these are among them. It takes memory for the list of names, and fails where
 /// that is refused.
+///
+/// ```rust
+/// use weedle_base::Parse;
+/// use weedle_types::types::Type;
+/// use weedle_view::type_names;
+///
+/// let text = "(sequence<Node?> or record<DOMString, Attr>)";
+/// let (_, type_) = Type::parse(rt.alloc(), text).expect(rt, "type");
+/// let names = type_names(rt.alloc(), &type_)?;
+/// assert!(rt; names.len() == 2 && names[0].0 == "Node" && names[1].0 == "Attr");
+/// ```
 pub fn type_names<'a>(alloc: Global, type_: &Type<'a>) -> Result<Vec<Identifier<'a>>, AllocError>
     ensures { IfOk result (λ names. names.items ≡ names_in_type type_.now) }
 {
@@ -38,6 +49,17 @@ pub fn type_names<'a>(alloc: Global, type_: &Type<'a>) -> Result<Vec<Identifier<
 
 /// The names that the type of a result speaks of, as [`type_names`] gives them: `Node` of
 /// `Promise<Node>`, and none of `undefined`. It fails where memory for the list is refused.
+///
+/// ```rust
+/// use weedle_base::Parse;
+/// use weedle_types::types::ReturnType;
+/// use weedle_view::type_names_of_return;
+///
+/// for (text, count) in [("undefined", 0), ("Promise<Node>", 1)] {
+///     let (_, type_) = ReturnType::parse(rt.alloc(), text).expect(rt, "type");
+///     assert!(rt; type_names_of_return(rt.alloc(), &type_)?.len() == count);
+/// }
+/// ```
 pub fn type_names_of_return<'a>(
     alloc: Global,
     return_type: &ReturnType<'a>,
@@ -52,6 +74,18 @@ pub fn type_names_of_return<'a>(
 /// The names that the types of arguments speak of, as [`type_names`] gives them: `Node` and `Attr`
 /// of `(optional Node node, Attr... attrs)`. The names of the arguments aren't among them, those in
 /// the types within their extended attributes are. It fails where memory for the list is refused.
+///
+/// ```rust
+/// use weedle_base::Parse;
+/// use weedle_types::argument::ParenthesizedArgumentList;
+/// use weedle_view::type_names_of_arguments;
+///
+/// let text = "(optional Node node, [A(B b)] Attr... attrs)";
+/// let (_, arguments) = ParenthesizedArgumentList::parse(rt.alloc(), text).expect(rt, "arguments");
+/// let names = type_names_of_arguments(rt.alloc(), &arguments)?;
+/// assert!(rt; names.len() == 3 && names[0].0 == "Node" && names[1].0 == "B");
+/// assert!(rt; names[2].0 == "Attr");
+/// ```
 pub fn type_names_of_arguments<'a>(
     alloc: Global,
     arguments: &ParenthesizedArgumentList<'a>,
@@ -67,6 +101,17 @@ pub fn type_names_of_arguments<'a>(
 /// gives them: `Node` of `[Exposed=Window, NamedConstructor=Image(Node node)]`. The names of the
 /// extended attributes, and what stands behind their `=`, aren't among them. It fails where memory
 /// for the list is refused.
+///
+/// ```rust
+/// use weedle_base::Parse;
+/// use weedle_types::attribute::ExtendedAttributeList;
+/// use weedle_view::type_names_of_attributes;
+///
+/// let text = "[Exposed=Window, NamedConstructor=Image(Node node)]";
+/// let (_, attributes) = ExtendedAttributeList::parse(rt.alloc(), text).expect(rt, "attributes");
+/// let names = type_names_of_attributes(rt.alloc(), &attributes)?;
+/// assert!(rt; names.len() == 1 && names[0].0 == "Node");
+/// ```
 pub fn type_names_of_attributes<'a>(
     alloc: Global,
     attributes: &ExtendedAttributeList<'a>,

@@ -19,6 +19,20 @@ use weedle_report::name_of;
 /// The first definition of a name that is neither a part nor a statement, as the interface of `A
 /// includes M; interface A {};` for `A`. It takes no memory, and looks through the definitions
 /// once.
+///
+/// ```rust
+/// use weedle_base::Parse;
+/// use weedle_idl::Definitions;
+/// use weedle_report::{kind_of, lend};
+/// use weedle_view::definition_named;
+///
+/// let text = "A includes M; partial interface A {}; enum A { \"a\" };";
+/// let (_, definitions) = Definitions::parse(rt.alloc(), text).expect(rt, "definitions");
+/// let kind = lend(definitions, |definitions: &Definitions<'_>| {
+///     definition_named(definitions, "A").map(|definition| kind_of(definition))
+/// });
+/// assert!(rt; kind == Some("enum"));
+/// ```
 #[tactic(auto, using(crate::proofs::Finds::found, crate::proofs::Finds::still_none))]
 pub fn definition_named<'d, 'a>(
     definitions: &'d [Definition<'a>],
@@ -37,6 +51,21 @@ pub fn definition_named<'d, 'a>(
 /// The parts of a name, as `partial interface A {};` for `A`, in the order of the definitions.
 /// Whatever has the name is told, also where that makes no sense, as a part of a dictionary beside
 /// an interface. It takes memory for the list, and fails where that is refused.
+///
+/// ```rust
+/// use weedle_base::Parse;
+/// use weedle_idl::Definitions;
+/// use weedle_report::lend;
+/// use weedle_view::parts_named;
+///
+/// let text = "partial interface A {}; A includes M; interface A {}; partial dictionary A {};";
+/// let alloc = rt.alloc();
+/// let (_, definitions) = Definitions::parse(alloc, text).expect(rt, "definitions");
+/// let count = lend(definitions, move |definitions: &Definitions<'_>| {
+///     parts_named(alloc, definitions, "A").map(|parts| parts.len())
+/// })?;
+/// assert!(rt; count == 2);
+/// ```
 #[tactic(auto, using(crate::proofs::Finds::kept, crate::proofs::Finds::passed_over))]
 pub fn parts_named<'d, 'a>(
     alloc: Global,
@@ -60,6 +89,22 @@ pub fn parts_named<'d, 'a>(
 /// The mixins that are included into a name, as `M` by `A includes M;` into `A`, and their parts,
 /// in the order of the definitions. It takes memory for the list, and fails where that is refused.
 /// It looks through the definitions once, and once more for each mixin and each part of one.
+///
+/// ```rust
+/// use weedle_base::Parse;
+/// use weedle_idl::Definitions;
+/// use weedle_report::{lend, name_of};
+/// use weedle_view::included_into;
+///
+/// let text = "A includes M; B includes N; interface mixin N {}; interface mixin M {};";
+/// let alloc = rt.alloc();
+/// let (_, definitions) = Definitions::parse(alloc, text).expect(rt, "definitions");
+/// let is_mixin = lend(definitions, move |definitions: &Definitions<'_>| {
+///     included_into(alloc, definitions, "A")
+///         .map(|included| included.len() == 1 && name_of(included[0]) == "M")
+/// })?;
+/// assert!(rt; is_mixin);
+/// ```
 #[tactic(auto, using(crate::proofs::Finds::kept, crate::proofs::Finds::passed_over))]
 pub fn included_into<'d, 'a>(
     alloc: Global,
