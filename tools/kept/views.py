@@ -23,6 +23,14 @@ FIELDS = {
     "docstring_of": ("docstring", "docstring_of_definition"),
     "inheritance_of": ("inheritance", "inheritance_of_definition"),
 }
+# The tests of what belongs to a name: which kinds may pass, and what is asked of their name, in Rust and in the logic.
+TESTS = {
+    "is_whole_of": ("is_whole", "{} == name", "bytes_eq {} name"),
+    "is_part_of": ("is_part", "{} == name", "bytes_eq {} name"),
+    "is_included_in": ("is_mixin", "is_included(list, name, {})", "list_any (includes name {}) definitions"),
+}
+# What stands between the word of a test and the definition, in the logic.
+GIVEN = {"is_whole_of": "name", "is_part_of": "name", "is_included_in": "definitions name"}
 # The lists of members, each with the function that views one and the word for a member's view.
 LISTS = {
     "InterfaceMember": ("of_interface", "interface_member_view"),
@@ -96,9 +104,13 @@ def members_text(text, kinds):
 
 def parts_text(text, kinds):
     """The text of src/parts.rt."""
-    for function in ("is_whole", "is_part", "is_mixin"):
-        having = [it for it in kinds if getattr(it, function)]
-        text = with_arms(text, function, alternatives(having, "true") + "        _ => false,\n")
+    for function, (test, value, _) in TESTS.items():
+        arms = ""
+        for it in kinds:
+            if getattr(it, test):
+                name = binder(text, function, it.variant)
+                arms += f"        {ENUM}::{it.variant}({name}) => {value.format(f'{name}.{it.name}.0')},\n"
+        text = with_arms(text, function, arms + "        _ => false,\n")
     return text
 
 
@@ -110,8 +122,9 @@ def logic_text(text, kinds):
         text = clauses(text, word, [(it.variant, f"v.{field}" if field in it.fields else "None") for it in kinds])
     views = [(it.variant, f"map {LISTS[it.list][1]} v.members.body.items" if it.list else "[]") for it in kinds]
     text = clauses(text, "members_of_definition", views)
-    for word in ("is_whole", "is_part", "is_mixin"):
-        text = clauses(text, word, [(it.variant, str(getattr(it, word)).lower()) for it in kinds])
+    for word, (test, _, value) in TESTS.items():
+        asked = [(it.variant, value.format(f"v.{it.name}.0.now") if getattr(it, test) else "false") for it in kinds]
+        text = clauses(text, f"{word} {GIVEN[word]}", asked)
     included = [(it.variant, INCLUDED if it.kind == INCLUDES else "false") for it in kinds]
     return clauses(text, f"{INCLUDES} name mixin", included)
 

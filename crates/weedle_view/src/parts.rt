@@ -2,19 +2,10 @@
 
 ghost use Rattle.std.specs.List.{list_any};
 ghost use Rattle.std.specs.Prelude.{◌≡◌, IfOk, filter, find, map, option_copied};
-ghost use Rattle.weedle_view.specs.Parts.{
-  includes,
-  is_included_in,
-  is_mixin,
-  is_part,
-  is_part_of,
-  is_whole,
-  is_whole_of,
-};
+ghost use Rattle.weedle_view.specs.Parts.{includes, is_included_in, is_part_of, is_whole_of};
 
 use std::alloc::{AllocError, Global};
 use weedle_idl::Definition;
-use weedle_report::name_of;
 
 /// The first definition of a name that is neither a part nor a statement, as the interface of `A
 /// includes M; interface A {};` for `A`. It takes no memory, and looks through the definitions
@@ -130,7 +121,17 @@ pub fn included_into<'d, 'a>(
 fn is_whole_of(definition: &Definition<'_>, name: &str) -> bool
     ensures { result ≡ is_whole_of name.now definition.now }
 {
-    is_whole(definition) && name_of(definition) == name
+    match definition {
+        Definition::Callback(callback) => callback.identifier.0 == name,
+        Definition::CallbackInterface(interface) => interface.identifier.0 == name,
+        Definition::Interface(interface) => interface.identifier.0 == name,
+        Definition::InterfaceMixin(mixin) => mixin.identifier.0 == name,
+        Definition::Namespace(namespace) => namespace.identifier.0 == name,
+        Definition::Dictionary(dictionary) => dictionary.identifier.0 == name,
+        Definition::Enum(definition) => definition.identifier.0 == name,
+        Definition::Typedef(typedef) => typedef.identifier.0 == name,
+        _ => false,
+    }
 }
 
 /// Whether it is a part of a name.
@@ -138,15 +139,25 @@ fn is_whole_of(definition: &Definition<'_>, name: &str) -> bool
 fn is_part_of(definition: &Definition<'_>, name: &str) -> bool
     ensures { result ≡ is_part_of name.now definition.now }
 {
-    is_part(definition) && name_of(definition) == name
+    match definition {
+        Definition::PartialInterface(interface) => interface.identifier.0 == name,
+        Definition::PartialInterfaceMixin(mixin) => mixin.identifier.0 == name,
+        Definition::PartialDictionary(dictionary) => dictionary.identifier.0 == name,
+        Definition::PartialNamespace(namespace) => namespace.identifier.0 == name,
+        _ => false,
+    }
 }
 
 /// Whether it is a mixin that is included into a name, or a part of one.
 #[tactic(auto, unfolding(crate::specs::Parts::is_included_in))]
-fn is_included_in(definitions: &[Definition<'_>], name: &str, definition: &Definition<'_>) -> bool
-    ensures { result ≡ is_included_in definitions.now name.now definition.now }
+fn is_included_in(list: &[Definition<'_>], name: &str, definition: &Definition<'_>) -> bool
+    ensures { result ≡ is_included_in list.now name.now definition.now }
 {
-    is_mixin(definition) && is_included(definitions, name, name_of(definition))
+    match definition {
+        Definition::InterfaceMixin(mixin) => is_included(list, name, mixin.identifier.0),
+        Definition::PartialInterfaceMixin(mixin) => is_included(list, name, mixin.identifier.0),
+        _ => false,
+    }
 }
 
 /// Whether a statement includes a mixin into a name.
@@ -169,46 +180,6 @@ fn includes(definition: &Definition<'_>, name: &str, mixin: &str) -> bool
         Definition::IncludesStatement(statement) => {
             statement.lhs_identifier.0 == name && statement.rhs_identifier.0 == mixin
         }
-        _ => false,
-    }
-}
-
-/// Whether a definition is neither a part nor a statement.
-fn is_whole(definition: &Definition<'_>) -> bool
-    ensures { result ≡ is_whole definition.now }
-{
-    match definition {
-        Definition::Callback(_)
-        | Definition::CallbackInterface(_)
-        | Definition::Interface(_)
-        | Definition::InterfaceMixin(_)
-        | Definition::Namespace(_)
-        | Definition::Dictionary(_)
-        | Definition::Enum(_)
-        | Definition::Typedef(_) => true,
-        _ => false,
-    }
-}
-
-/// Whether a definition is a part.
-fn is_part(definition: &Definition<'_>) -> bool
-    ensures { result ≡ is_part definition.now }
-{
-    match definition {
-        Definition::PartialInterface(_)
-        | Definition::PartialInterfaceMixin(_)
-        | Definition::PartialDictionary(_)
-        | Definition::PartialNamespace(_) => true,
-        _ => false,
-    }
-}
-
-/// Whether a definition is a mixin or a part of one.
-fn is_mixin(definition: &Definition<'_>) -> bool
-    ensures { result ≡ is_mixin definition.now }
-{
-    match definition {
-        Definition::InterfaceMixin(_) | Definition::PartialInterfaceMixin(_) => true,
         _ => false,
     }
 }
