@@ -4,7 +4,7 @@ use Rattle.weedle_grammar.specs.Rows.{Row, Opt, Many, Tail}
 use Rattle.weedle_grammar.specs.written.Table.{row_of}
 use Rattle.weedle_rules.specs.Cells.{HasEnd}
 use Rattle.weedle_rules.specs.Outcomes.{EndsAt}
-use Rattle.weedle_diagnose.specs.Tries.{SameAttempt, TriesInTurn, TriesByChoice, TriesListed, RowTries, Tries}
+use Rattle.weedle_starts.specs.Tries.{SameAttempt, TriesInTurn, TriesByChoice, TriesListed, RowTries, Tries}
 use Rattle.weedle_diagnose.specs.Marks.{HasBit, IsMarked, Adds}
 use Rattle.weedle_rules.proofs.OutcomeFacts.{it_ends, it_fails}
 use Rattle.weedle_diagnose.proofs.OutcomeFacts.{same_end, no_end, no_failure}

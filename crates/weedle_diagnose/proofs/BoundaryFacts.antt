@@ -6,7 +6,7 @@ use Rattle.weedle_grammar.specs.Meaning.{Piece, piece, ReadsSeq, seq_end, seq_fa
 use Rattle.weedle_grammar.specs.written.Table.{webidl, row_of}
 use Rattle.weedle_grammar.proofs.GrammarFacts.{at_boundary}
 use Rattle.weedle_rules.specs.Outcomes.{EndsAt}
-use Rattle.weedle_diagnose.specs.Tries.{TriesInTurn, TriesByChoice, RowTries, Tried, at_first, by}
+use Rattle.weedle_starts.specs.Tries.{TriesInTurn, TriesByChoice, RowTries, Tried, at_first, by}
 
 module _ (text : List ℕ) (utf8 : IsUtf8 text) where
   to_end : (r p e : ℕ) → EndsAt text r p e → IsCharBoundary text p → IsCharBoundary text e

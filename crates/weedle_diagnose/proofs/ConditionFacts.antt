@@ -6,7 +6,7 @@ use Rattle.weedle_grammar.specs.written.Table.{webidl, row_of}
 use Rattle.weedle_grammar.proofs.Unique.{one_seq}
 use Rattle.weedle_rules.proofs.RowEnds.{pieces_end}
 use Rattle.weedle_rules.proofs.ConditionEnds.{NoteEnds, noted}
-use Rattle.weedle_diagnose.specs.Tries.{SameAttempt, EndsWith, TriesInTurn, RowTries, Tries}
+use Rattle.weedle_starts.specs.Tries.{SameAttempt, EndsWith, TriesInTurn, RowTries, Tries}
 use Rattle.weedle_diagnose.specs.Marks.{Adds}
 use Rattle.weedle_diagnose.proofs.AddingFacts.{set_out, go_on, finish, by_its_row}
 

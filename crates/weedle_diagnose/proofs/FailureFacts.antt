@@ -11,8 +11,10 @@ use Rattle.weedle_grammar.proofs.Checked.{rank, ranked}
 use Rattle.weedle_grammar.proofs.Exists.{advances, has_outcome}
 use Rattle.weedle_grammar.proofs.Inversion.{at_row}
 use Rattle.weedle_rules.proofs.RowTests.{row_passes}
-use Rattle.weedle_diagnose.specs.Tries.{Tries, TriesInTurn, TriesByChoice, RowTries, Tried, at_first, by, has_no_parts, IsUnmet}
-use Rattle.weedle_diagnose.proofs.LaterFacts.{tries_later}
+use Rattle.weedle_rules.specs.Outcomes.{FailsAt}
+use Rattle.weedle_starts.specs.Tries.{Tries, TriesInTurn, TriesByChoice, RowTries, Tried, at_first, by, Leads, itself, on, has_no_parts, IsUnmet}
+use Rattle.weedle_diagnose.specs.Noted.{IsUnmetIn}
+use Rattle.weedle_starts.proofs.LaterFacts.{tries_later}
 
 -- a choice has an alternative, and what is repeated or separates takes a byte
 abbrev pub blames : Row → Bool
@@ -50,15 +52,15 @@ shaped_fails : (text : List ℕ) (row : Row) (shape : Rattle.weedle_grammar.spec
 shaped_fails text row shape p Breaks h = refl
 shaped_fails text row shape p (Yields ts ends e) h = cc
 
-module _ (text : List ℕ) (start : ℕ) where
+module _ (text : List ℕ) (P : ℕ → ℕ → Type 0) (onward : (r p x q : ℕ) → P r p → Tries text r p x q → P x q) where
   -- a rule that is tried, in the text
   pub record At (r p : ℕ) : Type 0 where
-    pub tried : Tried text start r p
+    pub tried : P r p
     pub low : r < rule_count
     pub within : p ≤ length text
 
   at_next : {r p : ℕ} (x q : ℕ) → At r p → Tries text r p x q → At x q
-  at_next {r} {p} x q a t = let l = tries_later text r p a.within a.low x q t in record { tried = by a.tried t; low = l.low; within = l.within }
+  at_next {r} {p} x q a t = let l = tries_later text r p a.within a.low x q t in record { tried = onward r p x q a.tried t; low = l.low; within = l.within }
 
   -- the same by a rule's row
   at_row_next : {r p : ℕ} {row : Row} (x q : ℕ) → row_of r ≡ row → At r p → RowTries text row r p x q → At x q
@@ -67,17 +69,17 @@ module _ (text : List ℕ) (start : ℕ) where
   pub record Unmet : Type 0 where
     pub rule : ℕ
     pub place : ℕ
-    pub is : IsUnmet text start rule place
+    pub plain : has_no_parts (row_of rule) ≡ true
+    pub tried : P rule place
+    pub fails : FailsAt text rule place
 
   leaf_fails : {r p : ℕ} {row : Row} {w : Raw} → has_no_parts row ≡ true → row_of r ≡ row → ReadsRow webidl text row p w → w ≡ Breaks → At r p → Unmet
   leaf_fails {r} {p} {row} {w} h e d b a = record {
     rule = r;
     place = p;
-    is = record {
-      plain = ap has_no_parts e ∙ h;
-      tried = a.tried;
-      fails = by_row {w = Breaks} (subst (λ v. ReadsRow webidl text v p Breaks) (sym e) (subst (λ v. ReadsRow webidl text row p v) b d)) refl;
-    };
+    plain = ap has_no_parts e ∙ h;
+    tried = a.tried;
+    fails = by_row {w = Breaks} (subst (λ v. ReadsRow webidl text v p Breaks) (sym e) (subst (λ v. ReadsRow webidl text row p v) b d)) refl;
   }
 
   mutual
@@ -119,15 +121,31 @@ module _ (text : List ℕ) (start : ℕ) where
     choice_fails {x = x} {p = p} (first_next d m) h f = rule_fails d refl (f x p (inl (refl, refl)))
 
   -- a repetition ends where its rule fails
-  many_ends : {x p : ℕ} {w : Raw} (r : ℕ) → ReadsRow webidl text (Many x) p w → row_of r ≡ Many x → At r p → Unmet
+  pub many_ends : {x p : ℕ} {w : Raw} (r : ℕ) → ReadsRow webidl text (Many x) p w → row_of r ≡ Many x → At r p → Unmet
   many_ends {x} {p} r (many_end d e) is a = rule_fails d refl (at_row_next x p is a (inl (refl, refl)))
   many_ends {x} {p} r (many_stuck {q = q} d s e) is a = absurd (let m : p < q = advances webidl text rank takes ranked d (blame a.low is) in omega arith)
   many_ends {x} {p} r (many_more {q = q} {ts = ts} d n m e) is a = many_ends r m is (at_row_next r q is a (inr (q, (ts, d), n, (refl, refl))))
 
-  -- so from each place in the text
-  pub some_unmet : start ≤ length text → Unmet
-  some_unmet fits =
-      let o = has_outcome webidl text rank takes ranked DEFINITIONS start fits in
-      let is : row_of DEFINITIONS ≡ Many DEFINITION = refl in
-      let d = at_row is o.1 in
-      many_ends DEFINITIONS d.1 is (record { tried = at_first (refl, refl); low = omega arith; within = fits })
+-- so where definitions are read from a place in the text
+pub record SomeUnmet (text : List ℕ) (start : ℕ) : Type 0 where
+  pub rule : ℕ
+  pub place : ℕ
+  pub is : IsUnmet text start rule place
+
+pub some_unmet : (text : List ℕ) (start : ℕ) → start ≤ length text → SomeUnmet text start
+some_unmet text start fits =
+    let o = has_outcome webidl text rank takes ranked DEFINITIONS start fits in
+    let is : row_of DEFINITIONS ≡ Many DEFINITION = refl in
+    let d = at_row is o.1 in
+    let u = many_ends text (Tried text start) (λ r p x q t m. by t m) DEFINITIONS d.1 is (record { tried = at_first (refl, refl); low = omega arith; within = fits }) in
+    record { rule = u.rule; place = u.place; is = record { plain = u.plain; tried = u.tried; fails = u.fails } }
+
+pub led_on : (text : List ℕ) {r p a b x q : ℕ} → Leads text r p a b → Tries text r p x q → Leads text x q a b
+led_on text {r} {p} {a} {b} {x} {q} (itself s) t = on (subst (λ k. Tries text k b x q) s.0 (subst (λ k. Tries text r k x q) s.1 t)) (itself (refl, refl))
+led_on text (on m l) t = on m (led_on text l t)
+
+-- and where a rule fails
+pub some_fails : (text : List ℕ) (r p : ℕ) → p ≤ length text → r < rule_count → FailsAt text r p → (x : ℕ) × (q : ℕ) × IsUnmetIn text r p x q
+some_fails text r p fits low f =
+    let u = rule_fails text (λ x q. Leads text x q r p) (λ y z x q l m. led_on text l m) f refl (record { tried = itself (refl, refl); low = low; within = fits }) in
+    (u.rule, u.place, record { plain = u.plain; tried = u.tried; fails = u.fails })

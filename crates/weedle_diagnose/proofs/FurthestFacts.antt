@@ -5,11 +5,11 @@ use Rattle.std.specs.List.{Contains}
 use Rattle.std.proofs.lemmas.Bool.{cases_lt}
 use Rattle.weedle_grammar.specs.written.Bound.{rule_count}
 use Rattle.weedle_rules.specs.Cells.{cell_number}
-use Rattle.weedle_diagnose.specs.Tries.{Tried, at_first, by, IsUnmet}
+use Rattle.weedle_starts.specs.Tries.{Tried, at_first, by, IsUnmet}
 use Rattle.weedle_diagnose.specs.Marks.{HasBit, IsSet, AreTried}
 use Rattle.weedle_diagnose.specs.Diagnosis.{IsDiagnosis, IsRising}
 use Rattle.weedle_diagnose.proofs.BitFacts.{unset_word}
-use Rattle.weedle_diagnose.proofs.LaterFacts.{tries_later}
+use Rattle.weedle_starts.proofs.LaterFacts.{tries_later}
 use Rattle.weedle_diagnose.proofs.MarkingFacts.{cell_is}
 use Rattle.weedle_diagnose.proofs.BoundaryFacts.{tried_boundary}
 use Rattle.weedle_diagnose.proofs.FailureFacts.{some_unmet}

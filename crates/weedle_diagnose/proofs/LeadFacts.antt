@@ -12,13 +12,14 @@ use Rattle.weedle_grammar.proofs.Checked.{ranked}
 use Rattle.weedle_rules.proofs.RowEnds.{is_before, rule_ends, seq_ends, first_ends, opt_absent, opt_present, list_ends, list_goes, list1_ends, list1_goes, RowEnds, many_ends, many_fails, many_goes, tail_ends, tail_fails, tail_gives_back, tail_goes, ends_after, ends_inside}
 use Rattle.weedle_rules.proofs.PartEnds.{Along, along_start, along_step, along_fails, along_ends, Trying, trying_start, first_fits, first_tries_on, first_fits_none}
 use Rattle.weedle_rules.proofs.OutcomeFacts.{it_ends, it_fails}
-use Rattle.weedle_diagnose.specs.Tries.{SameAttempt, TriesInTurn, TriesByChoice, TriesListed, RowTries, Tries, Tried, at_first, by, has_no_parts, IsUnmet}
-use Rattle.weedle_diagnose.specs.Noted.{Leads, itself, on, IsUnmetIn, Notes}
+use Rattle.weedle_starts.specs.Tries.{SameAttempt, TriesInTurn, TriesByChoice, TriesListed, RowTries, Tried, at_first, by, Leads, itself, on, TriesHere, has_no_parts, IsUnmet}
+use Rattle.weedle_diagnose.specs.Noted.{IsUnmetIn, Notes, IsNoted}
 use Rattle.weedle_diagnose.specs.declared.noted.Furthest.{Furthest}
 use Rattle.weedle_diagnose.proofs.AddingFacts.{Attempts}
-use Rattle.weedle_diagnose.proofs.LaterFacts.{tries_later}
-use Rattle.weedle_diagnose.proofs.OutcomeFacts.{same_end, no_end, no_failure}
-use Rattle.weedle_diagnose.proofs.NotingFacts.{nothing_noted, alike, Of, Left, set_out, go_on, finish, arrive}
+use Rattle.weedle_starts.proofs.LaterFacts.{tries_later}
+use Rattle.weedle_diagnose.proofs.OutcomeFacts.{same_end, no_end, no_failure, never_so}
+use Rattle.weedle_diagnose.proofs.FailureFacts.{led_on}
+use Rattle.weedle_diagnose.proofs.NotingFacts.{nothing_noted, alike, failure_noted, Of, Left, set_out, go_on, finish, arrive}
 
 -- what is known of a call's answer, once that is known
 pub has_now : {text : List ℕ} {r p : ℕ} {o now : Option ℕ} → o ≡ now → HasEnd text r p o → HasEnd text r p now
@@ -42,7 +43,7 @@ module _ (text : List ℕ) (r p : ℕ) {row : Row} (is : row_of r ≡ row) where
   unmet_from : (x q : ℕ) → Of text (RowTries text row r p) x q → IsUnmetIn text r p x q
   unmet_from x q (y, z, t, u) = record { plain = u.plain; tried = on (subst (λ w. RowTries text w r p y z) (sym is) t) u.tried; fails = u.fails }
 
-  pub by_its_row : {old new : Furthest} → has_no_parts row ≡ false → Notes (Of text (RowTries text row r p)) old new → Notes (IsUnmetIn text r p) old new
+  pub by_its_row : {old new : Furthest} → has_no_parts row ≡ false → Notes text (Of text (RowTries text row r p)) old new → Notes text (IsUnmetIn text r p) old new
   by_its_row parts n = alike (IsUnmetIn text r p) n unmet_from (unmet_by parts)
 
   -- a row without parts fails by itself
@@ -51,54 +52,56 @@ module _ (text : List ℕ) (r p : ℕ) {row : Row} (is : row_of r ≡ row) where
     only_itself x q (itself s) = s
     only_itself x q (on {y = y} {z = z} t l) = absurd (none y z (subst (λ w. RowTries text w r p y z) is t))
 
-    pub leaf_noted : {old new : Furthest} (o : Option ℕ) → HasEnd text r p o → MatchOption o (Notes (SameAttempt r p) old new) (λ e. new ≡ old) → Notes (IsUnmetIn text r p) old new
-    leaf_noted None h n = alike (IsUnmetIn text r p) n
-        (λ x q s. record { plain = ap (λ k. has_no_parts (row_of k)) s.0 ∙ ap has_no_parts is ∙ plain; tried = itself s; fails = subst (λ k. FailsAt text k q) (sym s.0) (subst (λ k. FailsAt text r k) (sym s.1) (it_fails h)) })
-        (λ x q u. only_itself x q u.tried)
-    leaf_noted {old} (Some e) h same = subst (Notes (IsUnmetIn text r p) old) (sym same) (nothing_noted (IsUnmetIn text r p) old (λ x q u. (
+    pub leaf_noted : {old new : Furthest} (o : Option ℕ) → p ≤ length text → r < rule_count → HasEnd text r p o → MatchOption o (IsNoted r p old new) (λ e. new ≡ old) → Notes text (IsUnmetIn text r p) old new
+    leaf_noted None fits low h n = failure_noted text r p fits low (it_fails h) (λ x q l. (only_itself x q l).1) (λ l. ap has_no_parts is ∙ plain) n
+    leaf_noted {old} (Some e) fits low h same = subst (Notes text (IsUnmetIn text r p) old) (sym same) (nothing_noted (IsUnmetIn text r p) old (λ x q u. (
         let s = only_itself x q u.tried in
         no_failure h (subst (λ k. FailsAt text r k) s.1 (subst (λ k. FailsAt text k q) s.0 u.fails)))))
 
+-- a rule that can't begin with the byte that stands there, where rules are noted as a whole
+pub refused_noted : (text : List ℕ) (r p : ℕ) {old new : Furthest} → p ≤ length text → r < rule_count → HasEnd text r p None → TriesHere text r p → old.leaves ≡ false → IsNoted r p old new → Notes text (IsUnmetIn text r p) old new
+refused_noted text r p fits low h here whole n = failure_noted text r p fits low (it_fails h) here (λ l. never_so (sym whole ∙ l)) n
+
 module _ (text : List ℕ) {old : Furthest} where
   -- sequences
-  pub turn_on : (rs : List ℕ) {now new : Furthest} {all : Attempts} {s q e : ℕ} → Left text old all now (TriesInTurn text (s ∷ rs) q) → Notes (IsUnmetIn text s q) now new
+  pub turn_on : (rs : List ℕ) {now new : Furthest} {all : Attempts} {s q e : ℕ} → Left text old all now (TriesInTurn text (s ∷ rs) q) → Notes text (IsUnmetIn text s q) now new
       → HasEnd text s q (Some e) → Left text old all new (TriesInTurn text rs e)
   turn_on rs {s = s} {q = q} {e = e} g n h = go_on g s q (TriesInTurn text rs e) n (λ x z t. elim t [
     | inl i ↦ inl i
     | inr w ↦ inr (subst (λ y. TriesInTurn text rs y x z) (same_end h w.1) w.2)
   ]) (inl (refl, refl)) (λ x z t. inr (e, it_ends h, t))
 
-  pub turn_fails : (rs : List ℕ) {now new : Furthest} {all : Attempts} {s q : ℕ} → Left text old all now (TriesInTurn text (s ∷ rs) q) → Notes (IsUnmetIn text s q) now new
-      → HasEnd text s q None → Notes (Of text all) old new
+  pub turn_fails : (rs : List ℕ) {now new : Furthest} {all : Attempts} {s q : ℕ} → Left text old all now (TriesInTurn text (s ∷ rs) q) → Notes text (IsUnmetIn text s q) now new
+      → HasEnd text s q None → Notes text (Of text all) old new
   turn_fails rs {s = s} {q = q} g n h = finish g s q n (λ x z t. elim t [ inl i ↦ i | inr w ↦ absurd (no_end h w.1) ]) (inl (refl, refl))
 
-  pub turn_ends : (q : ℕ) {now : Furthest} {all : Attempts} → Left text old all now (TriesInTurn text [] q) → Notes (Of text all) old now
+  pub turn_ends : (q : ℕ) {now : Furthest} {all : Attempts} → Left text old all now (TriesInTurn text [] q) → Notes text (Of text all) old now
   turn_ends q g = arrive g (λ x z t. t)
 
   -- choices
-  pub choice_on : (rs : List ℕ) {now new : Furthest} {all : Attempts} {s q : ℕ} → Left text old all now (TriesByChoice text (s ∷ rs) q) → Notes (IsUnmetIn text s q) now new
+  pub choice_on : (rs : List ℕ) {now new : Furthest} {all : Attempts} {s q : ℕ} → Left text old all now (TriesByChoice text (s ∷ rs) q) → Notes text (IsUnmetIn text s q) now new
       → HasEnd text s q None → Left text old all new (TriesByChoice text rs q)
   choice_on rs {s = s} {q = q} g n h = go_on g s q (TriesByChoice text rs q) n (λ x z t. elim t [ inl i ↦ inl i | inr w ↦ inr w.1 ]) (inl (refl, refl)) (λ x z t. inr (it_fails h, t))
 
-  pub choice_fits : (rs : List ℕ) {now new : Furthest} {all : Attempts} {s q e : ℕ} → Left text old all now (TriesByChoice text (s ∷ rs) q) → Notes (IsUnmetIn text s q) now new
-      → HasEnd text s q (Some e) → Notes (Of text all) old new
+  pub choice_fits : (rs : List ℕ) {now new : Furthest} {all : Attempts} {s q e : ℕ} → Left text old all now (TriesByChoice text (s ∷ rs) q) → Notes text (IsUnmetIn text s q) now new
+      → HasEnd text s q (Some e) → Notes text (Of text all) old new
   choice_fits rs {s = s} {q = q} g n h = finish g s q n (λ x z t. elim t [ inl i ↦ i | inr w ↦ absurd (no_failure h w.0) ]) (inl (refl, refl))
 
-  pub choice_ends : (q : ℕ) {now : Furthest} {all : Attempts} → Left text old all now (TriesByChoice text [] q) → Notes (Of text all) old now
+  pub choice_ends : (q : ℕ) {now : Furthest} {all : Attempts} → Left text old all now (TriesByChoice text [] q) → Notes text (Of text all) old now
   choice_ends q g = arrive g (λ x z t. t)
 
   -- lists
-  pub none_follows : {new : Furthest} {p y : ℕ} (t : ℕ) → Notes (IsUnmetIn text y p) old new → HasEnd text y p None → Notes (Of text (TriesListed text y t p)) old new
+  pub none_follows : {new : Furthest} {p y : ℕ} (t : ℕ) → Notes text (IsUnmetIn text y p) old new → HasEnd text y p None → Notes text (Of text (TriesListed text y t p)) old new
   none_follows {p = p} {y = y} t n h = finish (set_out text old (TriesListed text y t p)) y p n (λ x q t. elim t [ inl i ↦ i | inr w ↦ absurd (no_end h w.1) ]) (inl (refl, refl))
 
-  pub one_follows : {now new : Furthest} {p y e : ℕ} (t : ℕ) → Notes (IsUnmetIn text y p) old now → HasEnd text y p (Some e) → Notes (IsUnmetIn text t e) now new → Notes (Of text (TriesListed text y t p)) old new
+  pub one_follows : {now new : Furthest} {p y e : ℕ} (t : ℕ) → Notes text (IsUnmetIn text y p) old now → HasEnd text y p (Some e) → Notes text (IsUnmetIn text t e) now new → Notes text (Of text (TriesListed text y t p)) old new
   one_follows {p = p} {y = y} {e = e} t n h m = finish (go_on (set_out text old (TriesListed text y t p)) y p (SameAttempt t e) n (λ x q t. elim t [
     | inl i ↦ inl i
     | inr w ↦ inr (w.2.0, w.2.1 ∙ same_end h w.1)
   ]) (inl (refl, refl)) (λ x q i. inr (e, it_ends h, i))) t e m (λ x q i. i) (refl, refl)
 
   -- options
-  pub opt_noted : {new : Furthest} (r p y : ℕ) → row_of r ≡ Opt y → Notes (IsUnmetIn text y p) old new → Notes (IsUnmetIn text r p) old new
+  pub opt_noted : {new : Furthest} (r p y : ℕ) → row_of r ≡ Opt y → Notes text (IsUnmetIn text y p) old new → Notes text (IsUnmetIn text r p) old new
   opt_noted r p y is n = by_its_row text r p is refl (finish (set_out text old (RowTries text (Opt y) r p)) y p n (λ x q t. t) (refl, refl))
 
 -- a sequence that is being read
@@ -114,20 +117,20 @@ module _ (text : List ℕ) (r p : ℕ) (parts : List ℕ) (is : row_of r ≡ Seq
     pub part_before : p ≤ length text → r < rule_count → (at ≤ length text) × (x < rule_count) × (cell_number (length text) x at < cell_number (length text) r p)
     part_before fits low = row_before text is fits low (g.left.from x at (inl (refl, refl)))
 
-    pub part_on : {new : Furthest} {e : ℕ} → Notes (IsUnmetIn text x at) now new → HasEnd text x at (Some e) → Turning text r p parts old rest e new
+    pub part_on : {new : Furthest} {e : ℕ} → Notes text (IsUnmetIn text x at) now new → HasEnd text x at (Some e) → Turning text r p parts old rest e new
     part_on {e = e} n h = record { along = along_step webidl text takes ranked r p x at e parts rest g.along h; left = turn_on text rest g.left n h }
 
     pub part_fails : HasEnd text x at None → HasEnd text r p None
     part_fails h = rule_ends is (seq_ends webidl text parts p None (along_fails webidl text takes r p x at parts rest g.along h))
 
-    pub failed_noted : {new : Furthest} → Notes (IsUnmetIn text x at) now new → HasEnd text x at None → Notes (IsUnmetIn text r p) old new
+    pub failed_noted : {new : Furthest} → Notes text (IsUnmetIn text x at) now new → HasEnd text x at None → Notes text (IsUnmetIn text r p) old new
     failed_noted n h = by_its_row text r p is refl (turn_fails text rest g.left n h)
 
   module _ {at : ℕ} {now : Furthest} (g : Turning text r p parts old [] at now) where
     pub parts_end : HasEnd text r p (Some at)
     parts_end = rule_ends is (seq_ends webidl text parts p (Some at) (along_ends webidl text takes r p at parts g.along))
 
-    pub parts_noted : Notes (IsUnmetIn text r p) old now
+    pub parts_noted : Notes text (IsUnmetIn text r p) old now
     parts_noted = by_its_row text r p is refl (turn_ends text at g.left)
 
 -- a choice that is being tried
@@ -144,20 +147,20 @@ module _ (text : List ℕ) (r p : ℕ) (parts : List ℕ) (is : row_of r ≡ Fir
     pub choice_before : p ≤ length text → r < rule_count → (p ≤ length text) × (x < rule_count) × (cell_number (length text) x p < cell_number (length text) r p)
     choice_before fits low = row_before text is fits low (g.left.from x p (inl (refl, refl)))
 
-    pub choice_goes_on : {new : Furthest} → Notes (IsUnmetIn text x p) now new → HasEnd text x p None → Choosing text r p parts old rest new
+    pub choice_goes_on : {new : Furthest} → Notes text (IsUnmetIn text x p) now new → HasEnd text x p None → Choosing text r p parts old rest new
     choice_goes_on n h = record { count = g.count + 1; trying = first_tries_on webidl text takes r g.count p x parts rest g.trying h; left = choice_on text rest g.left n h }
 
     pub chosen_end : {e : ℕ} → HasEnd text x p (Some e) → HasEnd text r p (Some e)
     chosen_end {e} h = rule_ends is (first_ends webidl text parts p (Some e) (first_fits webidl text takes r g.count p x e parts rest g.trying h))
 
-    pub chosen_noted : {new : Furthest} {e : ℕ} → Notes (IsUnmetIn text x p) now new → HasEnd text x p (Some e) → Notes (IsUnmetIn text r p) old new
+    pub chosen_noted : {new : Furthest} {e : ℕ} → Notes text (IsUnmetIn text x p) now new → HasEnd text x p (Some e) → Notes text (IsUnmetIn text r p) old new
     chosen_noted n h = by_its_row text r p is refl (choice_fits text rest g.left n h)
 
   module _ {now : Furthest} (g : Choosing text r p parts old [] now) where
     pub none_chosen : HasEnd text r p None
     none_chosen = rule_ends is (first_ends webidl text parts p None (first_fits_none webidl text takes r g.count p parts g.trying))
 
-    pub none_noted : Notes (IsUnmetIn text r p) old now
+    pub none_noted : Notes text (IsUnmetIn text r p) old now
     none_noted = by_its_row text r p is refl (choice_ends text p g.left)
 
 -- options and lists of one kind and the other
@@ -198,20 +201,20 @@ module _ (text : List ℕ) (r p y : ℕ) where
     pub list1_none : row_of r ≡ List1 y t → HasEnd text y p None → HasEnd text r p None
     list1_none is h = rule_ends is (list1_ends webidl text y t p h)
 
-    pub list_noted : {old mid new : Furthest} {q : ℕ} → row_of r ≡ ListOf y t → Notes (IsUnmetIn text y p) old mid → HasEnd text y p (Some q) → Notes (IsUnmetIn text t q) mid new → Notes (IsUnmetIn text r p) old new
+    pub list_noted : {old mid new : Furthest} {q : ℕ} → row_of r ≡ ListOf y t → Notes text (IsUnmetIn text y p) old mid → HasEnd text y p (Some q) → Notes text (IsUnmetIn text t q) mid new → Notes text (IsUnmetIn text r p) old new
     list_noted is n h m = by_its_row text r p is refl (one_follows text t n h m)
 
-    pub list_none_noted : {old new : Furthest} → row_of r ≡ ListOf y t → Notes (IsUnmetIn text y p) old new → HasEnd text y p None → Notes (IsUnmetIn text r p) old new
+    pub list_none_noted : {old new : Furthest} → row_of r ≡ ListOf y t → Notes text (IsUnmetIn text y p) old new → HasEnd text y p None → Notes text (IsUnmetIn text r p) old new
     list_none_noted is n h = by_its_row text r p is refl (none_follows text t n h)
 
-    pub list1_noted : {old mid new : Furthest} {q : ℕ} → row_of r ≡ List1 y t → Notes (IsUnmetIn text y p) old mid → HasEnd text y p (Some q) → Notes (IsUnmetIn text t q) mid new → Notes (IsUnmetIn text r p) old new
+    pub list1_noted : {old mid new : Furthest} {q : ℕ} → row_of r ≡ List1 y t → Notes text (IsUnmetIn text y p) old mid → HasEnd text y p (Some q) → Notes text (IsUnmetIn text t q) mid new → Notes text (IsUnmetIn text r p) old new
     list1_noted is n h m = by_its_row text r p is refl (one_follows text t n h m)
 
-    pub list1_none_noted : {old new : Furthest} → row_of r ≡ List1 y t → Notes (IsUnmetIn text y p) old new → HasEnd text y p None → Notes (IsUnmetIn text r p) old new
+    pub list1_none_noted : {old new : Furthest} → row_of r ≡ List1 y t → Notes text (IsUnmetIn text y p) old new → HasEnd text y p None → Notes text (IsUnmetIn text r p) old new
     list1_none_noted is n h = by_its_row text r p is refl (none_follows text t n h)
 
 -- the rule itself is left, at another place
-pub left_again : {text : List ℕ} {old now : Furthest} {all : Attempts} (r p : ℕ) {row : Row} → row_of r ≡ row → has_no_parts row ≡ false → Left text old all now (SameAttempt r p) → (new : Furthest) → Notes (Of text (RowTries text row r p)) now new → Notes (Of text all) old new
+pub left_again : {text : List ℕ} {old now : Furthest} {all : Attempts} (r p : ℕ) {row : Row} → row_of r ≡ row → has_no_parts row ≡ false → Left text old all now (SameAttempt r p) → (new : Furthest) → Notes text (Of text (RowTries text row r p)) now new → Notes text (Of text all) old new
 left_again {text} r p is parts g new n = finish g r p (by_its_row text r p is parts n) (λ y z s. s) (refl, refl)
 
 -- a repetition that is being read
@@ -219,7 +222,7 @@ pub record Repeating (text : List ℕ) (r y p : ℕ) (old : Furthest) (at : ℕ)
   pub after : p ≤ at
   pub within : at ≤ length text
   pub ends : (e : Option ℕ) → RowEnds webidl text (Many y) at e → RowEnds webidl text (Many y) p e
-  pub onward : (new : Furthest) → Notes (Of text (RowTries text (Many y) r at)) now new → Notes (Of text (RowTries text (Many y) r p)) old new
+  pub onward : (new : Furthest) → Notes text (Of text (RowTries text (Many y) r at)) now new → Notes text (Of text (RowTries text (Many y) r p)) old new
 
 module _ (text : List ℕ) (r y p : ℕ) (is : row_of r ≡ Many y) {old : Furthest} where
   pub repeating : p ≤ length text → Repeating text r y p old p old
@@ -236,10 +239,10 @@ module _ (text : List ℕ) (r y p : ℕ) (is : row_of r ≡ Many y) {old : Furth
     items_left : Left text now (RowTries text (Many y) r at) now (RowTries text (Many y) r at)
     items_left = set_out text now (RowTries text (Many y) r at)
 
-    pub items_end : {new : Furthest} → Notes (IsUnmetIn text y at) now new → HasEnd text y at None → Notes (IsUnmetIn text r p) old new
+    pub items_end : {new : Furthest} → Notes text (IsUnmetIn text y at) now new → HasEnd text y at None → Notes text (IsUnmetIn text r p) old new
     items_end {new} n h = by_its_row text r p is refl (g.onward new (finish items_left y at n (λ x q t. elim t [ inl i ↦ i | inr w ↦ absurd (no_end h w.1) ]) (inl (refl, refl))))
 
-    pub items_stuck : {new : Furthest} {e : ℕ} → Notes (IsUnmetIn text y at) now new → HasEnd text y at (Some e) → e ≡ at → Notes (IsUnmetIn text r p) old new
+    pub items_stuck : {new : Furthest} {e : ℕ} → Notes text (IsUnmetIn text y at) now new → HasEnd text y at (Some e) → e ≡ at → Notes text (IsUnmetIn text r p) old new
     items_stuck {new} n h s = by_its_row text r p is refl (g.onward new (finish items_left y at n (λ x q t. elim t [ inl i ↦ i | inr w ↦ absurd (w.2 (same_end h w.1 ∙ s)) ]) (inl (refl, refl))))
 
     pub items_ended : HasEnd text y at None → HasEnd text r p (Some at)
@@ -251,7 +254,7 @@ module _ (text : List ℕ) (r y p : ℕ) (is : row_of r ≡ Many y) {old : Furth
     pub items_further : {e : ℕ} → HasEnd text y at (Some e) → e ≢ at → (at < e) × (e ≤ length text)
     items_further {e} h d = let on = ends_after webidl text y at e h in (omega (arith, on, d), ends_inside webidl text y at e h g.within)
 
-    pub items_on : {new : Furthest} {e : ℕ} → Notes (IsUnmetIn text y at) now new → HasEnd text y at (Some e) → e ≢ at → Repeating text r y p old e new
+    pub items_on : {new : Furthest} {e : ℕ} → Notes text (IsUnmetIn text y at) now new → HasEnd text y at (Some e) → e ≢ at → Repeating text r y p old e new
     items_on {new} {e} n h d = record {
       after = let a = g.after in let b = (items_further h d).0 in omega arith;
       within = (items_further h d).1;
@@ -267,7 +270,7 @@ pub record Following (text : List ℕ) (r y s p : ℕ) (old : Furthest) (at : �
   pub after : p ≤ at
   pub within : at ≤ length text
   pub ends : (e : Option ℕ) → RowEnds webidl text (Tail y s) at e → RowEnds webidl text (Tail y s) p e
-  pub onward : (new : Furthest) → Notes (Of text (RowTries text (Tail y s) r at)) now new → Notes (Of text (RowTries text (Tail y s) r p)) old new
+  pub onward : (new : Furthest) → Notes text (Of text (RowTries text (Tail y s) r at)) now new → Notes text (Of text (RowTries text (Tail y s) r p)) old new
 
 -- what is tried behind a separator
 abbrev pub Behind : List ℕ → ℕ → ℕ → ℕ → Attempts
@@ -295,19 +298,19 @@ module _ (text : List ℕ) (r y s p : ℕ) (is : row_of r ≡ Tail y s) {old : F
     tail_left : Left text now (RowTries text (Tail y s) r at) now (RowTries text (Tail y s) r at)
     tail_left = set_out text now (RowTries text (Tail y s) r at)
 
-    pub tail_end : {new : Furthest} → Notes (IsUnmetIn text s at) now new → HasEnd text s at None → Notes (IsUnmetIn text r p) old new
+    pub tail_end : {new : Furthest} → Notes text (IsUnmetIn text s at) now new → HasEnd text s at None → Notes text (IsUnmetIn text r p) old new
     tail_end {new} n h = by_its_row text r p is refl (g.onward new (finish tail_left s at n (λ x q t. elim t [ inl i ↦ i | inr w ↦ absurd (no_end h w.1) ]) (inl (refl, refl))))
 
-    pub tail_stuck : {new : Furthest} {e : ℕ} → Notes (IsUnmetIn text s at) now new → HasEnd text s at (Some e) → e ≡ at → Notes (IsUnmetIn text r p) old new
+    pub tail_stuck : {new : Furthest} {e : ℕ} → Notes text (IsUnmetIn text s at) now new → HasEnd text s at (Some e) → e ≡ at → Notes text (IsUnmetIn text r p) old new
     tail_stuck {new} n h z = by_its_row text r p is refl (g.onward new (finish tail_left s at n (λ x q t. elim t [ inl i ↦ i | inr w ↦ absurd (w.2 (same_end h w.1 ∙ z)) ]) (inl (refl, refl))))
 
-    behind : {mid : Furthest} {e : ℕ} → Notes (IsUnmetIn text s at) now mid → HasEnd text s at (Some e) → e ≢ at → Left text now (RowTries text (Tail y s) r at) mid (Behind text r y e)
+    behind : {mid : Furthest} {e : ℕ} → Notes text (IsUnmetIn text s at) now mid → HasEnd text s at (Some e) → e ≢ at → Left text now (RowTries text (Tail y s) r at) mid (Behind text r y e)
     behind {e = e} n h d = go_on tail_left s at (Behind text r y e) n (λ x q t. elim t [
       | inl i ↦ inl i
       | inr w ↦ inr (subst (λ k. Behind text r y k x q) (same_end h w.1) w.3)
     ]) (inl (refl, refl)) (λ x q i. inr (e, it_ends h, d, i))
 
-    pub tail_back : {mid new : Furthest} {e : ℕ} → Notes (IsUnmetIn text s at) now mid → HasEnd text s at (Some e) → e ≢ at → Notes (IsUnmetIn text y e) mid new → HasEnd text y e None → Notes (IsUnmetIn text r p) old new
+    pub tail_back : {mid new : Furthest} {e : ℕ} → Notes text (IsUnmetIn text s at) now mid → HasEnd text s at (Some e) → e ≢ at → Notes text (IsUnmetIn text y e) mid new → HasEnd text y e None → Notes text (IsUnmetIn text r p) old new
     tail_back {new = new} {e = e} n h d m k = by_its_row text r p is refl (g.onward new (finish (behind n h d) y e m (λ x q t. elim t [ inl i ↦ i | inr w ↦ absurd (no_end k w.1) ]) (inl (refl, refl))))
 
     pub tail_ended : HasEnd text s at None → HasEnd text r p (Some at)
@@ -325,7 +328,7 @@ module _ (text : List ℕ) (r y s p : ℕ) (is : row_of r ≡ Tail y s) {old : F
         let more = ends_after webidl text y e z k in
         (omega (arith, on, more, d), ends_inside webidl text y e z k (ends_inside webidl text s at e h g.within))
 
-    pub tail_on : {mid new : Furthest} {e z : ℕ} → Notes (IsUnmetIn text s at) now mid → HasEnd text s at (Some e) → e ≢ at → Notes (IsUnmetIn text y e) mid new → HasEnd text y e (Some z) → Following text r y s p old z new
+    pub tail_on : {mid new : Furthest} {e z : ℕ} → Notes text (IsUnmetIn text s at) now mid → HasEnd text s at (Some e) → e ≢ at → Notes text (IsUnmetIn text y e) mid new → HasEnd text y e (Some z) → Following text r y s p old z new
     tail_on {e = e} {z = z} n h d m k = record {
       after = let a = g.after in let b = (tail_further h d k).0 in omega arith;
       within = (tail_further h d k).1;
@@ -340,10 +343,6 @@ module _ (text : List ℕ) (r y s p : ℕ) (is : row_of r ≡ Tail y s) {old : F
 pub led_tried : (text : List ℕ) (start : ℕ) {x q r p : ℕ} → Tried text start r p → Leads text x q r p → Tried text start x q
 led_tried text start {x} {q} {r} {p} t (itself s) = subst (λ k. Tried text start k q) (sym s.0) (subst (λ k. Tried text start r k) (sym s.1) t)
 led_tried text start t (on m l) = led_tried text start (by t m) l
-
-led_on : (text : List ℕ) {r p a b x q : ℕ} → Leads text r p a b → Tries text r p x q → Leads text x q a b
-led_on text {r} {p} {a} {b} {x} {q} (itself s) t = on (subst (λ k. Tries text k b x q) s.0 (subst (λ k. Tries text r k x q) s.1 t)) (itself (refl, refl))
-led_on text (on m l) t = on m (led_on text l t)
 
 pub tried_led : (text : List ℕ) (start : ℕ) {x q : ℕ} → Tried text start x q → Leads text x q DEFINITIONS start
 tried_led text start (at_first s) = itself s

@@ -10,6 +10,7 @@ pub mod LastBit
 pub mod MarkingFacts
 pub mod FurthestFacts
 pub mod BoundaryFacts
+pub mod NotedFacts
 pub mod NotingFacts
 pub mod LeadFacts
 pub mod TestFacts

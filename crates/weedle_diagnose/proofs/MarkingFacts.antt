@@ -5,7 +5,7 @@ use Rattle.std.proofs.lemmas.Bool.{cases_lt}
 use Rattle.weedle_grammar.specs.written.Bound.{rule_count}
 use Rattle.weedle_grammar.specs.written.Table.Definitions.{DEFINITIONS}
 use Rattle.weedle_rules.specs.Cells.{cell_number}
-use Rattle.weedle_diagnose.specs.Tries.{SameAttempt, Tries, Tried, at_first, by}
+use Rattle.weedle_starts.specs.Tries.{SameAttempt, Tries, Tried, at_first, by}
 use Rattle.weedle_diagnose.specs.Marks.{HasBit, IsSet, IsMarked, IsClear, Adds, AreTried, IsMarking}
 use Rattle.weedle_diagnose.proofs.LaterFacts.{tries_in, tries_before}
 

@@ -9,7 +9,7 @@ use Rattle.weedle_rules.specs.Cells.{HasEnd, cell_number}
 use Rattle.weedle_rules.proofs.RowEnds.{rule_ends}
 use Rattle.weedle_rules.proofs.ConditionEnds.{Note, NoteEnds, AlongIf, if_start, if_along_fails, if_along_ends, if_ends_none, if_ends_absent, if_ends_present}
 use Rattle.weedle_rules.proofs.OutcomeFacts.{it_ends}
-use Rattle.weedle_diagnose.specs.Tries.{SameAttempt, TriesInTurn, EndsWith, RowTries}
+use Rattle.weedle_starts.specs.Tries.{SameAttempt, TriesInTurn, EndsWith, RowTries}
 use Rattle.weedle_diagnose.specs.Noted.{IsUnmetIn, Notes}
 use Rattle.weedle_diagnose.specs.declared.noted.Furthest.{Furthest}
 use Rattle.weedle_diagnose.proofs.AddingFacts.{Attempts}
@@ -38,14 +38,14 @@ module _ (text : List ℕ) (r k y p : ℕ) (parts : List ℕ) (is : row_of r ≡
     pub testing_fails : HasEnd text x at None → HasEnd text r p None
     testing_fails h = rule_ends is (if_ends_none webidl text parts k y p (if_along_fails webidl text takes r k p x at parts rest note g.along h))
 
-    pub fails_noted : {new : Furthest} → Notes (IsUnmetIn text x at) now new → HasEnd text x at None → Notes (IsUnmetIn text r p) old new
+    pub fails_noted : {new : Furthest} → Notes text (IsUnmetIn text x at) now new → HasEnd text x at None → Notes text (IsUnmetIn text r p) old new
     fails_noted n h = by_its_row text r p is refl (finish g.left x at n (λ w q t. elim t [
       | inl (inl i) ↦ i
       | inl (inr i) ↦ absurd (no_end h i.1)
       | inr i ↦ absurd (breaks_off text parts k p i.0 false (if_along_fails webidl text takes r k p x at parts rest note g.along h) i.1)
     ]) (inl (inl (refl, refl))))
 
-    pub testing_step : {next : Note webidl text} {e : ℕ} {new : Furthest} → AlongIf webidl text takes r k p parts rest next e → HasEnd text x at (Some e) → Notes (IsUnmetIn text x at) now new → Testing text r k y p parts old rest next e new
+    pub testing_step : {next : Note webidl text} {e : ℕ} {new : Furthest} → AlongIf webidl text takes r k p parts rest next e → HasEnd text x at (Some e) → Notes text (IsUnmetIn text x at) now new → Testing text r k y p parts old rest next e new
     testing_step {e = e} along h n = record {
       along = along;
       left = go_on g.left x at (AndLast text parts rest k y p e) n (λ w q t. elim t [
@@ -68,7 +68,7 @@ module _ (text : List ℕ) (r k y p : ℕ) (parts : List ℕ) (is : row_of r ≡
     pub absent_end : Testing text r k y p parts old [] (inr false) at now → HasEnd text r p (Some at)
     absent_end g = rule_ends is (if_ends_absent webidl text parts k y p at (absent g))
 
-    pub absent_noted : Testing text r k y p parts old [] (inr false) at now → Notes (IsUnmetIn text r p) old now
+    pub absent_noted : Testing text r k y p parts old [] (inr false) at now → Notes text (IsUnmetIn text r p) old now
     absent_noted g = by_its_row text r p is refl (arrive g.left (λ w q t. elim t [ inl i ↦ i | inr i ↦ gave_none text parts k p at i.0 (absent g) i.1 ]))
 
     behind_all : Testing text r k y p parts old [] (inr true) at now → EndsWith text parts k p at
@@ -80,7 +80,7 @@ module _ (text : List ℕ) (r k y p : ℕ) (parts : List ℕ) (is : row_of r ≡
     pub present_end : (o : Option ℕ) → Testing text r k y p parts old [] (inr true) at now → HasEnd text y at o → HasEnd text r p o
     present_end o g h = rule_ends is (if_ends_present webidl text parts k y p at o (present g) h)
 
-    pub present_noted : {new : Furthest} → Testing text r k y p parts old [] (inr true) at now → Notes (IsUnmetIn text y at) now new → Notes (IsUnmetIn text r p) old new
+    pub present_noted : {new : Furthest} → Testing text r k y p parts old [] (inr true) at now → Notes text (IsUnmetIn text y at) now new → Notes text (IsUnmetIn text r p) old new
     present_noted g n = by_its_row text r p is refl (finish g.left y at n (λ w q t. elim t [
       | inl i ↦ absurd i
       | inr i ↦ (i.2.0, i.2.1 ∙ one_end text parts k p i.0 at i.1 (behind_all g))

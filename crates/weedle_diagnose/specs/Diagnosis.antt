@@ -1,7 +1,7 @@
 -- The furthest place at which something that is tried fails, and what fails there.
 use Rattle.std.specs.Prelude.{◌↔◌, ◌≤◌, ◌<◌, ℕ, List, length, slice_index, IsUtf8, IsCharBoundary}
 use Rattle.std.specs.List.{Contains}
-use Rattle.weedle_diagnose.specs.Tries.{IsUnmet}
+use Rattle.weedle_starts.specs.Tries.{IsUnmet}
 
 -- each number is greater than those before it
 abbrev pub IsRising : List ℕ → Type 0

@@ -4,7 +4,7 @@ use Rattle.std.specs.Int.{bit_at}
 use Rattle.weedle_grammar.specs.written.Bound.{rule_count}
 use Rattle.weedle_grammar.specs.written.Table.Definitions.{DEFINITIONS}
 use Rattle.weedle_rules.specs.Cells.{cell_number}
-use Rattle.weedle_diagnose.specs.Tries.{Tries, Tried}
+use Rattle.weedle_starts.specs.Tries.{Tries, Tried}
 
 -- among so many words there is a bit of rule r at p, in a text whose last place is this one
 pub record HasBit (last many r p : ℕ) : Type 0 where

@@ -4,7 +4,7 @@ use Rattle.weedle_grammar.specs.Rows.{Row, Seq, First, Opt, Many, ListOf, List1,
 use Rattle.weedle_grammar.specs.View.{numbers_of}
 use Rattle.weedle_grammar.specs.written.Bound.{rule_count}
 use Rattle.weedle_grammar.specs.written.Table.{row_of}
-use Rattle.weedle_diagnose.specs.Tries.{has_no_parts}
+use Rattle.weedle_starts.specs.Tries.{has_no_parts}
 use Rattle.weedle_grammar.specs.declared.row.Parts.{Parts}
 use Rattle.weedle_diagnose.specs.declared.ways.Way.{Way}
 use Rattle.weedle_diagnose.specs.declared.ways.Way.TheVariants as way

@@ -1,20 +1,31 @@
 //! What fails furthest on, by descent, without a table.
 //!
-//! Each rule is read where it is tried, and a rule without parts that fails is noted. Nothing is
-//! passed over: what can't begin with the byte that stands there is tried too, since that it fails
-//! is noted.
+//! Each rule is read where it is tried, and a rule without parts that fails is noted. What can't
+//! begin with the byte that stands there isn't read, since all that it would try fails there: it is
+//! noted as a whole.
 
-ghost use Rattle.std.specs.Prelude.{◌≡◌, ◌≤◌, ◌<◌, length, IfOk, if◌then◌else◌};
+ghost use Rattle.std.specs.Prelude.{
+  ◌≡◌,
+  ◌≤◌,
+  ◌<◌,
+  length,
+  false,
+  None,
+  IfOk,
+  IsTrue,
+  if◌then◌else◌,
+};
 ghost use Rattle.weedle_grammar.specs.Rows.{Seq, First, Opt, Many, ListOf, List1, Tail, If};
 ghost use Rattle.weedle_grammar.specs.View.{numbers_of};
 ghost use Rattle.weedle_grammar.specs.written.Bound.{rule_count};
 ghost use Rattle.weedle_grammar.specs.written.Table.{row_of as the_row_of};
 ghost use Rattle.weedle_rules.specs.Cells.{HasEnd};
+ghost use Rattle.weedle_starts.specs.Tries.{TriesHere};
 ghost use Rattle.weedle_diagnose.specs.Noted.{IsUnmetIn, Notes};
 
 use crate::noted::Furthest;
-use weedle_grammar::leaf_ends::{end_of_bytes, end_of_not_next, end_of_one, end_of_run, end_past};
 use weedle_grammar::{Parts, Row, Rule, row_of};
+use weedle_starts::source::Source;
 
 /// The descent gave up: it would have to read more rules than it may, or deeper in one another.
 #[derive(Drop)]
@@ -27,7 +38,7 @@ pub(crate) struct GaveUp;
 pub(crate) fn read(
     furthest: &mut Furthest,
     left: &mut usize,
-    text: &[u8],
+    text: &Source<'_>,
     rule: Rule,
     place: usize,
     depth: usize,
@@ -36,17 +47,21 @@ pub(crate) fn read(
     requires low { rule < rule_count }
     ensures end { IfOk result (λ o. HasEnd text.now rule place o) }
     ensures notes { IfOk result
-        (λ o. Notes (IsUnmetIn text.now rule place) furthest.old furthest.new) }
+        (λ o. Notes text.now (IsUnmetIn text.now rule place) furthest.old furthest.new) }
 {
     let below = step(left, depth)?;
+    if is_refused(furthest, text, rule, place) {
+        furthest.note(rule, place);
+        return Ok(None);
+    }
     match row_of(rule) {
-        Row::Bytes(bytes) => Ok(furthest.unless(end_of_bytes(bytes, text, place), rule, place)),
-        Row::OneOf(class) => Ok(furthest.unless(end_of_one(class, text, place), rule, place)),
+        Row::Bytes(bytes) => Ok(furthest.unless(text.end_of_bytes(bytes, place), rule, place)),
+        Row::OneOf(class) => Ok(furthest.unless(text.end_of_one(class, place), rule, place)),
         Row::NotNext(class) => {
-            Ok(furthest.unless(end_of_not_next(class, text, place), rule, place))
+            Ok(furthest.unless(text.end_of_not_next(class, place), rule, place))
         }
-        Row::Run(class) => Ok(Some(end_of_run(class, text, place))),
-        Row::Past(bytes) => Ok(furthest.unless(end_past(bytes, text, place), rule, place)),
+        Row::Run(class) => Ok(Some(text.end_of_run(class, place))),
+        Row::Past(bytes) => Ok(furthest.unless(text.end_past(bytes, place), rule, place)),
         Row::Seq(parts) => read_parts(furthest, left, text, rule, place, parts, below),
         Row::First(choices) => read_choice(furthest, left, text, rule, place, choices, below),
         Row::Opt(item) => read_optional(furthest, left, text, rule, place, item, below),
@@ -60,6 +75,20 @@ pub(crate) fn read(
             read_conditional(furthest, left, text, rule, place, parts, k, y, below)
         }
     }
+}
+
+/// Whether the rule is noted as a whole, since it can't begin with the byte that stands there.
+#[inline(always)]
+fn is_refused(furthest: &Furthest, text: &Source<'_>, rule: Rule, place: usize) -> bool
+    requires { place ≤ length text.now }
+    ensures leaves { IsTrue result → furthest.now.leaves ≡ false }
+    ensures end { IsTrue result → HasEnd text.now rule place None }
+    ensures here { IsTrue result → TriesHere text.now rule place }
+{
+    if furthest.leaves {
+        return false;
+    }
+    text.refuses(rule, place)
 }
 
 /// Counts a rule that is read, and says how deep those may stand in one another that it reads.
@@ -77,7 +106,7 @@ fn step(left: &mut usize, depth: usize) -> Result<usize, GaveUp> {
 fn read_parts(
     furthest: &mut Furthest,
     left: &mut usize,
-    text: &[u8],
+    text: &Source<'_>,
     rule: Rule,
     place: usize,
     parts: Parts,
@@ -88,7 +117,7 @@ fn read_parts(
     requires row { the_row_of rule ≡ Seq (numbers_of parts) }
     ensures end { IfOk result (λ o. HasEnd text.now rule place o) }
     ensures notes { IfOk result
-        (λ o. Notes (IsUnmetIn text.now rule place) furthest.old furthest.new) }
+        (λ o. Notes text.now (IsUnmetIn text.now rule place) furthest.old furthest.new) }
 {
     let mut at = place;
     for i in 0..parts.len() {
@@ -105,7 +134,7 @@ fn read_parts(
 fn read_choice(
     furthest: &mut Furthest,
     left: &mut usize,
-    text: &[u8],
+    text: &Source<'_>,
     rule: Rule,
     place: usize,
     choices: Parts,
@@ -116,7 +145,7 @@ fn read_choice(
     requires row { the_row_of rule ≡ First (numbers_of choices) }
     ensures end { IfOk result (λ o. HasEnd text.now rule place o) }
     ensures notes { IfOk result
-        (λ o. Notes (IsUnmetIn text.now rule place) furthest.old furthest.new) }
+        (λ o. Notes text.now (IsUnmetIn text.now rule place) furthest.old furthest.new) }
 {
     for i in 0..choices.len() {
         match read(furthest, left, text, choices.rule(i), place, depth)? {
@@ -132,7 +161,7 @@ fn read_choice(
 fn read_optional(
     furthest: &mut Furthest,
     left: &mut usize,
-    text: &[u8],
+    text: &Source<'_>,
     rule: Rule,
     place: usize,
     item: Rule,
@@ -143,7 +172,7 @@ fn read_optional(
     requires row { the_row_of rule ≡ Opt item }
     ensures end { IfOk result (λ o. HasEnd text.now rule place o) }
     ensures notes { IfOk result
-        (λ o. Notes (IsUnmetIn text.now rule place) furthest.old furthest.new) }
+        (λ o. Notes text.now (IsUnmetIn text.now rule place) furthest.old furthest.new) }
 {
     match read(furthest, left, text, item, place, depth)? {
         Some(end) => Ok(Some(end)),
@@ -156,7 +185,7 @@ fn read_optional(
 fn read_items(
     furthest: &mut Furthest,
     left: &mut usize,
-    text: &[u8],
+    text: &Source<'_>,
     rule: Rule,
     place: usize,
     item: Rule,
@@ -167,7 +196,7 @@ fn read_items(
     requires row { the_row_of rule ≡ Many item }
     ensures end { IfOk result (λ o. HasEnd text.now rule place o) }
     ensures notes { IfOk result
-        (λ o. Notes (IsUnmetIn text.now rule place) furthest.old furthest.new) }
+        (λ o. Notes text.now (IsUnmetIn text.now rule place) furthest.old furthest.new) }
 {
     let mut at = place;
     loop {
@@ -187,7 +216,7 @@ fn read_items(
 fn read_list(
     furthest: &mut Furthest,
     left: &mut usize,
-    text: &[u8],
+    text: &Source<'_>,
     rule: Rule,
     place: usize,
     item: Rule,
@@ -199,7 +228,7 @@ fn read_list(
     requires row { the_row_of rule ≡ ListOf item tail }
     ensures end { IfOk result (λ o. HasEnd text.now rule place o) }
     ensures notes { IfOk result
-        (λ o. Notes (IsUnmetIn text.now rule place) furthest.old furthest.new) }
+        (λ o. Notes text.now (IsUnmetIn text.now rule place) furthest.old furthest.new) }
 {
     match read(furthest, left, text, item, place, depth)? {
         Some(at) => {
@@ -215,7 +244,7 @@ fn read_list(
 fn read_list1(
     furthest: &mut Furthest,
     left: &mut usize,
-    text: &[u8],
+    text: &Source<'_>,
     rule: Rule,
     place: usize,
     item: Rule,
@@ -227,7 +256,7 @@ fn read_list1(
     requires row { the_row_of rule ≡ List1 item tail }
     ensures end { IfOk result (λ o. HasEnd text.now rule place o) }
     ensures notes { IfOk result
-        (λ o. Notes (IsUnmetIn text.now rule place) furthest.old furthest.new) }
+        (λ o. Notes text.now (IsUnmetIn text.now rule place) furthest.old furthest.new) }
 {
     match read(furthest, left, text, item, place, depth)? {
         Some(at) => {
@@ -243,7 +272,7 @@ fn read_list1(
 fn read_tail(
     furthest: &mut Furthest,
     left: &mut usize,
-    text: &[u8],
+    text: &Source<'_>,
     rule: Rule,
     place: usize,
     item: Rule,
@@ -255,7 +284,7 @@ fn read_tail(
     requires row { the_row_of rule ≡ Tail item separator }
     ensures end { IfOk result (λ o. HasEnd text.now rule place o) }
     ensures notes { IfOk result
-        (λ o. Notes (IsUnmetIn text.now rule place) furthest.old furthest.new) }
+        (λ o. Notes text.now (IsUnmetIn text.now rule place) furthest.old furthest.new) }
 {
     let mut at = place;
     loop {
@@ -279,7 +308,7 @@ fn read_tail(
 fn read_conditional(
     furthest: &mut Furthest,
     left: &mut usize,
-    text: &[u8],
+    text: &Source<'_>,
     rule: Rule,
     place: usize,
     parts: Parts,
@@ -292,7 +321,7 @@ fn read_conditional(
     requires row { the_row_of rule ≡ If (numbers_of parts) k y }
     ensures end { IfOk result (λ o. HasEnd text.now rule place o) }
     ensures notes { IfOk result
-        (λ o. Notes (IsUnmetIn text.now rule place) furthest.old furthest.new) }
+        (λ o. Notes text.now (IsUnmetIn text.now rule place) furthest.old furthest.new) }
 {
     let mut at = place;
     let mut present = false;

@@ -19,6 +19,7 @@ mod diagnosis;
 mod marking;
 mod marks;
 mod noted;
+mod opened;
 mod quick;
 mod tries;
 mod unmet;

@@ -20,7 +20,7 @@ ghost use Rattle.std.specs.Prelude.{
   IfNone,
 };
 ghost use Rattle.weedle_rules.specs.Cells.{cell_number};
-ghost use Rattle.weedle_diagnose.specs.Tries.{SameAttempt};
+ghost use Rattle.weedle_starts.specs.Tries.{SameAttempt};
 ghost use Rattle.weedle_diagnose.specs.Marks.{HasBit, IsSet, IsMarked, Adds, IsLastSet, IsClear};
 
 use weedle_grammar::{RULES, Rule};

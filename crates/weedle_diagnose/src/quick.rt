@@ -3,22 +3,19 @@
 ghost use Rattle.std.specs.Prelude.{◌≤◌, length, IfOk, IfSome};
 ghost use Rattle.weedle_diagnose.specs.Diagnosis.{IsDiagnosis};
 
-use crate::descent::read;
 use crate::diagnosis::{Diagnosis, diagnose_from};
-use crate::noted::Furthest;
+use crate::opened::furthest_from;
 use std::alloc::{AllocError, Global};
-use weedle_grammar::Rule;
 use weedle_rules::Ends;
+use weedle_starts::source::Source;
+use weedle_starts::starts::starts;
 
 /// How many rules descent may read for each byte of the text from the place on. Of what people
-/// write it reads 4 to 30.
+/// write it reads 2 to 5.
 const READS_A_BYTE: usize = 64;
 
 /// How many more it may read, so that a short definition may have long extended attributes.
 const MORE_READS: usize = 20_000;
-
-/// How many rules descent may read in one another. Each takes some 220 bytes of the stack.
-const MOST_DEPTH: usize = 600;
 
 /// The same as [`diagnose_from`] without a table, or None where descent gives up.
 ///
@@ -26,8 +23,8 @@ const MOST_DEPTH: usize = 600;
 /// place on what the rules try there, up to the first definition that isn't read, and nothing
 /// behind that.
 ///
-/// It asks for memory for the list alone. It takes some 200 to 300 nanoseconds for each byte that
-/// it reads, and at most 140 kB of the stack. It gives up where it would have to read more than 64
+/// It asks for memory for the list alone. It takes some 30 to 100 nanoseconds for each byte that it
+/// reads, and at most 200 kB of the stack. It gives up where it would have to read more than 64
 /// rules for each byte from the place on and 20,000, as where extended attributes nest, or more
 /// than 600 in one another, as of 100 `sequence<` that are open.
 pub fn diagnose_by_descent(
@@ -39,20 +36,13 @@ pub fn diagnose_by_descent(
     ensures { IfOk result
         (λ found. IfSome found (λ d. IsDiagnosis text.now start d.place d.expected.items)) }
 {
-    let bytes = text.as_bytes();
-    let mut furthest = Furthest::new(start);
-    let mut left = (bytes.len() - start)
+    let starts = starts();
+    let source = Source::new(text.as_bytes(), &starts);
+    let most = (text.len() - start)
         .saturating_mul(READS_A_BYTE)
         .saturating_add(MORE_READS);
-    match read(
-        &mut furthest,
-        &mut left,
-        bytes,
-        Rule::DEFINITIONS,
-        start,
-        MOST_DEPTH,
-    ) {
-        Ok(_) => {
+    match furthest_from(&source, start, most) {
+        Ok(furthest) => {
             let expected = furthest.rules(alloc)?;
             Ok(Some(Diagnosis {
                 place: furthest.place,

@@ -2,7 +2,7 @@
 
 ghost use Rattle.std.specs.Prelude.{◌^◌, ◌≡◌, ◌<◌, ◌*◌, length};
 ghost use Rattle.weedle_grammar.specs.written.Bound.{rule_count};
-ghost use Rattle.weedle_diagnose.specs.Tries.{Tries};
+ghost use Rattle.weedle_starts.specs.Tries.{Tries};
 ghost use Rattle.weedle_diagnose.specs.Marks.{HasBit, Adds};
 ghost use Rattle.weedle_diagnose.specs.Ways.{AreWays};
 

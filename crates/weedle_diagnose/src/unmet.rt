@@ -18,7 +18,7 @@ ghost use Rattle.std.specs.Prelude.{
 ghost use Rattle.std.specs.List.{Contains};
 ghost use Rattle.weedle_grammar.specs.written.Bound.{rule_count};
 ghost use Rattle.weedle_grammar.specs.written.Table.{row_of as the_row_of};
-ghost use Rattle.weedle_diagnose.specs.Tries.{IsUnmet, has_no_parts as lacks_parts};
+ghost use Rattle.weedle_starts.specs.Tries.{IsUnmet, has_no_parts as lacks_parts};
 ghost use Rattle.weedle_diagnose.specs.Marks.{AreTried, HasBit};
 ghost use Rattle.weedle_diagnose.specs.Diagnosis.{IsRising};
 

@@ -9,7 +9,8 @@ use Rattle.weedle_grammar.proofs.Leaves.{both}
 use Rattle.weedle_grammar.proofs.Entries.{passes}
 use Rattle.weedle_syntax.specs.declared.node.Node.{Node}
 use Rattle.weedle_syntax.specs.Parts.{IsNode, AreInTurn, IsFirst, AreItems, AreFollowing, AreParts}
-use Rattle.weedle_syntax.proofs.ChildFacts.{Each, or_right, and_true}
+use Rattle.weedle_starts.proofs.BoolFacts.{and_true, or_right}
+use Rattle.weedle_syntax.proofs.ChildFacts.{Each}
 use Rattle.weedle_formatter.proofs.Said.{is_solid}
 
 -- the rules that a row names pass a test

@@ -10,7 +10,8 @@ use Rattle.weedle_grammar.specs.written.Table.Leaves.{IDENTIFIER}
 use Rattle.weedle_grammar.proofs.Entries.{passes}
 use Rattle.weedle_syntax.specs.declared.node.Node.{Node}
 use Rattle.weedle_syntax.specs.Parts.{AreInTurn, IsFirst, AreItems, AreFollowing, AreParts, HasParts}
-use Rattle.weedle_syntax.proofs.ChildFacts.{Each, each_so, or_left, or_right}
+use Rattle.weedle_starts.proofs.BoolFacts.{or_left, or_right}
+use Rattle.weedle_syntax.proofs.ChildFacts.{Each, each_so}
 use Rattle.weedle_places.specs.declared.role.Role.{Role}
 use Rattle.weedle_places.specs.Roles.{or_else, of_later, first_role, role_of}
 

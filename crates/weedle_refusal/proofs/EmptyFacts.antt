@@ -13,7 +13,7 @@ use Rattle.weedle_grammar.proofs.Exists.{advances, has_outcome, stays_inside}
 use Rattle.weedle_grammar.proofs.Leaves.{both}
 use Rattle.weedle_grammar.proofs.Takes.{takes}
 use Rattle.weedle_rules.specs.Outcomes.{EndsAt, FailsAt}
-use Rattle.weedle_diagnose.specs.Tries.{RowTries, TriesByChoice, TriesInTurn}
+use Rattle.weedle_starts.specs.Tries.{RowTries, TriesByChoice, TriesInTurn}
 use Rattle.weedle_refusal.proofs.OnceFacts.{behind, first, first_cases, nothing}
 use Rattle.weedle_refusal.proofs.StartFacts.{all_among, among, each_passes, none_lacks}
 use Rattle.weedle_refusal.specs.Starts.{AreStarts, TriesHere, itself, by}

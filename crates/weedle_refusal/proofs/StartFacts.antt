@@ -14,7 +14,7 @@ use Rattle.weedle_grammar.proofs.Leaves.{both, one_of}
 use Rattle.weedle_grammar.proofs.Ranked.{some_takes}
 use Rattle.weedle_grammar.proofs.Takes.{takes}
 use Rattle.weedle_rules.specs.Outcomes.{EndsAt}
-use Rattle.weedle_diagnose.specs.Tries.{EndsWith, RowTries, TriesByChoice, TriesInTurn}
+use Rattle.weedle_starts.specs.Tries.{EndsWith, RowTries, TriesByChoice, TriesInTurn}
 use Rattle.weedle_refusal.proofs.OnceFacts.{behind, first, first_cases, nothing}
 use Rattle.weedle_refusal.specs.Starts.{TriesHere, itself, by}
 use Rattle.weedle_refusal.specs.Words.{has, has_word}

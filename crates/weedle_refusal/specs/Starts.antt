@@ -1,7 +1,7 @@
 -- By which rules what a rule reads begins.
 use Rattle.std.specs.Prelude.{◌≡◌, ℕ, List, [], true}
 use Rattle.std.specs.List.{Contains}
-use Rattle.weedle_diagnose.specs.Tries.{Tries}
+use Rattle.weedle_starts.specs.Tries.{Tries}
 use Rattle.weedle_refusal.specs.Words.{has_word}
 
 -- where rule r is tried at p, rule x is tried at p too: it is r, or a rule that r tries at p by its row tries x there

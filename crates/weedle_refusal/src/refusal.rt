@@ -57,7 +57,7 @@ pub fn refusal_of(alloc: Global, raw: &str) -> Result<Option<Refusal>, AllocErro
 
 /// Why a text is refused whose unread rest begins at this place, as `syntax_of_front` has it.
 ///
-/// It reads the rest as [`furthest_in`] does, mostly in some 200 to 300 nanoseconds for each byte
+/// It reads the rest as [`furthest_in`] does, mostly in some 30 to 100 nanoseconds for each byte
 /// of the definition that isn't read. Beside that it costs what [`hint_of`] costs. Where memory is
 /// refused, the answer is an error.
 pub fn refusal_from(alloc: Global, raw: &str, start: usize) -> Result<Refusal, AllocError>

@@ -10,14 +10,15 @@ use Rattle.weedle_grammar.proofs.Leaves.{both, one_of}
 use Rattle.weedle_grammar.proofs.Ranked.{is_low, low_parts, all_low, some_takes}
 use Rattle.weedle_grammar.proofs.Takes.{takes}
 use Rattle.weedle_grammar.proofs.Checked.{rank, ranked}
-use Rattle.weedle_grammar.proofs.Entries.{passes}
 use Rattle.weedle_grammar.proofs.Exists.{grows, stays_inside, advances}
 use Rattle.weedle_rules.proofs.RowEnds.{is_before}
 use Rattle.weedle_rules.proofs.PartEnds.{below}
 use Rattle.weedle_rules.specs.Outcomes.{EndsAt}
 use Rattle.weedle_syntax.specs.declared.node.Node.{Node}
 use Rattle.weedle_syntax.specs.Parts.{IsNode, AreInTurn, IsFirst, AreItems, AreFollowing, AreParts, HasParts}
-use Rattle.weedle_syntax.proofs.ReadFacts.{ends_after, ends_inside, tail_goes}
+use Rattle.weedle_starts.proofs.BoolFacts.{and_true, or_left, or_right}
+use Rattle.weedle_starts.proofs.LaterFacts.{names_rules, named}
+use Rattle.weedle_starts.proofs.ReadFacts.{ends_after, ends_inside, tail_goes}
 
 -- something is so of each node
 abbrev pub Each : (Node → Type 0) → List Node → Type 0
@@ -31,25 +32,6 @@ each_append P (n ∷ ns) ms a b = (a.0, each_append P ns ms a.1 b)
 pub each_so : (P Q : Node → Type 0) (ns : List Node) → ((n : Node) → P n → Q n) → Each P ns → Each Q ns
 each_so P Q [] f a = a
 each_so P Q (n ∷ ns) f a = (f n a.0, each_so P Q ns f a.1)
-
--- the numbers in a row are those of rules
-abbrev pub names_rules : Row → Bool
-names_rules (Seq parts) = are_rules parts
-names_rules (First parts) = are_rules parts
-names_rules (Opt x) = nat_lt x rule_count
-names_rules (Many x) = nat_lt x rule_count
-names_rules (ListOf x t) = nat_lt x rule_count && nat_lt t rule_count
-names_rules (List1 x t) = nat_lt x rule_count && nat_lt t rule_count
-names_rules (Tail x s) = nat_lt x rule_count && nat_lt s rule_count
-names_rules (If parts k y) = are_rules parts && nat_lt y rule_count
-names_rules (Bytes b) = true
-names_rules (OneOf c) = true
-names_rules (NotNext c) = true
-names_rules (Run c) = true
-names_rules (Past b) = true
-
-pub named : (r : ℕ) → names_rules (row_of r) ≡ true
-named = passes (λ r e. names_rules e.row) (λ n r. refl) refl
 
 -- a node of depth d that a rule r reads at p
 pub record IsChild (text : List ℕ) (r p d : ℕ) (n : Node) : Type 0 where
@@ -71,22 +53,9 @@ rules_two true true h = refl
 rules_two true false h = cc
 rules_two false b h = cc
 
-pub and_true : (a b : Bool) → a ≡ true → b ≡ true → a && b ≡ true
-and_true true true h k = refl
-and_true true false h k = cc
-and_true false b h k = cc
-
 more_rules : (y : ℕ) (rs : List ℕ) → are_rules rs ≡ true → nat_lt y rule_count ≡ true → are_rules (rs ++ y ∷ []) ≡ true
 more_rules y [] h k = and_true _ true k refl
 more_rules y (r ∷ rs) h k = and_true _ _ (both _ _ h).0 (more_rules y rs (both _ _ h).1 k)
-
-pub or_left : (a b : Bool) → a ≡ true → a || b ≡ true
-or_left true b h = refl
-or_left false b h = cc
-
-pub or_right : (a b : Bool) → b ≡ true → a || b ≡ true
-or_right true b h = refl
-or_right false b h = h
 
 -- a part more, which is low where none of those before takes a byte
 low_more : (k y : ℕ) (rs : List ℕ) → low_parts rank takes k rs ≡ true → some_takes rank takes rs || nat_lt y k ≡ true → low_parts rank takes k (rs ++ y ∷ []) ≡ true

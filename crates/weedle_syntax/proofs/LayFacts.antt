@@ -12,7 +12,7 @@ use Rattle.weedle_rules.specs.Outcomes.{EndsAt}
 use Rattle.weedle_rules.proofs.OutcomeFacts.{it_ends, it_fails, one_end, not_both}
 use Rattle.weedle_syntax.specs.declared.node.Node.{Node}
 use Rattle.weedle_syntax.specs.Parts.{AreInTurn, IsFirst, AreItems, AreFollowing, AreListed, ListReads, AreParts}
-use Rattle.weedle_syntax.proofs.ReadFacts.{AreRead, first_part, ends_inside, ends_after, first_reads, opt_reads, list1_item, many_goes, many_stops, tail_goes, tail_stops, tail_turns_back, if_reads}
+use Rattle.weedle_starts.proofs.ReadFacts.{AreRead, first_part, ends_inside, ends_after, first_reads, opt_reads, list1_item, many_goes, many_stops, tail_goes, tail_stops, tail_turns_back, if_reads}
 use Rattle.weedle_syntax.specs.Laid.{node}
 use Rattle.weedle_syntax.proofs.TurnFacts.{is_node, one_node, sequence_end, turn_append, turn_end_is, turn_length, Tells, tells}
 

@@ -10,7 +10,7 @@ use Rattle.weedle_syntax.specs.declared.node.Node.{Node}
 use Rattle.weedle_syntax.specs.Parts.{IsNode, AreInTurn, IsFirst, AreItems, AreFollowing, AreParts}
 use Rattle.weedle_syntax.specs.Syntax.{root_to, IsSyntaxTo, leaves_of}
 use Rattle.weedle_syntax.proofs.TreeFacts.{AreNodes, AreAll, nodes_of}
-use Rattle.weedle_syntax.proofs.ReadFacts.{ends_after}
+use Rattle.weedle_starts.proofs.ReadFacts.{ends_after}
 
 -- nodes from p to e, each from the end of the one before
 abbrev pub Tile : ℕ → ℕ → List Node → Type 0

@@ -1,4 +1,3 @@
-pub mod ReadFacts
 pub mod TurnFacts
 pub mod LayFacts
 pub mod ChildFacts
@@ -17,7 +16,4 @@ pub mod FrontFacts
 pub mod BelowFacts
 pub mod StepFacts
 pub mod WalkFacts
-pub mod StartFacts
-pub mod BeginFacts
 pub mod InnerFacts
-pub mod WordFacts

@@ -14,10 +14,10 @@ use Rattle.weedle_rules.proofs.OutcomeFacts.{it_ends, it_fails}
 use Rattle.weedle_syntax.specs.declared.node.Node.{Node}
 use Rattle.weedle_syntax.specs.Parts.{AreInTurn, AreItems, AreFollowing, AreParts}
 use Rattle.weedle_syntax.specs.Laid.{node, Adds, LaysNode, LaysParts}
-use Rattle.weedle_syntax.proofs.ReadFacts.{ends_after, ends_inside}
+use Rattle.weedle_starts.proofs.ReadFacts.{ends_after, ends_inside}
 use Rattle.weedle_syntax.proofs.TurnFacts.{is_node, one_node}
 use Rattle.weedle_syntax.proofs.LayFacts.{by_its_row}
-use Rattle.weedle_syntax.proofs.ChildFacts.{names_rules, named}
+use Rattle.weedle_starts.proofs.LaterFacts.{names_rules, named}
 use Rattle.weedle_syntax.proofs.DescentFacts.{none_added, more_added, still_added, some_more}
 
 pub row_named : (r : ℕ) {row : Row} → row_of r ≡ row → names_rules row ≡ true

@@ -24,10 +24,10 @@ ghost use Rattle.weedle_syntax.specs.Laid.{LaysNode, LaysParts};
 ghost use Rattle.weedle_syntax.specs.Syntax.{RestBegins, IsSyntaxTo};
 
 use crate::node::Node;
-use crate::source::Source;
-use crate::starts::starts;
 use std::alloc::AllocError;
 use weedle_grammar::{Parts, Row, Rule, row_of};
+use weedle_starts::source::Source;
+use weedle_starts::starts::starts;
 
 /// Lays down the rule's node and all below it, and says where it ends; nothing where it fails.
 #[cycle(descent)]

@@ -25,8 +25,6 @@ pub mod laws;
 mod node;
 mod quick;
 mod readers;
-mod source;
-mod starts;
 mod tree;
 mod walk;
 

@@ -3,7 +3,7 @@
 ghost use Rattle.std.specs.Prelude.{◌^◌, ◌≡◌, ◌<◌, ◌*◌, ℕ, length};
 ghost use Rattle.weedle_grammar.specs.Rows.{Many, Tail};
 ghost use Rattle.weedle_grammar.specs.written.Table.{row_of};
-ghost use Rattle.weedle_diagnose.specs.Tries.{Tries, TriesListed};
+ghost use Rattle.weedle_starts.specs.Tries.{Tries, TriesListed};
 ghost use Rattle.weedle_diagnose.specs.Marks.{HasBit, Adds};
 
 use crate::marks::mark;

@@ -5,7 +5,7 @@ ghost use Rattle.weedle_grammar.specs.written.Bound.{rule_count};
 ghost use Rattle.weedle_grammar.specs.Rows.{If};
 ghost use Rattle.weedle_grammar.specs.written.Table.{row_of};
 ghost use Rattle.weedle_grammar.specs.View.{numbers_of};
-ghost use Rattle.weedle_diagnose.specs.Tries.{Tries, TriesInTurn, TriesByChoice, EndsWith};
+ghost use Rattle.weedle_starts.specs.Tries.{Tries, TriesInTurn, TriesByChoice, EndsWith};
 ghost use Rattle.weedle_diagnose.specs.Marks.{HasBit, Adds};
 
 use crate::marks::mark;

@@ -9,9 +9,17 @@ use Rattle.weedle_rules.proofs.ConditionEnds.{if_step, present, note_more, note_
 use Rattle.weedle_rules.proofs.FewReads.{if_switch}
 use Rattle.weedle_rules.proofs.ListFrom.{next_part, no_part}
 use Rattle.weedle_rules.proofs.RowEnds.{rule_ends, bytes_ends, one_ends, not_next_ends, run_ends, past_ends}
-use Rattle.weedle_diagnose.proofs.LeadFacts.{has_now, leaf_noted, turning, part_on, part_fails, failed_noted, parts_end, parts_noted, choosing, choice_goes_on, chosen_end, chosen_noted, none_chosen, none_noted, opt_before, opt_there, opt_none, opt_noted, list_before, list_next, list_more, list_none, list_noted, list_none_noted, list1_before, list1_next, list1_more, list1_none, list1_noted, list1_none_noted, item_before, items_end, items_ended, items_stuck, items_broken, items_on, items_further, separator_before, item_after, tail_end, tail_ended, tail_stuck, tail_broken, tail_back, tail_gave_back, tail_on, tail_further}
+use Rattle.weedle_diagnose.proofs.LeadFacts.{has_now, refused_noted, leaf_noted, turning, part_on, part_fails, failed_noted, parts_end, parts_noted, choosing, choice_goes_on, chosen_end, chosen_noted, none_chosen, none_noted, opt_before, opt_there, opt_none, opt_noted, list_before, list_next, list_more, list_none, list_noted, list_none_noted, list1_before, list1_next, list1_more, list1_none, list1_noted, list1_none_noted, item_before, items_end, items_ended, items_stuck, items_broken, items_on, items_further, separator_before, item_after, tail_end, tail_ended, tail_stuck, tail_broken, tail_back, tail_gave_back, tail_on, tail_further}
 use Rattle.weedle_diagnose.proofs.TestFacts.{testing_start, testing_fails, fails_noted, testing_step, absent_end, absent_noted, present_before, present_end, present_noted}
 use Rattle.weedle_diagnose.proofs.descent.+descent.Goals as goal
+
+-- what can't begin with the byte that stands there
+pub read-returns-then-is_refused-clause-end : goal.read-returns-then-is_refused-clause-end
+read-returns-then-is_refused-clause-end t c = c.is_refused.ensures.end c.if-is_refused.true
+
+pub read-returns-then-is_refused-clause-notes : goal.read-returns-then-is_refused-clause-notes
+read-returns-then-is_refused-clause-notes t c =
+    refused_noted c.args.text.now c.args.rule c.args.place c.requires.within c.requires.low (c.is_refused.ensures.end c.if-is_refused.true) (c.is_refused.ensures.here c.if-is_refused.true) (c.is_refused.ensures.leaves c.if-is_refused.true) c.note.ensures
 
 -- rows without parts
 pub read-returns-in-Bytes-clause-end : goal.read-returns-in-Bytes-clause-end
@@ -19,7 +27,7 @@ read-returns-in-Bytes-clause-end t c = rule_ends (sym c.in-Bytes.ensures) (bytes
 
 pub read-returns-in-Bytes-clause-notes : goal.read-returns-in-Bytes-clause-notes
 read-returns-in-Bytes-clause-notes t c =
-    leaf_noted c.args.text.now c.args.rule c.args.place (sym c.in-Bytes.ensures) refl (λ x q h. h) c.end_of_bytes.result
+    leaf_noted c.args.text.now c.args.rule c.args.place (sym c.in-Bytes.ensures) refl (λ x q h. h) c.end_of_bytes.result c.requires.within c.requires.low
     (rule_ends (sym c.in-Bytes.ensures) (bytes_ends webidl c.args.text.now _ c.args.place _ c.end_of_bytes.ensures)) c.unless.ensures.notes
 
 pub read-returns-in-OneOf-clause-end : goal.read-returns-in-OneOf-clause-end
@@ -27,7 +35,7 @@ read-returns-in-OneOf-clause-end t c = rule_ends (sym c.in-OneOf.ensures) (one_e
 
 pub read-returns-in-OneOf-clause-notes : goal.read-returns-in-OneOf-clause-notes
 read-returns-in-OneOf-clause-notes t c =
-    leaf_noted c.args.text.now c.args.rule c.args.place (sym c.in-OneOf.ensures) refl (λ x q h. h) c.end_of_one.result
+    leaf_noted c.args.text.now c.args.rule c.args.place (sym c.in-OneOf.ensures) refl (λ x q h. h) c.end_of_one.result c.requires.within c.requires.low
     (rule_ends (sym c.in-OneOf.ensures) (one_ends webidl c.args.text.now _ c.args.place _ c.end_of_one.ensures)) c.unless-in-OneOf.ensures.notes
 
 pub read-returns-in-NotNext-clause-end : goal.read-returns-in-NotNext-clause-end
@@ -35,7 +43,7 @@ read-returns-in-NotNext-clause-end t c = rule_ends (sym c.in-NotNext.ensures) (n
 
 pub read-returns-in-NotNext-clause-notes : goal.read-returns-in-NotNext-clause-notes
 read-returns-in-NotNext-clause-notes t c =
-    leaf_noted c.args.text.now c.args.rule c.args.place (sym c.in-NotNext.ensures) refl (λ x q h. h) c.end_of_not_next.result
+    leaf_noted c.args.text.now c.args.rule c.args.place (sym c.in-NotNext.ensures) refl (λ x q h. h) c.end_of_not_next.result c.requires.within c.requires.low
     (rule_ends (sym c.in-NotNext.ensures) (not_next_ends webidl c.args.text.now _ c.args.place _ c.end_of_not_next.ensures)) c.unless-in-NotNext.ensures.notes
 
 pub read-returns-in-Past-clause-end : goal.read-returns-in-Past-clause-end
@@ -43,7 +51,7 @@ read-returns-in-Past-clause-end t c = rule_ends (sym c.in-Past.ensures) (past_en
 
 pub read-returns-in-Past-clause-notes : goal.read-returns-in-Past-clause-notes
 read-returns-in-Past-clause-notes t c =
-    leaf_noted c.args.text.now c.args.rule c.args.place (sym c.in-Past.ensures) refl (λ x q h. h) c.end_past.result
+    leaf_noted c.args.text.now c.args.rule c.args.place (sym c.in-Past.ensures) refl (λ x q h. h) c.end_past.result c.requires.within c.requires.low
     (rule_ends (sym c.in-Past.ensures) (past_ends webidl c.args.text.now _ c.args.place _ c.end_past.ensures)) c.unless-in-Past.ensures.notes
 
 pub read-returns-in-Run-clause-end : goal.read-returns-in-Run-clause-end
@@ -51,7 +59,7 @@ read-returns-in-Run-clause-end t c = rule_ends (sym c.in-Run.ensures) (run_ends 
 
 pub read-returns-in-Run-clause-notes : goal.read-returns-in-Run-clause-notes
 read-returns-in-Run-clause-notes t c =
-    leaf_noted c.args.text.now c.args.rule c.args.place (sym c.in-Run.ensures) refl (λ x q h. h) (Some c.end_of_run.result)
+    leaf_noted c.args.text.now c.args.rule c.args.place (sym c.in-Run.ensures) refl (λ x q h. h) (Some c.end_of_run.result) c.requires.within c.requires.low
     (rule_ends (sym c.in-Run.ensures) (run_ends webidl c.args.text.now _ c.args.place _ (ap Some c.end_of_run.ensures))) refl
 
 -- sequences

@@ -1,6 +1,6 @@
 use Rattle.std.proofs.Common.{◌≡◌, ◌+◌, ◌-◌, ◌/◌, subst, sym, arith, ap}
 use Rattle.weedle_grammar.specs.written.Bound.{rule_count}
-use Rattle.weedle_diagnose.specs.Tries.{Tries}
+use Rattle.weedle_starts.specs.Tries.{Tries}
 use Rattle.weedle_diagnose.specs.Marks.{Adds}
 use Rattle.weedle_diagnose.proofs.MarkingFacts.{step_at, marking_skip}
 use Rattle.weedle_diagnose.proofs.marking.close_cell.Goals as goal

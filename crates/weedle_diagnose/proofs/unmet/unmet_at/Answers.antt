@@ -1,6 +1,6 @@
 use Rattle.std.proofs.Common.{◌≡◌, true, refl, rules, arith}
 use Rattle.weedle_grammar.specs.written.Bound.{rule_count}
-use Rattle.weedle_diagnose.specs.Tries.{IsUnmet}
+use Rattle.weedle_starts.specs.Tries.{IsUnmet}
 use Rattle.weedle_diagnose.proofs.ListingFacts.{lists_none, lists_same, lists_pushed, lists_skipped, lists_whole}
 use Rattle.weedle_diagnose.proofs.unmet.unmet_at.Goals.{then-is_unmet+in_ok-push, else-is_unmet}
 use Rattle.weedle_diagnose.proofs.unmet.unmet_at.Goals as goal

@@ -1,4 +1,4 @@
-use Rattle.weedle_diagnose.specs.Tries.{IsUnmet}
+use Rattle.weedle_starts.specs.Tries.{IsUnmet}
 use Rattle.weedle_diagnose.proofs.ListingFacts.{Lists}
 use Rattle.weedle_diagnose.proofs.unmet.unmet_at.Given as goal
 

@@ -1,6 +1,6 @@
 use Rattle.std.proofs.Common.{drop}
 use Rattle.weedle_grammar.specs.View.{numbers_of}
-use Rattle.weedle_diagnose.specs.Tries.{TriesByChoice}
+use Rattle.weedle_starts.specs.Tries.{TriesByChoice}
 use Rattle.weedle_diagnose.proofs.AddingFacts.{Going}
 use Rattle.weedle_diagnose.proofs.tries.parts.by_choice.Given as goal
 

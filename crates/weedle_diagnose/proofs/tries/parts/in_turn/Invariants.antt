@@ -1,6 +1,6 @@
 use Rattle.std.proofs.Common.{drop}
 use Rattle.weedle_grammar.specs.View.{numbers_of}
-use Rattle.weedle_diagnose.specs.Tries.{TriesInTurn}
+use Rattle.weedle_starts.specs.Tries.{TriesInTurn}
 use Rattle.weedle_diagnose.proofs.AddingFacts.{Going}
 use Rattle.weedle_diagnose.proofs.tries.parts.in_turn.Given as goal
 

@@ -1,7 +1,7 @@
 use Rattle.std.proofs.Common.{sym, subst}
 use Rattle.std.proofs.lemmas.List.Elements.{All-get_or}
 use Rattle.weedle_syntax.specs.Syntax.{IsRead}
-use Rattle.weedle_syntax.proofs.ReadFacts.{ends_after}
+use Rattle.weedle_starts.proofs.ReadFacts.{ends_after}
 use Rattle.weedle_syntax.proofs.tree.Syntax.text_of.Goals as goal
 
 pub range-requires-clause-start_le_end : goal.range-requires-clause-start_le_end

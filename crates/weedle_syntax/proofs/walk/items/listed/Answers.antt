@@ -1,5 +1,5 @@
 use Rattle.weedle_rules.proofs.OutcomeFacts.{it_ends}
-use Rattle.weedle_syntax.proofs.ReadFacts.{ends_inside}
+use Rattle.weedle_starts.proofs.ReadFacts.{ends_inside}
 use Rattle.weedle_syntax.proofs.LayFacts.{listed_two, listed_stuck, listed_none}
 use Rattle.weedle_syntax.proofs.walk.items.listed.Goals as goal
 

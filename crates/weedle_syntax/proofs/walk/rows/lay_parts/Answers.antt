@@ -1,5 +1,5 @@
 use Rattle.std.proofs.Common.{sym}
-use Rattle.weedle_syntax.proofs.ReadFacts.{seq_reads, list_reads, list1_reads}
+use Rattle.weedle_starts.proofs.ReadFacts.{seq_reads, list_reads, list1_reads}
 use Rattle.weedle_syntax.proofs.LayFacts.{seq_laid, list1_listed}
 use Rattle.weedle_syntax.proofs.walk.rows.lay_parts.Goals as goal
 

@@ -1,0 +1,5 @@
+use Rattle.weedle_diagnose.specs.Noted.{AreOpened}
+use Rattle.weedle_diagnose.proofs.opened.opened.Given as goal
+
+abbrev pub invariant-loop-number : goal.invariant-loop-number
+invariant-loop-number l = AreOpened l.text l.first l.number l.found

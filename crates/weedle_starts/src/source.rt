@@ -1,0 +1,117 @@
+//! A text that is read by descent, with what its rules can begin with.
+
+ghost use Rattle.std.specs.Prelude.{◌≡◌, ◌≤◌, ◌<◌, ◌+◌, None, length, drop, option_map};
+ghost use Rattle.std.specs.Bool.{OnTrue};
+ghost use Rattle.weedle_grammar.specs.Rows.{
+  take_bytes as the_take_bytes,
+  take_one as the_take_one,
+  take_not_next as the_take_not_next,
+  run_length as the_run_length,
+  take_past as the_take_past,
+};
+ghost use Rattle.weedle_grammar.specs.written.Bound.{rule_count};
+ghost use Rattle.weedle_rules.specs.Cells.{HasEnd};
+ghost use Rattle.weedle_starts.specs.Starts.{AreStarts};
+ghost use Rattle.weedle_starts.specs.Tries.{TriesHere};
+
+use crate::starts::Starts;
+use std::marker::Model;
+use weedle_grammar::{Class, Rule, leaf_ends};
+
+/// A text, and the bytes that each rule can begin with.
+#[derive(Drop)]
+pub struct Source<'t> {
+    text: &'t [u8],
+    starts: &'t Starts,
+}
+
+impl<'t> Model for Source<'t> {
+    ghost use Rattle.std.specs.Prelude.{ℕ, List};
+    ghost use Rattle.weedle_starts.specs.Starts.{AreStarts};
+
+    ghost Value = { List ℕ };
+
+    ghost view = { λ s. s.text.now };
+
+    ghost invariant = { λ s. AreStarts s.starts.now };
+}
+
+impl<'t> Source<'t> {
+    /// A text with the words of all rules.
+    pub fn new(text: &'t [u8], starts: &'t Starts) -> Source<'t>
+        requires { AreStarts starts.now }
+        ensures { result ≡ text.now }
+    {
+        Source { text, starts }
+    }
+
+    /// Whether a rule can't be read at a place, by the byte that stands there. It may fail where
+    /// this says no.
+    #[inline(always)]
+    pub fn refuses(&self, rule: Rule, place: usize) -> bool
+        requires within { place ≤ length self.now }
+        ensures end { OnTrue result (HasEnd self.now rule place None) }
+        ensures here { OnTrue result (TriesHere self.now rule place) }
+    {
+        if place >= self.text.len() {
+            return false;
+        }
+        let byte = self.text[place];
+        if byte >= 128 {
+            return false;
+        }
+        if (self.starts[rule.number() as usize] >> byte) & 1 == 0 {
+            return true;
+        }
+        false
+    }
+
+    /// Where these bytes end, which stand at a place.
+    #[inline(always)]
+    pub fn end_of_bytes(&self, bytes: &[u8], place: usize) -> Option<usize>
+        requires { place ≤ length self.now }
+        ensures { result
+            ≡ option_map (λ k. place + k) (the_take_bytes bytes.now (drop place self.now)) }
+    {
+        leaf_ends::end_of_bytes(bytes, self.text, place)
+    }
+
+    /// Where one byte of the class ends, which stands at a place.
+    #[inline(always)]
+    pub fn end_of_one(&self, class: Class, place: usize) -> Option<usize>
+        requires { place ≤ length self.now }
+        ensures { result
+            ≡ option_map (λ k. place + k) (the_take_one class (drop place self.now)) }
+    {
+        leaf_ends::end_of_one(class, self.text, place)
+    }
+
+    /// The place itself, where no byte of the class stands there.
+    #[inline(always)]
+    pub fn end_of_not_next(&self, class: Class, place: usize) -> Option<usize>
+        requires { place ≤ length self.now }
+        ensures { result
+            ≡ option_map (λ k. place + k) (the_take_not_next class (drop place self.now)) }
+    {
+        leaf_ends::end_of_not_next(class, self.text, place)
+    }
+
+    /// Where the bytes of the class end that stand at a place.
+    #[inline(always)]
+    pub fn end_of_run(&self, class: Class, place: usize) -> usize
+        requires { place ≤ length self.now }
+        ensures { result ≡ place + the_run_length class (drop place self.now) }
+    {
+        leaf_ends::end_of_run(class, self.text, place)
+    }
+
+    /// Where the first of these bytes behind a place end.
+    #[inline(always)]
+    pub fn end_past(&self, bytes: &[u8], place: usize) -> Option<usize>
+        requires { place ≤ length self.now }
+        ensures { result
+            ≡ option_map (λ k. place + k) (the_take_past bytes.now (drop place self.now)) }
+    {
+        leaf_ends::end_past(bytes, self.text, place)
+    }
+}
