@@ -11,6 +11,7 @@ from pathlib import Path
 from unittest import mock
 
 import try_examples
+from crates import Unfit
 from try_examples import Around, examples_in, examples_of
 
 LOW = """//! Low.
@@ -112,6 +113,11 @@ class Examples(unittest.TestCase):
             ("crates/low/src/lib.rt", 2, 17, "low_lib_2"),
         ])
 
+    def test_those_of_some_crates_alone(self):
+        self.assertEqual([it.module for it in examples_of(self.root, ["high"])], ["high_lib_1"])
+        with self.assertRaisesRegex(Unfit, "other has no example"):
+            examples_of(self.root, ["high", "other"])
+
     def test_the_module_that_tries_it(self):
         self.assertEqual([it.code for it in examples_in("crates/low/src/lib.rt", LOW)], [FIRST, SECOND])
         self.assertEqual([it.code for it in examples_in("crates/high/src/lib.rt", HIGH)], [THIRD])
@@ -130,7 +136,7 @@ class Examples(unittest.TestCase):
             return subprocess.CompletedProcess(words, status)
 
         with mock.patch.object(try_examples, "want_what_a_run_needs"), mock.patch("subprocess.run", run):
-            return try_examples.try_examples(self.root, list(examples_of(self.root))), seen
+            return try_examples.try_examples(self.root, examples_of(self.root)), seen
 
     def test_a_repository_of_the_examples_and_the_crates_below_them(self):
         status, files = self.run_with(0)

@@ -1,15 +1,16 @@
 #!/usr/bin/env python3
 """Compiles and runs the examples in the docs of sources, as tests of one program, and proves nothing.
 
-    python3 tools/try_examples.py [--show]
+    python3 tools/try_examples.py [--show] [CRATE..]
 
-An example is a ```rust block in a doc comment of crates/*/src/**/*.rt. In a repository of its own, with
+An example is a ```rust block in a doc comment of crates/*/src/**/*.rt, or only in those of each CRATE. In a repository of its own, with
 the crates that the examples name and those below them, each becomes a test of the crate `examples`:
 its `use` lines stand at the top of a module, all else in a function that has `rt`. Examples that lean on
-what the text around them says get that from AROUND. `rt try --test` runs them.
+what the text around them says get that from AROUND. `rt try --test` runs them. What `rt` says is printed,
+and then how many examples there are and whether all hold.
 
-With --show nothing is run: it prints the modules. Else it prints what `rt` says. It needs the toolchain's
-command `rt` on PATH, 3,000 MB of memory and some ten minutes; so the gate leaves it out.
+With --show nothing is run: it prints the modules. It needs the toolchain's command `rt` on PATH, 3,000 MB of
+memory and some minutes; so the gate leaves it out.
 
 The status is 0 where all examples compile and hold, 1 where one doesn't, 2 where it could not be tried.
 """
@@ -70,9 +71,15 @@ class Example:
         return f"{words.replace('_src_', '_')}_{self.number}"
 
     @property
+    def crate(self):
+        """The crate that has it."""
+        return self.file.split("/")[1]
+
+    @property
     def crates(self):
+        """The crates that it names, and its own."""
         around = AROUND.get((self.file, self.number), Around())
-        return {self.file.split("/")[1], *CRATE.findall(self.text + around.items)}
+        return {self.crate, *CRATE.findall(self.text + around.items)}
 
     @property
     def code(self):
@@ -104,9 +111,17 @@ def examples_in(file, text):
     return found
 
 
-def examples_of(root):
-    for path in sorted(root.glob("crates/*/src/**/*.rt")):
-        yield from examples_in(path.relative_to(root).as_posix(), path.read_text(encoding="utf-8"))
+def examples_of(root, crates=()):
+    """The examples of a repository, or of these crates of it. A crate without one is Unfit."""
+    files = sorted(root.glob("crates/*/src/**/*.rt"))
+    found = [
+        it for file in files
+        for it in examples_in(file.relative_to(root).as_posix(), file.read_text(encoding="utf-8"))
+    ]
+    for name in crates:
+        if name not in {it.crate for it in found}:
+            raise Unfit(f"{name} has no example")
+    return [it for it in found if not crates or it.crate in crates]
 
 
 def build_repository(root, examples, room):
@@ -138,13 +153,14 @@ def try_examples(root, examples):
 
 def main():
     parser = parser_of(__doc__)
+    parser.add_argument("crates", nargs="*", metavar="CRATE", help="a crate of which the examples are tried")
     parser.add_argument("--show", action="store_true", help="print the modules, and run nothing")
-    is_shown = parser.parse_args().show
-    examples = list(examples_of(TOP))
-    if is_shown:
-        print("\n".join(it.code for it in examples), end="")
-        return 0
+    arguments = parser.parse_args()
     try:
+        examples = examples_of(TOP, arguments.crates)
+        if arguments.show:
+            print("\n".join(it.code for it in examples), end="")
+            return 0
         status = try_examples(TOP, examples)
     except (Unfit, OSError) as why:
         print(f"try_examples: {why}", file=sys.stderr)
