@@ -11,9 +11,9 @@ use weedle_rules::{Ends, READS, RULES};
 /// What a reader answers of a text.
 #[derive(Clone, Copy, Debug, PartialEq, Eq)]
 pub enum Outcome<'a> {
-    /// So many definitions.
+    /// The whole text is read, as so many definitions.
     Read(usize),
-    /// This is left of the text.
+    /// A part of the text is left: this one.
     Left(&'a str),
     /// Memory was wanted, with this input.
     Memory(&'a str),
@@ -34,8 +34,8 @@ pub struct Counts {
 
 /// How many items a list has.
 ///
-/// A function that names definitions is dear to prove, and one of a list of any type isn't: so it is
-/// told at once how long a list is.
+/// A function that names definitions is dear to prove, and one of a list of any type isn't: so it
+/// is told at once how long a list is.
 pub fn length<T: Drop>(list: Vec<T>) -> usize {
     list.len()
 }

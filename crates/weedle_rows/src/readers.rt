@@ -1,6 +1,6 @@
-//! Whole texts over narrow and over wide tables: each is read or left within the bounds of the table
-//! and of the tree. That the readers' lists are equal is proved; what is in them is tested over the
-//! programs, which descend where that suits a text.
+//! Whole texts over narrow and over wide tables: each is read or left within the bounds of the
+//! table and of the tree. That the readers' lists are equal is proved; what is in them is tested
+//! over the programs, which descend where that suits a text.
 
 use super::outcomes::{Outcome, assert_bounds, built, counted};
 use std::alloc::{AllocError, Global};

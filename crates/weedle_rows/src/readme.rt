@@ -1,5 +1,5 @@
-//! The README's program but for its `main`, and the example in docs/USING.md of definitions that are
-//! taken apart by move.
+//! The README's program but for its `main`, and the example in docs/USING.md of definitions that
+//! are taken apart by move.
 
 use std::alloc::{AllocError, Global};
 use std::test::Fail;

@@ -163,6 +163,3 @@ pub const TEXTS: [&str; 60] = [
     "///a\r\ndictionary D { ///d\n long x; };",
     "///a\ninterface A {}; ///d",
 ];
-
-/// A text with characters of several bytes, which may be cut anywhere.
-pub const CUT: &str = "interface A {};\n// é\nenum E {\"é\"};\n";

@@ -15,7 +15,7 @@ pub fn lists_in(type_: &Type<'_>) -> usize {
     }
 }
 
-/// The same of a type that is neither `any` nor a union.
+/// How many stand in one another in a type that is neither `any` nor a union.
 #[cycle(lists)]
 fn lists_in_non_any(type_: &NonAnyType<'_>) -> usize {
     match type_ {
@@ -25,7 +25,7 @@ fn lists_in_non_any(type_: &NonAnyType<'_>) -> usize {
     }
 }
 
-/// The most of the members of a union.
+/// How many stand in one another in that member of a union that has the most.
 #[cycle(lists)]
 #[tactic(auto, using(weedle_types::proofs::TreeLaws::clone_steps, weedle_types::proofs::Smaller::member_smaller))]
 fn lists_in_members(members: &Vec<UnionMemberType<'_>>) -> usize {
@@ -36,7 +36,7 @@ fn lists_in_members(members: &Vec<UnionMemberType<'_>>) -> usize {
     most
 }
 
-/// The same of a member of a union.
+/// How many stand in one another in a member of a union.
 #[cycle(lists)]
 fn lists_in_member(member: &UnionMemberType<'_>) -> usize {
     match member {
