@@ -23,7 +23,7 @@ seen of each process, a line of JSON each, and --read makes the table of such fi
 several runs too: their times are added.
 
 It needs Linux, whose /proc it reads. A process that lives for less than half a second may be missed.
-It ends with the command's status.
+It ends with the command's status, or with 2 where the command can't be run or a FILE not be read.
 """
 
 import argparse
@@ -263,4 +263,8 @@ def main():
 
 
 if __name__ == "__main__":
-    sys.exit(main())
+    try:
+        sys.exit(main())
+    except (OSError, ValueError) as why:
+        print(f"gate_times: {why}", file=sys.stderr)
+        sys.exit(2)
