@@ -30,6 +30,56 @@ const SAID: [Said; 14] = [
     ("implements", "Q", None),
 ];
 
+/// Texts, of which it is known what an outline says.
+#[derive(Clone, Copy, Debug)]
+enum Example {
+    /// An interface with a docstring, and a statement.
+    TwoDefinitions,
+    /// A docstring with nothing in it.
+    EmptyDocstring,
+    /// A definition of each kind.
+    Kinds,
+    /// The same statement nine times.
+    NineStatements,
+}
+
+impl Example {
+    fn text(self) -> &'static str {
+        match self {
+            Example::TwoDefinitions => "///a\n/// b\ninterface A {};\nB includes C;",
+            Example::EmptyDocstring => "///\nenum E {\"x\"};",
+            Example::Kinds => KINDS,
+            Example::NineStatements => {
+                "A includes B;A includes B;A includes B;A includes B;A includes B;A includes B;\
+                 A includes B;A includes B;A includes B;"
+            }
+        }
+    }
+
+    /// How many definitions there are.
+    fn count(self) -> usize {
+        match self {
+            Example::TwoDefinitions => 2,
+            Example::EmptyDocstring => 1,
+            Example::Kinds => 14,
+            Example::NineStatements => 9,
+        }
+    }
+
+    /// Whether these are the entries of its outline.
+    fn has_outline(self, entries: &[Entry<'_, '_>]) -> bool {
+        match self {
+            Example::TwoDefinitions => are_said(
+                entries,
+                &[("interface", "A", Some("a\n b")), ("includes", "B", None)],
+            ),
+            Example::EmptyDocstring => are_said(entries, &[("enum", "E", Some(""))]),
+            Example::Kinds => are_said(entries, &SAID),
+            Example::NineStatements => are_said(entries, &[("includes", "A", None); 9]),
+        }
+    }
+}
+
 /// Whether the entries say this, in this order.
 fn are_said(entries: &[Entry<'_, '_>], said: &[Said]) -> bool {
     entries.len() == said.len()
@@ -37,29 +87,26 @@ fn are_said(entries: &[Entry<'_, '_>], said: &[Said]) -> bool {
             == *said)
 }
 
-/// Whether this is the outline of the list, and a copy is as long.
-fn is_said(alloc: Global, list: &Definitions<'_>, said: &[Said]) -> Result<bool, AllocError> {
-    let is_said = are_said(&outline(alloc, list)?, said);
+/// Whether the list has the outline of the example, and a copy is as long.
+fn is_said(alloc: Global, list: &Definitions<'_>, of: Example) -> Result<bool, AllocError> {
+    let is_said = of.has_outline(&outline(alloc, list)?);
     let copied = length(list.try_clone(alloc)?);
-    Ok(is_said && copied == said.len())
+    Ok(is_said && copied == of.count())
 }
 
-/// Whether this is the outline of the definitions of a text.
-fn is_outlined(alloc: Global, text: &str, said: &[Said]) -> Result<bool, AllocError> {
-    match Definitions::parse(alloc, text) {
-        Ok((_, list)) => lend(
-            (list, said),
-            move |(list, said): &(Definitions<'_>, &[Said])| is_said(alloc, list, said),
-        ),
+/// Whether the example is read as a list that has its outline.
+fn is_outlined(alloc: Global, of: Example) -> Result<bool, AllocError> {
+    match Definitions::parse(alloc, of.text()) {
+        Ok((_, list)) => lend(list, move |list: &Definitions<'_>| is_said(alloc, list, of)),
         Err(Err::Failure(_)) => Err(AllocError),
         Err(Err::Error(_)) => Ok(false),
     }
 }
 
-/// Asserts that the outline of the text is this, or that memory is wanted.
-fn assert_outlined(rt: &impl Abort, alloc: Global, wanted: &mut Wanted, text: &str, said: &[Said]) {
-    if let Some(is_said) = wanted.given(is_outlined(alloc, text, said)) {
-        assert!(rt; is_said, "of {text:?}");
+/// Asserts that the example has its outline, or that memory is wanted.
+fn assert_outlined(rt: &impl Abort, alloc: Global, wanted: &mut Wanted, of: Example) {
+    if let Some(is_said) = wanted.given(is_outlined(alloc, of)) {
+        assert!(rt; is_said, "of {:?}", of.text());
     }
 }
 
@@ -68,21 +115,9 @@ fn outlines_and_copies_are_made_or_want_memory(rt: HostRuntime) -> Result<(), Fa
     let alloc = rt.alloc();
     let mut wanted = Wanted::new();
     for _ in 0..2 {
-        assert_outlined(
-            &rt,
-            alloc,
-            &mut wanted,
-            "///a\n/// b\ninterface A {};\nB includes C;",
-            &[("interface", "A", Some("a\n b")), ("includes", "B", None)],
-        );
-        assert_outlined(
-            &rt,
-            alloc,
-            &mut wanted,
-            "///\nenum E {\"x\"};",
-            &[("enum", "E", Some(""))],
-        );
-        assert_outlined(&rt, alloc, &mut wanted, KINDS, &SAID);
+        assert_outlined(&rt, alloc, &mut wanted, Example::TwoDefinitions);
+        assert_outlined(&rt, alloc, &mut wanted, Example::EmptyDocstring);
+        assert_outlined(&rt, alloc, &mut wanted, Example::Kinds);
     }
     assert!(rt; wanted.tell(&rt, alloc));
     Ok(())
@@ -94,14 +129,7 @@ fn outlines_and_copies_are_made_or_want_memory(rt: HostRuntime) -> Result<(), Fa
 fn nine_definitions_are_copied_and_outlined_by_7_requests(rt: HostRuntime) -> Result<(), Fail> {
     let alloc = rt.alloc();
     let mut wanted = Wanted::new();
-    assert_outlined(
-        &rt,
-        alloc,
-        &mut wanted,
-        "A includes B;A includes B;A includes B;A includes B;A includes B;A includes B;\
-         A includes B;A includes B;A includes B;",
-        &[("includes", "A", None); 9],
-    );
+    assert_outlined(&rt, alloc, &mut wanted, Example::NineStatements);
     assert!(rt; wanted.tell(&rt, alloc));
     Ok(())
 }
