@@ -18,6 +18,8 @@ mod messages;
 #[cfg(test)]
 mod plain_types;
 #[cfg(test)]
+mod printing;
+#[cfg(test)]
 mod requests;
 #[cfg(test)]
 mod scanners;
