@@ -2,7 +2,7 @@
 //! texts are written by hand, from the layout of docs/LAYOUT.md; which names have an underscore
 //! follows from the grammar.
 
-use std::alloc::Global;
+use std::alloc::{AllocError, Global};
 use std::process::Abort;
 use weedle_base::term::{
     Assign, CloseBrace, CloseBracket, Comma, GreaterThan, Interface, LessThan, Long, NegInfinity,
@@ -222,17 +222,16 @@ fn types_and_brackets_stand_close(rt: HostRuntime) {
     assert!(rt; wanted.tell(&rt, alloc));
 }
 
-/// A list of as many values `"0123456789"`, in braces; None where memory is refused.
+/// A list of as many values `"0123456789"`, in braces.
 fn values(
     alloc: Global,
-    wanted: &mut Wanted,
     many: usize,
-) -> Option<Braced<PunctuatedNonEmpty<StringLit<'static>, Comma>>> {
+) -> Result<Braced<PunctuatedNonEmpty<StringLit<'static>, Comma>>, AllocError> {
     let mut list = Vec::new(alloc);
     for _ in 0..many {
-        wanted.given(list.push(StringLit("0123456789")))?;
+        list.push(StringLit("0123456789"))?;
     }
-    Some(Braced {
+    Ok(Braced {
         open_brace: OpenBrace,
         body: PunctuatedNonEmpty {
             list,
@@ -255,7 +254,7 @@ fn values_take_lines_where_one_is_too_short(rt: HostRuntime) {
             \"0123456789\",\n  \"0123456789\"\n}",
         ),
     ] {
-        if let Some(value) = values(alloc, &mut wanted, many) {
+        if let Some(value) = wanted.given(values(alloc, many)) {
             writes::<Braced<PunctuatedNonEmpty<StringLit<'_>, Comma>>>(
                 &rt,
                 alloc,
@@ -265,7 +264,7 @@ fn values_take_lines_where_one_is_too_short(rt: HostRuntime) {
             );
         }
     }
-    if let Some(value) = values(alloc, &mut wanted, 0) {
+    if let Some(value) = wanted.given(values(alloc, 0)) {
         has_no_text::<Braced<PunctuatedNonEmpty<StringLit<'_>, Comma>>>(
             &rt,
             alloc,
@@ -274,6 +273,19 @@ fn values_take_lines_where_one_is_too_short(rt: HostRuntime) {
         );
     }
     assert!(rt; wanted.tell(&rt, alloc));
+}
+
+/// As many members `long;`, in braces.
+fn members(alloc: Global, many: usize) -> Result<Braced<Vec<(Long, SemiColon)>>, AllocError> {
+    let mut body = Vec::new(alloc);
+    for _ in 0..many {
+        body.push((Long, SemiColon))?;
+    }
+    Ok(Braced {
+        open_brace: OpenBrace,
+        body,
+        close_brace: CloseBrace,
+    })
 }
 
 #[test]
@@ -285,16 +297,7 @@ fn members_have_a_line_each(rt: HostRuntime) {
         (1, "{\n  long;\n}"),
         (2, "{\n  long;\n  long;\n}"),
     ] {
-        let mut body = Vec::new(alloc);
-        for _ in 0..many {
-            let _ = wanted.given(body.push((Long, SemiColon)));
-        }
-        if body.len() == many {
-            let value = Braced {
-                open_brace: OpenBrace,
-                body,
-                close_brace: CloseBrace,
-            };
+        if let Some(value) = wanted.given(members(alloc, many)) {
             writes::<Braced<Vec<(Long, SemiColon)>>>(&rt, alloc, &mut wanted, &value, text);
         }
     }

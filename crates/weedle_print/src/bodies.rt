@@ -18,13 +18,15 @@ use weedle_parts::common::{Braced, PunctuatedNonEmpty};
 fn open_body(is_empty: bool, out: &mut String, layout: &mut Layout) -> Result<(), PrintError>
     ensures { OnOk result (Adds (the_word (codes "{")) (string_bytes out.old) (string_bytes out.new)) }
 {
-    layout.open_body();
     if is_empty {
         word(out, layout, "{")?;
+        layout.open_body();
         layout.join();
         return Ok(());
     }
-    last_word(out, layout, "{")
+    last_word(out, layout, "{")?;
+    layout.open_body();
+    Ok(())
 }
 
 /// Members in braces, as `{ stringifier; }`: each takes a line, and none is `{}`.

@@ -251,7 +251,7 @@ impl Layout {
         }
     }
 
-    /// Opens the lines of a body, which isn't empty.
+    /// Opens the lines of a body.
     pub(crate) fn open_body(&mut self) {
         self.level = self.level.saturating_add(1);
     }

@@ -3,11 +3,11 @@
 use crate::answers::{assert_no_text, assert_written};
 use std::alloc::{AllocError, Global};
 use std::test::Fail;
-use weedle_parts::literal::StringLit;
+use weedle_base::term::{CloseBrace, Comma, Enum, OpenBrace, SemiColon};
 use weedle_parts::common::{Braced, Docstring, Identifier, PunctuatedNonEmpty};
+use weedle_parts::literal::StringLit;
 use weedle_print_idl::WriteIdl;
 use weedle_statements::{EnumDefinition, EnumVariant};
-use weedle_base::term::{CloseBrace, Comma, Enum, OpenBrace, SemiColon};
 use weedle_testing::Wanted;
 
 /// An enum of this name with these values.

@@ -2,9 +2,11 @@
 
 use crate::answers::{assert_no_text, assert_written};
 use std::test::Fail;
-use weedle_parts::literal::{DecLit, Default, DefaultValue, IntegerLit};
+use weedle_base::term::{
+    Any, Assign, CloseBracket, CloseParen, Comma, OpenBracket, OpenParen, Optional,
+};
 use weedle_parts::common::{Bracketed, Identifier, Punctuated};
-use weedle_base::term::{Any, Assign, CloseBracket, CloseParen, Comma, OpenBracket, OpenParen, Optional};
+use weedle_parts::literal::{DecLit, Default, DefaultValue, IntegerLit};
 use weedle_testing::Wanted;
 use weedle_types::argument::{ParenthesizedArgumentList, SingleArgument};
 use weedle_types::attribute::ExtendedAttributeList;
