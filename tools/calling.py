@@ -72,6 +72,8 @@ METHOD = re.compile(r"^    pub fn (\w+)", re.M)
 GHOST = re.compile(r"^ghost use ([\w.+]+)\.\{([^}]*)\};", re.M)
 CONTRACT = ("requires", "ensures", "decreases")
 ROUND = {"Drop", "Clone", "Copy"}
+# The body of a function that a trait gives.
+BODY = re.compile(r"\n    \{\n(?:     .*\n|\n)*    \}$", re.M)
 
 
 def first_words(doc):
@@ -98,9 +100,9 @@ def code_of(text, begin):
 
 
 def bare(text):
-    """A declaration without comments, and without attributes that only the prover reads."""
-    rows = [row for row in text.split("\n") if not row.strip().startswith(("//", "#[cycle"))]
-    return re.sub(r"\n\n+", "\n", "\n".join(rows))
+    """A declaration without comments and bodies, and without attributes that only the prover reads."""
+    rows = [row for row in text.split("\n") if not row.strip().startswith(("//", "#[cycle", "#[tactic"))]
+    return re.sub(r"\n\n+", "\n", BODY.sub(";", "\n".join(rows)))
 
 
 def declaration_of(text, begin):

@@ -6,8 +6,8 @@
 
 PROGRAMS is the folder in which weedle_check and weedle_list were built, each in out/ of its own folder; crates/ where
 none is named: a gate, or `rt run` in their folders, builds them. Without --cases weedle_check checks a file that is
-read and one that isn't, and prints the definitions. With it weedle_check prints the definitions of each text of that
-folder of tests/, as worked, and weedle_list lists them.
+read and one that isn't, and prints the definitions, as values and anew. With it weedle_check prints the definitions of
+each text of that folder of tests/, as worked, in both ways, and weedle_list lists them.
 
 A run that ends otherwise than with all its memory has to say so: with status 3 and `out of memory`, weedle_list with
 nothing written; or weedle_check, where memory ran out for more than the place of a slip, with the status that it has
@@ -29,6 +29,8 @@ from case_files import cases_of
 
 TOP = Path(__file__).resolve().parent.parent
 DATA = TOP / "crates/weedle_check/data"
+# How weedle_check prints definitions.
+WAYS = ("--tree", "--print")
 ENOUGH = 100
 MOST = 100_000
 
@@ -74,7 +76,8 @@ def runs_of(folder, programs, room):
     for case in cases_of(folder):
         name = f"{case.name}.webidl"
         (Path(room) / name).write_text(case.text, encoding="utf-8", newline="")
-        yield f"{folder} {case.name}", Program(programs["weedle_check"], ["--tree", name], room)
+        for way in WAYS:
+            yield f"{folder} {case.name} {way}", Program(programs["weedle_check"], [way, name], room)
         yield f"{folder} {case.name}, listed", Program(programs["weedle_list"], [], room, case.text)
 
 
@@ -101,7 +104,8 @@ def main():
         if said.cases:
             runs = runs_of(said.cases, programs, room)
         else:
-            runs = [("files", Program(programs["weedle_check"], ["--tree", "good.webidl", "slip.webidl"], DATA))]
+            files = ["good.webidl", "slip.webidl"]
+            runs = [(f"files {way}", Program(programs["weedle_check"], [way, *files], DATA)) for way in WAYS]
         for what, program in runs:
             refused, why = sweep(program, library)
             all_refused += refused

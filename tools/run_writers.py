@@ -26,8 +26,8 @@ TOOLS = Path(__file__).resolve().parent
 # Each stands behind those whose files it reads. The lines of modules.py come twice: of types before
 # others name them, and of written files when they are there.
 WRITERS = (
-    "grammar terminals drops in_step modules trees types_impls types_proofs build_types "
-    "build_types_proofs idl_proofs builds spellings impls orders modules c_header "
+    "grammar terminals reserved_words drops in_step modules trees types_impls types_proofs build_types "
+    "build_types_proofs idl_proofs builds spellings prints impls orders modules c_header "
     "python_types"
 ).split()
 KEPT = ("crates", "description")

@@ -95,6 +95,18 @@ pub trait Reads: Sized {
     /// Reads.
     fn read(input: &str) -> Self
         ensures { reading result };
+
+    /// Reads twice.
+    #[tactic(auto)]
+    final fn read_twice(input: &str) -> Self
+        ensures { reading result }
+    {
+        let _ = Self::read(input);
+
+        if true { Self::read(input) } else {
+            Self::read(input)
+        }
+    }
 }
 
 pub(crate) struct Inner;
@@ -187,10 +199,12 @@ impl Fault {
 Methods: `into_this`. Traits: `Display`, `From`.
 """)
 
-    def test_a_trait_with_its_contracts(self):
+    def test_a_trait_with_its_contracts_and_no_bodies(self):
         self.assertIn("""pub trait Reads: Sized {
     ghost reading: { Self → Type 0 };
     fn read(input: &str) -> Self
+        ensures { reading result };
+    final fn read_twice(input: &str) -> Self
         ensures { reading result };
 }
 """, self.text_of("top::parts", "Reads"))

@@ -5,8 +5,8 @@
 //! memory, and [`parse_quick`] takes it where the text lets it; [`nesting`] says how deep a text
 //! nests. [`outline`] gives kinds, names and docstrings, and [`lend`] lends it a list that a
 //! function owns. [`members_of`], [`type_names`] and [`parts_named`] say of definitions what many
-//! kinds have. [`run`] is the program: it reads its input to the end, and writes what the text
-//! defines; [`run_outline`] writes an outline of it.
+//! kinds have, and [`WriteIdl`] writes values as WebIDL. [`run`] is the program: it reads its input
+//! to the end, and writes what the text defines; [`run_outline`] writes an outline of it.
 //!
 //! ```rust
 //! use weedle::{name_of, parse};
@@ -15,6 +15,25 @@
 //! for definition in parse(rt.alloc(), text)? {
 //!     assert_eq!(rt; name_of(&definition), "Window");
 //! }
+//! ```
+//!
+//! Values are written anew, in one layout:
+//!
+//! ```rust
+//! use std::alloc::Global;
+//! use weedle::{Definitions, PrintError, WriteIdl, lend, parse};
+//!
+//! /// The text of definitions.
+//! fn text_of(alloc: Global, definitions: &Definitions<'_>) -> Result<String, PrintError> {
+//!     let mut out = String::new(alloc);
+//!     definitions.write_idl(&mut out)?;
+//!     Ok(out)
+//! }
+//!
+//! let alloc = rt.alloc();
+//! let definitions = parse(alloc, "interface A{attribute long x;}; // of A")?;
+//! let text = lend(definitions, move |list: &Definitions<'_>| text_of(alloc, list))?;
+//! assert_eq!(rt; text.as_str(), "interface A {\n  attribute long x;\n};\n");
 //! ```
 //!
 //! The calls and the types stand in the crates below, and under one path each here. What the
@@ -42,6 +61,7 @@ pub use weedle_idl::{
     PartialNamespaceDefinition, TypedefDefinition, dictionary, interface, mixin, namespace,
 };
 pub use weedle_places::{MemberPlace, Name, Place, Role, Span, names, places};
+pub use weedle_print_idl::{Nullable, PrintError, Reserved, Words, WriteIdl};
 pub use weedle_types::{argument, attribute};
 pub use weedle_view::{
     MemberKind, MemberView, definition_named, docstring_of, extended_attributes_of, included_into,

@@ -4,17 +4,18 @@ use std::alloc::{AllocError, Global};
 use std::env::Args;
 
 /// What is said on standard error where the arguments ask for nothing that the program does.
-pub const USAGE: &str = "usage: weedle_check [--tree | --syntax | --time] [FILE..]";
+pub const USAGE: &str = "usage: weedle_check [--tree | --syntax | --print | --time] [FILE..]";
 
 /// What is said on standard output where help is asked for.
 pub const HELP: &str = "\
-usage: weedle_check [--tree | --syntax | --time] [FILE..]
+usage: weedle_check [--tree | --syntax | --print | --time] [FILE..]
 
 Says of each file of Web IDL whether it is read whole, and if not, where and why.
 Without a file, or for `-`, it reads the standard input.
 
   --tree    prints the definitions of what is read, as values
   --syntax  prints the syntax tree of what is read, a node on a line
+  --print   writes what is read anew, as Web IDL, and counts no files
   --time    prints how long each reader takes
   --help    prints this
 
@@ -30,6 +31,8 @@ pub enum Task {
     Tree,
     /// Each text is checked, and its syntax tree is printed.
     Syntax,
+    /// Each text is checked, and its definitions are written as Web IDL.
+    Print,
     /// Each text is checked, and the readers are timed with it.
     Time,
 }
@@ -75,6 +78,7 @@ impl Asked {
             "--help" => self.is_help = true,
             "--tree" => return Ok(self.set(Task::Tree)),
             "--syntax" => return Ok(self.set(Task::Syntax)),
+            "--print" => return Ok(self.set(Task::Print)),
             "--time" => return Ok(self.set(Task::Time)),
             "-" => self.files.push(word)?,
             _ if word.as_str().starts_with('-') => return Ok(false),

@@ -4,6 +4,7 @@ use crate::arguments::Task;
 use crate::depth::too_many_levels;
 use crate::fault::Fault;
 use crate::outcome::Outcome;
+use crate::print::write_idl;
 use crate::slip::{slip_in, write_slip};
 use crate::syntax::write_syntax;
 use crate::timing::write_times;
@@ -74,6 +75,7 @@ fn check_text<C: Clock + AllocGlobal, W: Write>(
     if outcome == Outcome::Read {
         match task {
             Task::Tree => write_tree(rt.alloc(), text, out)?,
+            Task::Print => write_idl(rt.alloc(), text, out)?,
             Task::Time => write_times(rt, name, text, out)?,
             Task::Check | Task::Syntax => {}
         }

@@ -31,7 +31,7 @@ pub fn too_many_levels(task: Task, text: &str) -> Option<usize> {
 /// How many levels a text may nest for the task.
 fn most_levels(task: Task) -> usize {
     match task {
-        Task::Tree => MOST_PRINTED,
+        Task::Tree | Task::Print => MOST_PRINTED,
         Task::Check | Task::Syntax | Task::Time => MOST_READ,
     }
 }

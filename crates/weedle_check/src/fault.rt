@@ -4,6 +4,7 @@ use crate::outcome::Outcome;
 use std::alloc::AllocError;
 use std::fmt::{self, Display, Formatter, Write};
 use std::io::{self, ErrorKind};
+use weedle_print_idl::PrintError;
 
 /// Why a check ends with no answer.
 #[derive(Debug, Drop)]
@@ -16,6 +17,8 @@ pub enum Fault {
     Memory,
     /// The output can't be written.
     Output,
+    /// What was read has no text. No text is known of which that is so.
+    NoText,
 }
 
 impl Fault {
@@ -33,7 +36,16 @@ impl Fault {
         match self {
             Fault::Input(_) | Fault::NotUtf8 => Outcome::Unreadable,
             Fault::Memory => Outcome::NoMemory,
-            Fault::Output => Outcome::Unwritten,
+            Fault::Output | Fault::NoText => Outcome::Unwritten,
+        }
+    }
+}
+
+impl From<PrintError> for Fault {
+    fn from(error: PrintError) -> Fault {
+        match error {
+            PrintError::Memory => Fault::Memory,
+            PrintError::NoText => Fault::NoText,
         }
     }
 }
@@ -64,6 +76,7 @@ impl Display for Fault {
             Fault::NotUtf8 => f.write_str("input is not UTF-8"),
             Fault::Memory => f.write_str("out of memory"),
             Fault::Output => f.write_str("cannot write output"),
+            Fault::NoText => f.write_str("cannot write a value: no text says it"),
         }
     }
 }

@@ -1,7 +1,7 @@
 //! Checks Web IDL: says of each file whether it is read whole, and if not, where and why.
 //!
 //! ```text
-//! weedle_check [--tree | --syntax | --time] [FILE..]
+//! weedle_check [--tree | --syntax | --print | --time] [FILE..]
 //! ```
 //!
 //! It reads the files that are named, or else the standard input, which `-` names too. Of each that
@@ -17,8 +17,9 @@
 //! ```
 //!
 //! With `--tree` it prints the definitions of what it reads, each on a line behind its line and
-//! column; with `--syntax` its syntax tree, a node on a line; with `--time` how long each reader
-//! takes, and what the table of ends needs.
+//! column; with `--syntax` its syntax tree, a node on a line; with `--print` the definitions written
+//! anew as Web IDL, and no count of files behind them; with `--time` how long each reader takes, and
+//! what the table of ends needs.
 //!
 //! The status is 0 where all is read, 1 where something is refused, 2 where a file can't be read or
 //! isn't UTF-8, 3 where memory ran out, 4 where the output can't be written, and 5 where the
@@ -33,6 +34,7 @@ mod check;
 mod depth;
 mod fault;
 mod outcome;
+mod print;
 mod program;
 mod slip;
 mod syntax;

@@ -42,7 +42,9 @@ fn carry_out<R: Runtime + AllocGlobal>(rt: &R, request: &Request) -> Result<Outc
         Request::Help => writeln!(out, "{HELP}")?,
         Request::Files(task, files) => {
             check_all(rt, *task, files, &mut tally, &mut out)?;
-            writeln!(out, "{tally}")?;
+            if *task != Task::Print {
+                writeln!(out, "{tally}")?;
+            }
         }
     }
     out.flush()?;

@@ -1,0 +1,6 @@
+pub mod AddsFacts
+pub mod EachFacts
+pub mod SeparatedFacts
+pub mod LeafFacts
+pub mod RuleFacts
+pub mod DocFacts

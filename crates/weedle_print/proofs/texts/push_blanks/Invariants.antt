@@ -1,0 +1,9 @@
+use Rattle.std.proofs.Common.{string_bytes}
+use Rattle.weedle_grammar.specs.declared.class.Class.TheVariants.{Blank}
+use Rattle.weedle_print.proofs.texts.push_blanks.Given as goal
+use Rattle.weedle_print.specs.Adds.{Adds}
+use Rattle.weedle_spell.specs.Forms.{any}
+
+-- blanks were put there so far
+abbrev pub invariant-blanks : goal.invariant-blanks
+invariant-blanks l = Adds (any Blank) (string_bytes l.fn.out) (string_bytes l.out)

@@ -1,0 +1,4 @@
+pub mod Adds
+pub mod Reserved
+pub mod Separators
+pub mod Words

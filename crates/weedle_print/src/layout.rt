@@ -1,0 +1,356 @@
+//! Where a line stands, and what goes between two words.
+
+use crate::statement::Statement;
+use crate::written::reserved::is_read_behind;
+
+/// How many columns a line has.
+const COLUMNS: usize = 80;
+
+/// How many blanks a level is.
+const LEVEL: usize = 2;
+
+/// How many characters extended attributes have at most that stand in front of what they belong to,
+/// on its line.
+const MOST_IN_FRONT: usize = 40;
+
+/// What goes in front of the next word.
+#[derive(Clone, Copy, Debug, PartialEq, Eq)]
+enum Front {
+    /// Nothing.
+    Nothing,
+    /// A blank, but for words that never have one in front.
+    Blank,
+    /// A line end, where the line isn't ended, and the blanks of the level.
+    Line,
+    /// The same, with an empty line before it.
+    EmptyLine,
+}
+
+/// How many line ends and blanks go in front of a word.
+#[derive(Clone, Copy, Debug, PartialEq, Eq)]
+pub(crate) struct Space {
+    pub(crate) line_ends: usize,
+    pub(crate) blanks: usize,
+}
+
+/// How the line stands at the end of a text that is being written: what whoever writes the next
+/// word has to know for the layout. It is no part of what a text says.
+#[derive(Clone, Copy, Debug)]
+pub struct Layout {
+    /// How many characters the line has.
+    column: usize,
+    /// How many bodies and broken lists are open.
+    level: usize,
+    /// How many lines were ended.
+    lines: usize,
+    /// How many characters the line had that was ended last.
+    width: usize,
+    /// Whether nothing stands on the line.
+    is_line_begun: bool,
+    /// Whether lists stay on the line.
+    is_flat: bool,
+    /// Whether the innermost open list has a line for each item.
+    is_broken: bool,
+    /// How many characters the last list has on one line, with its brackets.
+    listed: usize,
+    /// Whether a type ended with the word before, behind which arguments stand apart.
+    is_behind_type: bool,
+    front: Front,
+    /// What the definition before was, where it took one line.
+    statement: Statement,
+    /// The word before: a symbol or a keyword, `a` for a name, and nothing at the front and behind
+    /// the rest.
+    before: &'static str,
+}
+
+/// Whether nothing goes in front of a word, wherever it stands.
+fn is_tight_in_front(text: &str) -> bool {
+    match text {
+        ";" | "," | ")" | "]" | "<" | ">" | "?" | "..." => true,
+        _ => false,
+    }
+}
+
+/// Whether nothing goes behind a word, whatever follows.
+fn is_tight_behind(text: &str) -> bool {
+    match text {
+        "(" | "[" | "<" => true,
+        _ => false,
+    }
+}
+
+/// How many characters a text has: its bytes, but those that go on with a character.
+fn characters(text: &str) -> usize {
+    let mut found: usize = 0;
+    for &byte in text.as_bytes() {
+        if byte < 0x80 || byte >= 0xC0 {
+            found = found.saturating_add(1);
+        }
+    }
+    found
+}
+
+/// How many line ends stand in a text.
+fn line_ends(text: &str) -> usize {
+    let mut found: usize = 0;
+    for &byte in text.as_bytes() {
+        if byte == b'\n' {
+            found = found.saturating_add(1);
+        }
+    }
+    found
+}
+
+/// What stands behind the last line end of a text, in characters.
+fn characters_behind(text: &str) -> usize {
+    let mut found: usize = 0;
+    for &byte in text.as_bytes() {
+        if byte == b'\n' {
+            found = 0;
+        } else if byte < 0x80 || byte >= 0xC0 {
+            found = found.saturating_add(1);
+        }
+    }
+    found
+}
+
+impl Layout {
+    /// The layout at the front of a line, of which nothing is written yet.
+    pub fn new() -> Layout {
+        Layout {
+            column: 0,
+            level: 0,
+            lines: 0,
+            width: 0,
+            is_line_begun: true,
+            is_flat: false,
+            is_broken: false,
+            listed: 0,
+            is_behind_type: false,
+            front: Front::Line,
+            statement: Statement::Other,
+            before: "",
+        }
+    }
+
+    /// What goes in front of this word.
+    pub(crate) fn space(&self, text: &str) -> Space {
+        match self.front {
+            Front::Nothing => self.blanks(0),
+            Front::Blank if is_tight_in_front(text) => self.blanks(0),
+            Front::Blank => self.blanks(1),
+            Front::Line => self.line(0),
+            Front::EmptyLine => self.line(1),
+        }
+    }
+
+    /// So many blanks on the line.
+    fn blanks(&self, blanks: usize) -> Space {
+        Space {
+            line_ends: 0,
+            blanks,
+        }
+    }
+
+    /// The end of the line, so many empty lines, and the blanks of the level.
+    fn line(&self, empty: usize) -> Space {
+        Space {
+            line_ends: if self.is_line_begun {
+                empty
+            } else {
+                empty.saturating_add(1)
+            },
+            blanks: self.level.saturating_mul(LEVEL),
+        }
+    }
+
+    /// Keeps that this was written in front of a word.
+    pub(crate) fn spaced(&mut self, space: Space) {
+        if space.line_ends > 0 {
+            self.end_line();
+        }
+        self.column = self.column.saturating_add(space.blanks);
+    }
+
+    /// Keeps that the line was ended. An empty line isn't counted.
+    pub(crate) fn end_line(&mut self) {
+        if !self.is_line_begun {
+            self.width = self.column;
+            self.lines = self.lines.saturating_add(1);
+        }
+        self.column = 0;
+        self.is_line_begun = true;
+        self.front = Front::Line;
+    }
+
+    /// Keeps that a text was written that holds no word of the grammar, as a name or a string.
+    pub(crate) fn wrote(&mut self, text: &str, before: &'static str) {
+        let ended = line_ends(text);
+        if ended > 0 {
+            self.lines = self.lines.saturating_add(ended);
+            self.column = characters_behind(text);
+        } else {
+            self.column = self.column.saturating_add(characters(text));
+        }
+        self.is_line_begun = false;
+        self.is_behind_type = false;
+        self.front = Front::Blank;
+        self.before = before;
+    }
+
+    /// Keeps that a word was written.
+    pub(crate) fn wrote_word(&mut self, word: &'static str) {
+        self.wrote(word, word);
+        if is_tight_behind(word) {
+            self.front = Front::Nothing;
+        }
+    }
+
+    /// Keeps that a name was written, perhaps behind an underscore.
+    pub(crate) fn wrote_name(&mut self, name: &str, is_behind_underscore: bool) {
+        if is_behind_underscore {
+            self.column = self.column.saturating_add(1);
+        }
+        self.wrote(name, "a");
+    }
+
+    /// Keeps that a text was written in quotes.
+    pub(crate) fn wrote_string(&mut self, text: &str) {
+        self.column = self.column.saturating_add(1);
+        self.wrote(text, "");
+        self.column = self.column.saturating_add(1);
+    }
+
+    /// Has what follows begin a line.
+    pub(crate) fn begin_line(&mut self) {
+        if self.front != Front::EmptyLine {
+            self.front = Front::Line;
+        }
+    }
+
+    /// Whether a name would be read as a word of the grammar here.
+    pub(crate) fn is_read_as_word(&self, name: &str) -> bool {
+        is_read_behind(self.before, name)
+    }
+
+    /// Has the next word stand with nothing in front.
+    pub fn join(&mut self) {
+        self.front = Front::Nothing;
+    }
+
+    /// Keeps that a type ended, behind which arguments stand apart, as in `undefined (long x)`.
+    pub fn end_type(&mut self) {
+        self.is_behind_type = true;
+    }
+
+    /// Has the arguments that follow stand behind the word before with nothing in front, but where
+    /// that is a type.
+    pub fn join_arguments(&mut self) {
+        if !self.is_behind_type {
+            self.front = Front::Nothing;
+        }
+    }
+
+    /// Opens the lines of a body.
+    pub(crate) fn open_body(&mut self) {
+        self.level = self.level.saturating_add(1);
+    }
+
+    /// Ends the lines of a body.
+    pub(crate) fn close_body(&mut self) {
+        self.level = self.level.saturating_sub(1);
+    }
+
+    /// Has an empty line stand in front of what follows, but at the front of a text.
+    pub(crate) fn skip_line(&mut self) {
+        if self.lines > 0 {
+            self.front = Front::EmptyLine;
+        }
+    }
+
+    /// Whether lists stay on the line, so that none is to be tried.
+    pub fn is_flat(&self) -> bool {
+        self.is_flat
+    }
+
+    /// Has lists stay on the line, to try whether they fit.
+    pub fn try_flat(&mut self) {
+        self.is_flat = true;
+        self.is_broken = false;
+    }
+
+    /// Ends a list that was tried. `start` is the layout behind its bracket.
+    pub fn end_try(&mut self, start: &Layout) {
+        self.is_flat = start.is_flat;
+        self.is_broken = start.is_broken;
+        self.listed = if self.lines == start.lines {
+            self.column.saturating_sub(start.column).saturating_add(1)
+        } else {
+            usize::MAX
+        };
+    }
+
+    /// Whether the list that was tried fits on its line with a sign of so many characters behind
+    /// it.
+    pub fn fits(&self, start: &Layout, sign: usize) -> bool {
+        self.lines == start.lines && self.column.saturating_add(sign) <= COLUMNS
+    }
+
+    /// Opens the list anew, with a line for each item. The answer is how many characters it had on
+    /// one line.
+    pub fn break_list(&mut self, start: &Layout) -> usize {
+        let width = self.listed;
+        *self = *start;
+        self.is_broken = true;
+        self.level = self.level.saturating_add(1);
+        width
+    }
+
+    /// Begins an item of a list.
+    pub fn begin_item(&mut self) {
+        if self.is_broken {
+            self.front = Front::Line;
+        }
+    }
+
+    /// Ends the items of a list.
+    pub fn end_items(&mut self) {
+        if self.is_broken {
+            self.is_broken = false;
+            self.level = self.level.saturating_sub(1);
+            self.front = Front::Line;
+        }
+    }
+
+    /// Ends a list with a line for each item, which had so many characters on one line.
+    pub fn end_list(&mut self, start: &Layout, width: usize) {
+        self.is_broken = start.is_broken;
+        self.listed = width;
+    }
+
+    /// Has what follows extended attributes take a line of its own where they are long.
+    pub fn end_attributes(&mut self) {
+        if self.listed > MOST_IN_FRONT {
+            self.front = Front::Line;
+        }
+    }
+
+    /// Whether a definition of this kind may stand right below the one before.
+    pub(crate) fn may_follow(&self, kind: Statement) -> bool {
+        kind != Statement::Other && kind == self.statement
+    }
+
+    /// Whether one line was written since, and it fits.
+    pub(crate) fn is_one_line(&self, start: &Layout) -> bool {
+        self.lines == start.lines.saturating_add(1) && self.width <= COLUMNS
+    }
+
+    /// Keeps what the definition was that was written since.
+    pub(crate) fn end_statement(&mut self, kind: Statement, start: &Layout) {
+        self.statement = if self.is_one_line(start) {
+            kind
+        } else {
+            Statement::Other
+        };
+    }
+}

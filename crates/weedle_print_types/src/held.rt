@@ -1,0 +1,4 @@
+//! How the types are written, for crates above.
+
+/// How a `T` is written. It is the `Print` of a type that stands in another crate.
+pub struct Held<T>(T);

@@ -1,0 +1,120 @@
+#!/usr/bin/env python3
+"""Tests of run_prints.py, over programs that are made up.
+
+    python3 tools/test_run_prints.py
+"""
+
+import tempfile
+import unittest
+from pathlib import Path
+
+from compare_with_weedle2 import Answer, NoUse
+from run_layouts import has_blanks_at_end
+from run_prints import BETWEEN, Programs, failures_of, failures_of_worked, one_wrong, other_values, worked
+from table_reader import Table
+
+WORD = "between_two_texts"
+
+
+class Fake(Programs):
+    """A checker of texts whose definitions are lines: it reads those that end in `;`."""
+
+    def __init__(self, changed: dict[str, str] | tuple = (), laid_out: bool = True, weedle2: object = None) -> None:
+        super().__init__("check", "format", weedle2)
+        self.changed, self.is_laid_out = dict(changed), laid_out
+
+    def output(self, words: list[str], room: Path) -> str:
+        program, *names = words
+        option = names.pop(0) if names and names[0].startswith("--") else None
+        if program == "format":
+            return "" if self.is_laid_out else "".join(f"{name}\n" for name in names)
+        parts = [self.answer(option, name, (room / name).read_text()) for name in names]
+        count = "" if option == "--print" else f"{len(names)} files, 0 refused\n"
+        return "".join(parts) + count
+
+    def answer(self, option: str | None, name: str, text: str) -> str:
+        lines = text.splitlines()
+        if not all(line.endswith(";") for line in lines):
+            return f"{name}:1:1: expected `;`\n"
+        if option == "--tree":
+            return "".join(f'{number}:1 Typedef("{" ".join(line.split()[:-1])}" "{self.word(line)}")\n'
+                           for number, line in enumerate(lines, start=1))
+        if option == "--print":
+            return "".join(f"{self.changed.get(self.laid_out(line), self.laid_out(line))}\n" for line in lines)
+        return ""
+
+    def word(self, line: str) -> str:
+        return line.removesuffix(";").split()[-1]
+
+    def laid_out(self, line: str) -> str:
+        return " ".join(line.split())
+
+
+class Asked:
+    """A weedle2 whose values are the words of a text."""
+
+    def answers(self, files: list[str]) -> list[Answer]:
+        return [Answer([], Path(file).read_text().replace(";", " ;").split()) for file in files]
+
+
+class Failures(unittest.TestCase):
+    def test_what_is_not_read_is_left_out(self) -> None:
+        self.assertEqual(failures_of(Fake(), ["a  b;\n", "a b\n", "c;\nd;\n", ""]), (3, []))
+
+    def test_other_definitions(self) -> None:
+        fake = Fake({"a b;": "a c;"})
+        [(text, what)] = failures_of(fake, ["x;\n", "a b;\n"])[1]
+        self.assertEqual((text, what), ("a b;\n", "it says other definitions: a c;\n"))
+
+    def test_a_text_that_changes_when_it_is_written_again(self) -> None:
+        self.assertIn("written again it changes", one_wrong("T", "T", "a;\n", "a ;\n", False))
+
+    def test_what_is_not_read_again(self) -> None:
+        [(_, what)] = failures_of(Fake({"a;": "a"}), ["b;\n", "a;\n"])[1]
+        self.assertEqual(what, "what is written isn't read: a\n")
+
+    def test_what_the_formatter_changes(self) -> None:
+        [(_, what)] = failures_of(Fake(laid_out=False), ["a;\n"])[1]
+        self.assertEqual(what, "the formatter changes it: a;\n")
+
+    def test_values_of_weedle2(self) -> None:
+        self.assertEqual(failures_of(Fake(weedle2=Asked()), ["a  b;\n"]), (1, []))
+        self.assertIsNone(other_values(None, ["a"], "a"))
+        self.assertEqual(other_values(["a"], ["b"], "b"), "weedle2 reads other values: b")
+
+
+class Worked(unittest.TestCase):
+    def test_the_rows_read_both_as_the_same_values(self) -> None:
+        table = Table(())
+        for text, written in worked():
+            with self.subTest(text=text):
+                (end, values), (end_anew, values_anew) = table.read(text), table.read(written)
+                self.assertEqual((end, end_anew), (len(text.encode()), len(written.encode())))
+                self.assertEqual(values, values_anew)
+
+    def test_no_line_ends_with_blanks(self) -> None:
+        self.assertFalse([written for _, written in worked() if has_blanks_at_end(written)])
+
+    def test_what_is_written_otherwise(self) -> None:
+        fake = Fake()
+        fake.written = lambda names, room: [written for _, written in worked()]
+        self.assertEqual(failures_of_worked(fake), [])
+        fake.written = lambda names, room: [written.replace("enum", "Enum") for _, written in worked()]
+        self.assertTrue(failures_of_worked(fake))
+
+
+class Between(unittest.TestCase):
+    def test_answers_are_one_for_each_text(self) -> None:
+        with tempfile.TemporaryDirectory() as folder:
+            room = Path(folder)
+            (room / "between").write_text("typedef any nothing;\n")
+            (room / "a").write_text("a;\n")
+            with self.assertRaises(NoUse):
+                Fake().written(["a"], room)
+
+    def test_the_text_between_is_one_definition(self) -> None:
+        self.assertEqual((BETWEEN.count(WORD), BETWEEN.count("\n")), (1, 1))
+
+
+if __name__ == "__main__":
+    unittest.main()
