@@ -5,7 +5,7 @@ tools/write.py runs it.
 
 It writes the `impl WriteIdl` of each declared type in `weedle_print_idl`, in files of the families that
 tools/spellings.py has. A struct of members or definitions is written by one call of `two` or its like over its
-fields, an enum by a `match` among its variants, and a list by the call for its items. How a field is written
+fields, an enum by a `match` among its variants; lists stand by hand in src/list.rt. How a field is written
 follows from the crate that declares its type: a type of `weedle_types` and one of members or definitions by the
 part that PARTS says, a generic one by its arguments, any other by itself. A definition of STATEMENTS takes one
 line, and stands right behind another of its kind.
@@ -47,12 +47,13 @@ STATEMENTS = {
     "IncludesStatementDefinition": "Includes",
     "ImplementsDefinition": "Implements",
 }
-WHOLE, LIST = "Definition", "Definitions"
+WHOLE = "Definition"
 HEAD = "//!\n//! Written by tools/prints.py, and not edited by hand.\n\n"
 # What each file brings in, and the names by which code knows what it calls.
 ALWAYS = ("crate::write::WriteIdl", "weedle_print::Layout", "weedle_print::PrintError")
 PART_PATHS = {
     "Held": "weedle_print_types::Held",
+    "KeyAndValue": "crate::part::KeyAndValue",
     "IdlPart": "crate::part::IdlPart",
     "Attributes": "crate::part::Attributes",
 }
@@ -90,7 +91,10 @@ def text_of(type_: Type) -> str:
 def part_of(type_: Type) -> str:
     """By what a value of a type is written, in code."""
     if type_.name == "()":
-        return f"({', '.join(map(part_of, type_.arguments))})"
+        parts = [part_of(it) for it in type_.arguments]
+        # The borrow checker takes one lifetime in a part, so two types that borrow are named once.
+        is_pair = parts[1:2] == ["Comma"] and parts[::2] == parts[:1] * 2
+        return f"KeyAndValue<{parts[0]}>" if is_pair else f"({', '.join(parts)})"
     it = declaration_of(type_)
     if it and it.crate in PARTS and not is_list(it):
         return f"{PARTS[it.crate][0]}<{text_of(type_)}>"
@@ -126,11 +130,10 @@ def call_of(type_: Type, value: str) -> str:
 
 
 class Own:
-    """The `impl` of a struct, an enum or a list of members or definitions."""
+    """The `impl` of a struct or an enum of members or definitions."""
 
     def __init__(self, item: Item) -> None:
         self.item, self.type, self.spelling = item, item.type, item.name
-        self.is_list = item.declaration is None
         self.fields = item.parts
 
     @property
@@ -146,7 +149,7 @@ class Own:
     @property
     def calls(self) -> set[str]:
         """The paths of the functions that its `impl` calls, and of what it hands them."""
-        if self.is_list or self.item.is_enum and "::print(" in self.body:
+        if self.item.is_enum and "::print(" in self.body:
             return {"weedle_print::Print"}
         if self.type.name == WHOLE:
             return {"weedle_print::Statement", "weedle_print::print_statement"}
@@ -154,8 +157,6 @@ class Own:
 
     @property
     def body(self) -> str:
-        if self.is_list:
-            return call_of(self.type, "self")
         if not self.item.is_enum:
             values = "".join(f", &self.{name}" for name, _ in self.fields)
             return f"{self.call}::<{', '.join(part_of(it) for _, it in self.fields)}>(out, layout{values})"
@@ -185,17 +186,11 @@ class HandedOn:
         return call_of(self.type, "self")
 
 
-def term_of(it: Own | HandedOn) -> str:
-    """The spelling of a value: that of all definitions is one of their list."""
-    return f"λ v. {it.spelling} v.items" if it.type.name == LIST else it.spelling
-
-
 def impl(it: Own | HandedOn) -> str:
     """The text of an `impl WriteIdl`."""
-    is_list = isinstance(it, Own) and it.is_list
-    type_ = text_of(DECLARED.expanded(it.type) if is_list else it.type)
+    type_ = text_of(it.type)
     return f"""impl{"<'a>" if "'a" in type_ else ""} WriteIdl for {type_} {{
-    ghost spelling = {{ {term_of(it)} }};
+    ghost spelling = {{ {it.spelling} }};
 
     fn write_part(&self, out: &mut String, layout: &mut Layout) -> Result<(), PrintError> {{
         {it.body}
@@ -275,7 +270,7 @@ def families() -> Iterator[tuple[str, str, list[Own]]]:
     for file in FILES:
         items = items_of(file, done)
         if not file.types:
-            own = [Own(it) for it in items if it.declaration or it.whole.name == "Vec"]
+            own = [Own(it) for it in items if it.declaration]
             yield file.law_module, f"How {file.spelt.replace('spelt', 'written')}.", own
 
 

@@ -33,14 +33,6 @@ IterableInterfaceMember::Double(value) => value.write_part(out, layout),
     }
 }
 """
-DEFINITIONS = """impl<'a> WriteIdl for Vec<Definition<'a>> {
-    ghost spelling = { λ v. definitions_spelling v.items };
-
-    fn write_part(&self, out: &mut String, layout: &mut Layout) -> Result<(), PrintError> {
-        Vec::<IdlPart<Definition<'a>>>::print(self, out, layout)
-    }
-}
-"""
 NAME = """impl<'a> WriteIdl for Identifier<'a> {
     ghost spelling = { identifier_spelling };
 
@@ -71,7 +63,8 @@ class Parts(unittest.TestCase):
 
     def test_what_is_made_of_them_by_theirs(self) -> None:
         self.assertEqual(part("Generics<(AttributedType, Comma, AttributedType)>"),
-                         "Generics<(Held<AttributedType<'a>>, Comma, Held<AttributedType<'a>>)>")
+                         "Generics<KeyAndValue<Held<AttributedType<'a>>>>")
+        self.assertEqual(part("(Async, Iterable)"), "(Async, Iterable)")
         self.assertEqual(part("Braced<InterfaceMembers>"), "Braced<Vec<IdlPart<InterfaceMember<'a>>>>")
         self.assertEqual(part("Braced<EnumValueList>"),
                          "Braced<PunctuatedNonEmpty<IdlPart<EnumVariant<'a>>, Comma>>")
@@ -83,9 +76,6 @@ class Impls(unittest.TestCase):
 
     def test_an_enum_is_a_match(self) -> None:
         self.assertEqual(prints.impl(own("IterableInterfaceMember")), ITERABLE)
-
-    def test_lists(self) -> None:
-        self.assertEqual(prints.impl(own("Definitions")), DEFINITIONS)
 
     def test_what_others_write(self) -> None:
         self.assertEqual(prints.impl(prints.HandedOn(type_of("Identifier"))), NAME)

@@ -21,12 +21,12 @@
 //!
 //! ```rust
 //! use std::alloc::Global;
-//! use weedle::{Definitions, PrintError, WriteIdl, lend, parse};
+//! use weedle::{Definitions, PrintError, lend, parse, write_list};
 //!
 //! /// The text of definitions.
 //! fn text_of(alloc: Global, definitions: &Definitions<'_>) -> Result<String, PrintError> {
 //!     let mut out = String::new(alloc);
-//!     definitions.write_idl(&mut out)?;
+//!     write_list(definitions.as_slice(), &mut out)?;
 //!     Ok(out)
 //! }
 //!
@@ -61,7 +61,7 @@ pub use weedle_idl::{
     PartialNamespaceDefinition, TypedefDefinition, dictionary, interface, mixin, namespace,
 };
 pub use weedle_places::{MemberPlace, Name, Place, Role, Span, names, places};
-pub use weedle_print_idl::{Nullable, PrintError, Reserved, Words, WriteIdl};
+pub use weedle_print_idl::{Nullable, PrintError, Reserved, Words, WriteIdl, write_list};
 pub use weedle_types::{argument, attribute};
 pub use weedle_view::{
     MemberKind, MemberView, definition_named, docstring_of, extended_attributes_of, included_into,

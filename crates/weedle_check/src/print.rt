@@ -6,7 +6,7 @@ use std::io::Write;
 use weedle_base::Err;
 use weedle_front::{lend, parse_quick};
 use weedle_idl::Definitions;
-use weedle_print_idl::{PrintError, WriteIdl};
+use weedle_print_idl::{PrintError, write_list};
 
 /// Writes the definitions of a text that is read whole, in the layout that there is. Comments and
 /// blanks of the text are in no value, so they are not in what is written.
@@ -30,6 +30,6 @@ pub fn write_idl<W: Write>(alloc: Global, text: &str, out: &mut W) -> Result<(),
 /// The text of definitions.
 fn idl_of(alloc: Global, list: &Definitions<'_>) -> Result<String, PrintError> {
     let mut written = String::new(alloc);
-    list.write_idl(&mut written)?;
+    write_list(list.as_slice(), &mut written)?;
     Ok(written)
 }

@@ -19,10 +19,12 @@
 //! ```
 #![tactic(auto)]
 
+mod list;
 mod part;
 mod write;
 mod written;
 
+pub use list::write_list;
 pub use part::IdlPart;
 pub use weedle_print::{Layout, Nullable, PrintError, Reserved, Words};
 pub use write::WriteIdl;

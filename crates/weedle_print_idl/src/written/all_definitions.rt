@@ -2,7 +2,7 @@
 //!
 //! Written by tools/prints.py, and not edited by hand.
 
-ghost use Rattle.weedle_spell.specs.written.Definitions.{definition_spelling, definitions_spelling};
+ghost use Rattle.weedle_spell.specs.written.Definitions.{definition_spelling};
 
 use crate::part::IdlPart;
 use crate::write::WriteIdl;
@@ -15,7 +15,7 @@ use weedle_namespaces::{
     DictionaryDefinition, NamespaceDefinition, PartialDictionaryDefinition,
     PartialNamespaceDefinition,
 };
-use weedle_print::{Layout, Print, PrintError, Statement, print_statement};
+use weedle_print::{Layout, PrintError, Statement, print_statement};
 use weedle_statements::{
     CallbackDefinition, EnumDefinition, ImplementsDefinition, IncludesStatementDefinition,
     TypedefDefinition,
@@ -90,13 +90,5 @@ impl<'a> WriteIdl for Definition<'a> {
                 layout,
             ),
         }
-    }
-}
-
-impl<'a> WriteIdl for Vec<Definition<'a>> {
-    ghost spelling = { λ v. definitions_spelling v.items };
-
-    fn write_part(&self, out: &mut String, layout: &mut Layout) -> Result<(), PrintError> {
-        Vec::<IdlPart<Definition<'a>>>::print(self, out, layout)
     }
 }

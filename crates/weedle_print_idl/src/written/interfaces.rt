@@ -6,7 +6,6 @@ ghost use Rattle.weedle_spell.specs.written.Interfaces.{
   callback_interface_definition_spelling,
   interface_definition_spelling,
   interface_member_spelling,
-  interface_members_spelling,
   interface_mixin_definition_spelling,
   partial_interface_definition_spelling,
   partial_interface_mixin_definition_spelling,
@@ -23,7 +22,7 @@ use weedle_mixins::{InterfaceMixinDefinition, PartialInterfaceMixinDefinition};
 use weedle_modifier::Inheritance;
 use weedle_parts::common::{Braced, Docstring, Identifier};
 use weedle_print::fields::{eight, seven, six};
-use weedle_print::{Layout, Print, PrintError};
+use weedle_print::{Layout, PrintError};
 
 impl<'a> WriteIdl for InterfaceMember<'a> {
     ghost spelling = { interface_member_spelling };
@@ -40,14 +39,6 @@ impl<'a> WriteIdl for InterfaceMember<'a> {
             InterfaceMember::Setlike(value) => value.write_part(out, layout),
             InterfaceMember::Stringifier(value) => value.write_part(out, layout),
         }
-    }
-}
-
-impl<'a> WriteIdl for Vec<InterfaceMember<'a>> {
-    ghost spelling = { interface_members_spelling };
-
-    fn write_part(&self, out: &mut String, layout: &mut Layout) -> Result<(), PrintError> {
-        Vec::<IdlPart<InterfaceMember<'a>>>::print(self, out, layout)
     }
 }
 

@@ -13,12 +13,12 @@ ghost use Rattle.weedle_spell.specs.written.Iterables.{
   single_typed_iterable_spelling,
 };
 
-use crate::part::Attributes;
+use crate::part::{Attributes, KeyAndValue};
 use crate::write::WriteIdl;
 use weedle_async_iterables::{
     AsyncIterableInterfaceMember, DoubleTypedAsyncIterable, SingleTypedAsyncIterable,
 };
-use weedle_base::term::{Async, Comma, Iterable, Maplike, ReadOnly, SemiColon, Setlike};
+use weedle_base::term::{Async, Iterable, Maplike, ReadOnly, SemiColon, Setlike};
 use weedle_iterables::{
     DoubleTypedIterable, IterableInterfaceMember, MaplikeInterfaceMember, SetlikeInterfaceMember,
     SingleTypedIterable,
@@ -38,7 +38,7 @@ impl<'a> WriteIdl for MaplikeInterfaceMember<'a> {
             Attributes<'a>,
             Option<ReadOnly>,
             Maplike,
-            Generics<(Held<AttributedType<'a>>, Comma, Held<AttributedType<'a>>)>,
+            Generics<KeyAndValue<Held<AttributedType<'a>>>>,
             SemiColon,
         >(
             out,
@@ -96,7 +96,7 @@ impl<'a> WriteIdl for DoubleTypedIterable<'a> {
         four::<
             Attributes<'a>,
             Iterable,
-            Generics<(Held<AttributedType<'a>>, Comma, Held<AttributedType<'a>>)>,
+            Generics<KeyAndValue<Held<AttributedType<'a>>>>,
             SemiColon,
         >(
             out,
@@ -149,7 +149,7 @@ impl<'a> WriteIdl for DoubleTypedAsyncIterable<'a> {
         five::<
             Attributes<'a>,
             (Async, Iterable),
-            Generics<(Held<AttributedType<'a>>, Comma, Held<AttributedType<'a>>)>,
+            Generics<KeyAndValue<Held<AttributedType<'a>>>>,
             Option<Held<ParenthesizedArgumentList<'a>>>,
             SemiColon,
         >(

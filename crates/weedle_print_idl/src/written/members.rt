@@ -9,7 +9,6 @@ ghost use Rattle.weedle_spell.specs.written.Members.{
   const_member_spelling,
   constructor_interface_member_spelling,
   mixin_member_spelling,
-  mixin_members_spelling,
   operation_interface_member_spelling,
   operation_mixin_member_spelling,
   stringifier_member_spelling,
@@ -28,7 +27,7 @@ use weedle_parts::common::{Docstring, Identifier};
 use weedle_parts::literal::ConstValue;
 use weedle_parts::types::ConstType;
 use weedle_print::fields::{eight, five, seven, six, three};
-use weedle_print::{Layout, Print, PrintError};
+use weedle_print::{Layout, PrintError};
 use weedle_print_types::Held;
 use weedle_types::argument::ParenthesizedArgumentList;
 use weedle_types::types::{AttributedType, ReturnType};
@@ -209,13 +208,5 @@ impl<'a> WriteIdl for MixinMember<'a> {
             MixinMember::Attribute(value) => value.write_part(out, layout),
             MixinMember::Stringifier(value) => value.write_part(out, layout),
         }
-    }
-}
-
-impl<'a> WriteIdl for Vec<MixinMember<'a>> {
-    ghost spelling = { mixin_members_spelling };
-
-    fn write_part(&self, out: &mut String, layout: &mut Layout) -> Result<(), PrintError> {
-        Vec::<IdlPart<MixinMember<'a>>>::print(self, out, layout)
     }
 }

@@ -6,10 +6,8 @@ ghost use Rattle.weedle_spell.specs.written.Namespaces.{
   attribute_namespace_member_spelling,
   dictionary_definition_spelling,
   dictionary_member_spelling,
-  dictionary_members_spelling,
   namespace_definition_spelling,
   namespace_member_spelling,
-  namespace_members_spelling,
   operation_namespace_member_spelling,
   partial_dictionary_definition_spelling,
   partial_namespace_definition_spelling,
@@ -30,7 +28,7 @@ use weedle_namespaces::{
 use weedle_parts::common::{Braced, Docstring, Identifier};
 use weedle_parts::literal::Default;
 use weedle_print::fields::{seven, six};
-use weedle_print::{Layout, Print, PrintError};
+use weedle_print::{Layout, PrintError};
 use weedle_print_types::Held;
 use weedle_types::argument::ParenthesizedArgumentList;
 use weedle_types::types::{AttributedType, ReturnType, Type};
@@ -58,14 +56,6 @@ impl<'a> WriteIdl for DictionaryMember<'a> {
             &self.default,
             &self.semi_colon,
         )
-    }
-}
-
-impl<'a> WriteIdl for Vec<DictionaryMember<'a>> {
-    ghost spelling = { dictionary_members_spelling };
-
-    fn write_part(&self, out: &mut String, layout: &mut Layout) -> Result<(), PrintError> {
-        Vec::<IdlPart<DictionaryMember<'a>>>::print(self, out, layout)
     }
 }
 
@@ -177,14 +167,6 @@ impl<'a> WriteIdl for NamespaceMember<'a> {
             NamespaceMember::Operation(value) => value.write_part(out, layout),
             NamespaceMember::Attribute(value) => value.write_part(out, layout),
         }
-    }
-}
-
-impl<'a> WriteIdl for Vec<NamespaceMember<'a>> {
-    ghost spelling = { namespace_members_spelling };
-
-    fn write_part(&self, out: &mut String, layout: &mut Layout) -> Result<(), PrintError> {
-        Vec::<IdlPart<NamespaceMember<'a>>>::print(self, out, layout)
     }
 }
 
