@@ -4,9 +4,9 @@ ghost use Rattle.std.specs.Prelude.{OnOk, string_bytes};
 ghost use Rattle.weedle_print.specs.Adds.{Adds};
 ghost use Rattle.weedle_spell.specs.RecursiveTypes.{default_where_optional};
 
+use weedle_base::term::Optional;
 use weedle_parts::literal::Default;
 use weedle_print::{Layout, Print, PrintError};
-use weedle_base::term::Optional;
 
 /// Writes the default of an argument, as `= 5`. One that isn't optional can't have a default, and
 /// has no text.

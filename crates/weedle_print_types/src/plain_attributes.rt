@@ -14,10 +14,10 @@ ghost use Rattle.weedle_spell.specs.written.PlainAttributes.{
   identifier_or_string_spelling,
 };
 
-use weedle_parts::literal::StringLit;
-use weedle_parts::common::{Identifier, Parenthesized};
-use weedle_print::{Layout, Print, PrintError, separate};
 use weedle_base::term::{Assign, CloseParen, OpenParen};
+use weedle_parts::common::{Identifier, Parenthesized};
+use weedle_parts::literal::StringLit;
+use weedle_print::{Layout, Print, PrintError, separate};
 use weedle_types::attribute::{
     ExtendedAttributeIdent, ExtendedAttributeIdentList, IdentifierList, IdentifierOrString,
 };

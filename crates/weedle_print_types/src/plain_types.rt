@@ -4,14 +4,14 @@ ghost use Rattle.std.specs.Prelude.{OnOk, string_bytes};
 ghost use Rattle.weedle_print.specs.Adds.{Adds};
 ghost use Rattle.weedle_spell.specs.RecursiveTypes.{non_any_type_spelling};
 
-use weedle_parts::common::Identifier;
-use weedle_parts::types::{FloatingPointType, IntegerType, MayBeNull};
-use weedle_print::{Layout, Print, PrintError};
 use weedle_base::term::{
     ArrayBuffer, ArrayBufferView, Boolean, BufferSource, Byte, ByteString, DOMString, DataView,
     Error, Float32Array, Float64Array, Int8Array, Int16Array, Int32Array, Object, Octet, Symbol,
     USVString, Uint8Array, Uint8ClampedArray, Uint16Array, Uint32Array,
 };
+use weedle_parts::common::Identifier;
+use weedle_parts::types::{FloatingPointType, IntegerType, MayBeNull};
+use weedle_print::{Layout, Print, PrintError};
 use weedle_types::types::NonAnyType;
 
 /// Writes a type that holds no other, as `long?`.

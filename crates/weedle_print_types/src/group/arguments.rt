@@ -15,9 +15,9 @@ ghost use Rattle.weedle_spell.specs.written.Arguments.{
 use super::attributes::print_attributes;
 use super::types::{print_attributed_type, print_type};
 use crate::defaults::print_default;
+use weedle_base::term::{Ellipsis, Optional};
 use weedle_parts::common::Identifier;
 use weedle_print::{Layout, Print, PrintError, close_list, push, separate, word};
-use weedle_base::term::{Ellipsis, Optional};
 use weedle_types::argument::{
     Argument, ParenthesizedArgumentList, SingleArgument, VariadicArgument,
 };

@@ -13,9 +13,11 @@ ghost use Rattle.weedle_spell.specs.written.Types.{
 };
 
 use super::types::{print_record_key_type, print_return_type, print_type};
+use weedle_base::term::{
+    Comma, FrozenArray, GreaterThan, LessThan, Promise, QMark, Record, Sequence,
+};
 use weedle_parts::types::MayBeNull;
 use weedle_print::{Layout, Print, PrintError};
-use weedle_base::term::{Comma, FrozenArray, GreaterThan, LessThan, Promise, QMark, Record, Sequence};
 use weedle_types::types::{FrozenArrayType, PromiseType, RecordType, RecordTypes, SequenceType};
 
 /// Writes a sequence, as `sequence<long>`.

@@ -19,8 +19,8 @@ use super::generic_types::{
 };
 use super::unions::print_nullable_union_type;
 use crate::plain_types::print_plain_type;
-use weedle_print::{Layout, Print, PrintError};
 use weedle_base::term::{Any, ByteString, DOMString, USVString, Undefined};
+use weedle_print::{Layout, Print, PrintError};
 use weedle_types::types::{
     AttributedNonAnyType, AttributedType, NonAnyType, RecordKeyType, ReturnType, SingleType, Type,
 };

@@ -10,9 +10,9 @@ ghost use Rattle.weedle_spell.specs.RecursiveTypes.{union_member_type_spelling};
 ghost use Rattle.weedle_spell.specs.written.Types.{union_type_spelling};
 
 use super::types::print_attributed_non_any_type;
+use weedle_base::term::{CloseParen, OpenParen, QMark};
 use weedle_parts::types::MayBeNull;
 use weedle_print::{Layout, Print, PrintError, separate};
-use weedle_base::term::{CloseParen, OpenParen, QMark};
 use weedle_types::types::{UnionMemberType, UnionType};
 
 /// Writes a union that may be null, as `(long or DOMString)?`.
