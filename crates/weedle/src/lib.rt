@@ -21,18 +21,18 @@
 //!
 //! ```rust
 //! use std::alloc::Global;
-//! use weedle::{Definitions, PrintError, lend, parse, write_list};
+//! use weedle::{PrintError, WriteIdl, parse};
 //!
 //! /// The text of definitions.
-//! fn text_of(alloc: Global, definitions: &Definitions<'_>) -> Result<String, PrintError> {
+//! fn text_of<T: WriteIdl + Drop>(alloc: Global, definitions: Vec<T>) -> Result<String, PrintError> {
 //!     let mut out = String::new(alloc);
-//!     write_list(definitions.as_slice(), &mut out)?;
+//!     definitions.write_idl(&mut out)?;
 //!     Ok(out)
 //! }
 //!
 //! let alloc = rt.alloc();
 //! let definitions = parse(alloc, "interface A{attribute long x;}; // of A")?;
-//! let text = lend(definitions, move |list: &Definitions<'_>| text_of(alloc, list))?;
+//! let text = text_of(alloc, definitions)?;
 //! assert_eq!(rt; text.as_str(), "interface A {\n  attribute long x;\n};\n");
 //! ```
 //!

@@ -4,9 +4,8 @@ use crate::fault::Fault;
 use std::alloc::Global;
 use std::io::Write;
 use weedle_base::Err;
-use weedle_front::{lend, parse_quick};
-use weedle_idl::Definitions;
-use weedle_print_idl::{PrintError, write_list};
+use weedle_front::parse_quick;
+use weedle_print_idl::{PrintError, WriteIdl};
 
 /// Writes the definitions of a text that is read whole, in the layout that there is. Comments and
 /// blanks of the text are in no value, so they are not in what is written.
@@ -19,17 +18,14 @@ pub fn write_idl<W: Write>(alloc: Global, text: &str, out: &mut W) -> Result<(),
         Err(Err::Error(_)) => return Ok(()),
         Err(Err::Failure(_)) => return Err(Fault::Memory),
     };
-    let written = lend(
-        definitions,
-        move |list: &Definitions<'_>| idl_of(alloc, list),
-    )?;
+    let written = idl_of(alloc, definitions)?;
     write!(out, "{written}")?;
     Ok(())
 }
 
-/// The text of definitions.
-fn idl_of(alloc: Global, list: &Definitions<'_>) -> Result<String, PrintError> {
+/// The text of values one after another.
+fn idl_of<T: WriteIdl + Drop>(alloc: Global, list: Vec<T>) -> Result<String, PrintError> {
     let mut written = String::new(alloc);
-    write_list(list.as_slice(), &mut written)?;
+    list.write_idl(&mut written)?;
     Ok(written)
 }

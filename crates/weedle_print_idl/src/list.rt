@@ -33,9 +33,9 @@ fn push_each<T: WriteIdl>(
 }
 
 /// Writes values one after another at the end of `out`, as [`WriteIdl::write_idl`] writes a list of
-/// them. It is the call for a list of definitions, as `write_list(definitions.as_slice(), &mut out)`:
-/// where a function lends such a list by `definitions.write_idl(&mut out)`, the prover meets a
-/// limit.
+/// them. A function that is generic over the values' type may call either. Where the values are known
+/// to be definitions the prover meets a limit, but in a function that does this alone, as
+/// `write_list(definitions.as_slice(), out)`.
 #[tactic(auto, using(weedle_print::proofs::AddsFacts::adds_copied))]
 pub fn write_list<T: WriteIdl>(list: &[T], out: &mut String) -> Result<(), PrintError>
     ensures spells { OnOk result (Adds (each T.spelling list.now) (string_bytes out.old) (string_bytes out.new)) }
