@@ -22,8 +22,6 @@ mod nesting;
 #[cfg(test)]
 mod plain_types;
 #[cfg(test)]
-mod printing;
-#[cfg(test)]
 mod requests;
 #[cfg(test)]
 mod scanners;

@@ -8,4 +8,6 @@ mod answers;
 #[cfg(test)]
 mod definitions;
 #[cfg(test)]
+mod leaves;
+#[cfg(test)]
 mod types;
