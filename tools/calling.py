@@ -40,7 +40,7 @@ examples, says [USING](USING.md); what is proved of it in words, [PROVED](PROVED
 {contents}
 ## A caller
 
-Its line of `crates.txt` is `app: weedle`. It is proved as it stands: safe, and returning.
+Its line of `crates.txt` is `app: weedle`. The gate proves it, but for `main`: it is safe, and returns.
 
 ```rust
 {caller}```

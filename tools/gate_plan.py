@@ -29,6 +29,8 @@ bodies begin and end with. Where more jobs run than there are processors, they s
 
 With --costs it prints a row for each CRATE: how many crates stand above it, the minutes of processor
 time of all of these and its own, and those of the longest chain among them.
+
+The status is 0, or 2 where TIMES holds no such times or a CRATE isn't there.
 """
 
 import argparse
@@ -250,20 +252,34 @@ def plan(gate, processors, is_shown, older=False, memory=math.inf, own=False):
             yield f"  {begin / 60:6.1f} to {end / 60:6.1f}, {jobs} jobs: {named}"
 
 
+def times_in(path):
+    """The times that a file holds. A file without them is no argument."""
+    try:
+        times = json.loads(Path(path).read_text(encoding="utf-8"))
+    except (OSError, ValueError) as why:
+        raise argparse.ArgumentTypeError(f"{path}: {why}") from why
+    if not isinstance(times, dict) or not {"proof", "tests", "edits"} <= set(times):
+        raise argparse.ArgumentTypeError(f"{path} has no times as tools/gate_times.py --json writes them")
+    return times
+
+
 def main():
     parser = argparse.ArgumentParser(
         description=__doc__, formatter_class=argparse.RawDescriptionHelpFormatter
     )
-    parser.add_argument("times", type=Path)
+    parser.add_argument("times", type=times_in, metavar="TIMES")
     parser.add_argument("--processors", type=int, action="append")
     parser.add_argument("--memory", type=float, default=math.inf, metavar="GB")
     order = parser.add_mutually_exclusive_group()
     order.add_argument("--older", action="store_true")
     order.add_argument("--own", action="store_true")
     parser.add_argument("--show", action="store_true")
-    parser.add_argument("--costs", nargs="+")
+    parser.add_argument("--costs", nargs="+", metavar="CRATE")
     said = parser.parse_args()
-    crates = Gate(TOP, json.loads(said.times.read_text()))
+    crates = Gate(TOP, said.times)
+    for name in said.costs or ():
+        if name not in crates.rows:
+            parser.error(f"there is no crate {name}")
     if said.costs:
         print(*costs(crates, said.costs), sep="\n")
         return

@@ -23,7 +23,7 @@ seen of each process, a line of JSON each, and --read makes the table of such fi
 several runs too: their times are added.
 
 It needs Linux, whose /proc it reads. A process that lives for less than half a second may be missed.
-It ends with the command's status.
+It ends with the command's status, or with 2 where the command can't be run or a FILE not be read.
 """
 
 import argparse
@@ -209,10 +209,12 @@ def minutes(seconds):
     return f"{seconds / 60:.1f}" if seconds else ""
 
 
-def machine():
-    """The processor's name, and how many there are."""
-    found = re.search(r"model name\s*: (.*)", Path("/proc/cpuinfo").read_text())
-    return f"{os.cpu_count()} processors, {found[1] if found else 'of no name'}"
+def machine(said=None):
+    """How many processors there are and their name, with how fast they are where the name says no GHz."""
+    said = Path("/proc/cpuinfo").read_text() if said is None else said
+    name, speed = (re.search(rf"{it}\s*: (.*)", said) for it in ("model name", "cpu MHz"))
+    words = f"{os.cpu_count()} processors, {name[1] if name else 'of no name'}"
+    return f"{words} @ {float(speed[1]) / 1000:.2f}GHz" if speed and "GHz" not in words else words
 
 
 def table(times):
@@ -263,4 +265,8 @@ def main():
 
 
 if __name__ == "__main__":
-    sys.exit(main())
+    try:
+        sys.exit(main())
+    except (OSError, ValueError) as why:
+        print(f"gate_times: {why}", file=sys.stderr)
+        sys.exit(2)

@@ -2,7 +2,7 @@
 """Writes tests/: texts, and what is wanted of each, from weedle2 and the rows of the grammar.
 
     python3 tools/make_cases.py [--weedle2 PATH] [--real FOLDER]
-    python3 tools/make_cases.py --rows-alone
+    python3 tools/make_cases.py --rows-alone [--real FOLDER]
     python3 tools/make_cases.py --check
 
 Build the program of compare/ first (its README.md says how); --weedle2 says where it stands, where it isn't
@@ -14,8 +14,8 @@ give weedle2's with those rules as they were. Where a text is refused, the furth
 by the rows alone (row_words.py), and so is what would mend it (row_hints.py). Nothing is taken from the port. tests/README.md says what stands in which file.
 
 With --rows-alone only what the rows say alone is made again, of the texts that the archives have: of each that is
-refused the place, the words, the excerpt and the hint. It needs neither weedle2 nor FOLDER, and leaves the real files
-as they are.
+refused the place, the words, the excerpt and the hint. It needs no weedle2. Without FOLDER it leaves the real files as
+they are; each file of FOLDER has to be the one that is known.
 
 With --check nothing is written: it prints a line for each archive that isn't the one that tests/INDEX lists,
 and for each whose texts are others than those that are made now. It needs neither weedle2 nor FOLDER.
@@ -24,7 +24,6 @@ The status is 0, 1 where answers disagree or --check finds something, and 2 wher
 doesn't do. Nothing is written then.
 """
 
-import argparse
 import hashlib
 import sys
 import tempfile
@@ -37,6 +36,7 @@ import row_hints
 import weedle2_texts
 import worked_rows
 from case_files import INDEX, TESTS, Case, archive_of, cases_of, compact, line_of, numbered, packed, wrong_sums
+from command_line import parser_of
 from compare_with_weedle2 import (
     DEPTH, TOGETHER, WEEDLE2, NoUse, Weedle2, answer_by_rows, explanation, files_of, unescaped,
 )
@@ -287,15 +287,27 @@ def without_text(text, wanted):
     return kept
 
 
+def texts_of_real(folder):
+    """The texts of the files of a folder, by the names of their cases."""
+    named = {str(file.relative_to(folder).with_suffix("")).replace("/", "."): file for file in files_of(folder)}
+    return {name: file.read_bytes().decode() for name, file in named.items()}
+
+
 def real_cases(weedle2, folder):
     """The cases of the files of a folder, by their names in it."""
-    files = files_of(folder)
-    texts = [file.read_bytes().decode() for file in files]
-    answers = list(answers_of(weedle2, texts))
-    return [
-        Case(str(file.relative_to(folder).with_suffix("")).replace("/", "."), None, without_text(text, wanted_of(text, answer)))
-        for file, text, answer in zip(files, texts, answers)
-    ]
+    texts = texts_of_real(folder)
+    answers = answers_of(weedle2, list(texts.values()))
+    return [Case(name, None, without_text(text, wanted_of(text, answer))) for (name, text), answer in zip(texts.items(), answers)]
+
+
+def real_with_rows_again(case, text):
+    """The case of a real file, which has this text, with what the rows say now where it is refused."""
+    if sum_of(text) != case.wanted["sum"]:
+        raise Disagree(f"{case.name} isn't the file that is known")
+    if "rest" not in case.wanted:
+        return case
+    kept = {name: case.wanted[name] for name in ("by", "rest")}
+    return Case(case.name, None, without_text(text, kept | said_by_rows(text, case.wanted["rest"])))
 
 
 # The writing.
@@ -337,16 +349,19 @@ def make(weedle2, real):
     return made
 
 
-def make_with_rows_again():
+def make_with_rows_again(real):
     made = {folder: [with_rows_again(case) for case in cases_of(folder, TESTS)] for folder in made_texts()}
     for cases in made.values():
         hold_to_rows(cases)
         hold_to_words(cases)
+    if real:
+        texts = texts_of_real(real)
+        made["real"] = [real_with_rows_again(case, texts.get(case.name, "")) for case in cases_of("real", TESTS)]
     return made
 
 
 def arguments():
-    words = argparse.ArgumentParser(description=__doc__.splitlines()[0])
+    words = parser_of(__doc__)
     words.add_argument("--weedle2", default=str(WEEDLE2), metavar="PATH", help="the program of compare/")
     words.add_argument("--real", metavar="FOLDER", help="where the real files are")
     words.add_argument("--rows-alone", action="store_true", help="make again only what the rows say alone")
@@ -361,7 +376,7 @@ def main(wanted):
         print(*lines, sep="\n", end="\n" if lines else "")
         return 1 if lines else 0
     try:
-        write(TESTS, make_with_rows_again() if wanted.rows_alone else make(Weedle2(wanted.weedle2), wanted.real))
+        write(TESTS, make_with_rows_again(wanted.real) if wanted.rows_alone else make(Weedle2(wanted.weedle2), wanted.real))
     except Disagree as fault:
         print(fault, file=sys.stderr)
         return 1

@@ -4,7 +4,7 @@
     python3 tools/mixed_text.py SEED SIZE > FILE
 
 Of a seed and a size it makes the same text each time: of seed 7 and size 1000000 one of 1,000,072 bytes and 3,916
-definitions.
+definitions. It goes to standard output. The status is 0, or 2 where the arguments are no two numbers.
 """
 
 from command_line import parser_of

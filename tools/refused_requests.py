@@ -12,6 +12,9 @@ make no request at all; those of tests named `.._by_N_requests` make so many, no
 Run `rt test` in the folders of the crates first, which builds their tests. Without names it takes all crates with
 such tests. A C compiler has to be there, as `cc`, for tools/refuse_request.c. For one N,
 `rt try --test --fail-alloc N` in a crate's folder does the same without it, and needs no proof.
+
+It prints a line for each test, with how many requests were refused. The status is 0 where all passed, and 1 at the
+first that didn't, or where the tests of a crate aren't built.
 """
 
 import os

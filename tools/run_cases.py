@@ -22,7 +22,6 @@ at most of a folder. The last line is the sum, `N passed, M failed`.
 The status is 0 where none failed and one at least passed, 1 where one failed, 2 where they couldn't be run.
 """
 
-import argparse
 import os
 import re
 import sys
@@ -33,6 +32,7 @@ from pathlib import Path
 from case_files import TESTS, cases_of, compact, folders
 from case_programs import PROGRAMS, Built, Failure, NoUse, Tried, compared, programs_at, told
 from case_runs import RUNS, runs
+from command_line import parser_of
 from compare_with_weedle2 import BETWEEN, DEPTH, renamed
 from row_nodes import nodes_of, printed
 from tree_json import NoTree, definition_of, plain, read
@@ -241,7 +241,7 @@ def answer_of_real(program, file, wanted):
     at, _, says = (lines or [""])[0].removeprefix(f"{file}:").partition(": ")
     shows, hint = ["".join(f"{line}\n" for line in part) for part in (lines[1:3], lines[3:])]
     said = {"by": wanted["by"], "rest": wanted.get("rest"), "place": wanted.get("place"), "at": at, "says": says, "shows": shows}
-    return said | ({"hint": hint} if "sum of hint" in wanted else {})
+    return said | ({"hint": hint} if hint else {})
 
 
 def title_of(tree):
@@ -326,7 +326,7 @@ def chosen_cases(wanted):
 
 
 def arguments():
-    words = argparse.ArgumentParser(description=__doc__.splitlines()[0])
+    words = parser_of(__doc__)
     words.add_argument("program", metavar="PROGRAM", help="a built weedle_check or weedle_list, or a folder with both below it")
     words.add_argument("folder", metavar="FOLDER", nargs="*", help="a folder of tests/, as random; without one all")
     words.add_argument("--most", type=int, metavar="BYTES", help="take texts of so many bytes together at most")

@@ -16,7 +16,8 @@ byte, the median of N readings
 and the kB that a process held at most: weedle2's with its list, and Python's with each of these, above those of
 one that only holds the text.
 
-Other work on the machine makes times somewhat longer, and leaves memory as it is.
+Other work on the machine makes times somewhat longer, and leaves memory as it is. The status is 0, or 2 where the
+library, the program or a FOLDER's files aren't there.
 """
 
 import argparse
@@ -30,6 +31,7 @@ import sys
 import tempfile
 from pathlib import Path
 
+from command_line import parser_of
 from compare_with_weedle2 import WEEDLE2, NoUse, files_of, output_of
 from mixed_text import Mixed
 from speed_with_weedle2 import joined, whole_of
@@ -158,7 +160,7 @@ def measure(name, text, wanted):
 
 
 def arguments():
-    words = argparse.ArgumentParser(description=__doc__.splitlines()[0])
+    words = parser_of(__doc__)
     for name, number in (("seed", 7), ("size", 1_000_000), ("rounds", 5)):
         words.add_argument(f"--{name}", type=int, default=number)
     words.add_argument("--folder", action="append", default=[])

@@ -11,7 +11,8 @@ refused at its end. It prints nanoseconds of processor time for each byte, the l
   stands, so that no change has to be tried;
 - `with hints`: the same of a slip of which changes are tried, up to eight.
 
-The last line is of many interfaces of so many bytes, the first of them with a slip.
+The last line is of many interfaces of so many bytes, the first of them with a slip. The status is 0, or 2 where the
+library isn't there.
 """
 
 import sys

@@ -19,7 +19,8 @@ whole, joined to one. Of each text it prints
 - kB of memory that the process held at most: weedle2's with the text and what it read; of the port, as GNU
   time says it, `weedle_check`'s with the same, and `weedle_list`'s with the lines that it writes too.
 
-Other work on the machine makes times longer, and leaves instructions and memory as they are.
+Other work on the machine makes times longer, and leaves instructions and memory as they are. The status is 0, or 2
+where a program or a FOLDER's files aren't there.
 """
 
 import re

@@ -4,6 +4,7 @@
     python3 tools/test_gate_plan.py
 """
 
+import argparse
 import tempfile
 import unittest
 from pathlib import Path
@@ -42,6 +43,16 @@ class Planned(unittest.TestCase):
         room = tempfile.TemporaryDirectory()
         self.addCleanup(room.cleanup)
         self.gate = gate_of(room.name)
+
+    def test_a_file_without_times_is_refused_in_a_line(self):
+        with tempfile.TemporaryDirectory() as room:
+            file = Path(room) / "times.json"
+            self.assertRaises(argparse.ArgumentTypeError, gate_plan.times_in, file)
+            for text in ("weedle:", "[]", '{"proof": {}}'):
+                file.write_text(text)
+                self.assertRaises(argparse.ArgumentTypeError, gate_plan.times_in, file)
+            file.write_text('{"proof": {}, "tests": {}, "edits": {}}')
+            self.assertEqual(gate_plan.times_in(file), {"proof": {}, "tests": {}, "edits": {}})
 
     def test_a_proof_alone_gets_the_idle_processors_but_those_of_its_empty_tests(self):
         log = simulated(self.gate.tasks(), 4)

@@ -40,6 +40,14 @@ class TestTimes(unittest.TestCase):
         self.assertEqual(times.as_json()["calibration"], [70.0, 80.0])
 
 
+class TestMachine(unittest.TestCase):
+    def test_how_fast_it_is_stands_in_the_name_or_behind_it(self):
+        named = "model name\t: A B\ncpu MHz\t\t: 2700.000\n"
+        self.assertRegex(gate_times.machine(named), r"^\d+ processors, A B @ 2\.70GHz$")
+        self.assertRegex(gate_times.machine(named.replace("A B", "A @ 2.50GHz")), r"^\d+ processors, A @ 2\.50GHz$")
+        self.assertRegex(gate_times.machine(""), r"^\d+ processors, of no name$")
+
+
 class TestCalibrate(unittest.TestCase):
     def test_it_is_the_processor_time_of_the_command(self):
         self.assertLess(gate_times.calibrate((sys.executable, "-c", "")), 60)

@@ -15,7 +15,8 @@ import make_cases
 from case_files import INDEX, Case, archive_of, cases_of, compact, folders, numbered, packed, unpacked, wrong_sums
 from compare_with_weedle2 import answer_by_rows
 from make_cases import (
-    BY_WEEDLE2, Disagree, cases_of_texts, excerpt, hold_to_rows, hold_to_words, prefixes, with_rows_again, without_text,
+    BY_WEEDLE2, Disagree, cases_of_texts, excerpt, hold_to_rows, hold_to_words, prefixes, real_with_rows_again,
+    with_rows_again, without_text,
 )
 from random_texts import Maker
 from row_ends import NOW, PLAIN, reads_otherwise
@@ -118,6 +119,14 @@ class Wanted(unittest.TestCase):
             case, = cases_of_texts(ByRows(), "tests", [text])
             older = Case(case.name, text, case.wanted if case.is_read else {"by": case.wanted["by"], "rest": case.wanted["rest"], "says": "x"})
             self.assertEqual(with_rows_again(older).wanted, case.wanted)
+
+    def test_what_the_rows_say_of_a_real_file_is_made_again_over_its_text(self):
+        for text in ("A includs B;", "A includes B;"):
+            kept = without_text(text, wanted(text))
+            older = Case("a", None, {name: it for name, it in kept.items() if name != "sum of hint"})
+            self.assertEqual(real_with_rows_again(older, text).wanted, kept)
+            with self.assertRaisesRegex(Disagree, "a isn't the file that is known"):
+                real_with_rows_again(older, text + " ")
 
     def test_a_line_is_cut_where_it_is_shown_wide(self):
         hidden = "\u00a0" * 100
