@@ -12,6 +12,8 @@
   of the top, but for what is built.
 - README.md, docs/PROVED.md and the newest version of CHANGELOG.md that names one name the same kit of
   the toolchain, as `rattle-kit-13f logic dac8208d650f15bf`.
+- README.md, and the files that the library for C and the packages have their versions from, name the newest
+  version of CHANGELOG.md.
 
 It prints a line for each that isn't so. The status is 0 where there is none, or else 1.
 """
@@ -39,6 +41,15 @@ ANY = {"NAME", "CRATE", "FOLDER", "app", "validator", "documentation"}
 # The line of `rt version`, and the pages of which the first such line counts.
 KIT = re.compile(r"`(rattle-kit-\w+ logic [0-9a-f]+)`")
 KIT_PAGES = ("README.md", "docs/PROVED.md", "CHANGELOG.md")
+# The newest version, and where else it stands.
+NEWEST = re.compile(r"^## (\d+\.\d+\.\d+) ", re.M)
+VERSIONS = {
+    "README.md": re.compile(r"This is version (\d+\.\d+\.\d+) "),
+    "crates/weedle_c/src/lib.rt": re.compile(r"the three numbers of (\d+\.\d+\.\d+)\."),
+    "python/pyproject.toml": re.compile(r'^version = "(.*)"', re.M),
+    "python/weedle/__init__.py": re.compile(r'^__version__ = "(.*)"', re.M),
+    "examples/rust/Cargo.toml": re.compile(r'^version = "(.*)"', re.M),
+}
 
 
 def crates_named(text):
@@ -109,8 +120,17 @@ def of_kits(root):
             yield f"{page}: the kit is {found[1]}, and {first[1]} in {KIT_PAGES[0]}"
 
 
+def of_versions(root):
+    """The files that have another version than the newest of CHANGELOG.md, or none."""
+    newest = NEWEST.search((root / "CHANGELOG.md").read_text(encoding="utf-8"))[1]
+    for name, version in VERSIONS.items():
+        found = version.search((root / name).read_text(encoding="utf-8"))
+        if not found or found[1] != newest:
+            yield f"{name}: the version is {found[1] if found else 'not named'}, and {newest} in CHANGELOG.md"
+
+
 def main():
-    rows = [*of_crates(TOP), *of_scripts(TOP), *of_paths(TOP), *of_kits(TOP)]
+    rows = [*of_crates(TOP), *of_scripts(TOP), *of_paths(TOP), *of_kits(TOP), *of_versions(TOP)]
     if rows:
         print(*rows, sep="\n")
     return 1 if rows else 0

@@ -91,6 +91,26 @@ class Kits(Repository):
         self.assertEqual(self.rows("2a", "2a", ""), ["CHANGELOG.md: no kit is named"])
 
 
+class Versions(Repository):
+    def rows(self, readme, cargo):
+        self.write("CHANGELOG.md", "# What is new\n\n## 1.2.0 (2026-01-02)\n\n## 1.1.0 (2026-01-01)\n")
+        self.write("README.md", readme)
+        self.write("crates/weedle_c/src/lib.rt", "/// The version: a byte each for the three numbers of 1.2.0.\n")
+        self.write("python/pyproject.toml", '[project]\nversion = "1.2.0"\n')
+        self.write("python/weedle/__init__.py", '__version__ = "1.2.0"\n')
+        self.write("examples/rust/Cargo.toml", f'version = "{cargo}"\n')
+        return list(pages.of_versions(self.root))
+
+    def test_all_name_the_newest(self):
+        self.assertEqual(self.rows("This is version 1.2.0 (new).\n", "1.2.0"), [])
+
+    def test_one_names_an_older_one_and_one_none(self):
+        self.assertEqual(self.rows("A parser.\n", "1.1.0"), [
+            "README.md: the version is not named, and 1.2.0 in CHANGELOG.md",
+            "examples/rust/Cargo.toml: the version is 1.1.0, and 1.2.0 in CHANGELOG.md",
+        ])
+
+
 class Paths(Repository):
     def rows(self, text):
         self.write("docs/USING.md", text)
