@@ -8,7 +8,8 @@ declaration of its type. From this follow, in crates/weedle_types/proofs:
   function the ruleset that its attribute names;
 - reading/+group/Invariants.antt: what falls from call to call, and what holds in the loops;
 - reading/+group/Answers.antt and reading/plain_types/*/Answers.antt: the goals that no search finds, most of
-  them that a mismatch of the alternatives before was a mismatch.
+  them that a mismatch of the alternatives before was a mismatch. In the first, what stands behind the line
+  `-- By hand:` is kept: the goals of attributes that may be left out, and of a single argument.
 
 tools/write.py runs it.
 """
@@ -23,6 +24,8 @@ from proofs.types_parts import FAMILIES, JOINED, PIECES, TABLE, TOP
 from proofs.types_rules import enum_rules, if_rules, joined_rules, list_rules, option_rules, piece_rules, struct_rules
 from written_places import in_logic, put
 
+GROUP = "weedle_types/proofs/reading/+group/Answers.antt"
+BY_HAND = "-- By hand: "
 CRATES = ["weedle_grammar", "weedle_base", *LEAVES, TYPES]
 STANDARD = {
     "Rattle.std.proofs.Common": "Global Vec ap arith inl inr refl rules sym ◌∙◌".split(),
@@ -49,9 +52,21 @@ def imports(text, more=()):
     return NAMES.uses(text, [*lines, *more])
 
 
-def write(path, about, lines, more=()):
+def by_hand():
+    """The lines of the group's answers that are written by hand, from the one that says so on."""
+    lines = (TOP / "crates" / GROUP).read_text(encoding="utf-8").split("\n")
+    first = next((number for number, line in enumerate(lines) if line.startswith(BY_HAND)), None)
+    if first is None:
+        raise SystemExit(f"{GROUP}: there is no line {BY_HAND!r}, behind which stands what this script doesn't write")
+    return lines[first:]
+
+
+def write(path, about, lines, more=(), whole=True):
     text = "\n".join(lines).strip("\n") + "\n"
-    head = [f"-- {about}", "--", "-- Written by tools/types_proofs.py, and not edited by hand."]
+    # A file whose head says `written by` is made anew as a whole; this one is brought up to date.
+    by_whom = "Written by tools/types_proofs.py, and not edited by hand." if whole else (
+        "tools/types_proofs.py writes this down to the line `By hand`, and keeps what stands behind it.")
+    head = [f"-- {about}", "--", f"-- {by_whom}"]
     put(TOP, f"weedle_types/proofs/{path}", "\n".join(head + imports(text, more)) + "\n\n" + text)
 
 
@@ -84,9 +99,9 @@ def main():
         lines = choice_answers(name, calls, "", "", is_handed_on=name in JOINED)
         write(f"reading/plain_types/{name}/Answers.antt", "Alternatives, each where those before it were a mismatch.", lines,
               citing(lines, f"Rattle.weedle_types.proofs.reading.plain_types.{name}.Goals"))
-    lines = group_answers()
+    lines = [*group_answers(), *by_hand()]
     write("reading/+group/Answers.antt", "Alternatives, each where those before it were a mismatch; lists, and arguments with a default.", lines,
-          citing(lines, "Rattle.weedle_types.proofs.reading.+group.Goals"))
+          citing(lines, "Rattle.weedle_types.proofs.reading.+group.Goals"), whole=False)
     write("reading/+group/Invariants.antt", "Each call reads a shorter text, or the same text by a rule of a smaller number.", measures(),
           ["use Rattle.weedle_types.proofs.reading.+group.Given as goal"])
 

@@ -81,30 +81,6 @@ def list_answers(name):
     return lines
 
 
-OPTION_ANSWERS = """\
-pub attributes::attributes-returns-in-Ok-clause-reads : goal.attributes::attributes-returns-in-Ok-clause-reads
-attributes::attributes-returns-in-Ok-clause-reads t c = attributes_some c.in-Ok.ensures.reads
-
-pub attributes::attributes-returns-in-Err-Error-clause-reads : goal.attributes::attributes-returns-in-Err-Error-clause-reads
-attributes::attributes-returns-in-Err-Error-clause-reads t c = attributes_none c.in-Err-Error.ensures.reads c.in-Err-Error.field-0-is (search rules)
-
-pub attributes::attributes-returns-in-Err-Failure-clause-reads : goal.attributes::attributes-returns-in-Err-Failure-clause-reads
-attributes::attributes-returns-in-Err-Failure-clause-reads t c = attributes_fault c.in-Err-Failure.ensures.reads c.in-Err-Failure.field-0-is
-"""
-
-IF_ANSWERS = """\
-pub arguments::single_argument-returns-in_ok-rest-in-Some-clause-reads : goal.arguments::single_argument-returns-in_ok-rest-in-Some-clause-reads
-arguments::single_argument-returns-in_ok-rest-in-Some-clause-reads t c =
-    single_argument_when _ (got_pair _ _ c.in_ok-rest.ensures.reads (got_pair _ _ (rw c.in-Some.is at c.in_ok-rest-2.ensures.reads) (got_pair _ _ c.in_ok-rest-3.ensures.reads c.in_ok-rest-4.ensures.reads))) refl c.in_ok-rest-in-Some.ensures.reads
-
-pub arguments::single_argument-returns-in_err-rest-in-Some-clause-reads : goal.arguments::single_argument-returns-in_err-rest-in-Some-clause-reads
-arguments::single_argument-returns-in_err-rest-in-Some-clause-reads t c =
-    exit_answers c.from_residual-in_err-rest-in-Some.result
-    (single_argument_fault_when (got_pair _ _ c.in_ok-rest.ensures.reads (got_pair _ _ (rw c.in-Some.is at c.in_ok-rest-2.ensures.reads) (got_pair _ _ c.in_ok-rest-3.ensures.reads c.in_ok-rest-4.ensures.reads))) c.in_err-rest-in-Some.ensures.reads)
-    c.from_residual-in_err-rest-in-Some.ensures.1
-"""
-
-
 def callee(part):
     return str(part) if isinstance(part, (Call, Piece)) else "word"
 
@@ -116,10 +92,6 @@ def group_answers():
             lines += choice_answers(name, [callee(p) for _, p in entry["arms"]], f"{path(name)}-", "t ")
         elif entry["kind"] == "list":
             lines += list_answers(name)
-        elif entry["kind"] == "option":
-            lines += OPTION_ANSWERS.split("\n")
-        elif entry["kind"] == "if":
-            lines += IF_ANSWERS.split("\n")
     return lines
 
 

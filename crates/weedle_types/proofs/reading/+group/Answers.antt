@@ -1,6 +1,6 @@
 -- Alternatives, each where those before it were a mismatch; lists, and arguments with a default.
 --
--- Written by tools/types_proofs.py, and not edited by hand.
+-- tools/types_proofs.py writes this down to the line `By hand`, and keeps what stands behind it.
 use Rattle.std.proofs.Common.{Global, Vec, ap, arith, inl, refl, rules, ◌∙◌}
 use Rattle.std.specs.Prelude.{List, [], ◌++◌, ◌+◌, ◌∷◌, ◌≡◌}
 use Rattle.weedle_base.proofs.Direct.{stop_first, stop_next, take_first, take_next}
@@ -179,15 +179,6 @@ unions::union_member_types-returns-in-Err-Error-clause-reads t c = union_member_
 pub unions::union_member_types-returns-in-Err-Failure-clause-reads : goal.unions::union_member_types-returns-in-Err-Failure-clause-reads
 unions::union_member_types-returns-in-Err-Failure-clause-reads t c = union_member_types_fault c.in-Err-Failure.ensures.reads c.in-Err-Failure.field-0-is
 
-pub attributes::attributes-returns-in-Ok-clause-reads : goal.attributes::attributes-returns-in-Ok-clause-reads
-attributes::attributes-returns-in-Ok-clause-reads t c = attributes_some c.in-Ok.ensures.reads
-
-pub attributes::attributes-returns-in-Err-Error-clause-reads : goal.attributes::attributes-returns-in-Err-Error-clause-reads
-attributes::attributes-returns-in-Err-Error-clause-reads t c = attributes_none c.in-Err-Error.ensures.reads c.in-Err-Error.field-0-is (search rules)
-
-pub attributes::attributes-returns-in-Err-Failure-clause-reads : goal.attributes::attributes-returns-in-Err-Failure-clause-reads
-attributes::attributes-returns-in-Err-Failure-clause-reads t c = attributes_fault c.in-Err-Failure.ensures.reads c.in-Err-Failure.field-0-is
-
 pub attributes::extended_attribute-returns-in-Ok-clause-reads : goal.attributes::extended_attribute-returns-in-Ok-clause-reads
 attributes::extended_attribute-returns-in-Ok-clause-reads t c = extended_attribute_got_0 (take_first _ _ c.in-Ok.ensures.reads)
 
@@ -269,16 +260,6 @@ arguments::argument-returns-clause-reads t c = argument_got_1 (take_next _ _ c.i
 pub arguments::argument-returns-in_err-rest-clause-reads : goal.arguments::argument-returns-in_err-rest-clause-reads
 arguments::argument-returns-in_err-rest-clause-reads t c = exit_answers c.from_residual.result (argument_fault (stop_next _ _ c.in-Err-Error.ensures.reads c.in-Err-Error.field-0-is c.in_err-rest.ensures.reads)) c.from_residual.ensures.1
 
-pub arguments::single_argument-returns-in_ok-rest-in-Some-clause-reads : goal.arguments::single_argument-returns-in_ok-rest-in-Some-clause-reads
-arguments::single_argument-returns-in_ok-rest-in-Some-clause-reads t c =
-    single_argument_when _ (got_pair _ _ c.in_ok-rest.ensures.reads (got_pair _ _ (rw c.in-Some.is at c.in_ok-rest-2.ensures.reads) (got_pair _ _ c.in_ok-rest-3.ensures.reads c.in_ok-rest-4.ensures.reads))) refl c.in_ok-rest-in-Some.ensures.reads
-
-pub arguments::single_argument-returns-in_err-rest-in-Some-clause-reads : goal.arguments::single_argument-returns-in_err-rest-in-Some-clause-reads
-arguments::single_argument-returns-in_err-rest-in-Some-clause-reads t c =
-    exit_answers c.from_residual-in_err-rest-in-Some.result
-    (single_argument_fault_when (got_pair _ _ c.in_ok-rest.ensures.reads (got_pair _ _ (rw c.in-Some.is at c.in_ok-rest-2.ensures.reads) (got_pair _ _ c.in_ok-rest-3.ensures.reads c.in_ok-rest-4.ensures.reads))) c.in_err-rest-in-Some.ensures.reads)
-    c.from_residual-in_err-rest-in-Some.ensures.1
-
 pub arguments::more_arguments-items-init : goal.arguments::more_arguments-items-init
 arguments::more_arguments-items-init t c =
     let pushed : c.push.new.self.items ≡ c.new-list.result.items ++ (c.args.first ∷ []) = rw c.if-is_err.ensures.negation at c.push.ensures.items in
@@ -317,3 +298,24 @@ arguments::argument_list-returns-in-Err-Error-clause-reads t c = argument_list_n
 
 pub arguments::argument_list-returns-in-Err-Failure-clause-reads : goal.arguments::argument_list-returns-in-Err-Failure-clause-reads
 arguments::argument_list-returns-in-Err-Failure-clause-reads t c = argument_list_fault c.in-Err-Failure.ensures.reads c.in-Err-Failure.field-0-is
+
+-- By hand: attributes that may be left out, and an argument with or without a default.
+
+pub attributes::attributes-returns-in-Ok-clause-reads : goal.attributes::attributes-returns-in-Ok-clause-reads
+attributes::attributes-returns-in-Ok-clause-reads t c = attributes_some c.in-Ok.ensures.reads
+
+pub attributes::attributes-returns-in-Err-Error-clause-reads : goal.attributes::attributes-returns-in-Err-Error-clause-reads
+attributes::attributes-returns-in-Err-Error-clause-reads t c = attributes_none c.in-Err-Error.ensures.reads c.in-Err-Error.field-0-is (search rules)
+
+pub attributes::attributes-returns-in-Err-Failure-clause-reads : goal.attributes::attributes-returns-in-Err-Failure-clause-reads
+attributes::attributes-returns-in-Err-Failure-clause-reads t c = attributes_fault c.in-Err-Failure.ensures.reads c.in-Err-Failure.field-0-is
+
+pub arguments::single_argument-returns-in_ok-rest-in-Some-clause-reads : goal.arguments::single_argument-returns-in_ok-rest-in-Some-clause-reads
+arguments::single_argument-returns-in_ok-rest-in-Some-clause-reads t c =
+    single_argument_when _ (got_pair _ _ c.in_ok-rest.ensures.reads (got_pair _ _ (rw c.in-Some.is at c.in_ok-rest-2.ensures.reads) (got_pair _ _ c.in_ok-rest-3.ensures.reads c.in_ok-rest-4.ensures.reads))) refl c.in_ok-rest-in-Some.ensures.reads
+
+pub arguments::single_argument-returns-in_err-rest-in-Some-clause-reads : goal.arguments::single_argument-returns-in_err-rest-in-Some-clause-reads
+arguments::single_argument-returns-in_err-rest-in-Some-clause-reads t c =
+    exit_answers c.from_residual-in_err-rest-in-Some.result
+    (single_argument_fault_when (got_pair _ _ c.in_ok-rest.ensures.reads (got_pair _ _ (rw c.in-Some.is at c.in_ok-rest-2.ensures.reads) (got_pair _ _ c.in_ok-rest-3.ensures.reads c.in_ok-rest-4.ensures.reads))) c.in_err-rest-in-Some.ensures.reads)
+    c.from_residual-in_err-rest-in-Some.ensures.1
