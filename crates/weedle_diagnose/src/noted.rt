@@ -1,7 +1,7 @@
 //! What fails furthest on, while a text is read by descent.
 //!
-//! A rule that can't begin with the byte that stands there is marked as a whole, in place of what it
-//! tries: which rules without parts fail in it is looked for at the end, at one place alone.
+//! A rule that can't begin with the byte that stands there is marked as a whole, in place of what
+//! it tries: which rules without parts fail in it is looked for at the end, at one place alone.
 
 ghost use Rattle.std.specs.Prelude.{◌≡◌, ◌<◌, ◌↔◌, ℕ, IsTrue, IfOk, MatchOption};
 ghost use Rattle.std.specs.List.{Contains};
