@@ -4,5 +4,6 @@
 
 pub mod capitalized_keywords;
 pub mod definition_keywords;
+pub mod display;
 pub mod symbols;
 pub mod type_keywords;
