@@ -31,7 +31,7 @@ extern "C" {
 #endif
 
 /* The version that this header belongs to: a byte each for its three numbers. weedle_version() has the library's. */
-#define WEEDLE_VERSION 0x000900
+#define WEEDLE_VERSION 0x000a00
 
 /* How many rules the grammar of this header has. weedle_rules() says it of the library. */
 #define WEEDLE_RULE_COUNT 386

@@ -31,12 +31,12 @@ from description.readings import IDL, LEAVES, TYPES
 from description.uses import ghost_line
 from proofs.spelling_terms import Item
 from proofs.spelt import TERMINALS, function
-from spellings import DECLARED, FILES, FORMERS, SPELL, TOP, items_of
+from spellings import DECLARED, FILES, FORMERS, SPELL, SPELL_IDL, TOP, items_of
 from written_places import files_in, module_in, put
 
 CRATE = "weedle_print_idl"
 # What stands for a type of these crates as a part of others, with the crate that has it.
-PARTS = {TYPES: ("Held", "weedle_print_types")} | dict.fromkeys(IDL, ("IdlPart", CRATE))
+PARTS = {TYPES: ("Held", "weedle_print")} | dict.fromkeys(IDL, ("IdlPart", CRATE))
 # How many fields one call writes, by the name of the function.
 COUNTS = dict(enumerate("two three four five six seven eight".split(), start=2))
 FIELDS = "weedle_print::fields"
@@ -52,7 +52,7 @@ HEAD = "//!\n//! Written by tools/prints.py, and not edited by hand.\n\n"
 # What each file brings in, and the names by which code knows what it calls.
 ALWAYS = ("crate::write::WriteIdl", "weedle_print::Layout", "weedle_print::PrintError")
 PART_PATHS = {
-    "Held": "weedle_print_types::Held",
+    "Held": "weedle_print::Held",
     "KeyAndValue": "crate::part::KeyAndValue",
     "IdlPart": "crate::part::IdlPart",
     "Attributes": "crate::part::Attributes",
@@ -231,12 +231,13 @@ def use_lines(paths: Iterable[str]) -> str:
 def stated() -> tuple[dict[str, str], dict[str, str]]:
     """The modules that state spellings, by their names; and the spellings of types, by theirs."""
     homes, names = {}, {}
-    top = TOP / "crates" / SPELL / "specs"
-    for path in files_in(top, ".antt"):
-        module = ".".join(["Rattle", SPELL, "specs", *module_in(top, path)])
-        for name, type_ in STATED.findall(path.read_text(encoding="utf-8")):
-            homes[name] = module
-            names.setdefault(type_, name)
+    for crate in (SPELL, SPELL_IDL):
+        top = TOP / "crates" / crate / "specs"
+        for path in files_in(top, ".antt"):
+            module = ".".join(["Rattle", crate, "specs", *module_in(top, path)])
+            for name, type_ in STATED.findall(path.read_text(encoding="utf-8")):
+                homes[name] = module
+                names.setdefault(type_, name)
     return homes, names
 
 

@@ -3,11 +3,12 @@
 
 tools/write.py runs it.
 
-All of it stands in weedle_spell. For each of FILES it writes the spellings in specs/, that what a rule
-takes is so spelt in proofs/, and the functions that carry these laws in src/laws. A struct is spelt as
-its fields, one after another, an enum as what its variant holds; fields and variants are those of the
-declarations, and so are the examples in the docs of the functions. The types that hold one another are
-spelt in specs/RecursiveTypes.antt, by hand: of these only the laws are written.
+For each of FILES it writes the spellings in specs/, that what a rule takes is so spelt in proofs/, and the
+functions that carry these laws in src/laws: those of types in weedle_spell, those of members and
+definitions in weedle_spell_idl. A struct is spelt as its fields, one after another, an enum as what its
+variant holds; fields and variants are those of the declarations, and so are the examples in the docs of
+the functions. The types that hold one another are spelt in specs/RecursiveTypes.antt of weedle_spell, by
+hand: of these only the laws are written.
 
 It refuses where none of FILES has a type that is declared.
 """
@@ -29,7 +30,7 @@ from written_places import in_crate, in_logic, put
 
 HEAD = "Written by tools/spellings.py, and not edited by hand."
 COLUMNS = 110
-SPELL = "weedle_spell"
+SPELL, SPELL_IDL = "weedle_spell", "weedle_spell_idl"
 # The module of the types that are made over one, each under the name of a `type`.
 FORMERS = "formers"
 STANDARD = {
@@ -47,6 +48,7 @@ class File:
         self.types = [type_of(text) for text in types.split()]
         self.modules = modules.split()
         self.laws, self.law_module = f"{name[:-1]}Laws", law_module or snake(name)
+        self.crate = SPELL if types else SPELL_IDL
 
     def declared(self):
         """The types of the file's modules; of those that a `type` names the lists, and what is over a type."""
@@ -201,7 +203,7 @@ class Writer:
         own = [it for it in items if it.name not in self.specs.stated]
         known = set(self.specs.stated)
         body = "\n".join(spelling(it, known) for it in own)
-        module = f"{SPELL}.specs.{file.name}"
+        module = f"{file.crate}.specs.{file.name}"
         self.put_logic(module, head_of(f"How {file.spelt}.", "-- "), imports(self.specs, body, own), body)
         self.laws(file, items, own)
 
@@ -211,11 +213,11 @@ class Writer:
         texts = [spelt(it, stated, known) for it in own if not it.is_box]
         body = "\n".join([*texts, "-- the laws\n" + "\n".join(law(it, stated) for it in with_law)])
         uses, said = imports(self.proofs, body, own), f"The laws of {file.of_what}."
-        module = f"{SPELL}.proofs.{file.laws}"
+        module = f"{file.crate}.proofs.{file.laws}"
         self.put_logic(module, head_of(said, "-- "), uses, body)
         ghosts = map(ghost, imports(self.proofs, "\n".join(contract(it, stated) for it in with_law)))
         functions = "\n".join(law_function(it, stated, module) for it in with_law)
-        put(TOP, f"{SPELL}/src/laws/{file.law_module}.rt",
+        put(TOP, f"{file.crate}/src/laws/{file.law_module}.rt",
             f"{head_of(said, '//! ')}\n{''.join(ghosts)}\n{functions}")
 
 
@@ -232,7 +234,7 @@ def main():
         writer.file(file)
     if names := list(unwritten(writer.done)):
         sys.exit(f"no file of FILES has {', '.join(names)}")
-    print(f"{len(FILES)} files of {SPELL}")
+    print(f"{len(FILES)} files of {SPELL} and {SPELL_IDL}")
 
 
 if __name__ == "__main__":

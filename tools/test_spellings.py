@@ -96,7 +96,7 @@ class Laws(unittest.TestCase):
         self.assertEqual(text, f"pub mixin_members_law : {said}\nmixin_members_law = loose mixin_members\n")
 
     def test_a_function_has_the_example_of_the_declaration(self):
-        laws, trees = "weedle_spell.proofs.StatementLaws", {"callback_definition_tree"}
+        laws, trees = "weedle_spell_idl.proofs.StatementLaws", {"callback_definition_tree"}
         told = spellings.law_function(item("CallbackDefinition"), trees, laws)
         self.assertEqual(told, CALLBACK.replace("LAWS", in_crate(laws)))
 

@@ -30,6 +30,7 @@ FOLDERS = """
     weedle_comparisons/src/orders
     weedle_rules/src/fill
     weedle_spell/src/laws
+    weedle_spell_idl/src/laws
     weedle_types/proofs/clones
     weedle_types/src/clones
 """.split()

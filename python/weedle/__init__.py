@@ -29,7 +29,7 @@ from weedle.definitions import Definition
 from weedle.errors import Refused
 from weedle.nodes import Node, syntax
 
-__version__ = "0.9.0"
+__version__ = "0.10.0"
 __all__ = [
     "Choice", "Node", "Position", "Refused", "Span", "Terminal", "Value", "argument", "attribute",
     "common", "dictionary", "format", "interface", "literal", "mixin", "namespace", "parse", "syntax",

@@ -4,7 +4,7 @@ Written by tools/python_types.py, and not edited by hand.
 """
 
 #: The version of the library that has these rules: a byte each for its three numbers.
-VERSION = 0x000900
+VERSION = 0x000a00
 
 #: The names of the rules, by their numbers.
 RULES = (

@@ -24,7 +24,10 @@
 //! use weedle::{PrintError, WriteIdl, parse};
 //!
 //! /// The text of definitions.
-//! fn text_of<T: WriteIdl + Drop>(alloc: Global, definitions: Vec<T>) -> Result<String, PrintError> {
+//! fn text_of<T: WriteIdl + Drop>(
+//!     alloc: Global,
+//!     definitions: Vec<T>,
+//! ) -> Result<String, PrintError> {
 //!     let mut out = String::new(alloc);
 //!     definitions.write_idl(&mut out)?;
 //!     Ok(out)
@@ -34,6 +37,50 @@
 //! let definitions = parse(alloc, "interface A{attribute long x;}; // of A")?;
 //! let text = text_of(alloc, definitions)?;
 //! assert_eq!(rt; text.as_str(), "interface A {\n  attribute long x;\n};\n");
+//! ```
+//!
+//! Members and definitions are taken apart by move. These are all members of an interface, those of
+//! its parts too, with no copy:
+//!
+//! ```rust
+//! use std::alloc::{AllocError, Global};
+//! use weedle::common::Braced;
+//! use weedle::interface::InterfaceMembers;
+//! use weedle::{Definition, Definitions, name_of, parse};
+//!
+//! /// All members of the interface of this name and of its parts, in the order of the definitions.
+//! fn members_of<'a>(
+//!     alloc: Global,
+//!     definitions: Definitions<'a>,
+//!     name: &str,
+//! ) -> Result<InterfaceMembers<'a>, AllocError> {
+//!     let mut all = Vec::new(alloc);
+//!     for definition in definitions {
+//!         if name_of(&definition) == name
+//!             && let Some(members) = members_in(definition)
+//!         {
+//!             let mut body = members.body;
+//!             all.append(&mut body)?;
+//!         }
+//!     }
+//!     Ok(all)
+//! }
+//!
+//! /// The members of a definition that is an interface or a part of one.
+//! fn members_in(definition: Definition<'_>) -> Option<Braced<InterfaceMembers<'_>>> {
+//!     if let Definition::PartialInterface(_) = &definition {
+//!         let (_, _, _, _, members, _) = definition.into_partial_interface()?.into_fields();
+//!         return Some(members);
+//!     }
+//!     let (_, _, _, _, _, members, _) = definition.into_interface()?.into_fields();
+//!     Some(members)
+//! }
+//!
+//! let text = "interface A { void f(); }; interface B {}; \
+//!             partial interface A { const long x = 5; };";
+//! let definitions = parse(rt.alloc(), text)?;
+//! let members = members_of(rt.alloc(), definitions, "A")?;
+//! assert_eq!(rt; members.len(), 2);
 //! ```
 //!
 //! The calls and the types stand in the crates below, and under one path each here. What the

@@ -30,8 +30,8 @@ use crate::status::{NO_MEMORY, NO_ROOM, NOT_UTF8, READ, REFUSED, TOO_LONG};
 use std::alloc::Global;
 use weedle_grammar::RULES;
 
-/// The version: a byte each for the three numbers of 0.9.0.
-const VERSION: u32 = 0x000900;
+/// The version: a byte each for the three numbers of 0.10.0.
+const VERSION: u32 = 0x000a00;
 
 /// Reads a text, and writes the nodes of its syntax tree where there is room for all. The answer is
 /// the status.

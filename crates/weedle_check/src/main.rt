@@ -17,9 +17,9 @@
 //! ```
 //!
 //! With `--tree` it prints the definitions of what it reads, each on a line behind its line and
-//! column; with `--syntax` its syntax tree, a node on a line; with `--print` the definitions written
-//! anew as Web IDL, and no count of files behind them; with `--time` how long each reader takes, and
-//! what the table of ends needs.
+//! column; with `--syntax` its syntax tree, a node on a line; with `--print` the definitions
+//! written anew as Web IDL, and no count of files behind them; with `--time` how long each reader
+//! takes, and what the table of ends needs.
 //!
 //! The status is 0 where all is read, 1 where something is refused, 2 where a file can't be read or
 //! isn't UTF-8, 3 where memory ran out, 4 where the output can't be written, and 5 where the

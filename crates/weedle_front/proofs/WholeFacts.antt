@@ -21,7 +21,7 @@ use Rattle.weedle_idl.specs.written.DefinitionTrees.{definitions_tree}
 use Rattle.weedle_idl.specs.declared.definition.Definition.{Definition}
 use Rattle.weedle_spell.specs.Laws.{SpellsValues, Spells}
 use Rattle.weedle_spell.specs.Pieces.{IsInPieces}
-use Rattle.weedle_spell.specs.written.Definitions.{definitions_spelling}
+use Rattle.weedle_spell_idl.specs.written.Definitions.{definitions_spelling}
 use Rattle.weedle_front.specs.Whole.{IsWhole, IsLeft, ParseAnswers, WholeOf, SpellsList, HasTexts}
 
 -- at the front of the text the rule of definitions reads this tree, up to some end, and the rest is the text from there

@@ -13,7 +13,7 @@ use Rattle.weedle_idl.specs.written.DefinitionTrees.{definitions_tree}
 use Rattle.weedle_idl.specs.declared.definition.Definition.{Definition}
 use Rattle.weedle_spell.specs.Laws.{Spells}
 use Rattle.weedle_spell.specs.Pieces.{IsInPieces}
-use Rattle.weedle_spell.specs.written.Definitions.{definitions_spelling}
+use Rattle.weedle_spell_idl.specs.written.Definitions.{definitions_spelling}
 
 -- the grammar reads the whole text as these definitions
 unfoldable pub IsWhole : List ℕ → List Definition → Type 0

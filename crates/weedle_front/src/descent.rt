@@ -31,7 +31,7 @@ pub fn parse_by_descent(alloc: Global, raw: &str) -> Result<Definitions<'_>, Err
     ensures within { IfErr result (λ fault. IsWithin raw.now fault) }
 {
     weedle_idl::laws::definitions();
-    weedle_spell::laws::definitions();
+    weedle_spell_idl::laws::definitions();
     match Definitions::parse(alloc, raw) {
         Ok((rest, definitions)) => whole(definitions, rest),
         // Definitions are never a mismatch, so memory was refused.

@@ -87,7 +87,7 @@ pub fn parse_counted(alloc: Global, raw: &str) -> Counted<'_>
     // Where it does, there are no visits.
     ensures cut_short { MemoryRanOut result.answer → IsCutShort raw.now result }
 {
-    weedle_spell::laws::definitions();
+    weedle_spell_idl::laws::definitions();
     let Ok(ends) = Ends::new(alloc, raw) else {
         return Counted {
             answer: Err(out_of_memory(raw)),

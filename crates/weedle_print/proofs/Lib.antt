@@ -4,3 +4,4 @@ pub mod SeparatedFacts
 pub mod LeafFacts
 pub mod RuleFacts
 pub mod DocFacts
+pub mod VariantFacts

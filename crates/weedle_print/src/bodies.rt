@@ -16,7 +16,8 @@ use weedle_parts::common::{Braced, PunctuatedNonEmpty};
 
 /// Writes the brace in front of members, and has each have a line.
 fn open_body(is_empty: bool, out: &mut String, layout: &mut Layout) -> Result<(), PrintError>
-    ensures { OnOk result (Adds (the_word (codes "{")) (string_bytes out.old) (string_bytes out.new)) }
+    ensures { OnOk result
+        (Adds (the_word (codes "{")) (string_bytes out.old) (string_bytes out.new)) }
 {
     if is_empty {
         word(out, layout, "{")?;
@@ -55,7 +56,9 @@ fn push_values<P: Print>(
     out: &mut String,
     layout: &mut Layout,
 ) -> Result<(), PrintError>
-    ensures { OnOk result (Adds (separated_by P.spelling (the_word (codes ",")) values.now then the_word (codes "}")) (string_bytes out.old) (string_bytes out.new)) }
+    ensures { OnOk result
+        (Adds (separated_by P.spelling (the_word (codes ",")) values.now then the_word (codes "}"))
+        (string_bytes out.old) (string_bytes out.new)) }
 {
     let mut is_first = true;
     for value in values {
@@ -74,7 +77,9 @@ fn push_fitting<P: Print>(
     out: &mut String,
     layout: &mut Layout,
 ) -> Result<(), PrintError>
-    ensures { OnOk result (Adds (separated_by P.spelling (the_word (codes ",")) values.now then the_word (codes "}")) (string_bytes out.old) (string_bytes out.new)) }
+    ensures { OnOk result
+        (Adds (separated_by P.spelling (the_word (codes ",")) values.now then the_word (codes "}"))
+        (string_bytes out.old) (string_bytes out.new)) }
 {
     let start = *layout;
     let mut text = String::new(*out.allocator());
@@ -95,7 +100,8 @@ fn push_fitting<P: Print>(
 impl<P: Print> Print for Braced<PunctuatedNonEmpty<P, Comma>> {
     type Value = Braced<PunctuatedNonEmpty<P::Value, Comma>>;
 
-    ghost spelling = { braced_spelling (punctuated_non_empty_spelling P.spelling (the_word (codes ","))) };
+    ghost spelling = { braced_spelling
+        (punctuated_non_empty_spelling P.spelling (the_word (codes ","))) };
 
     fn print(
         value: &Braced<PunctuatedNonEmpty<P::Value, Comma>>,

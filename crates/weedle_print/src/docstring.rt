@@ -15,7 +15,9 @@ use weedle_parts::common::Docstring;
 /// Writes a line of a docstring, on a line of its own.
 #[tactic(auto, using(crate::proofs::AddsFacts::adds_then))]
 fn push_doc_line(line: &str, out: &mut String, layout: &mut Layout) -> Result<(), PrintError>
-    ensures { OnOk result (Adds (any Blank then exactly (codes "///") then exactly line.now then exactly (10 ∷ [])) (string_bytes out.old) (string_bytes out.new)) }
+    ensures { OnOk result
+        (Adds (any Blank then exactly (codes "///") then exactly line.now then exactly (10 ∷ []))
+        (string_bytes out.old) (string_bytes out.new)) }
 {
     layout.begin_line();
     space(out, layout, "///")?;

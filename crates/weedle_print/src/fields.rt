@@ -16,7 +16,9 @@ pub fn two<A: Print, B: Print>(
     a: &A::Value,
     b: &B::Value,
 ) -> Result<(), PrintError>
-    ensures { OnOk result (Adds (A.spelling a.now then B.spelling b.now) (string_bytes out.old) (string_bytes out.new)) }
+    ensures { OnOk result
+        (Adds (A.spelling a.now then B.spelling b.now) (string_bytes out.old)
+        (string_bytes out.new)) }
 {
     A::print(a, out, layout)?;
     B::print(b, out, layout)
@@ -30,7 +32,9 @@ pub fn three<A: Print, B: Print, C: Print>(
     b: &B::Value,
     c: &C::Value,
 ) -> Result<(), PrintError>
-    ensures { OnOk result (Adds (A.spelling a.now then B.spelling b.now then C.spelling c.now) (string_bytes out.old) (string_bytes out.new)) }
+    ensures { OnOk result
+        (Adds (A.spelling a.now then B.spelling b.now then C.spelling c.now) (string_bytes out.old)
+        (string_bytes out.new)) }
 {
     A::print(a, out, layout)?;
     two::<B, C>(out, layout, b, c)
@@ -45,7 +49,9 @@ pub fn four<A: Print, B: Print, C: Print, D: Print>(
     c: &C::Value,
     d: &D::Value,
 ) -> Result<(), PrintError>
-    ensures { OnOk result (Adds (A.spelling a.now then B.spelling b.now then C.spelling c.now then D.spelling d.now) (string_bytes out.old) (string_bytes out.new)) }
+    ensures { OnOk result
+        (Adds (A.spelling a.now then B.spelling b.now then C.spelling c.now then D.spelling d.now)
+        (string_bytes out.old) (string_bytes out.new)) }
 {
     A::print(a, out, layout)?;
     three::<B, C, D>(out, layout, b, c, d)
@@ -61,7 +67,9 @@ pub fn five<A: Print, B: Print, C: Print, D: Print, E: Print>(
     d: &D::Value,
     e: &E::Value,
 ) -> Result<(), PrintError>
-    ensures { OnOk result (Adds (A.spelling a.now then B.spelling b.now then C.spelling c.now then D.spelling d.now then E.spelling e.now) (string_bytes out.old) (string_bytes out.new)) }
+    ensures { OnOk result (Adds
+        (A.spelling a.now then B.spelling b.now then C.spelling c.now then D.spelling d.now then
+        E.spelling e.now) (string_bytes out.old) (string_bytes out.new)) }
 {
     A::print(a, out, layout)?;
     four::<B, C, D, E>(out, layout, b, c, d, e)
@@ -78,7 +86,9 @@ pub fn six<A: Print, B: Print, C: Print, D: Print, E: Print, F: Print>(
     e: &E::Value,
     f: &F::Value,
 ) -> Result<(), PrintError>
-    ensures { OnOk result (Adds (A.spelling a.now then B.spelling b.now then C.spelling c.now then D.spelling d.now then E.spelling e.now then F.spelling f.now) (string_bytes out.old) (string_bytes out.new)) }
+    ensures { OnOk result (Adds
+        (A.spelling a.now then B.spelling b.now then C.spelling c.now then D.spelling d.now then
+        E.spelling e.now then F.spelling f.now) (string_bytes out.old) (string_bytes out.new)) }
 {
     A::print(a, out, layout)?;
     five::<B, C, D, E, F>(out, layout, b, c, d, e, f)
@@ -96,7 +106,10 @@ pub fn seven<A: Print, B: Print, C: Print, D: Print, E: Print, F: Print, G: Prin
     f: &F::Value,
     g: &G::Value,
 ) -> Result<(), PrintError>
-    ensures { OnOk result (Adds (A.spelling a.now then B.spelling b.now then C.spelling c.now then D.spelling d.now then E.spelling e.now then F.spelling f.now then G.spelling g.now) (string_bytes out.old) (string_bytes out.new)) }
+    ensures { OnOk result (Adds
+        (A.spelling a.now then B.spelling b.now then C.spelling c.now then D.spelling d.now then
+        E.spelling e.now then F.spelling f.now then G.spelling g.now) (string_bytes out.old)
+        (string_bytes out.new)) }
 {
     A::print(a, out, layout)?;
     six::<B, C, D, E, F, G>(out, layout, b, c, d, e, f, g)
@@ -115,7 +128,10 @@ pub fn eight<A: Print, B: Print, C: Print, D: Print, E: Print, F: Print, G: Prin
     g: &G::Value,
     h: &H::Value,
 ) -> Result<(), PrintError>
-    ensures { OnOk result (Adds (A.spelling a.now then B.spelling b.now then C.spelling c.now then D.spelling d.now then E.spelling e.now then F.spelling f.now then G.spelling g.now then H.spelling h.now) (string_bytes out.old) (string_bytes out.new)) }
+    ensures { OnOk result (Adds
+        (A.spelling a.now then B.spelling b.now then C.spelling c.now then D.spelling d.now then
+        E.spelling e.now then F.spelling f.now then G.spelling g.now then H.spelling h.now)
+        (string_bytes out.old) (string_bytes out.new)) }
 {
     A::print(a, out, layout)?;
     seven::<B, C, D, E, F, G, H>(out, layout, b, c, d, e, f, g, h)

@@ -18,7 +18,9 @@ pub fn separate(
     layout: &mut Layout,
     text: &'static str,
 ) -> Result<(), PrintError>
-    ensures { OnOk result (Adds (in_front_of is_first (the_word text.now)) (string_bytes out.old) (string_bytes out.new)) }
+    ensures { OnOk result
+        (Adds (in_front_of is_first (the_word text.now)) (string_bytes out.old)
+        (string_bytes out.new)) }
 {
     if is_first {
         return Ok(());

@@ -47,7 +47,8 @@ fn is_name(alloc: Global, text: &str) -> bool
 /// Writes an underscore, where one is wanted.
 #[tactic(auto, using(crate::proofs::LeafFacts::perhaps_steps))]
 fn push_underscore(is_wanted: bool, out: &mut String) -> Result<(), PrintError>
-    ensures { OnOk result (Adds (perhaps (exactly (codes "_"))) (string_bytes out.old) (string_bytes out.new)) }
+    ensures { OnOk result
+        (Adds (perhaps (exactly (codes "_"))) (string_bytes out.old) (string_bytes out.new)) }
 {
     if is_wanted {
         return push(out, "_");

@@ -7,7 +7,13 @@ ghost use Rattle.weedle_spell.specs.Leaves.{
   oct_spelling,
   float_value_spelling,
 };
-ghost use Rattle.weedle_spell.specs.Tokens.{word as the_word, decimal, hexadecimal, octal, floating};
+ghost use Rattle.weedle_spell.specs.Tokens.{
+  word as the_word,
+  decimal,
+  hexadecimal,
+  octal,
+  floating,
+};
 ghost use Rattle.weedle_print.specs.Adds.{Adds};
 
 use crate::error::PrintError;

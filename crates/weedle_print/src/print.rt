@@ -24,7 +24,8 @@ pub trait Print {
     /// It fails with `Memory` where `out` can't grow, and with `NoText` where no text spells the
     /// value.
     fn print(value: &Self::Value, out: &mut String, layout: &mut Layout) -> Result<(), PrintError>
-        ensures { OnOk result (Adds (spelling value.now) (string_bytes out.old) (string_bytes out.new)) };
+        ensures { OnOk result
+            (Adds (spelling value.now) (string_bytes out.old) (string_bytes out.new)) };
 }
 
 /// Writes a value at the end of `out`, as `long long? a` of an argument, in the one layout. It
@@ -36,7 +37,8 @@ pub trait Print {
 /// and so takes twice the memory for a while.
 #[tactic(auto, using(crate::proofs::AddsFacts::adds_copied))]
 pub fn printed<P: Print>(value: &P::Value, out: &mut String) -> Result<(), PrintError>
-    ensures spells { OnOk result (Adds (P.spelling value.now) (string_bytes out.old) (string_bytes out.new)) }
+    ensures spells { OnOk result
+        (Adds (P.spelling value.now) (string_bytes out.old) (string_bytes out.new)) }
     ensures unchanged { OnErr result (string_bytes out.new ≡ string_bytes out.old) }
 {
     let mut text = String::new(*out.allocator());

@@ -34,7 +34,8 @@ pub fn print_statement<P: Print>(
     out: &mut String,
     layout: &mut Layout,
 ) -> Result<(), PrintError>
-    ensures { OnOk result (Adds (P.spelling value.now) (string_bytes out.old) (string_bytes out.new)) }
+    ensures { OnOk result
+        (Adds (P.spelling value.now) (string_bytes out.old) (string_bytes out.new)) }
 {
     let start = *layout;
     if layout.may_follow(kind) {

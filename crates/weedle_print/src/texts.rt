@@ -12,7 +12,8 @@ use crate::layout::Layout;
 
 /// Writes a text at the end. It fails where `out` can't grow, and changes nothing then.
 pub fn push(out: &mut String, text: &str) -> Result<(), PrintError>
-    ensures adds { OnOk result (Adds (exactly text.now) (string_bytes out.old) (string_bytes out.new)) }
+    ensures adds { OnOk result
+        (Adds (exactly text.now) (string_bytes out.old) (string_bytes out.new)) }
     ensures unchanged { OnErr result (string_bytes out.new ≡ string_bytes out.old) }
 {
     match out.push_str(text) {

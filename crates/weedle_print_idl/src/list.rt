@@ -24,7 +24,8 @@ fn push_each<T: WriteIdl>(
     out: &mut String,
     layout: &mut Layout,
 ) -> Result<(), PrintError>
-    ensures { OnOk result (Adds (each T.spelling list.now) (string_bytes out.old) (string_bytes out.new)) }
+    ensures { OnOk result
+        (Adds (each T.spelling list.now) (string_bytes out.old) (string_bytes out.new)) }
 {
     for item in list {
         item.write_part(out, layout)?;
@@ -33,12 +34,13 @@ fn push_each<T: WriteIdl>(
 }
 
 /// Writes values one after another at the end of `out`, as [`WriteIdl::write_idl`] writes a list of
-/// them. A function that is generic over the values' type may call either. Where the values are known
-/// to be definitions the prover meets a limit, but in a function that does this alone, as
+/// them. A function that is generic over the values' type may call either. Where the values are
+/// known to be definitions the prover meets a limit, but in a function that does this alone, as
 /// `write_list(definitions.as_slice(), out)`.
 #[tactic(auto, using(weedle_print::proofs::AddsFacts::adds_copied))]
 pub fn write_list<T: WriteIdl>(list: &[T], out: &mut String) -> Result<(), PrintError>
-    ensures spells { OnOk result (Adds (each T.spelling list.now) (string_bytes out.old) (string_bytes out.new)) }
+    ensures spells { OnOk result
+        (Adds (each T.spelling list.now) (string_bytes out.old) (string_bytes out.new)) }
     ensures unchanged { OnErr result (string_bytes out.new ≡ string_bytes out.old) }
 {
     let mut text = String::new(*out.allocator());

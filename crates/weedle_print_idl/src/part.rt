@@ -8,8 +8,7 @@ ghost use Rattle.weedle_spell.specs.Leaves.{terminal};
 use crate::write::WriteIdl;
 use weedle_base::term::Comma;
 use weedle_print::fields::three;
-use weedle_print::{Layout, Print, PrintError};
-use weedle_print_types::Held;
+use weedle_print::{Held, Layout, Print, PrintError};
 use weedle_types::attribute::ExtendedAttributeList;
 
 /// How a `T` is written as a part of another value: as by itself. A type of another crate has no

@@ -14,7 +14,8 @@ pub trait WriteIdl: Sized {
     /// stands there. Where it fails, a part of the value may have been written: callers take
     /// [`write_idl`](WriteIdl::write_idl).
     fn write_part(&self, out: &mut String, layout: &mut Layout) -> Result<(), PrintError>
-        ensures { OnOk result (Adds (spelling self.now) (string_bytes out.old) (string_bytes out.new)) };
+        ensures { OnOk result
+            (Adds (spelling self.now) (string_bytes out.old) (string_bytes out.new)) };
 
     /// Writes the value at the end of `out`, as `interface A {\n  attribute long x;\n};\n`: in one
     /// layout, whatever was read. The value begins at the front of a line, and ends with a line end
@@ -28,7 +29,8 @@ pub trait WriteIdl: Sized {
     /// doesn't fit on its line.
     #[tactic(auto, using(weedle_print::proofs::AddsFacts::adds_copied))]
     final fn write_idl(&self, out: &mut String) -> Result<(), PrintError>
-        ensures spells { OnOk result (Adds (spelling self.now) (string_bytes out.old) (string_bytes out.new)) }
+        ensures spells { OnOk result
+            (Adds (spelling self.now) (string_bytes out.old) (string_bytes out.new)) }
         ensures unchanged { OnErr result (string_bytes out.new ≡ string_bytes out.old) }
     {
         let mut text = String::new(*out.allocator());

@@ -1,11 +1,9 @@
-//! The README's program but for its `main`, and the example in docs/USING.md of definitions that
-//! are taken apart by move.
+//! The README's program but for its `main`.
 
 use std::alloc::{AllocError, Global};
 use std::test::Fail;
-use weedle::common::Braced;
-use weedle::interface::{InterfaceMember, InterfaceMembers};
-use weedle::{Definition, Definitions, Err, Parse, at_byte, lend, name_of, parse_quick};
+use weedle::interface::InterfaceMember;
+use weedle::{Definition, Definitions, Err, at_byte, lend, parse_quick};
 
 /// The interfaces of a text with their attributes, or from where on it can't be read.
 fn listing_of(alloc: Global, text: &str) -> Result<String, AllocError> {
@@ -55,56 +53,5 @@ fn interfaces_are_listed_with_their_attributes(rt: HostRuntime) -> Result<(), Fa
             "of {text:?}"
         );
     }
-    Ok(())
-}
-
-/// All members of the interface of this name and of its parts, in the order of the definitions.
-fn members_of<'a>(
-    alloc: Global,
-    definitions: Definitions<'a>,
-    name: &str,
-) -> Result<InterfaceMembers<'a>, AllocError> {
-    let mut all = Vec::new(alloc);
-    for definition in definitions {
-        if name_of(&definition) == name
-            && let Some(members) = members_in(definition)
-        {
-            let mut body = members.body;
-            all.append(&mut body)?;
-        }
-    }
-    Ok(all)
-}
-
-/// The members of a definition that is an interface or a part of one.
-fn members_in(definition: Definition<'_>) -> Option<Braced<InterfaceMembers<'_>>> {
-    if let Definition::PartialInterface(_) = &definition {
-        let (_, _, _, _, members, _) = definition.into_partial_interface()?.into_fields();
-        return Some(members);
-    }
-    let (_, _, _, _, _, members, _) = definition.into_interface()?.into_fields();
-    Some(members)
-}
-
-/// What those of the interface `A` are called, in a text that is read.
-fn names_in(alloc: Global, text: &str) -> Result<Vec<&str>, Fail> {
-    let (_, definitions) = Definitions::parse(alloc, text)?;
-    let mut names = Vec::new(alloc);
-    for member in members_of(alloc, definitions, "A")? {
-        names.push(match &member {
-            InterfaceMember::Attribute(attribute) => attribute.identifier.0,
-            InterfaceMember::Const(constant) => constant.identifier.0,
-            _ => "no value",
-        })?;
-    }
-    Ok(names)
-}
-
-#[test]
-fn members_of_all_parts_are_gathered(rt: HostRuntime) -> Result<(), Fail> {
-    let text = "interface A { void f(); }; interface B { void g(); }; dictionary A {}; \
-                partial interface A { const long x = 5; attribute long y; };";
-    let names = names_in(rt.alloc(), text)?;
-    assert!(rt; names.as_slice() == ["no value", "x", "y"].as_slice());
     Ok(())
 }

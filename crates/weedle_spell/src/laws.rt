@@ -8,105 +8,26 @@ mod terminals;
 mod variant_law;
 mod written;
 
-pub use leaves::dec;
-pub use leaves::docstring;
-pub use leaves::float_value;
-pub use leaves::hex;
-pub use leaves::identifier;
-pub use leaves::oct;
-pub use leaves::string;
-pub use literals::boolean;
-pub use literals::const_value;
-pub use literals::default;
-pub use literals::default_value;
-pub use literals::empty_array;
-pub use literals::empty_dictionary;
-pub use literals::float;
-pub use literals::integer;
-pub use simple_types::const_type;
-pub use simple_types::double_type;
-pub use simple_types::float_type;
-pub use simple_types::floating_point_type;
-pub use simple_types::integer_type;
-pub use simple_types::long_long_type;
-pub use simple_types::long_type;
-pub use simple_types::short_type;
-pub use terminals::keywords;
-pub use terminals::symbols;
-pub use variant_law::variant_trees;
-pub use variant_law::variants;
-pub use written::all_definitions::definition;
-pub use written::all_definitions::definitions;
-pub use written::attributes::argument;
-pub use written::attributes::argument_list;
-pub use written::attributes::arguments;
-pub use written::attributes::extended_attribute;
-pub use written::attributes::extended_attribute_arg_list;
-pub use written::attributes::extended_attribute_list;
-pub use written::attributes::extended_attribute_named_arg_list;
-pub use written::attributes::single_argument;
-pub use written::attributes::variadic_argument;
-pub use written::interfaces::callback_interface_definition;
-pub use written::interfaces::interface_definition;
-pub use written::interfaces::interface_member;
-pub use written::interfaces::interface_members;
-pub use written::interfaces::interface_mixin_definition;
-pub use written::interfaces::partial_interface_definition;
-pub use written::interfaces::partial_interface_mixin_definition;
-pub use written::iterables::async_iterable_interface_member;
-pub use written::iterables::double_typed_async_iterable;
-pub use written::iterables::double_typed_iterable;
-pub use written::iterables::iterable_interface_member;
-pub use written::iterables::maplike_interface_member;
-pub use written::iterables::setlike_interface_member;
-pub use written::iterables::single_typed_async_iterable;
-pub use written::iterables::single_typed_iterable;
-pub use written::members::attribute_interface_member;
-pub use written::members::attribute_mixin_member;
-pub use written::members::const_member;
-pub use written::members::constructor_interface_member;
-pub use written::members::mixin_member;
-pub use written::members::mixin_members;
-pub use written::members::operation_interface_member;
-pub use written::members::operation_mixin_member;
-pub use written::members::stringifier_member;
-pub use written::modifiers::inheritance;
-pub use written::modifiers::special;
-pub use written::modifiers::stringifier_or_inherit_or_static;
-pub use written::modifiers::stringifier_or_static;
-pub use written::namespaces::attribute_namespace_member;
-pub use written::namespaces::dictionary_definition;
-pub use written::namespaces::dictionary_member;
-pub use written::namespaces::dictionary_members;
-pub use written::namespaces::namespace_definition;
-pub use written::namespaces::namespace_member;
-pub use written::namespaces::namespace_members;
-pub use written::namespaces::operation_namespace_member;
-pub use written::namespaces::partial_dictionary_definition;
-pub use written::namespaces::partial_namespace_definition;
-pub use written::plain_attributes::extended_attribute_ident;
-pub use written::plain_attributes::extended_attribute_ident_list;
-pub use written::plain_attributes::extended_attribute_no_args;
-pub use written::plain_attributes::identifier_list;
-pub use written::plain_attributes::identifier_or_string;
-pub use written::statements::callback_definition;
-pub use written::statements::enum_definition;
-pub use written::statements::enum_value_list;
-pub use written::statements::enum_variant;
-pub use written::statements::implements_definition;
-pub use written::statements::includes_statement_definition;
-pub use written::statements::typedef_definition;
-pub use written::types::attributed_non_any_type;
-pub use written::types::attributed_type;
-pub use written::types::frozen_array_type;
-pub use written::types::non_any_type;
-pub use written::types::promise_type;
-pub use written::types::record_key_type;
-pub use written::types::record_type;
-pub use written::types::record_types;
-pub use written::types::return_type;
-pub use written::types::sequence_type;
-pub use written::types::single_type;
-pub use written::types::type_;
-pub use written::types::union_member_type;
-pub use written::types::union_type;
+pub use leaves::{dec, docstring, float_value, hex, identifier, oct, string};
+pub use literals::{
+    boolean, const_value, default, default_value, empty_array, empty_dictionary, float, integer,
+};
+pub use simple_types::{
+    const_type, double_type, float_type, floating_point_type, integer_type, long_long_type,
+    long_type, short_type,
+};
+pub use terminals::{keywords, symbols};
+pub use variant_law::{variant_trees, variants};
+pub use written::attributes::{
+    argument, argument_list, arguments, extended_attribute, extended_attribute_arg_list,
+    extended_attribute_list, extended_attribute_named_arg_list, single_argument, variadic_argument,
+};
+pub use written::plain_attributes::{
+    extended_attribute_ident, extended_attribute_ident_list, extended_attribute_no_args,
+    identifier_list, identifier_or_string,
+};
+pub use written::types::{
+    attributed_non_any_type, attributed_type, frozen_array_type, non_any_type, promise_type,
+    record_key_type, record_type, record_types, return_type, sequence_type, single_type, type_,
+    union_member_type, union_type,
+};

@@ -1,8 +1,9 @@
 //! What is read spells its value: a formatter, a validator or a diff can stand on the value alone.
 //!
-//! The crate has laws and no call. A law is a function of [`laws`] that does nothing when it runs.
-//! It says of one type: where the type's rule gives the tree of a value, the text that the rule
-//! took spells the value, and the texts that the value keeps stand in it in their order.
+//! The crate has laws and no call; those of members and definitions stand in `weedle_spell_idl`. A
+//! law is a function of [`laws`] that does nothing when it runs. It says of one type: where the
+//! type's rule gives the tree of a value, the text that the rule took spells the value, and the
+//! texts that the value keeps stand in it in their order.
 //!
 //! - A spelling is a set of texts, by cases on the value (`specs/`). It knows of no places, rules
 //!   or order of choices; only the classes of bytes are the grammar's.
@@ -33,16 +34,6 @@
 //! // between them.
 //! let (rest, _) = Type::parse(rt.alloc(), "sequence < long /* l */ > x").expect(rt, "a type");
 //! weedle_spell::laws::type_();
-//! assert!(rt; rest == "x");
-//! ```
-//!
-//! ```rust
-//! use weedle_base::Parse;
-//! use weedle_idl::Definitions;
-//!
-//! // So it spells the list.
-//! let (rest, _) = Definitions::parse(rt.alloc(), "enum E { \"a\" }; x").expect(rt, "a list");
-//! weedle_spell::laws::definitions();
 //! assert!(rt; rest == "x");
 //! ```
 #![tactic(auto)]

@@ -2,7 +2,7 @@
 //!
 //! Written by tools/prints.py, and not edited by hand.
 
-ghost use Rattle.weedle_spell.specs.written.Definitions.{definition_spelling};
+ghost use Rattle.weedle_spell_idl.specs.written.Definitions.{definition_spelling};
 
 use crate::part::IdlPart;
 use crate::write::WriteIdl;

@@ -2,7 +2,7 @@
 //!
 //! Written by tools/prints.py, and not edited by hand.
 
-ghost use Rattle.weedle_spell.specs.written.Interfaces.{
+ghost use Rattle.weedle_spell_idl.specs.written.Interfaces.{
   callback_interface_definition_spelling,
   interface_definition_spelling,
   interface_member_spelling,

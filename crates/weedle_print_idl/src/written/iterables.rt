@@ -2,7 +2,7 @@
 //!
 //! Written by tools/prints.py, and not edited by hand.
 
-ghost use Rattle.weedle_spell.specs.written.Iterables.{
+ghost use Rattle.weedle_spell_idl.specs.written.Iterables.{
   async_iterable_interface_member_spelling,
   double_typed_async_iterable_spelling,
   double_typed_iterable_spelling,
@@ -25,8 +25,7 @@ use weedle_iterables::{
 };
 use weedle_parts::common::Generics;
 use weedle_print::fields::{five, four};
-use weedle_print::{Layout, PrintError};
-use weedle_print_types::Held;
+use weedle_print::{Held, Layout, PrintError};
 use weedle_types::argument::ParenthesizedArgumentList;
 use weedle_types::types::AttributedType;
 

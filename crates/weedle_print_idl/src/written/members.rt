@@ -3,7 +3,7 @@
 //!
 //! Written by tools/prints.py, and not edited by hand.
 
-ghost use Rattle.weedle_spell.specs.written.Members.{
+ghost use Rattle.weedle_spell_idl.specs.written.Members.{
   attribute_interface_member_spelling,
   attribute_mixin_member_spelling,
   const_member_spelling,
@@ -27,8 +27,7 @@ use weedle_parts::common::{Docstring, Identifier};
 use weedle_parts::literal::ConstValue;
 use weedle_parts::types::ConstType;
 use weedle_print::fields::{eight, five, seven, six, three};
-use weedle_print::{Layout, PrintError};
-use weedle_print_types::Held;
+use weedle_print::{Held, Layout, PrintError};
 use weedle_types::argument::ParenthesizedArgumentList;
 use weedle_types::types::{AttributedType, ReturnType};
 

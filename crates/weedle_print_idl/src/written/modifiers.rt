@@ -2,7 +2,7 @@
 //!
 //! Written by tools/prints.py, and not edited by hand.
 
-ghost use Rattle.weedle_spell.specs.written.Modifiers.{
+ghost use Rattle.weedle_spell_idl.specs.written.Modifiers.{
   inheritance_spelling,
   special_spelling,
   stringifier_or_inherit_or_static_spelling,

@@ -2,7 +2,7 @@
 //!
 //! Written by tools/prints.py, and not edited by hand.
 
-ghost use Rattle.weedle_spell.specs.written.Namespaces.{
+ghost use Rattle.weedle_spell_idl.specs.written.Namespaces.{
   attribute_namespace_member_spelling,
   dictionary_definition_spelling,
   dictionary_member_spelling,
@@ -28,8 +28,7 @@ use weedle_namespaces::{
 use weedle_parts::common::{Braced, Docstring, Identifier};
 use weedle_parts::literal::Default;
 use weedle_print::fields::{seven, six};
-use weedle_print::{Layout, PrintError};
-use weedle_print_types::Held;
+use weedle_print::{Held, Layout, PrintError};
 use weedle_types::argument::ParenthesizedArgumentList;
 use weedle_types::types::{AttributedType, ReturnType, Type};
 

@@ -2,7 +2,7 @@
 //!
 //! Written by tools/prints.py, and not edited by hand.
 
-ghost use Rattle.weedle_spell.specs.written.Statements.{
+ghost use Rattle.weedle_spell_idl.specs.written.Statements.{
   callback_definition_spelling,
   enum_definition_spelling,
   enum_variant_spelling,
@@ -17,8 +17,7 @@ use weedle_base::term::{Assign, Callback, Comma, Enum, Implements, Includes, Sem
 use weedle_parts::common::{Braced, Docstring, Identifier, PunctuatedNonEmpty};
 use weedle_parts::literal::StringLit;
 use weedle_print::fields::{five, seven, six, two};
-use weedle_print::{Layout, PrintError};
-use weedle_print_types::Held;
+use weedle_print::{Held, Layout, PrintError};
 use weedle_statements::{
     CallbackDefinition, EnumDefinition, EnumVariant, ImplementsDefinition,
     IncludesStatementDefinition, TypedefDefinition,

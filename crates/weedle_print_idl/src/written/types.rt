@@ -39,8 +39,7 @@ ghost use Rattle.weedle_spell.specs.written.Types.{
 };
 
 use crate::write::WriteIdl;
-use weedle_print::{Layout, Print, PrintError};
-use weedle_print_types::Held;
+use weedle_print::{Held, Layout, Print, PrintError};
 use weedle_types::argument::{
     Argument, ParenthesizedArgumentList, SingleArgument, VariadicArgument,
 };

@@ -2,13 +2,6 @@
 //!
 //! Written by tools/modules.py, and not edited by hand.
 
-pub mod all_definitions;
 pub mod attributes;
-pub mod interfaces;
-pub mod iterables;
-pub mod members;
-pub mod modifiers;
-pub mod namespaces;
 pub mod plain_attributes;
-pub mod statements;
 pub mod types;
