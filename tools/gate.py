@@ -9,6 +9,7 @@ processor only where hardly anything else is ready. So the longest chain of proo
 gate takes, is walked by one processor while others idle. Here it goes by the times of docs/gate_times.json:
 what has the longest chain of times behind it begins first, and a proof of four minutes or more on the longest
 chain, of a crate or of its tests, gets two processors, or three where it takes half an hour, if memory holds that.
+What is next on the longest chain finds its memory: nothing begins that would be in its way.
 
 Where `rt` has another scheduler than the one that is known here, or can't be read as Python, it is plain `rt ci`,
 and a line says so. The status is that of `rt ci`. `rt ci` itself gives the same verdict, later.
@@ -56,7 +57,7 @@ class Task:
     call that does it."""
 
     def __init__(self, waits, is_proof, seconds, needs, call=None):
-        self.waits, self.is_proof, self.seconds = waits, is_proof, seconds
+        self.waits, self.is_proof, self.seconds = set(waits), is_proof, seconds
         self.needs, self.call = needs, call
 
     def memory(self, jobs):
@@ -134,11 +135,28 @@ class Order:
                 return jobs
         return 0
 
+    def next_but(self, key, waiting, given, running):
+        """The task with the longest chain behind it of those that wait for tasks which run, and for no others, or
+        `key` where that is longer."""
+        lacking = {it: self.tasks[it].waits.difference(given) for it in waiting}
+        coming = [it for it, waits in lacking.items() if waits and waits.issubset(running)]
+        return max([key, *coming], key=self.behind.get)
+
+    def leaves_room(self, key, waiting, given, running):
+        """Whether what comes next on the longest chain finds its memory beside this task, once that has ended which it
+        waits for. Where nothing runs there is room."""
+        coming = self.next_but(key, waiting, given, running)
+        if coming == key or not running:
+            return True
+        beside = [(key, 1), *((it, jobs) for it, jobs in running.items() if it not in self.tasks[coming].waits)]
+        taken = sum(self.tasks[it].memory(jobs) for it, jobs in beside)
+        return taken + self.tasks[coming].memory(self.wish(coming)) <= self.room
+
     def begin(self, waiting, given, running):
         """The tasks that begin now, with their jobs: what keeps the results of wrong bodies, so that a run which is cut
         off keeps them, and then the one with the longest chain behind it first."""
         for key in sorted(waiting, key=lambda it: (it[1] not in LAST, -self.behind[it])):
-            if all(it in given for it in self.tasks[key].waits):
+            if self.tasks[key].waits.issubset(given) and self.leaves_room(key, waiting, given, running):
                 jobs = self.jobs(key, running)
                 if jobs:
                     running[key] = jobs

@@ -108,6 +108,15 @@ class Began(unittest.TestCase):
         begun = self.begun(order, given, {("long", "tests"): 1})
         self.assertNotIn(("long", "proof"), begun)
 
+    def test_memory_is_left_for_what_is_next_on_the_longest_chain(self):
+        given = dict.fromkeys([("low", "proof"), ("low", "tests"), ("side", "proof")], 1)
+        running = {("long", "proof"): 1, ("side", "tests"): 1}
+        # Each takes 0.5 GB, and `top`, which waits for `long`, will take 0.65 in its two jobs. So beside a third there
+        # is no room for it in 1.5, where the third itself has room, and in 1.7 there is.
+        for room, count in ((1.5, 0), (1.7, 1)):
+            order = order_of(rows_of(None), processors=8, memory=room * GB)
+            self.assertEqual(len(self.begun(order, given, running)), count)
+
     def test_one_task_begins_however_little_memory_there_is(self):
         order = order_of(rows_of(None), memory=0)
         self.assertEqual(len(self.begun(order, {}, {})), 1)
