@@ -135,7 +135,7 @@ class Order:
                 return jobs
         return 0
 
-    def next_but(self, key, waiting, given, running):
+    def next_on_chain(self, key, waiting, given, running):
         """The task with the longest chain behind it of those that wait for tasks which run, and for no others, or
         `key` where that is longer."""
         lacking = {it: self.tasks[it].waits.difference(given) for it in waiting}
@@ -145,7 +145,7 @@ class Order:
     def leaves_room(self, key, waiting, given, running):
         """Whether what comes next on the longest chain finds its memory beside this task, once that has ended which it
         waits for. Where nothing runs there is room."""
-        coming = self.next_but(key, waiting, given, running)
+        coming = self.next_on_chain(key, waiting, given, running)
         if coming == key or not running:
             return True
         beside = [(key, 1), *((it, jobs) for it, jobs in running.items() if it not in self.tasks[coming].waits)]
