@@ -2,7 +2,7 @@
 use Rattle.std.proofs.Common.{refl, inl, inr}
 use Rattle.std.specs.Borrow.{Bor}
 use Rattle.std.specs.Prelude.{◌≡◌, ℕ, suc, List, [], ◌∷◌, ◌⊎◌, Some, None}
-use Rattle.weedle_base.proofs.RuleFacts.{of_row}
+use Rattle.weedle_grammar.proofs.RowFacts.{of_row}
 use Rattle.weedle_base.proofs.Steps.{fault_along}
 use Rattle.weedle_base.specs.Generic.{choice_gives, choice_reading, option_reading}
 use Rattle.weedle_base.specs.Own.{stops_for_memory}

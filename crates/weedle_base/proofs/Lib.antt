@@ -8,15 +8,9 @@ pub mod RuleFacts
 pub mod RunRules
 pub mod ChoiceFacts
 pub mod Direct
-pub mod LeafFacts
-pub mod TriviaFacts
 pub mod TokenFacts
 pub mod NameFacts
 pub mod AlikeFacts
 pub mod RuleLawFacts
-pub mod SilentRules
-pub mod WordFacts
-pub mod FindFacts
-pub mod LineEndFacts
 pub mod LineFacts
 pub mod ChoiceSteps

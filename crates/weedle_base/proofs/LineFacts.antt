@@ -14,15 +14,13 @@ use Rattle.weedle_grammar.proofs.Suffix.{then_on, fails, nothing, no_node}
 use Rattle.weedle_grammar.proofs.Checked.{rank, ranked}
 use Rattle.weedle_grammar.proofs.Takes.{takes}
 use Rattle.weedle_grammar.proofs.Exists.{advances}
-use Rattle.weedle_base.proofs.RuleFacts.{of_row}
-use Rattle.weedle_base.proofs.RunRules.{row_forth}
-use Rattle.weedle_base.proofs.Steps.{rest_add}
-use Rattle.weedle_base.proofs.LeafFacts.{reads_past, cut}
+use Rattle.weedle_grammar.proofs.RowFacts.{of_row, row_forth, rest_add}
+use Rattle.weedle_grammar.proofs.LeafFacts.{reads_past, cut}
 use Rattle.weedle_grammar.proofs.FirstPlace.{found_byte}
-use Rattle.weedle_base.proofs.FindFacts.{byte_lacks}
-use Rattle.weedle_base.proofs.SilentRules.{lost}
-use Rattle.weedle_base.proofs.TriviaFacts.{slice_front, given}
-use Rattle.weedle_base.specs.Trivia.{Took}
+use Rattle.weedle_grammar.proofs.FindFacts.{byte_lacks}
+use Rattle.weedle_grammar.proofs.SilentRules.{lost}
+use Rattle.weedle_grammar.proofs.TriviaFacts.{slice_front, given}
+use Rattle.weedle_grammar.specs.Trivia.{Took}
 
 -- One line.
 line_bytes : (after : List ℕ) (i : ℕ) → i + 1 ≤ length after → but_last (take (i + 1) after) ≡ take i after

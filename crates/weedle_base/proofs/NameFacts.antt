@@ -1,10 +1,9 @@
 -- Identifiers.
 use Rattle.std.proofs.Common.{refl, ap, ◌∙◌, arith}
 use Rattle.std.specs.Prelude.{◌≡◌, ℕ, ◌+◌, ◌-◌, List, [], ◌∷◌, drop, take}
-use Rattle.weedle_base.proofs.RuleFacts.{of_row}
-use Rattle.weedle_base.proofs.SilentRules.{lost}
-use Rattle.weedle_base.proofs.Steps.{rest_add}
-use Rattle.weedle_base.specs.Trivia.{Took, TookText}
+use Rattle.weedle_grammar.proofs.RowFacts.{of_row, rest_add}
+use Rattle.weedle_grammar.proofs.SilentRules.{lost}
+use Rattle.weedle_grammar.specs.Trivia.{Took, TookText}
 use Rattle.weedle_grammar.proofs.Suffix.{then_on, fails, nothing, no_node}
 use Rattle.weedle_grammar.specs.Meaning.{by_seq}
 use Rattle.weedle_grammar.specs.written.Table.{Reads}

@@ -6,7 +6,8 @@ use Rattle.std.specs.Str.{IsUtf8}
 use Rattle.weedle_base.proofs.FaultFacts.{fault_mismatch, fault_memory}
 use Rattle.weedle_base.proofs.PlaceFacts.{took_some}
 use Rattle.weedle_base.proofs.RunFacts.{Items-push}
-use Rattle.weedle_base.proofs.Steps.{within_add, rest_add, fault_along}
+use Rattle.weedle_grammar.proofs.RowFacts.{rest_add}
+use Rattle.weedle_base.proofs.Steps.{within_add, fault_along}
 use Rattle.weedle_base.specs.Faults.{IsMismatch, IsOutOfMemory}
 use Rattle.weedle_base.specs.Places.{IsSuffix}
 use Rattle.weedle_base.specs.Reading.{Reading, Got, Faults}

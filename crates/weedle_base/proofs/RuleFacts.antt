@@ -1,7 +1,7 @@
 -- Readings of parts are those of rules whose rows are made so of the rules of the parts.
-use Rattle.std.proofs.Common.{refl, sym, ap, ◌∙◌, subst, inl, inr, arith}
+use Rattle.std.proofs.Common.{refl, subst, inl, inr}
 use Rattle.std.specs.Borrow.{Bor}
-use Rattle.std.specs.Prelude.{◌≡◌, ℕ, ◌+◌, List, [], ◌∷◌, ◌++◌, drop, Option, Some, None}
+use Rattle.std.specs.Prelude.{◌≡◌, ℕ, ◌+◌, List, [], ◌∷◌, drop, Option, Some, None}
 use Rattle.weedle_base.proofs.PlaceFacts.{suffix_along}
 use Rattle.weedle_base.specs.Generic.{option_reading, option_gives, pair_reading, seen_reading, boxed_reading}
 use Rattle.weedle_base.specs.Own.{stops_for_memory, own}
@@ -11,19 +11,12 @@ use Rattle.weedle_base.specs.declared.fault.Err.{Err as Fault}
 use Rattle.weedle_base.specs.declared.fault.Err.TheVariants.{Error as Recoverable, Failure}
 use Rattle.weedle_base.specs.declared.fault.Error.{Error}
 use Rattle.weedle_base.specs.declared.fault.ErrorKind.{ErrorKind}
-use Rattle.weedle_grammar.proofs.Shift.{given_same, last_moved}
-use Rattle.weedle_grammar.proofs.Suffix.{nothing, then, then_on, then_fails, fails}
-use Rattle.weedle_grammar.specs.Meaning.{Plain, Raw, Piece, ReadsRow, ReadsSeq, by_row, by_opt, by_seq, shaped, given_of, last_end}
-use Rattle.weedle_grammar.specs.Rows.{Row, Seq, Opt}
+use Rattle.weedle_grammar.proofs.RowFacts.{of_row, Parts, parts_on}
+use Rattle.weedle_grammar.proofs.Suffix.{nothing, then, then_fails, fails}
+use Rattle.weedle_grammar.specs.Meaning.{Plain, ReadsSeq, by_opt, by_seq}
+use Rattle.weedle_grammar.specs.Rows.{Seq, Opt}
 use Rattle.weedle_grammar.specs.written.Table.{webidl, row_of, shape_of, Reads}
-use Rattle.weedle_grammar.specs.Trees.{Tree, Node, trees, Outcome, Fails, Gives}
-
--- the rules read these trees one after another
-pub record Parts (s : List ℕ) (rs : List ℕ) (ts : List Tree) (k : ℕ) : Type 0 where
-  pub pieces : List Piece
-  pub reads : ReadsSeq webidl s rs 0 (Some pieces)
-  pub given : given_of pieces ≡ ts
-  pub end : last_end 0 pieces ≡ k
+use Rattle.weedle_grammar.specs.Trees.{Tree, Node, trees, Fails, Gives}
 
 -- the reading is that of parts one after another, with these trees of a value
 pub record IsSeq {V : Type 0} (R : Reading V) (rs : List ℕ) (ts : V → List Tree) (grows : Type 0) : Type 0 where
@@ -69,12 +62,6 @@ module _ {V : Type 0} {R : Reading V} {r : ℕ} {tree : V → Tree} {grows : Typ
   unfolding seen_reading
   seen_rule view h = record { gives = λ s x k g. h.gives s (view x) k g; refuses = h.refuses; stops = h.stops }
 
--- what a rule has as its outcome, from its row's
-pub of_row : {s : List ℕ} {r p : ℕ} {row : Row} {w : Raw} {o : Outcome} → row_of r ≡ row → ReadsRow webidl s row p w
-    → o ≡ shaped s row (shape_of r) p w → Reads s r p o
-of_row {s} {r} {p} {row} {w} {o} e d f =
-    by_row (subst (λ (x : Row). ReadsRow webidl s x p w) (sym e) d) (f ∙ ap (λ (x : Row). shaped s x (shape_of r) p w) (sym e))
-
 module _ {V : Type 0} {R : Reading V} {x : ℕ} {tree : V → Tree} {grows : Type 0} (rule : IsRule R x tree grows) where
   module _ (r : ℕ) (row : row_of r ≡ Opt x) (shape : shape_of r ≡ Plain) where
     option_rule_gives : (s : List ℕ) (v : Option V) (k : ℕ) → option_gives R s v k → Reads s r 0 (Gives (option_tree tree v ∷ []) k)
@@ -93,20 +80,6 @@ module _ {V : Type 0} {R : Reading V} {x : ℕ} {tree : V → Tree} {grows : Typ
     refuses = λ s h. fails (rule.refuses s h);
     stops = rule.stops;
   }
-
--- parts after one another, where what is left goes by a name of its own
-pub parts_none : {s : List ℕ} → Parts s [] [] 0
-parts_none = record { pieces = []; reads = nothing; given = refl; end = refl }
-
--- a part, and the parts that follow it
-pub parts_on : {s rest rs : List ℕ} {r i j : ℕ} {us ts : List Tree} → Reads s r 0 (Gives us i) → rest ≡ drop i s
-    → Parts rest rs ts j → Parts s (r ∷ rs) (us ++ ts) (i + j)
-parts_on {i = i} {us = us} d e m = record {
-  pieces = _;
-  reads = then_on d e m.reads;
-  given = ap (λ ts. us ++ ts) (given_same i m.pieces ∙ m.given);
-  end = (let a = last_moved i 0 m.pieces in let b = m.end in let c : i + 0 ≡ i = omega arith in cc);
-}
 
 parts_then : {s rs : List ℕ} {r i j : ℕ} {t : Tree} {ts : List Tree} → Reads s r 0 (Gives (t ∷ []) i) → Parts (drop i s) rs ts j
     → Parts s (r ∷ rs) (t ∷ ts) (i + j)

@@ -3,20 +3,14 @@ use Rattle.std.proofs.Common.{refl, sym, ap, ◌∙◌, subst, inl, inr, arith}
 use Rattle.std.proofs.lemmas.List.{drop-drop}
 use Rattle.std.specs.Prelude.{◌≡◌, ◌≢◌, ℕ, ◌+◌, ◌<◌, List, [], ◌∷◌, drop, map}
 use Rattle.weedle_base.proofs.PlaceFacts.{suffix_along}
-use Rattle.weedle_base.proofs.RuleFacts.{of_row}
 use Rattle.weedle_base.specs.Reading.{Reading}
 use Rattle.weedle_base.specs.Rules.{IsRule, items_tree}
 use Rattle.weedle_base.specs.Runs.{Items, run_reading, vec_step}
-use Rattle.weedle_grammar.proofs.Shift.{row_behind, raw_moved}
-use Rattle.weedle_grammar.specs.Meaning.{Plain, Raw, Breaks, Yields, ReadsRow, many_end, many_stuck, many_more}
+use Rattle.weedle_grammar.proofs.RowFacts.{of_row, row_forth}
+use Rattle.weedle_grammar.specs.Meaning.{Plain, Breaks, Yields, ReadsRow, many_end, many_stuck, many_more}
 use Rattle.weedle_grammar.specs.Rows.{Row, Many}
 use Rattle.weedle_grammar.specs.written.Table.{webidl, row_of, shape_of}
 use Rattle.weedle_grammar.specs.Trees.{Tree}
-
--- what a row does at the front of what is left
-pub row_forth : (s : List ℕ) (k : ℕ) {row : Row} {w : Raw} → ReadsRow webidl (drop k s) row 0 w → ReadsRow webidl s row k (raw_moved k w)
-row_forth s k {row} {w} d =
-    let e : k + 0 ≡ k = omega arith in subst (λ (z : ℕ). ReadsRow webidl s row z (raw_moved k w)) e (row_behind webidl s k d)
 
 pub not_zero : {i : ℕ} → 0 < i → i ≢ 0
 not_zero h e = omega (arith, h, e)

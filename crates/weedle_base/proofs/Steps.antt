@@ -1,6 +1,6 @@
 -- How the answers of a call follow from those of the calls for its parts.
-use Rattle.std.proofs.Common.{refl, ap, ◌∙◌, subst, inl, inr, arith}
-use Rattle.std.proofs.lemmas.List.{drop-drop, length-drop}
+use Rattle.std.proofs.Common.{refl, ap, subst, inl, inr, arith}
+use Rattle.std.proofs.lemmas.List.{length-drop}
 use Rattle.std.specs.Borrow.{Bor}
 use Rattle.std.specs.Prelude.{◌≡◌, ℕ, ◌+◌, ◌≤◌, List, drop, length, Option, Some, None, Result, Ok, Err}
 use Rattle.std.specs.Result.{IsErrAnd}
@@ -11,6 +11,7 @@ use Rattle.weedle_base.specs.declared.fault.Err.{Err as Fault}
 use Rattle.weedle_base.specs.declared.fault.Err.TheVariants.{Error as Recoverable, Failure}
 use Rattle.weedle_base.specs.declared.fault.Error.{Error}
 use Rattle.weedle_base.specs.declared.fault.ErrorKind.{ErrorKind}
+use Rattle.weedle_grammar.proofs.RowFacts.{rest_add}
 
 -- no byte is within every text
 pub took_nothing : (s : List ℕ) → 0 ≤ length s
@@ -19,10 +20,6 @@ took_nothing s = omega arith
 -- one after the other
 pub within_add : (s rest : List ℕ) (i j : ℕ) → rest ≡ drop i s → i ≤ length s → j ≤ length rest → i + j ≤ length s
 within_add s rest i j e a b = omega (arith, ap length e, length-drop i s)
-
--- what follows a step and then another follows both together
-pub rest_add : (s rest end : List ℕ) (i j : ℕ) → rest ≡ drop i s → end ≡ drop j rest → end ≡ drop (i + j) s
-rest_add s rest end i j e f = f ∙ ap (λ (t : List ℕ). drop j t) e ∙ drop-drop j i s
 
 module _ {V X : Type 0} (R : Reading V) (Q : Reading X) where
   says_along : (s rest : List ℕ) → (i : ℕ) → rest ≡ drop i s → (R.refuses rest → Q.refuses s)

@@ -5,18 +5,18 @@ use Rattle.std.specs.Prelude.{◌≡◌, ℕ, List, [], ◌∷◌, ◌++◌, Boo
 use Rattle.std.specs.Str.{IsUtf8}
 use Rattle.std.specs.Str.Pattern.{LacksTextAt, FindsTextPrefix, StripsPrefix}
 use Rattle.weedle_base.proofs.FaultFacts.{fault_mismatch, fault_memory}
-use Rattle.weedle_base.proofs.LeafFacts.{reads_bytes, cut}
+use Rattle.weedle_grammar.proofs.LeafFacts.{reads_bytes, cut}
 use Rattle.weedle_grammar.proofs.FirstPlace.{begins_with}
 use Rattle.weedle_base.proofs.PlaceFacts.{suffix_self}
-use Rattle.weedle_base.proofs.SilentRules.{along, last, lost, marked_seq}
-use Rattle.weedle_base.proofs.TriviaFacts.{given}
-use Rattle.weedle_base.proofs.WordFacts.{word_lacks, word_took, word_split, look_fails, look_took}
+use Rattle.weedle_grammar.proofs.SilentRules.{along, last, lost, marked_seq}
+use Rattle.weedle_grammar.proofs.TriviaFacts.{given}
+use Rattle.weedle_grammar.proofs.WordFacts.{word_lacks, word_took, word_split, look_fails, look_took}
 use Rattle.weedle_base.specs.Faults.{IsMismatch, IsOutOfMemory}
 use Rattle.weedle_base.specs.Own.{own}
 use Rattle.weedle_base.specs.Reading.{Got, Faults}
 use Rattle.weedle_base.specs.Names.{IsTagged, LacksTag}
 use Rattle.weedle_base.specs.Tokens.{IsSymbol, IsKeyword, core}
-use Rattle.weedle_base.specs.Trivia.{Took, is_next}
+use Rattle.weedle_grammar.specs.Trivia.{Took, is_next}
 use Rattle.weedle_base.specs.declared.fault.Err.{Err as Fault}
 use Rattle.weedle_base.specs.declared.fault.Error.{Error}
 use Rattle.weedle_grammar.proofs.Suffix.{fails, no_node}

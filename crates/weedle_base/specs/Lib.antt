@@ -6,8 +6,6 @@ pub mod Runs
 pub mod Generic
 pub mod Own
 pub mod Rules
-pub mod Trivia
-pub mod Scans
 pub mod Names
 pub mod Tokens
 pub mod AlikeLaws

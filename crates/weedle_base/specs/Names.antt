@@ -1,7 +1,7 @@
 -- A tag at the front of a text.
 use Rattle.std.specs.Prelude.{◌≡◌, ℕ, List, ◌++◌, false}
 use Rattle.weedle_grammar.specs.declared.class.Class.TheVariants.{Name}
-use Rattle.weedle_base.specs.Trivia.{is_next}
+use Rattle.weedle_grammar.specs.Trivia.{is_next}
 
 -- the text begins with the tag as a whole word, and this rest follows
 pub record IsTagged (tag text rest : List ℕ) : Type 0 where

@@ -6,12 +6,12 @@ ghost use Rattle.weedle_grammar.specs.written.Table.{Reads};
 ghost use Rattle.weedle_grammar.specs.written.Table.Leaves.{DOC_LINE, DOCSTRING};
 ghost use Rattle.weedle_base.specs.Reading.{Answers};
 ghost use Rattle.weedle_base.specs.Own.{own};
-ghost use Rattle.weedle_base.specs.Trivia.{Took};
+ghost use Rattle.weedle_grammar.specs.Trivia.{Took};
 
 use crate::fault::{IResult, mismatch, out_of_memory};
-use crate::scan::{after_run, after_word};
 use memchr::memchr;
 use std::alloc::{AllocError, Global};
+use weedle_grammar::scan::{after_run, after_word};
 use weedle_grammar::{Class, Rule};
 
 /// The text of the line at the front, and what follows it: blanks, `///`, the text and an LF.

@@ -1,4 +1,4 @@
-//! The ground of the parser: faults, the trait [`Parse`] with its meaning and laws, trivia, words
+//! The ground of the parser: faults, the trait [`Parse`] with its meaning and laws, names, words
 //! and the terminals.
 #![tactic(auto)]
 
@@ -10,19 +10,17 @@ pub mod laws;
 mod names;
 mod parse;
 mod place;
-pub mod scan;
 mod standard;
 pub mod term;
 mod token;
-mod trivia;
 mod try_clone;
 
 pub use choice::Choice;
 pub use doc_lines::{docstring, push_line};
 pub use fault::{Err, Error, ErrorKind, IResult, mismatch, out_of_memory};
-pub use names::{ident_tag, is_alphanum_underscore_dash};
+pub use names::{ident_tag, identifier, is_alphanum_underscore_dash};
 pub use parse::Parse;
 pub use place::at_byte;
 pub use token::{keyword, symbol};
-pub use trivia::sp;
 pub use try_clone::TryClone;
+pub use weedle_grammar::trivia::sp;

@@ -11,10 +11,10 @@ ghost use Rattle.weedle_grammar.specs.written.Table.Leaves.{
 };
 ghost use Rattle.weedle_grammar.specs.Trees.{Text, Fails};
 ghost use Rattle.weedle_base.specs.Names.{IsTagged, LacksTag};
-ghost use Rattle.weedle_base.specs.Trivia.{Took, TookText};
+ghost use Rattle.weedle_grammar.specs.Trivia.{Took, TookText};
 
-use crate::scan::{after_one, after_run, after_word, next_is, taken};
-use crate::trivia::skip_trivia;
+use weedle_grammar::scan::{after_one, after_run, after_word, next_is, taken};
+use weedle_grammar::trivia::skip_trivia;
 use weedle_grammar::{Class, Rule};
 
 /// Whether the character may stand in a name: an ASCII letter or digit, `_` or `-`. It takes no

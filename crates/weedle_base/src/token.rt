@@ -8,8 +8,8 @@ ghost use Rattle.weedle_base.specs.Tokens.{IsSymbol, IsKeyword};
 
 use crate::fault::{IResult, mismatch};
 use crate::names::ident_tag;
-use crate::trivia::skip_trivia;
 use weedle_grammar::Rule;
+use weedle_grammar::trivia::skip_trivia;
 
 /// Reads a symbol, with the trivia around it. Where it isn't next that is a mismatch; there is no
 /// failure.

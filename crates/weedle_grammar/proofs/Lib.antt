@@ -19,3 +19,10 @@ pub mod Entries
 pub mod Lower
 pub mod Nesting
 pub mod OneTree
+pub mod RowFacts
+pub mod LeafFacts
+pub mod TriviaFacts
+pub mod SilentRules
+pub mod WordFacts
+pub mod FindFacts
+pub mod LineEndFacts

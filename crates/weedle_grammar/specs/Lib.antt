@@ -6,4 +6,6 @@ pub mod Laws
 pub mod View
 pub mod Size
 pub mod Nesting
+pub mod Trivia
+pub mod Scans
 pub mod written

@@ -11,7 +11,8 @@
 //!
 //! What a rule reads from a text, and what it gives, is said once for any such table, in
 //! `specs/Meaning.antt`; the table itself is `specs/written/Table`, and [`laws`] has what always
-//! holds. [`leaf_ends`] has where a rule without parts ends.
+//! holds. [`leaf_ends`] has where a rule without parts ends, [`scan`] and [`trivia`] what follows one
+//! at the front of a text.
 #![tactic(auto)]
 
 mod class;
@@ -19,6 +20,8 @@ pub mod laws;
 pub mod leaf_ends;
 mod row;
 mod rule;
+pub mod scan;
+pub mod trivia;
 mod written;
 
 pub use class::{Class, holds};

@@ -1,9 +1,8 @@
 -- A rule that keeps the text of its middle part.
 use Rattle.std.specs.Prelude.{◌≡◌, ℕ, ◌+◌, ◌-◌, List, [], ◌∷◌, take, drop}
 use Rattle.std.proofs.Common.{refl, ap, ◌∙◌, arith}
-use Rattle.weedle_base.specs.Trivia.{Took, TookText}
-use Rattle.weedle_base.proofs.RuleFacts.{of_row}
-use Rattle.weedle_base.proofs.Steps.{rest_add}
+use Rattle.weedle_grammar.specs.Trivia.{Took, TookText}
+use Rattle.weedle_grammar.proofs.RowFacts.{of_row, rest_add}
 use Rattle.weedle_grammar.specs.Rows.{Seq}
 use Rattle.weedle_grammar.specs.Trees.{Text, Fails, Gives}
 use Rattle.weedle_grammar.specs.Meaning.{Kept, by_seq}

@@ -2,8 +2,9 @@
 use Rattle.std.proofs.Common.{refl, sym, subst, inl, inr}
 use Rattle.std.specs.Prelude.{◌≡◌, ℕ, ◌+◌, List, [], ◌∷◌, drop, map}
 use Rattle.weedle_base.proofs.PlaceFacts.{suffix_along}
-use Rattle.weedle_base.proofs.RuleFacts.{of_row, option_rule, seq_last, seq_next, no_seq}
-use Rattle.weedle_base.proofs.RunRules.{row_forth, not_zero, onward}
+use Rattle.weedle_grammar.proofs.RowFacts.{of_row, row_forth}
+use Rattle.weedle_base.proofs.RuleFacts.{option_rule, seq_last, seq_next, no_seq}
+use Rattle.weedle_base.proofs.RunRules.{not_zero, onward}
 use Rattle.weedle_base.specs.Generic.{pair_reading}
 use Rattle.weedle_base.specs.Own.{stops_for_memory}
 use Rattle.weedle_base.specs.Reading.{Reading}

@@ -3,7 +3,8 @@ use Rattle.std.proofs.Common.{refl, subst, inl, inr, arith}
 use Rattle.std.specs.Borrow.{Bor}
 use Rattle.std.specs.Prelude.{◌≡◌, ℕ, ◌+◌, List, [], Option}
 use Rattle.std.specs.Str.{IsUtf8}
-use Rattle.weedle_base.proofs.Steps.{fault_along, got_pair, within_add, rest_add}
+use Rattle.weedle_grammar.proofs.RowFacts.{rest_add}
+use Rattle.weedle_base.proofs.Steps.{fault_along, got_pair, within_add}
 use Rattle.weedle_base.specs.Generic.{pair_reading, option_reading}
 use Rattle.weedle_base.specs.Reading.{Reading, Got, Faults}
 use Rattle.weedle_base.specs.declared.fault.Err.{Err as Fault}

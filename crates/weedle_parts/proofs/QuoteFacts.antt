@@ -11,12 +11,11 @@ use Rattle.weedle_grammar.specs.written.Table.{Reads}
 use Rattle.weedle_grammar.specs.written.Table.Trivia.{TRIVIA}
 use Rattle.weedle_grammar.specs.written.Table.Leaves.{BYTES_QUOTE, RUN_NOT_QUOTE, STRING_LIT}
 use Rattle.weedle_grammar.proofs.Suffix.{then_on, then_fails_on, then_fails, fails, nothing, no_node}
-use Rattle.weedle_base.proofs.RuleFacts.{of_row}
-use Rattle.weedle_base.proofs.Steps.{rest_add}
-use Rattle.weedle_base.proofs.LeafFacts.{reads_bytes, reads_run, takes_some}
-use Rattle.weedle_base.proofs.TriviaFacts.{slice_front, given}
-use Rattle.weedle_base.specs.Trivia.{Took}
-use Rattle.weedle_base.proofs.FindFacts.{found_front, run_before, run_whole}
+use Rattle.weedle_grammar.proofs.RowFacts.{of_row, rest_add}
+use Rattle.weedle_grammar.proofs.LeafFacts.{reads_bytes, reads_run, takes_some}
+use Rattle.weedle_grammar.proofs.TriviaFacts.{slice_front, given}
+use Rattle.weedle_grammar.specs.Trivia.{Took}
+use Rattle.weedle_grammar.proofs.FindFacts.{found_front, run_before, run_whole}
 
 module _ {s start : List ℕ} (a : Took TRIVIA s [] start) where
   pub no_quote : Reads start BYTES_QUOTE 0 Fails → Reads s STRING_LIT 0 Fails

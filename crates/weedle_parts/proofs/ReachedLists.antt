@@ -4,7 +4,8 @@ use Rattle.std.specs.Prelude.{◌≡◌, ℕ, ◌+◌, List, [], ◌∷◌, ◌+
 use Rattle.weedle_base.proofs.FaultFacts.{fault_mismatch, fault_memory}
 use Rattle.weedle_base.proofs.PlaceFacts.{took_some}
 use Rattle.weedle_base.proofs.Reached.{Reached, reached_push, reached_refuses, reached_stops, reached_all, stuck_item}
-use Rattle.weedle_base.proofs.Steps.{within_add, rest_add, fault_along}
+use Rattle.weedle_grammar.proofs.RowFacts.{rest_add}
+use Rattle.weedle_base.proofs.Steps.{within_add, fault_along}
 use Rattle.weedle_base.specs.Faults.{IsMismatch, IsOutOfMemory}
 use Rattle.weedle_base.specs.Reading.{Reading, Got, Faults}
 use Rattle.weedle_base.specs.Generic.{option_reading}

@@ -8,7 +8,7 @@ ghost use Rattle.weedle_base.specs.Own.{own};
 ghost use Rattle.weedle_base.specs.OwnLaws.{own_lawful};
 
 use std::alloc::{AllocError, Global};
-use weedle_base::scan::identifier;
+use weedle_base::identifier;
 use weedle_base::{IResult, Parse, TryClone, mismatch};
 
 /// A name, as `Window`, kept without the underscore that may stand before it, as in `_interface`.

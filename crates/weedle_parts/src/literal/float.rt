@@ -18,16 +18,17 @@ ghost use Rattle.weedle_grammar.specs.written.Table.Leaves.{
 ghost use Rattle.weedle_grammar.specs.written.Table.Literals.{FLOAT_LIT};
 ghost use Rattle.weedle_base.specs.Own.{own};
 ghost use Rattle.weedle_base.specs.OwnLaws.{own_lawful};
-ghost use Rattle.weedle_base.specs.Trivia.{Took, Trial};
+ghost use Rattle.weedle_grammar.specs.Trivia.{Took, Trial};
 ghost use Rattle.weedle_parts.specs.LiteralTrees.{float_value_tree, float_tree};
 
 mod written;
 
 use crate::literal::integer::skip_minus;
 use std::alloc::Global;
-use weedle_base::scan::{after_one, after_run, after_word, skip_trivia, taken};
 use weedle_base::term::{Infinity, NaN, NegInfinity};
 use weedle_base::{IResult, Parse, mismatch};
+use weedle_grammar::scan::{after_one, after_run, after_word, taken};
+use weedle_grammar::trivia::skip_trivia;
 use weedle_grammar::{Class, Rule};
 
 /// A number with a point or an exponent, as `-.5E+3`, `5.` or `1e3`. An exponent without digits is

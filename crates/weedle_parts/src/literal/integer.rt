@@ -13,14 +13,15 @@ ghost use Rattle.weedle_grammar.specs.written.Table.Leaves.{
 ghost use Rattle.weedle_grammar.specs.written.Table.Literals.{INTEGER_LIT};
 ghost use Rattle.weedle_base.specs.Own.{own};
 ghost use Rattle.weedle_base.specs.OwnLaws.{own_lawful};
-ghost use Rattle.weedle_base.specs.Trivia.{Took, Trial};
+ghost use Rattle.weedle_grammar.specs.Trivia.{Took, Trial};
 ghost use Rattle.weedle_parts.specs.LiteralTrees.{dec_tree, hex_tree, oct_tree, integer_tree};
 
 mod written;
 
 use std::alloc::Global;
-use weedle_base::scan::{after_one, after_run, after_word, skip_trivia, taken};
 use weedle_base::{IResult, Parse, mismatch};
+use weedle_grammar::scan::{after_one, after_run, after_word, taken};
+use weedle_grammar::trivia::skip_trivia;
 use weedle_grammar::{Class, Rule};
 
 /// A decimal number, as `-12`: a digit other than `0` and any digits, perhaps behind a `-`.

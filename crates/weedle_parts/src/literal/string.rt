@@ -7,9 +7,10 @@ ghost use Rattle.weedle_parts.specs.LiteralTrees.{string_tree};
 
 use memchr::memchr;
 use std::alloc::Global;
-use weedle_base::scan::{after_word, skip_trivia};
 use weedle_base::{IResult, Parse, mismatch};
 use weedle_grammar::Rule;
+use weedle_grammar::scan::after_word;
+use weedle_grammar::trivia::skip_trivia;
 
 /// A text in quotes, as `"blob"`. It holds what stands between them, in which nothing is an escape
 /// and a line may end. Without both quotes it is a mismatch.

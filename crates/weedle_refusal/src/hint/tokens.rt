@@ -4,8 +4,9 @@ ghost use Rattle.std.specs.Prelude.{◌≤◌, ◌<◌, IfSome, length};
 
 use memchr::memchr;
 use std::alloc::{AllocError, Global};
-use weedle_base::scan::{run, skip_trivia};
 use weedle_grammar::Class;
+use weedle_grammar::scan::run;
+use weedle_grammar::trivia::skip_trivia;
 
 /// What kind of text a token is.
 #[derive(Clone, Copy, Debug, PartialEq, Eq)]

@@ -1,6 +1,6 @@
 use Rattle.std.proofs.Common.{Some, None, arith}
 use Rattle.memchr.specs.Find.{IsFirstByte, is_byte}
-use Rattle.weedle_base.proofs.FindFacts.{behind_cut}
+use Rattle.weedle_grammar.proofs.FindFacts.{behind_cut}
 use Rattle.weedle_base.proofs.LineFacts.{no_slashes, open_line, whole_line}
 use Rattle.weedle_base.proofs.doc_lines.doc_line.Goals as goal
 

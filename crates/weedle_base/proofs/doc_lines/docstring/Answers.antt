@@ -3,7 +3,7 @@ use Rattle.weedle_grammar.specs.Trees.{Lines}
 use Rattle.weedle_grammar.specs.written.Table.Leaves.{DOCSTRING}
 use Rattle.weedle_grammar.proofs.Suffix.{fails, no_node}
 use Rattle.weedle_base.proofs.TokenFacts.{got_own, fault_own, fault_full}
-use Rattle.weedle_base.proofs.WordFacts.{rest_utf8}
+use Rattle.weedle_grammar.proofs.WordFacts.{rest_utf8}
 use Rattle.weedle_base.proofs.LineFacts.{line_shorter, lined_first, lined_more, lined_all, when_ok}
 use Rattle.weedle_base.proofs.doc_lines.docstring.Goals as goal
 

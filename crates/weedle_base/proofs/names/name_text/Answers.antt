@@ -1,6 +1,6 @@
 use Rattle.std.proofs.Common.{refl}
 use Rattle.weedle_grammar.proofs.Suffix.{fails, no_node}
-use Rattle.weedle_base.proofs.SilentRules.{along, last, took_seq}
+use Rattle.weedle_grammar.proofs.SilentRules.{along, last, took_seq}
 use Rattle.weedle_base.proofs.names.name_text.Goals as goal
 
 pub returns-in_err-first : goal.returns-in_err-first

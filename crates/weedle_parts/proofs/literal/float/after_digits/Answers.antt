@@ -1,7 +1,7 @@
 use Rattle.std.proofs.Common.{refl}
 use Rattle.weedle_grammar.specs.written.Table.Leaves.{DIGITS}
 use Rattle.weedle_grammar.proofs.Suffix.{fails, no_node}
-use Rattle.weedle_base.proofs.SilentRules.{exit, along, last, took_seq}
+use Rattle.weedle_grammar.proofs.SilentRules.{exit, along, last, took_seq}
 use Rattle.weedle_parts.proofs.literal.float.after_digits.Goals as goal
 
 pub returns-in_err-first : goal.returns-in_err-first

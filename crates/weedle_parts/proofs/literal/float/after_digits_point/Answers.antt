@@ -1,7 +1,7 @@
 use Rattle.std.proofs.Common.{refl}
 use Rattle.weedle_grammar.specs.written.Table.Leaves.{POINT_AFTER_DIGITS}
 use Rattle.weedle_grammar.proofs.Suffix.{fails, no_node}
-use Rattle.weedle_base.proofs.SilentRules.{exit, along, last, lost, took_seq}
+use Rattle.weedle_grammar.proofs.SilentRules.{exit, along, last, lost, took_seq}
 use Rattle.weedle_parts.proofs.literal.float.after_digits_point.Goals as goal
 
 pub returns-in_err-whole : goal.returns-in_err-whole

@@ -1,7 +1,7 @@
 use Rattle.std.proofs.Common.{refl}
 use Rattle.weedle_grammar.proofs.Suffix.{fails, no_node}
 use Rattle.weedle_grammar.specs.written.Table.Leaves.{FLOAT_FORM, FLOAT_VALUE_LIT_TEXT}
-use Rattle.weedle_base.proofs.SilentRules.{along, last, lost, took_seq, decided}
+use Rattle.weedle_grammar.proofs.SilentRules.{along, last, lost, took_seq, decided}
 use Rattle.weedle_parts.proofs.literal.float.after_float.Goals as goal
 
 pub returns : goal.returns

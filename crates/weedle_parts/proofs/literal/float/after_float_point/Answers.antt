@@ -1,7 +1,7 @@
 use Rattle.std.proofs.Common.{refl}
 use Rattle.weedle_grammar.specs.written.Table.Leaves.{POINT_FORM}
 use Rattle.weedle_grammar.proofs.Suffix.{fails, no_node}
-use Rattle.weedle_base.proofs.SilentRules.{exit, along, last, took_seq}
+use Rattle.weedle_grammar.proofs.SilentRules.{exit, along, last, took_seq}
 use Rattle.weedle_parts.proofs.literal.float.after_float_point.Goals as goal
 
 pub returns-in_err-number : goal.returns-in_err-number

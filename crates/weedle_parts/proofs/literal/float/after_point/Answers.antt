@@ -1,6 +1,6 @@
 use Rattle.std.proofs.Common.{refl}
 use Rattle.weedle_grammar.specs.written.Table.Leaves.{POINT, POINT_BEFORE_DIGITS}
-use Rattle.weedle_base.proofs.SilentRules.{took_first, took_second, no_first, decided}
+use Rattle.weedle_grammar.proofs.SilentRules.{took_first, took_second, no_first, decided}
 use Rattle.weedle_parts.proofs.literal.float.after_point.Goals as goal
 
 pub returns-in-Some : goal.returns-in-Some

@@ -1,6 +1,6 @@
 use Rattle.std.proofs.Common.{refl}
 use Rattle.weedle_grammar.specs.written.Table.Leaves.{OPT_EXPONENT}
-use Rattle.weedle_base.proofs.SilentRules.{took_opt}
+use Rattle.weedle_grammar.proofs.SilentRules.{took_opt}
 use Rattle.weedle_parts.proofs.literal.float.skip_exponent.Goals as goal
 
 pub returns : goal.returns

@@ -1,7 +1,7 @@
 use Rattle.std.proofs.Common.{refl}
 use Rattle.weedle_grammar.specs.written.Table.Leaves.{DEC_LIT_TEXT}
 use Rattle.weedle_grammar.proofs.Suffix.{fails, no_node}
-use Rattle.weedle_base.proofs.SilentRules.{exit, along, last, lost, took_seq}
+use Rattle.weedle_grammar.proofs.SilentRules.{exit, along, last, lost, took_seq}
 use Rattle.weedle_parts.proofs.literal.integer.after_dec.Goals as goal
 
 pub returns-in_err-first : goal.returns-in_err-first

@@ -1,7 +1,7 @@
 use Rattle.std.proofs.Common.{refl}
 use Rattle.weedle_grammar.specs.written.Table.Leaves.{OCT_LIT_TEXT}
 use Rattle.weedle_grammar.proofs.Suffix.{fails, no_node}
-use Rattle.weedle_base.proofs.SilentRules.{exit, along, last, lost, took_seq}
+use Rattle.weedle_grammar.proofs.SilentRules.{exit, along, last, lost, took_seq}
 use Rattle.weedle_parts.proofs.literal.integer.after_oct.Goals as goal
 
 pub returns-in_err-zero : goal.returns-in_err-zero

@@ -1,6 +1,6 @@
 use Rattle.std.proofs.Common.{refl}
 use Rattle.weedle_grammar.specs.written.Table.Leaves.{OPT_BYTES_MINUS}
-use Rattle.weedle_base.proofs.SilentRules.{took_opt}
+use Rattle.weedle_grammar.proofs.SilentRules.{took_opt}
 use Rattle.weedle_parts.proofs.literal.integer.skip_minus.Goals as goal
 
 pub returns : goal.returns

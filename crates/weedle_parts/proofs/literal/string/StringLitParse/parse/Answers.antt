@@ -2,7 +2,7 @@ use Rattle.std.proofs.Common.{Some, None, refl, arith}
 use Rattle.memchr.specs.Find.{IsFirstByte, is_byte}
 use Rattle.weedle_grammar.specs.Trees.{Text}
 use Rattle.weedle_base.proofs.TokenFacts.{got_own, fault_own}
-use Rattle.weedle_base.proofs.FindFacts.{behind_cut}
+use Rattle.weedle_grammar.proofs.FindFacts.{behind_cut}
 use Rattle.weedle_parts.proofs.QuoteFacts.{no_quote, open_quote, quoted}
 use Rattle.weedle_parts.proofs.literal.string.StringLitParse.parse.Goals as goal
 

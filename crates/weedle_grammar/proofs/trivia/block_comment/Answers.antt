@@ -2,9 +2,9 @@ use Rattle.std.proofs.Common.{[], ◌∷◌, refl, Some, None}
 use Rattle.memchr.specs.Find.{FindsNeedle}
 use Rattle.weedle_grammar.proofs.Suffix.{fails, no_node}
 use Rattle.weedle_grammar.specs.written.Table.Trivia.{PAST_STAR_SLASH, BLOCK_COMMENT}
-use Rattle.weedle_base.proofs.FindFacts.{needle_lacks, needle_took, needle_cut}
-use Rattle.weedle_base.proofs.SilentRules.{exit, along, last, lost, took_seq}
-use Rattle.weedle_base.proofs.trivia.block_comment.Goals as goal
+use Rattle.weedle_grammar.proofs.FindFacts.{needle_lacks, needle_took, needle_cut}
+use Rattle.weedle_grammar.proofs.SilentRules.{exit, along, last, lost, took_seq}
+use Rattle.weedle_grammar.proofs.trivia.block_comment.Goals as goal
 
 pub returns-in_err-after : goal.returns-in_err-after
 returns-in_err-after c = exit BLOCK_COMMENT c.from_residual.ensures (no_node refl (fails c.in_err-after.ensures))

@@ -1,8 +1,8 @@
 use Rattle.std.proofs.Common.{refl}
 use Rattle.weedle_grammar.proofs.Suffix.{fails, no_node}
 use Rattle.weedle_grammar.specs.written.Table.Trivia.{BLANKS}
-use Rattle.weedle_base.proofs.SilentRules.{exit, along, last, took_seq}
-use Rattle.weedle_base.proofs.trivia.blanks.Goals as goal
+use Rattle.weedle_grammar.proofs.SilentRules.{exit, along, last, took_seq}
+use Rattle.weedle_grammar.proofs.trivia.blanks.Goals as goal
 
 pub returns-in_err-first : goal.returns-in_err-first
 returns-in_err-first c = exit BLANKS c.from_residual.ensures (no_node refl (fails c.in_err-first.ensures))

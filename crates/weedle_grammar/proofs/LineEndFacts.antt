@@ -8,12 +8,12 @@ use Rattle.weedle_grammar.specs.Rows.{take_bytes}
 use Rattle.weedle_grammar.specs.written.Table.{Reads}
 use Rattle.weedle_grammar.specs.written.Table.Trivia.{BYTES_LF, NOT_NEXT_ANY, RUN_NOT_LINE_FEED, LINE_END}
 use Rattle.weedle_grammar.specs.Trees.{Fails}
-use Rattle.weedle_base.proofs.FindFacts.{found_front, run_before, run_whole}
-use Rattle.weedle_base.proofs.LeafFacts.{reads_bytes}
-use Rattle.weedle_base.proofs.SilentRules.{took_first, took_second}
-use Rattle.weedle_base.proofs.TriviaFacts.{given}
-use Rattle.weedle_base.proofs.WordFacts.{look_took, run_took, word_split}
-use Rattle.weedle_base.specs.Trivia.{Took}
+use Rattle.weedle_grammar.proofs.FindFacts.{found_front, run_before, run_whole}
+use Rattle.weedle_grammar.proofs.LeafFacts.{reads_bytes}
+use Rattle.weedle_grammar.proofs.SilentRules.{took_first, took_second}
+use Rattle.weedle_grammar.proofs.TriviaFacts.{given}
+use Rattle.weedle_grammar.proofs.WordFacts.{look_took, run_took, word_split}
+use Rattle.weedle_grammar.specs.Trivia.{Took}
 
 -- the rest of the line, up to its end, and that end
 abbrev pub Line : List ℕ → List ℕ → Type 0

@@ -1,13 +1,11 @@
-//! Scanners that the crates above share.
+//! Rules without parts at the front of a text: what follows them. None of these calls takes memory.
 
 ghost use Rattle.std.specs.Prelude.{◌≡◌, []};
 ghost use Rattle.weedle_grammar.specs.Rows.{run_length};
-ghost use Rattle.weedle_base.specs.Scans.{IsWord, IsOne, IsRun};
-ghost use Rattle.weedle_base.specs.Trivia.{Trial, Took, TookText, is_next};
+ghost use Rattle.weedle_grammar.specs.Scans.{IsWord, IsOne, IsRun};
+ghost use Rattle.weedle_grammar.specs.Trivia.{Trial, Took, TookText, is_next};
 
-pub use crate::names::identifier;
-pub use crate::trivia::skip_trivia;
-use weedle_grammar::{Class, Rule, holds};
+use crate::{Class, Rule, holds};
 
 /// Whether the text has a next byte and it is in the class. It takes no memory.
 pub fn next_is(class: Class, input: &str) -> bool

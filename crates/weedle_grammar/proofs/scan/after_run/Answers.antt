@@ -1,7 +1,7 @@
 use Rattle.std.proofs.Common.{◌≡◌}
 use Rattle.weedle_grammar.specs.Rows.{run_length}
-use Rattle.weedle_base.proofs.WordFacts.{run_took, run_cut}
-use Rattle.weedle_base.proofs.scan.after_run.Goals as goal
+use Rattle.weedle_grammar.proofs.WordFacts.{run_took, run_cut}
+use Rattle.weedle_grammar.proofs.scan.after_run.Goals as goal
 
 pub range_from-requires : goal.range_from-requires
 range_from-requires c =

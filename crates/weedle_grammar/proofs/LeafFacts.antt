@@ -4,7 +4,7 @@ use Rattle.std.proofs.lemmas.Str.{IsCharBoundary-start}
 use Rattle.std.specs.Prelude.{◌≡◌, ℕ, List, [], ◌++◌, true, false, length, Option, Some, None}
 use Rattle.std.specs.Str.{IsCharBoundary, IsUtf8}
 use Rattle.std.specs.Str.Pattern.{LacksTextAt}
-use Rattle.weedle_base.proofs.RuleFacts.{of_row}
+use Rattle.weedle_grammar.proofs.RowFacts.{of_row}
 use Rattle.weedle_grammar.proofs.GrammarFacts.{at_boundary}
 use Rattle.weedle_grammar.proofs.FirstPlace.{begins_with, begins_yes, not_true}
 use Rattle.weedle_grammar.specs.Meaning.{Silent, leaf, ReadsRow, by_bytes, by_one, by_not_next, by_run, by_past}

@@ -1,5 +1,5 @@
-use Rattle.weedle_base.proofs.WordFacts.{word_trial}
-use Rattle.weedle_base.proofs.scan.after_word.Goals as goal
+use Rattle.weedle_grammar.proofs.WordFacts.{word_trial}
+use Rattle.weedle_grammar.proofs.scan.after_word.Goals as goal
 
 pub returns : goal.returns
 returns c = word_trial c.args.rule c.args.input.now c.requires c.strip_prefix.result c.strip_prefix.ensures.cases

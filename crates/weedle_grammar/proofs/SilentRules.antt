@@ -7,9 +7,8 @@ use Rattle.weedle_grammar.specs.Trees.{Tree, Mark, Fails, Gives}
 use Rattle.weedle_grammar.specs.Meaning.{Silent, Marked, ReadsSeq, by_seq, by_first, by_opt, first_here, first_next, first_none}
 use Rattle.weedle_grammar.specs.written.Table.{webidl, row_of, shape_of, Reads}
 use Rattle.weedle_grammar.proofs.Suffix.{then_fails_on}
-use Rattle.weedle_base.proofs.RuleFacts.{of_row, Parts, parts_none, parts_on}
-use Rattle.weedle_base.proofs.Steps.{rest_add}
-use Rattle.weedle_base.specs.Trivia.{Took, Trial}
+use Rattle.weedle_grammar.proofs.RowFacts.{of_row, Parts, parts_none, parts_on, rest_add}
+use Rattle.weedle_grammar.specs.Trivia.{Took, Trial}
 
 silent_node : {s rs : List ℕ} {ts : List Tree} {k r : ℕ} → row_of r ≡ Seq rs → shape_of r ≡ Silent → Parts s rs ts k
     → Reads s r 0 (Gives [] k)

@@ -1,8 +1,8 @@
 use Rattle.std.proofs.Common.{Some, None, arith}
 use Rattle.memchr.specs.Find.{IsFirstByte, is_byte}
-use Rattle.weedle_base.proofs.FindFacts.{behind_cut}
-use Rattle.weedle_base.proofs.LineEndFacts.{line_with_end, line_without_end}
-use Rattle.weedle_base.proofs.trivia.after_line.Goals as goal
+use Rattle.weedle_grammar.proofs.FindFacts.{behind_cut}
+use Rattle.weedle_grammar.proofs.LineEndFacts.{line_with_end, line_without_end}
+use Rattle.weedle_grammar.proofs.trivia.after_line.Goals as goal
 
 pub range_from-requires : goal.range_from-requires
 range_from-requires c =

@@ -4,10 +4,9 @@ use Rattle.std.proofs.lemmas.List.{drop-drop, length-drop}
 use Rattle.std.specs.Borrow.{Bor}
 use Rattle.std.specs.Prelude.{slice_range, take, ◌≡◌, ◌≢◌, ℕ, zero, suc, ◌+◌, ◌<◌, ◌≤◌, List, [], ◌∷◌, drop, true, false, length, get_or, Option, Some, None}
 use Rattle.std.specs.Str.{IsUtf8}
-use Rattle.weedle_base.proofs.LeafFacts.{silent, cut}
-use Rattle.weedle_base.proofs.RuleFacts.{of_row}
-use Rattle.weedle_base.proofs.RunRules.{row_forth}
-use Rattle.weedle_base.specs.Trivia.{Took, Trial}
+use Rattle.weedle_grammar.proofs.LeafFacts.{silent, cut}
+use Rattle.weedle_grammar.proofs.RowFacts.{of_row, row_forth}
+use Rattle.weedle_grammar.specs.Trivia.{Took, Trial}
 use Rattle.weedle_grammar.proofs.Checked.{rank, ranked}
 use Rattle.weedle_grammar.proofs.Exists.{advances}
 use Rattle.weedle_grammar.proofs.Takes.{takes}

@@ -1,9 +1,9 @@
 use Rattle.std.proofs.Common.{sym, ◌∙◌, refl}
 use Rattle.weedle_grammar.proofs.Suffix.{fails, no_node}
 use Rattle.weedle_grammar.specs.written.Table.Trivia.{NOT_NEXT_SLASH, LINE_COMMENT}
-use Rattle.weedle_base.proofs.SilentRules.{exit, along, last, lost, took_seq}
-use Rattle.weedle_base.proofs.WordFacts.{look_fails, look_took}
-use Rattle.weedle_base.proofs.trivia.line_comment.Goals as goal
+use Rattle.weedle_grammar.proofs.SilentRules.{exit, along, last, lost, took_seq}
+use Rattle.weedle_grammar.proofs.WordFacts.{look_fails, look_took}
+use Rattle.weedle_grammar.proofs.trivia.line_comment.Goals as goal
 
 pub returns-in_err-after : goal.returns-in_err-after
 returns-in_err-after c = exit LINE_COMMENT c.from_residual.ensures (no_node refl (fails c.in_err-after.ensures))

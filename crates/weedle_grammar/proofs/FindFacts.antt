@@ -10,10 +10,10 @@ use Rattle.weedle_grammar.specs.Rows.{Past, is_in, run_length}
 use Rattle.weedle_grammar.specs.Meaning.{Silent}
 use Rattle.weedle_grammar.specs.Trees.{Fails}
 use Rattle.weedle_grammar.specs.written.Table.{row_of, shape_of, Reads}
-use Rattle.weedle_base.specs.Trivia.{Took}
-use Rattle.weedle_base.proofs.LeafFacts.{reads_past, cut}
+use Rattle.weedle_grammar.specs.Trivia.{Took}
+use Rattle.weedle_grammar.proofs.LeafFacts.{reads_past, cut}
 use Rattle.weedle_grammar.proofs.FirstPlace.{found_byte, nowhere_byte, found_past, nowhere_past}
-use Rattle.weedle_base.proofs.TriviaFacts.{given, run_is}
+use Rattle.weedle_grammar.proofs.TriviaFacts.{given, run_is}
 
 -- the byte stands at the place where it was found
 pub found_is : (byte : ℕ) (s : List ℕ) (i : ℕ) → IsFirstByte (is_byte byte) s (Some i) → get_or s i 0 ≡ byte

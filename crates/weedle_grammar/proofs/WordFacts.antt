@@ -13,11 +13,11 @@ use Rattle.weedle_grammar.specs.Rows.{NotNext, take_bytes, take_one, take_not_ne
 use Rattle.weedle_grammar.specs.Meaning.{Silent}
 use Rattle.weedle_grammar.specs.Trees.{Tree, Fails, Gives}
 use Rattle.weedle_grammar.specs.written.Table.{row_of, shape_of, Reads}
-use Rattle.weedle_base.proofs.LeafFacts.{reads_bytes, reads_one, reads_not_next, reads_run, cut, takes_none, takes_some}
-use Rattle.weedle_base.specs.Trivia.{Took, Trial, is_next}
+use Rattle.weedle_grammar.proofs.LeafFacts.{reads_bytes, reads_one, reads_not_next, reads_run, cut, takes_none, takes_some}
+use Rattle.weedle_grammar.specs.Trivia.{Took, Trial, is_next}
 use Rattle.weedle_grammar.proofs.Leaves.{both}
-use Rattle.weedle_base.proofs.TriviaFacts.{given}
-use Rattle.weedle_base.specs.Scans.{IsWord, IsOne, IsRun}
+use Rattle.weedle_grammar.proofs.TriviaFacts.{given}
+use Rattle.weedle_grammar.specs.Scans.{IsWord, IsOne, IsRun}
 
 second_false : (a b : Bool) → a ≡ true → a && b ≡ false → b ≡ false
 second_false true b e h = h

@@ -10,11 +10,11 @@ ghost use Rattle.weedle_grammar.specs.written.Table.Trivia.{
   PIECE,
   TRIVIA,
 };
-ghost use Rattle.weedle_base.specs.Trivia.{Trial, Took, TookText};
+ghost use Rattle.weedle_grammar.specs.Trivia.{Trial, Took, TookText};
 
 use crate::scan::{after_one, after_run, after_word, next_is, taken};
+use crate::{Class, Rule};
 use memchr::{memchr, memmem};
-use weedle_grammar::{Class, Rule};
 
 /// What follows the line at the front and its LF. Where there is no LF, the line ends with the
 /// text.

@@ -1,8 +1,8 @@
 use Rattle.std.proofs.Common.{length}
 use denote.Text.{Utf8}
 use denote.Shadow.{shadow}
-use Rattle.weedle_base.proofs.TriviaFacts.{Behind}
-use Rattle.weedle_base.proofs.trivia.skip_trivia.Given as goal
+use Rattle.weedle_grammar.proofs.TriviaFacts.{Behind}
+use Rattle.weedle_grammar.proofs.trivia.skip_trivia.Given as goal
 
 abbrev pub invariant-loop-next : goal.invariant-loop-next
 invariant-loop-next l = shadow (Utf8 l.rest) × Behind l.input l.rest
