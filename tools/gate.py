@@ -94,12 +94,16 @@ def known(tasks, times, peaks=None):
     return found
 
 
-def measured(file):
-    """The seconds of tasks by crate and kind, from a file of gate_times.py; none where it isn't there. Of wrong bodies
-    those of one, which are as many as those of the check that they begin with."""
-    if not file.is_file():
+def times_in(file):
+    """What a file of gate_times.py holds; nothing where it isn't there."""
+    return json.loads(file.read_text()) if file.is_file() else {}
+
+
+def measured(times):
+    """The seconds of tasks by crate and kind. Of wrong bodies those of one, which are as many as those of the check that
+    they begin with."""
+    if not times:
         return {}
-    times = json.loads(file.read_text())
     found = {(name, "tests"): seconds for name, seconds in times["tests"].items()}
     found |= {(name, "library"): seconds for name, seconds in times.get("library", {}).items()}
     for name, (number, whole) in times["edits"].items():
@@ -109,15 +113,13 @@ def measured(file):
     return found
 
 
-def remembered(file):
-    """The bytes of tasks by crate and kind, from a file of gate_times.py; none where it has none. A program is built
-    where its proof is."""
-    memory = json.loads(file.read_text()).get("memory", {}) if file.is_file() else {}
-    kinds = {"proof": ["proof"], "programs": ["proof"], "tests": ["tests"], "edits": ["edits", "seed"], "library": ["library"]}
+def remembered(times, unit=10**9):
+    """The memory of tasks by crate and kind, in bytes or by another unit for a GB. A program is built where its proof is."""
+    kinds = {"programs": ["proof"], "edits": ["edits", "seed"]}
     found = {}
-    for kind, keys in kinds.items():
-        for name, most in memory.get(kind, {}).items():
-            found |= {(name, it): max(found.get((name, it), 0), 1e9 * most) for it in keys}
+    for kind, memory in times.get("memory", {}).items():
+        for key in ((name, it) for name in memory for it in kinds.get(kind, [kind])):
+            found[key] = max(found.get(key, 0), unit * memory[key[0]])
     return found
 
 
@@ -284,7 +286,8 @@ def main():
         print("gate.py: this rt has another scheduler, so it keeps its own order", flush=True)
         return subprocess.run(["rt", "ci"], check=False).returncode
     gate_edits.replace(rt)
-    rt.in_lanes = scheduler(rt, measured(TIMES), remembered(TIMES), library and library.resolve())
+    times = times_in(TIMES)
+    rt.in_lanes = scheduler(rt, measured(times), remembered(times), library and library.resolve())
     return rt.main(["ci"])
 
 

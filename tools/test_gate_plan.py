@@ -5,6 +5,7 @@
 """
 
 import argparse
+import math
 import tempfile
 import unittest
 from pathlib import Path
@@ -27,6 +28,9 @@ TIMES = {
     "edits": {"low": [2, 100]},
     "programs": {"top": 60},
 }
+
+
+SAID = argparse.Namespace(show=False, older=False, own=False, memory=math.inf, slower=1)
 
 
 def gate_of(room, times=TIMES, rows=LIST):
@@ -109,7 +113,7 @@ class Planned(unittest.TestCase):
         self.assertEqual((older, newer), (608, 600))
 
     def test_a_plan_says_the_clock_and_the_work(self):
-        said = [*plan(self.gate, 1, False)]
+        said = [*plan(self.gate, 1, SAID)]
         whole = (60 + 1800 + 600 + 300 + 180 + 60 + 100) / 60
         self.assertEqual(said, [f"1 processors: {whole:.0f} minutes, {whole:.0f} of processor time"])
 
