@@ -5,13 +5,13 @@
 #
 # `rt lib` proves one library after another, and some have a function that takes one processor for long. So what is said
 # of a refused text is proved at the same time, in a copy of the crates: `rt` takes over what it has proved in another
-# copy on the machine. With ALONE=1 that is left out: it takes longer, and half the memory. With PROVED=1 the archive has to be
-# there, and nothing is proved. A word behind the command goes on to `rt lib`, as --jobs 2.
+# copy on the machine. With ALONE=1 that is left out: it takes longer, and half the memory. A word behind the command
+# goes on to `rt lib`, as --jobs 2.
 set -eu
 [ "${1:-}" != --help ] || { sed -n '2,${/^#/!q;s/^# \{0,1\}//p}' "$0"; exit; }
 
 top=$(cd "$(dirname "$0")/.." && pwd)
-[ -z "${PROVED:-}" ] || [ ! -f "$top/crates/weedle_c/out/libweedle_c.a" ] || exit 0
+[ -z "${PROVED:-}" ] || exit 0
 copy=$(mktemp -d)
 beside=
 
@@ -34,5 +34,4 @@ if [ -z "${ALONE:-}" ]; then
     beside=$!
 fi
 cd "$top/crates/weedle_c"
-# The default wants x86-64-v2, and a static library doesn't look whether it runs on one.
-rt lib --cpu x86-64 "$@"
+rt lib "$@"

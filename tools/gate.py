@@ -55,9 +55,9 @@ ROOM = 0.85
 # How many times the memory that was measured of a task is left for it.
 SPARE = 1.1
 # Of a task whose memory wasn't measured: how many times rt's figure a check takes that doesn't stand on the recursive
-# types, and how many times one that does. And how much more for each further job. As seen: 1.3 GB of the first, 4 to 5 of
-# the others, 8 of the types themselves by one job and 11 by four.
-OF_A_SMALL_CHECK, OF_A_CHECK, OF_A_JOB = 0.5, 1.4, 0.3
+# types, and how many times one that does, but for the types themselves MOST bytes at most. And how much more for each
+# further job. As seen: 1.3 GB of the first, 4 to 5.5 of the others, 8 of the types themselves by one job and 11 by four.
+OF_A_SMALL_CHECK, OF_A_CHECK, MOST, OF_A_JOB = 0.5, 1.4, 5_500_000_000, 0.3
 TYPES = "weedle_types"
 # The crate of the static library, and the processor that it is built for.
 LIBRARY, CPU = "weedle_c", "x86-64"
@@ -75,10 +75,11 @@ class Task:
         return self.needs * (1 + OF_A_JOB * (jobs - 1))
 
 
-def part_of(name, waits):
-    """How many times rt's figure a check of a crate takes, by what its proof waits for."""
-    is_small = name != TYPES and (TYPES, "proof") not in waits
-    return OF_A_SMALL_CHECK if is_small else OF_A_CHECK
+def expected(name, needs, waits):
+    """The bytes that a check of a crate takes, by rt's figure and by what its proof waits for."""
+    if name == TYPES:
+        return OF_A_CHECK * needs
+    return min(MOST, (OF_A_CHECK if (TYPES, "proof") in waits else OF_A_SMALL_CHECK) * needs)
 
 
 def known(tasks, times, peaks=None):
@@ -89,7 +90,7 @@ def known(tasks, times, peaks=None):
         name, kind = key[:2]
         seconds = times.get((name, kind), SECONDS_OF_A_LINE * lines)
         peak = (peaks or {}).get((name, kind))
-        memory = SPARE * peak if peak else needs * part_of(name, tasks[name, "proof"][0])
+        memory = SPARE * peak if peak else expected(name, needs, tasks[name, "proof"][0])
         found[key] = Task(waits, kind in PROOFS, seconds, memory, call)
     return found
 
@@ -113,13 +114,13 @@ def measured(times):
     return found
 
 
-def remembered(times, unit=10**9):
-    """The memory of tasks by crate and kind, in bytes or by another unit for a GB. A program is built where its proof is."""
+def remembered(times):
+    """The bytes of tasks by crate and kind. A program is built where its proof is."""
     kinds = {"programs": ["proof"], "edits": ["edits", "seed"]}
     found = {}
     for kind, memory in times.get("memory", {}).items():
         for key in ((name, it) for name in memory for it in kinds.get(kind, [kind])):
-            found[key] = max(found.get(key, 0), unit * memory[key[0]])
+            found[key] = max(found.get(key, 0), 1e9 * memory[key[0]])
     return found
 
 

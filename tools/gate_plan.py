@@ -93,7 +93,7 @@ class Gate:
         for name, seconds in times.get("programs", {}).items():
             self.proof[name] = self.proof.get(name, 0) + seconds
         self.tests, self.edits = times["tests"], times["edits"]
-        self.library, self.peaks = times.get("library", {}), gate.remembered(times, 1)
+        self.library, self.peaks = times.get("library", {}), gate.remembered(times)
 
     def below(self, name):
         return [it for it in closure(self.rows, [name]) if it != name]
@@ -232,9 +232,10 @@ def simulated(tasks, processors, memory=math.inf, slower=1):
 
 def in_own_order(tasks, processors, memory=math.inf, peaks=None, slower=1):
     """The same by the order of tools/gate.py, which knows the times of a machine that takes one SLOWER'th of them."""
-    rows = {key: (it.waits, it.lines, it.needs, None) for key, it in tasks.items()}
+    rows = {key: (it.waits, it.lines, 1e9 * it.needs, None) for key, it in tasks.items()}
     own = gate.known(rows, {key[:2]: it.seconds for key, it in tasks.items() if key[1] in KNOWN}, peaks)
-    order, given, running, left, log, now = gate.Order(own, processors, memory), set(), {}, {}, {}, 0.0
+    order = gate.Order(own, processors, 1e9 * memory)
+    given, running, left, log, now = set(), {}, {}, {}, 0.0
     while len(given) < len(tasks):
         for key, jobs in order.begin(set(tasks) - set(log), given, running):
             left[key], log[key] = slower * tasks[key].seconds, (now, math.inf, jobs)
