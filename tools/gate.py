@@ -207,9 +207,8 @@ def run_all(order):
     return given
 
 
-def build_library(rt, file, jobs):
+def build_library(rt, crate, file, jobs):
     """Builds the static library over the libraries as they stand; whether that went well."""
-    crate = next(it for it in rt.crates_of(os.getcwd()) if it.name == LIBRARY)
     words = crate.words(["--jobs", str(jobs), "--cpu", CPU], keeps=False)
     toolchain = ["--toolchain", f"{rt.KIT}/toolchain", "--backend", "llvm"]
     command = [*rt.rtlib.guarded(), rt.rtlib.RATTLE, "build", *words, *toolchain, "-o", str(file)]
@@ -221,24 +220,32 @@ def build_library(rt, file, jobs):
 
 
 def with_library(tasks, rt, file):
-    """The tasks, and behind the proof of the static library one that builds it."""
+    """The tasks, and behind the proof of the static library one that builds it. It is for whoever comes after `rt ci`,
+    so nothing that goes wrong here ends that."""
     proof = LIBRARY, "proof"
+    try:
+        # While nothing runs, since this looks through the folders that crates are built in.
+        crate = next(it for it in rt.crates_of(os.getcwd()) if it.name == LIBRARY)
+        waits, lines, needs, _ = tasks[proof]
+    except (AttributeError, KeyError, StopIteration) as why:
+        print(f"gate.py: {LIBRARY} can't be built over what is proved: {why!r}", flush=True)
+        return tasks
 
     def call(given, jobs):
         try:
-            return given[proof] and build_library(rt, file, jobs)
-        except (AttributeError, StopIteration, SystemExit, TypeError) as why:
+            return given[proof] and build_library(rt, crate, file, jobs)
+        except (AttributeError, OSError, SystemExit, TypeError) as why:
             print(f"gate.py: {LIBRARY} isn't built over what is proved: {why!r}", flush=True)
             return False
 
-    return {**tasks, (LIBRARY, "library"): ([proof], tasks[proof][1], tasks[proof][2], call)}
+    return {**tasks, (LIBRARY, "library"): ([proof], lines, needs, call)}
 
 
 def scheduler(rt, times, peaks=None, library=None):
     """What stands in the place of rt's `in_lanes`."""
 
     def in_lanes(tasks):
-        if library and (LIBRARY, "proof") in tasks:
+        if library:
             tasks = with_library(tasks, rt, library)
         # Where wrong bodies are tasks of their own, what they begin with is removed in the end.
         with getattr(rt, "ending", nullcontext)():

@@ -46,6 +46,8 @@ TOP = Path(__file__).resolve().parent.parent
 TICKS = os.sysconf("SC_CLK_TCK")
 PAGE = os.sysconf("SC_PAGE_SIZE")
 INTERVAL = 0.5
+# At each which look memory is asked for.
+LOOKS = 4
 KINDS = ("proof", "tests", "edits", "programs", "library")
 # Of a process with less memory than this, in bytes, it isn't counted.
 SMALL = 50_000_000
@@ -62,13 +64,21 @@ def look_at(pid, boot):
     return int(fields[1]), boot + int(fields[19]) / TICKS, taken, int(fields[21]) * PAGE
 
 
-def share_of(pid, memory):
-    """The memory of a process where what it shares with others counts in part, or all of it where that isn't said."""
+def bytes_in(file, name, otherwise):
+    """The bytes that a file of /proc gives under a name, or `otherwise` where it doesn't."""
     try:
-        said = re.search(r"^Pss:\s+(\d+) kB", Path(f"/proc/{pid}/smaps_rollup").read_text(), re.MULTILINE)
+        said = re.search(rf"^{name}:\s+(\d+) kB", Path(file).read_text(), re.MULTILINE)
     except OSError:
         said = None
-    return 1024 * int(said[1]) if said else memory
+    return 1024 * int(said[1]) if said else otherwise
+
+
+def memory_of(taken):
+    """The memory of the processes of a task, by what each has now: of one alone the most so far, and of several, which
+    share a part, their shares."""
+    if len(taken) == 1:
+        return max(bytes_in(f"/proc/{pid}/status", "VmHWM", now) for pid, now in taken.items())
+    return sum(bytes_in(f"/proc/{pid}/smaps_rollup", "Pss", now) for pid, now in taken.items())
 
 
 def all_processes(boot):
@@ -92,24 +102,27 @@ class Sampler:
 
     def __init__(self, root, log):
         self.root, self.log, self.boot, self.seen = root, log, boot_time(), {}
+        self.looks = 0
 
     def sample(self):
         processes = all_processes(self.boot)
         below = {it for it in processes if is_below(it, self.root, processes)}
         for pid in below:
             self.note(pid, *processes[pid][1:3])
-        self.note_memory({pid: processes[pid][3] for pid in below if processes[pid][3] >= SMALL})
+        if self.looks % LOOKS == 0:
+            self.note_memory({pid: processes[pid][3] for pid in below if processes[pid][3] >= SMALL})
+        self.looks += 1
         for pid in set(self.seen) - below:
             self.end(pid)
 
     def note_memory(self, taken):
         """Notes of each process what all processes of its task take. A check by several jobs has forked copies."""
         tasks = {}
-        for pid in taken:
-            tasks.setdefault(task_of(self.seen[pid]), []).append(pid)
-        for pids in tasks.values():
-            whole = sum(taken[it] if len(pids) == 1 else share_of(it, taken[it]) for it in pids)
-            for pid in pids:
+        for pid, now in taken.items():
+            tasks.setdefault(task_of(self.seen[pid]), {})[pid] = now
+        for those in tasks.values():
+            whole = memory_of(those)
+            for pid in those:
                 self.seen[pid]["memory"] = max(self.seen[pid].get("memory", 0), whole)
 
     def note(self, pid, began, taken):
@@ -273,16 +286,17 @@ def cells_of(seconds):
 def table(times):
     began = min((it[0] for it in times.spans.values()), default=0)
     rows = [
-        "| Crate | Proof | Tests | Wrong bodies | Program | Begins | Takes |",
-        "|---|---|---|---|---|---|---|",
+        "| Crate | Proof | Tests | Wrong bodies | Program | GB | Begins | Takes |",
+        "|---|---|---|---|---|---|---|---|",
     ]
     for crate in times.crates():
-        costs = [minutes(times.by[kind].get(crate, 0)) for kind in KINDS]
+        costs = cells_of({kind: times.by[kind].get(crate, 0) for kind in KINDS})
+        most = max(times.memory[kind].get(crate, 0) for kind in KINDS)
         first, last = times.spans.get(crate, (began, began))
         clock = [f"{(first - began) / 60:.0f}", f"{(last - first) / 60:.0f}"]
-        rows.append(f"| `{crate}` | {' | '.join([*costs, *clock])} |")
-    sums = [minutes(times.sum_of(kind)) for kind in KINDS]
-    rows += [f"| all of these | {' | '.join(sums)} | | |", f"| the rest | {minutes(times.rest)} | | | | | |"]
+        rows.append(f"| `{crate}` | {' | '.join([*costs, f'{most:.1f}', *clock])} |")
+    sums = cells_of({kind: times.sum_of(kind) for kind in KINDS})
+    rows += [f"| all of these | {' | '.join(sums)} | | | |", f"| the rest | {minutes(times.rest)} | | | | | | |"]
     whole = times.rest + sum(times.sum_of(kind) for kind in KINDS)
     rows += ["", f"In all {whole / 60:.0f} minutes of processor time, on {machine()}, {datetime.date.today()}."]
     if times.calibration:
