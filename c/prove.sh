@@ -11,6 +11,7 @@ set -eu
 [ "${1:-}" != --help ] || { sed -n '2,${/^#/!q;s/^# \{0,1\}//p}' "$0"; exit; }
 
 top=$(cd "$(dirname "$0")/.." && pwd)
+[ -z "${PROVED:-}" ] || exit 0
 copy=$(mktemp -d)
 beside=
 

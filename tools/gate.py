@@ -1,20 +1,27 @@
 #!/usr/bin/env python3
 """Runs `rt ci`, with an order of its own: long proofs that all others wait for get more than one processor.
 
-    python3 tools/gate.py
+    python3 tools/gate.py [--library FILE]
 
-What is proved, refused, built and run is rt's own, and so is what is printed: this loads the command `rt` as a
-module, puts one function in the place of its scheduler, and calls its `ci`. By rt's order a proof gets a second
-processor only where hardly anything else is ready. So the longest chain of proofs, which decides how long the
-gate takes, is walked by one processor while others idle. Here it goes by the times of docs/gate_times.json:
-what has the longest chain of times behind it begins first, and a proof of four minutes or more on the longest
-chain, of a crate or of its tests, gets two processors, or three where it takes half an hour, if memory holds that.
-What is next on the longest chain finds its memory: nothing begins that would be in its way.
+What is proved, built and run is rt's own, and so is what is printed: this loads the command `rt` as a module, puts a
+function in the place of its scheduler, and calls its `ci`. By rt's order a proof gets a second processor only where
+hardly anything else is ready. So the longest chain of proofs, which decides how long the gate takes, is walked by one
+processor while others idle. Here it goes by the times of docs/gate_times.json: what has the longest chain of times
+behind it begins first, and a proof of four minutes or more on the longest chain, of a crate or of its tests, gets two
+processors, or three where it takes half an hour, if memory holds that. What is next on the longest chain finds its
+memory: nothing begins that would be in its way. What a task takes is what was measured of it, and a tenth more.
+
+A wrong body that names the function which it turns is tried by that function alone (tools/gate_edits.py).
+
+With --library the static library of the crate weedle_c is built as FILE, for any x86-64 processor, over the libraries
+as `rt ci` has just proved and built them. Where that fails what was said is printed, and there is no FILE; the status is
+the same.
 
 Where `rt` has another scheduler than the one that is known here, or can't be read as Python, it is plain `rt ci`,
-and a line says so. The status is that of `rt ci`. `rt ci` itself gives the same verdict, later.
+there is no FILE, and a line says so. The status is that of `rt ci`. `rt ci` itself gives the same verdict, later.
 """
 
+import argparse
 import importlib.machinery
 import importlib.util
 import inspect
@@ -27,7 +34,7 @@ from concurrent.futures import FIRST_COMPLETED, ThreadPoolExecutor, wait
 from contextlib import nullcontext
 from pathlib import Path
 
-from command_line import take_none
+import gate_edits
 
 TOP = Path(__file__).resolve().parent.parent
 TIMES = TOP / "docs/gate_times.json"
@@ -45,11 +52,15 @@ LAST = ("sound", "again")
 FEWEST = 3
 # What part of the free memory is used, as rt has it.
 ROOM = 0.85
-# How many times rt's figure for its memory a check takes that doesn't stand on the recursive types, how many times one
-# that does, and how much more for each further job. As seen: 1.3 GB of the first, 4 to 5 of the others, 8 of the
-# types themselves by one job and 11 by four.
-OF_A_SMALL_CHECK, OF_A_CHECK, OF_A_JOB = 0.5, 1.4, 0.3
+# How many times the memory that was measured of a task is left for it.
+SPARE = 1.1
+# Of a task whose memory wasn't measured: how many times rt's figure a check takes that doesn't stand on the recursive
+# types, and how many times one that does, but for the types themselves MOST bytes at most. And how much more for each
+# further job. As seen: 1.3 GB of the first, 4 to 5.5 of the others, 8 of the types themselves by one job and 11 by four.
+OF_A_SMALL_CHECK, OF_A_CHECK, MOST, OF_A_JOB = 0.5, 1.4, 5_500_000_000, 0.3
 TYPES = "weedle_types"
+# The crate of the static library, and the processor that it is built for.
+LIBRARY, CPU = "weedle_c", "x86-64"
 
 
 class Task:
@@ -64,34 +75,52 @@ class Task:
         return self.needs * (1 + OF_A_JOB * (jobs - 1))
 
 
-def part_of(name, waits):
-    """How many times rt's figure a check of a crate takes, by what its proof waits for."""
-    is_small = name != TYPES and (TYPES, "proof") not in waits
-    return OF_A_SMALL_CHECK if is_small else OF_A_CHECK
+def expected(name, needs, waits):
+    """The bytes that a check of a crate takes, by rt's figure and by what its proof waits for."""
+    if name == TYPES:
+        return OF_A_CHECK * needs
+    return min(MOST, (OF_A_CHECK if (TYPES, "proof") in waits else OF_A_SMALL_CHECK) * needs)
 
 
-def known(tasks, times):
+def known(tasks, times, peaks=None):
     """The tasks of rt by their keys: a crate, what is done of it, and of a wrong body that is a task of its own its
-    number."""
+    number. `peaks` is what was measured of their memory."""
     found = {}
     for key, (waits, lines, needs, call) in tasks.items():
         name, kind = key[:2]
         seconds = times.get((name, kind), SECONDS_OF_A_LINE * lines)
-        memory = needs * part_of(name, tasks[name, "proof"][0])
+        peak = (peaks or {}).get((name, kind))
+        memory = SPARE * peak if peak else expected(name, needs, tasks[name, "proof"][0])
         found[key] = Task(waits, kind in PROOFS, seconds, memory, call)
     return found
 
 
-def measured(file):
-    """The seconds of tasks by crate and kind, from a file of gate_times.py; none where it isn't there. Of wrong bodies
-    those of one."""
-    if not file.is_file():
+def times_in(file):
+    """What a file of gate_times.py holds; nothing where it isn't there."""
+    return json.loads(file.read_text()) if file.is_file() else {}
+
+
+def measured(times):
+    """The seconds of tasks by crate and kind. Of wrong bodies those of one, which are as many as those of the check that
+    they begin with."""
+    if not times:
         return {}
-    times = json.loads(file.read_text())
     found = {(name, "tests"): seconds for name, seconds in times["tests"].items()}
-    found |= {(name, "edits"): whole / max(number, 1) for name, (number, whole) in times["edits"].items()}
+    found |= {(name, "library"): seconds for name, seconds in times.get("library", {}).items()}
+    for name, (number, whole) in times["edits"].items():
+        found[name, "edits"] = found[name, "seed"] = whole / (number + 1)
     for name, seconds in times["proof"].items():
         found[name, "proof"] = seconds + times["programs"].get(name, 0)
+    return found
+
+
+def remembered(times):
+    """The bytes of tasks by crate and kind. A program is built where its proof is."""
+    kinds = {"programs": ["proof"], "edits": ["edits", "seed"]}
+    found = {}
+    for kind, memory in times.get("memory", {}).items():
+        for key in ((name, it) for name in memory for it in kinds.get(kind, [kind])):
+            found[key] = max(found.get(key, 0), 1e9 * memory[key[0]])
     return found
 
 
@@ -178,13 +207,49 @@ def run_all(order):
     return given
 
 
-def scheduler(rt, times):
+def build_library(rt, crate, file, jobs):
+    """Builds the static library over the libraries as they stand; whether that went well."""
+    words = crate.words(["--jobs", str(jobs), "--cpu", CPU], keeps=False)
+    toolchain = ["--toolchain", f"{rt.KIT}/toolchain", "--backend", "llvm"]
+    command = [*rt.rtlib.guarded(), rt.rtlib.RATTLE, "build", *words, *toolchain, "-o", str(file)]
+    how = {"stdin": subprocess.DEVNULL, "stdout": subprocess.PIPE, "stderr": subprocess.STDOUT, "errors": "replace"}
+    ran = subprocess.run(command, cwd=crate.folder, check=False, **how)
+    if ran.returncode:
+        print(f"{ran.stdout}gate.py: {LIBRARY} isn't built over what is proved", flush=True)
+    return not ran.returncode
+
+
+def with_library(tasks, rt, file):
+    """The tasks, and behind the proof of the static library one that builds it. It is for whoever comes after `rt ci`,
+    so nothing that goes wrong here ends that."""
+    proof = LIBRARY, "proof"
+    try:
+        # While nothing runs, since this looks through the folders that crates are built in.
+        crate = next(it for it in rt.crates_of(os.getcwd()) if it.name == LIBRARY)
+        waits, lines, needs, _ = tasks[proof]
+    except (AttributeError, KeyError, StopIteration) as why:
+        print(f"gate.py: {LIBRARY} can't be built over what is proved: {why!r}", flush=True)
+        return tasks
+
+    def call(given, jobs):
+        try:
+            return given[proof] and build_library(rt, crate, file, jobs)
+        except (AttributeError, OSError, SystemExit, TypeError) as why:
+            print(f"gate.py: {LIBRARY} isn't built over what is proved: {why!r}", flush=True)
+            return False
+
+    return {**tasks, (LIBRARY, "library"): ([proof], lines, needs, call)}
+
+
+def scheduler(rt, times, peaks=None, library=None):
     """What stands in the place of rt's `in_lanes`."""
 
     def in_lanes(tasks):
+        if library:
+            tasks = with_library(tasks, rt, library)
         # Where wrong bodies are tasks of their own, what they begin with is removed in the end.
         with getattr(rt, "ending", nullcontext)():
-            return run_all(Order(known(tasks, times), rt.processors(), ROOM * rt.free()))
+            return run_all(Order(known(tasks, times, peaks), rt.processors(), ROOM * rt.free()))
 
     return in_lanes
 
@@ -214,7 +279,11 @@ def is_known(rt):
 
 
 def main():
-    take_none(__doc__)
+    parser = argparse.ArgumentParser(
+        description=__doc__, formatter_class=argparse.RawDescriptionHelpFormatter
+    )
+    parser.add_argument("--library", type=Path, metavar="FILE")
+    library = parser.parse_args().library
     path = shutil.which("rt")
     if path is None:
         print("gate.py: there is no command rt on PATH", file=sys.stderr)
@@ -224,7 +293,9 @@ def main():
     if rt is None or not is_known(rt):
         print("gate.py: this rt has another scheduler, so it keeps its own order", flush=True)
         return subprocess.run(["rt", "ci"], check=False).returncode
-    rt.in_lanes = scheduler(rt, measured(TIMES))
+    gate_edits.replace(rt)
+    times = times_in(TIMES)
+    rt.in_lanes = scheduler(rt, measured(times), remembered(times), library and library.resolve())
     return rt.main(["ci"])
 
 

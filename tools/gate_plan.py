@@ -1,7 +1,7 @@
 #!/usr/bin/env python3
 """Says how long a gate from nothing would take, and what a change would cost, from measured times.
 
-    python3 tools/gate_plan.py TIMES [--processors N].. [--memory GB] [--older | --own] [--show]
+    python3 tools/gate_plan.py TIMES [--processors N].. [--memory GB] [--slower F] [--older | --own] [--show]
     python3 tools/gate_plan.py TIMES --costs CRATE..
 
 TIMES is a file of JSON that tools/gate_times.py wrote. The layout of the crates is read from
@@ -12,20 +12,22 @@ tests and for each wrong body; a proof is ready when those of the crates below a
 chain behind a task, in lines, goes first; wrong bodies are tried where nothing else is ready. A ready
 proof gets the idle processors by the number of proofs and tests that are ready, four at most, and the
 tests of a crate that has none count as one. Times are those of one job; by two, three or four jobs a
-proof takes SPEED of them. With --memory no task
-begins beside others for which less is left of so many GB than `rt ci` expects it to take, from its lines
-and those below it; it uses 85 hundredths of what is free when it begins. It prints, for each N (4 and 2 where none is given), the minutes by the clock and
-of processor time; with --show when each task that takes a minute or more begins and ends.
+proof takes SPEED of them. With --memory so many GB are free when it begins. It uses 85 hundredths of them,
+and no task begins beside others for which less is left of these than it is expected to take: by `rt ci` what
+follows from its lines and those below it. With --slower the machine takes F times as long. It prints, for each
+N (4 and 2 where none is given), the minutes by the clock and of processor time; with --show when each task that
+takes a minute or more begins and ends.
 
 Where a crate has several wrong bodies, what they begin with is a task (`seed`), each is one, and the check at
-their end is one (`sound`); one alone is tried from nothing.
+their end is one (`sound`); one alone is tried from nothing. Where each names the function that it turns, `seed`
+is a check of these functions, as long as a try, and there is no `sound`.
 
 With --older the order is that of rattle-kit-13b: a crate's wrong bodies are one task, also where it
 has none, which is ready like any other; so where `weedle_types` begins it is never alone. Before and after a
 library's proof that kit sums up what it is made from, once for each way down the lists, which takes
 SECONDS_OF_A_WAY for each of them on top; rattle-kit-13f sums each crate up once. With --own it
-is that of tools/gate.py over the tasks of rattle-kit-13f, by the times that it knows: none of what wrong
-bodies begin and end with. Where more jobs run than there are processors, they share them.
+is that of tools/gate.py over the tasks of rattle-kit-13f, by the times and the memory that it knows, and the
+static library is a task (`library`). Where more jobs run than there are processors, they share them.
 
 With --costs it prints a row for each CRATE: how many crates stand above it, the minutes of processor
 time of all of these and its own, and those of the longest chain among them.
@@ -40,6 +42,7 @@ import sys
 from pathlib import Path
 
 import gate
+import gate_edits
 from crates import closure, files_of, read_lines
 
 TOP = Path(__file__).resolve().parent.parent
@@ -51,7 +54,9 @@ FIRST, LAST = 0.35, 0.2
 # What part of the memory a check takes that begins with what another one proved.
 OVER = 0.7
 # The kinds of tasks whose times tools/gate.py knows.
-KNOWN = ("proof", "tests", "edits")
+KNOWN = ("proof", "tests", "edits", "seed", "library")
+# What the static library takes beside the proof of its crate, where it wasn't measured: 110 s where that proof took 90.
+SECONDS_OF_A_LIBRARY = 60.0
 # What it takes rattle-kit-13b to sum up what a library is made from, once before and once after its proof, for
 # each way down the lists of crates.txt.
 SECONDS_OF_A_WAY = 2 * 0.0025
@@ -88,6 +93,7 @@ class Gate:
         for name, seconds in times.get("programs", {}).items():
             self.proof[name] = self.proof.get(name, 0) + seconds
         self.tests, self.edits = times["tests"], times["edits"]
+        self.library, self.peaks = times.get("library", {}), gate.remembered(times)
 
     def below(self, name):
         return [it for it in closure(self.rows, [name]) if it != name]
@@ -138,11 +144,29 @@ class Gate:
         count, whole = self.edits.get(name, (0, 0))
         return Task([(name, "proof"), (name, "tests")], lines * bool(count), whole, needs)
 
+    def with_library(self, tasks):
+        """The tasks, with that of the static library."""
+        proof = gate.LIBRARY, "proof"
+        if proof not in tasks:
+            return tasks
+        seconds = self.library.get(gate.LIBRARY, SECONDS_OF_A_LIBRARY)
+        task = Task([proof], tasks[proof].lines, seconds, tasks[proof].needs)
+        return {**tasks, (gate.LIBRARY, "library"): task}
+
+    def by_functions(self, name):
+        """Whether the wrong bodies of a crate are tried by the functions that they turn."""
+        edits = [*(self.root / "crates" / name / "must-fail").glob("*.edit")]
+        return bool(edits) and all(map(gate_edits.functions_of, edits))
+
     def wrong_bodies(self, name, waits, lines, needs):
         count, whole = self.edits.get(name, (0, 0))
         if not count:
             return {}
         well = [(name, "proof"), (name, "tests")]
+        if self.by_functions(name):
+            seed, needs, each = (name, "seed"), OVER * needs, whole / (count + 1)
+            one = Task([*well, seed], lines, each, needs, True)
+            return {seed: Task(waits, 0, each, needs, True), **{(name, "edits", at): one for at in range(count)}}
         if count == 1:
             return {(name, "edits", 0): Task(well, lines, whole, needs, True)}
         first, last, seed = min(self.proof[name], FIRST * whole), LAST * whole, (name, "seed")
@@ -191,27 +215,30 @@ def begun(tasks, left, ended, running, now, processors, memory):
     return found
 
 
-def simulated(tasks, processors, memory=math.inf):
-    """When each task begins and ends, in seconds, and by how many jobs."""
+def simulated(tasks, processors, memory=math.inf, slower=1):
+    """When each task begins and ends, in seconds, and by how many jobs, where each takes SLOWER times as long."""
     left, running, log, now = in_order(tasks), {}, {}, 0.0
     while left or running:
         ended = {key for key in log if key not in running}
         new = begun(tasks, left, ended, running, now, processors, memory)
         left, running = [key for key in left if key not in new], {**running, **new}
+        for it in new.values():
+            it.end = now + slower * (it.end - now)
         log.update({key: (now, it.end, it.jobs) for key, it in new.items()})
         now = min(it.end for it in running.values())
         running = {key: it for key, it in running.items() if it.end > now}
     return log
 
 
-def in_own_order(tasks, processors, memory=math.inf):
-    """The same by the order of tools/gate.py."""
-    rows = {key: (it.waits, it.lines, it.needs, None) for key, it in tasks.items()}
-    own = gate.known(rows, {key[:2]: it.seconds for key, it in tasks.items() if key[1] in KNOWN})
-    order, given, running, left, log, now = gate.Order(own, processors, memory), set(), {}, {}, {}, 0.0
+def in_own_order(tasks, processors, memory=math.inf, peaks=None, slower=1):
+    """The same by the order of tools/gate.py, which knows the times of a machine that takes one SLOWER'th of them."""
+    rows = {key: (it.waits, it.lines, 1e9 * it.needs, None) for key, it in tasks.items()}
+    own = gate.known(rows, {key[:2]: it.seconds for key, it in tasks.items() if key[1] in KNOWN}, peaks)
+    order = gate.Order(own, processors, 1e9 * memory)
+    given, running, left, log, now = set(), {}, {}, {}, 0.0
     while len(given) < len(tasks):
         for key, jobs in order.begin(set(tasks) - set(log), given, running):
-            left[key], log[key] = tasks[key].seconds, (now, math.inf, jobs)
+            left[key], log[key] = slower * tasks[key].seconds, (now, math.inf, jobs)
         share = min(1, processors / sum(running.values()))
         speeds = {key: SPEED[jobs] * share for key, jobs in running.items()}
         step = min(left[key] / speed for key, speed in speeds.items())
@@ -227,26 +254,31 @@ def minutes(seconds):
     return f"{seconds / 60:.0f}"
 
 
-def cost_of(gate, name):
+def cost_of(crates, name):
     """How many crates stand on one, and the minutes of a change of it: in all, and along a chain."""
-    above = gate.above(name)
-    whole = sum(map(gate.seconds, [name, *above]))
-    return str(len(above)), str(minutes(whole)), str(minutes(gate.longest_chain(name)))
+    above = crates.above(name)
+    whole = sum(map(crates.seconds, [name, *above]))
+    return str(len(above)), str(minutes(whole)), str(minutes(crates.longest_chain(name)))
 
 
-def costs(gate, names):
+def costs(crates, names):
     yield "| A change in | Crates above | Minutes of one processor | Longest chain |"
     yield "|---|---|---|---|"
     for name in names:
-        yield f"| `{name}` | {' | '.join(cost_of(gate, name))} |"
+        yield f"| `{name}` | {' | '.join(cost_of(crates, name))} |"
 
 
-def plan(gate, processors, is_shown, older=False, memory=math.inf, own=False):
-    tasks = gate.tasks(older)
-    log = (in_own_order if own else simulated)(tasks, processors, memory)
-    end, work = max(it[1] for it in log.values()), sum(it.seconds for it in tasks.values())
+def plan(crates, processors, said):
+    """What is printed for a number of processors, by what was said on the command line."""
+    tasks, room = crates.tasks(said.older), gate.ROOM * said.memory
+    if said.own:
+        tasks = crates.with_library(tasks)
+        log = in_own_order(tasks, processors, room, crates.peaks, said.slower)
+    else:
+        log = simulated(tasks, processors, room, said.slower)
+    end, work = max(it[1] for it in log.values()), said.slower * sum(it.seconds for it in tasks.values())
     yield f"{processors} processors: {minutes(end)} minutes, {minutes(work)} of processor time"
-    for key, (begin, end, jobs) in log.items() if is_shown else ():
+    for key, (begin, end, jobs) in log.items() if said.show else ():
         if end - begin >= SHOWN:
             named = " ".join(map(str, key))
             yield f"  {begin / 60:6.1f} to {end / 60:6.1f}, {jobs} jobs: {named}"
@@ -270,6 +302,7 @@ def main():
     parser.add_argument("times", type=times_in, metavar="TIMES")
     parser.add_argument("--processors", type=int, action="append")
     parser.add_argument("--memory", type=float, default=math.inf, metavar="GB")
+    parser.add_argument("--slower", type=float, default=1, metavar="F")
     order = parser.add_mutually_exclusive_group()
     order.add_argument("--older", action="store_true")
     order.add_argument("--own", action="store_true")
@@ -284,7 +317,7 @@ def main():
         print(*costs(crates, said.costs), sep="\n")
         return
     for processors in said.processors or (4, 2):
-        print(*plan(crates, processors, said.show, said.older, said.memory, said.own), sep="\n")
+        print(*plan(crates, processors, said), sep="\n")
 
 
 if __name__ == "__main__":

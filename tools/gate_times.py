@@ -5,21 +5,23 @@
     python3 tools/gate_times.py --read FILE [--json FILE]
 
 It runs the command, or `rt ci` where none is given, and looks twice a second at the processes below
-it: whose crate each works for, and how much processor time it has taken. When the command has ended
-it prints a table: of each crate the minutes of processor time of its proof, of its tests (their
-proof, and the building of their program), of its wrong bodies and of its program, when its proof
-began and how long that took by the clock; then the sums. What the command itself takes, and what
-no crate is named for, stands in the row `the rest`.
+it: whose crate each works for, how much processor time it has taken, and how much memory. When the
+command has ended it prints a table: of each crate the minutes of processor time of its proof, of its
+tests (their proof, and the building of their program), of its wrong bodies and of its program or
+static library, the most memory that one of these took in GB, when its proof began and how long that
+took by the clock; then the sums. What the command itself takes, and what no crate is named for, stands
+in the row `the rest`.
 
 With --calibrate it runs `rt selftest` before and after, which proves and builds one small crate of the
 toolchain, always the same, and says what that took. So the times of two machines can be compared:
 divide each table by its calibration.
 
 --json writes the times in seconds in the form that tools/gate_plan.py and tools/gate_page.py take:
-`proof`, `tests` and `programs` by crate, `edits` as how many there are and what they take in all,
-`clock`, what each proof took by the clock; the date, the machine, and `calibration`, the seconds
-before and after, or nothing. --log keeps what was
-seen of each process, a line of JSON each, and --read makes the table of such files again, of
+`proof`, `tests`, `programs` and `library` by crate, `edits` as how many there are and what they take
+in all, `clock`, what each proof took by the clock; `memory`, by kind and crate the most GB that a task
+took at one time, by one job (of several, what tools/gate.py expects each further one to take is left
+out); the date, the machine, and `calibration`, the seconds before and after, or nothing. --log keeps
+what was seen of each process, a line of JSON each, and --read makes the table of such files again, of
 several runs too: their times are added.
 
 It needs Linux, whose /proc it reads. A process that lives for less than half a second may be missed.
@@ -37,11 +39,18 @@ import sys
 import time
 from pathlib import Path
 
+from gate import LIBRARY, OF_A_JOB
+
 TOP = Path(__file__).resolve().parent.parent
 
 TICKS = os.sysconf("SC_CLK_TCK")
+PAGE = os.sysconf("SC_PAGE_SIZE")
 INTERVAL = 0.5
-KINDS = ("proof", "tests", "edits", "programs")
+# At each which look memory is asked for.
+LOOKS = 4
+KINDS = ("proof", "tests", "edits", "programs", "library")
+# Of a process with less memory than this, in bytes, it isn't counted.
+SMALL = 50_000_000
 
 
 def boot_time():
@@ -49,9 +58,27 @@ def boot_time():
 
 
 def look_at(pid, boot):
-    """The parent of a process, when it began, and the processor time that it has taken so far."""
+    """The parent of a process, when it began, the processor time that it has taken so far, and its memory in bytes."""
     fields = Path(f"/proc/{pid}/stat").read_text().rpartition(")")[2].split()
-    return int(fields[1]), boot + int(fields[19]) / TICKS, sum(map(int, fields[11:13])) / TICKS
+    taken = sum(map(int, fields[11:13])) / TICKS
+    return int(fields[1]), boot + int(fields[19]) / TICKS, taken, int(fields[21]) * PAGE
+
+
+def bytes_in(file, name, otherwise):
+    """The bytes that a file of /proc gives under a name, or `otherwise` where it doesn't."""
+    try:
+        said = re.search(rf"^{name}:\s+(\d+) kB", Path(file).read_text(), re.MULTILINE)
+    except OSError:
+        said = None
+    return 1024 * int(said[1]) if said else otherwise
+
+
+def memory_of(taken):
+    """The memory of the processes of a task, by what each has now: of one alone the most so far, and of several, which
+    share a part, their shares."""
+    if len(taken) == 1:
+        return max(bytes_in(f"/proc/{pid}/status", "VmHWM", now) for pid, now in taken.items())
+    return sum(bytes_in(f"/proc/{pid}/smaps_rollup", "Pss", now) for pid, now in taken.items())
 
 
 def all_processes(boot):
@@ -75,14 +102,28 @@ class Sampler:
 
     def __init__(self, root, log):
         self.root, self.log, self.boot, self.seen = root, log, boot_time(), {}
+        self.looks = 0
 
     def sample(self):
         processes = all_processes(self.boot)
         below = {it for it in processes if is_below(it, self.root, processes)}
         for pid in below:
-            self.note(pid, *processes[pid][1:])
+            self.note(pid, *processes[pid][1:3])
+        if self.looks % LOOKS == 0:
+            self.note_memory({pid: processes[pid][3] for pid in below if processes[pid][3] >= SMALL})
+        self.looks += 1
         for pid in set(self.seen) - below:
             self.end(pid)
+
+    def note_memory(self, taken):
+        """Notes of each process what all processes of its task take. A check by several jobs has forked copies."""
+        tasks = {}
+        for pid, now in taken.items():
+            tasks.setdefault(task_of(self.seen[pid]), {})[pid] = now
+        for those in tasks.values():
+            whole = memory_of(those)
+            for pid in those:
+                self.seen[pid]["memory"] = max(self.seen[pid].get("memory", 0), whole)
 
     def note(self, pid, began, taken):
         it = self.seen.get(pid)
@@ -150,9 +191,22 @@ def kind_of(entry):
         return "edits"
     if "--test" in entry["words"] or "_tests" in words:
         return "tests"
+    if crate_of(entry) == LIBRARY and ("build" in entry["words"] or "clang" in words):
+        return "library"
     if "src/main.rt" in entry["words"] or "clang" in words:
         return "programs"
     return "proof"
+
+
+def task_of(entry):
+    """What a process works for: a crate, a kind, and of wrong bodies the folder that tells one from another."""
+    return crate_of(entry), kind_of(entry), entry["cwd"]
+
+
+def jobs_of(entry):
+    words = entry["words"]
+    given = words[words.index("--jobs") + 1] if "--jobs" in words[:-1] else "1"
+    return int(given) if given.isdigit() else 1
 
 
 def wrong_bodies(crate):
@@ -165,6 +219,7 @@ class Times:
 
     def __init__(self, log, calibration=()):
         self.by = {kind: {} for kind in KINDS}
+        self.memory = {kind: {} for kind in KINDS}
         self.spans, self.rest = {}, 0.0
         self.calibration = [*calibration]
         for entry in log:
@@ -177,6 +232,9 @@ class Times:
             return
         of_kind = self.by[kind]
         of_kind[crate] = of_kind.get(crate, 0) + taken_by(entry)
+        most = entry.get("memory", 0) / (1 + OF_A_JOB * (jobs_of(entry) - 1)) / 1e9
+        if most:
+            self.memory[kind][crate] = max(self.memory[kind].get(crate, 0), most)
         if kind == "proof":
             # What else is done for a crate, as the looking through its files, is soon done.
             self.spans[crate] = max(
@@ -194,6 +252,7 @@ class Times:
         said = {kind: {k: round(v, 1) for k, v in self.by[kind].items()} for kind in KINDS}
         edits = {k: [wrong_bodies(k), v] for k, v in said["edits"].items()}
         clock = {name: round(last - first, 1) for name, (first, last) in self.spans.items()}
+        memory = {kind: {k: round(v, 2) for k, v in self.memory[kind].items()} for kind in KINDS}
         return {
             "date": str(datetime.date.today()),
             "machine": machine(),
@@ -201,6 +260,7 @@ class Times:
             **said,
             "edits": edits,
             "clock": clock,
+            "memory": memory,
             "rest": round(self.rest, 1),
         }
 
@@ -217,19 +277,26 @@ def machine(said=None):
     return f"{words} @ {float(speed[1]) / 1000:.2f}GHz" if speed and "GHz" not in words else words
 
 
+def cells_of(seconds):
+    """The minutes of each kind; a static library's stand with those of programs."""
+    made = {**seconds, "programs": seconds["programs"] + seconds["library"]}
+    return [minutes(made[kind]) for kind in KINDS if kind != "library"]
+
+
 def table(times):
     began = min((it[0] for it in times.spans.values()), default=0)
     rows = [
-        "| Crate | Proof | Tests | Wrong bodies | Program | Begins | Takes |",
-        "|---|---|---|---|---|---|---|",
+        "| Crate | Proof | Tests | Wrong bodies | Program | GB | Begins | Takes |",
+        "|---|---|---|---|---|---|---|---|",
     ]
     for crate in times.crates():
-        costs = [minutes(times.by[kind].get(crate, 0)) for kind in KINDS]
+        costs = cells_of({kind: times.by[kind].get(crate, 0) for kind in KINDS})
+        most = max(times.memory[kind].get(crate, 0) for kind in KINDS)
         first, last = times.spans.get(crate, (began, began))
         clock = [f"{(first - began) / 60:.0f}", f"{(last - first) / 60:.0f}"]
-        rows.append(f"| `{crate}` | {' | '.join([*costs, *clock])} |")
-    sums = [minutes(times.sum_of(kind)) for kind in KINDS]
-    rows += [f"| all of these | {' | '.join(sums)} | | |", f"| the rest | {minutes(times.rest)} | | | | | |"]
+        rows.append(f"| `{crate}` | {' | '.join([*costs, f'{most:.1f}', *clock])} |")
+    sums = cells_of({kind: times.sum_of(kind) for kind in KINDS})
+    rows += [f"| all of these | {' | '.join(sums)} | | | |", f"| the rest | {minutes(times.rest)} | | | | | | |"]
     whole = times.rest + sum(times.sum_of(kind) for kind in KINDS)
     rows += ["", f"In all {whole / 60:.0f} minutes of processor time, on {machine()}, {datetime.date.today()}."]
     if times.calibration:

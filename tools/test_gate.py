@@ -4,12 +4,16 @@
     python3 tools/test_gate.py
 """
 
+import sys
+import tempfile
 import threading
 import types
 import unittest
-from contextlib import nullcontext
+from contextlib import nullcontext, redirect_stdout
+from io import StringIO
+from pathlib import Path
 
-from gate import Order, is_known, known, load, run_all, scheduler
+from gate import Order, is_known, known, load, measured, remembered, run_all, scheduler, with_library
 
 GB = 10**9
 TIMES = {("low", "proof"): 60, ("long", "proof"): 2400, ("side", "proof"): 500, ("top", "proof"): 300}
@@ -134,6 +138,75 @@ class Began(unittest.TestCase):
         found = known(tasks, {})
         self.assertEqual([it.memory(1) for key, it in found.items() if key[0] == "new"], [1.4 * GB, 1.4 * GB])
         self.assertEqual([found["other", "proof"].memory(it) for it in (1, 3)], [0.5 * GB, 0.8 * GB])
+
+    def test_no_check_but_that_of_the_types_is_expected_to_take_more_than_was_ever_seen(self):
+        tasks = {(name, "proof"): ([], 1, 20 * GB, None) for name in ("new", "weedle_types")}
+        self.assertEqual([it.memory(1) for it in known(tasks, {}).values()], [5.5 * GB, 28 * GB])
+
+    def test_of_a_task_whose_memory_was_measured_a_tenth_more_is_left(self):
+        tasks = {("new", kind): ([], 1, GB, None) for kind in ("proof", "tests")}
+        found = known(tasks, {}, {("new", "proof"): 3 * GB})
+        self.assertEqual([it.memory(1) for it in found.values()], [1.1 * 3 * GB, 0.5 * GB])
+
+
+class Measured(unittest.TestCase):
+    TIMES = {
+        "proof": {"low": 60, "app": 5},
+        "tests": {"low": 30},
+        "edits": {"low": [3, 80]},
+        "programs": {"app": 100},
+        "library": {"weedle_c": 50},
+        "memory": {"proof": {"low": 2, "app": 1}, "programs": {"app": 3}, "edits": {"low": 1.5}},
+    }
+
+    def test_seconds(self):
+        found = measured(self.TIMES)
+        self.assertEqual((found["low", "edits"], found["low", "seed"]), (20, 20))
+        self.assertEqual((found["app", "proof"], found["weedle_c", "library"]), (105, 50))
+        self.assertEqual(measured({}), {})
+
+    def test_memory(self):
+        found = remembered(self.TIMES)
+        wanted = {("low", "proof"): 2, ("app", "proof"): 3, ("low", "edits"): 1.5, ("low", "seed"): 1.5}
+        self.assertEqual(found, {key: most * GB for key, most in wanted.items()})
+        self.assertEqual(remembered({}), {})
+
+
+class Library(unittest.TestCase):
+    """The static library, as a task behind its proof."""
+
+    def setUp(self):
+        room = tempfile.TemporaryDirectory()
+        self.addCleanup(room.cleanup)
+        self.file = Path(room.name, "libweedle_c.a")
+        self.words = ["-c", "import sys; open(sys.argv[-1], 'w').write(sys.argv[1])"]
+        crate = types.SimpleNamespace(name="weedle_c", folder=room.name, words=lambda flags, keeps: flags)
+        lib = types.SimpleNamespace(guarded=lambda: [sys.executable, *self.words], RATTLE="rattle")
+        self.rt = types.SimpleNamespace(crates_of=lambda root: [crate], rtlib=lib, KIT="/kit")
+        self.tasks = {("weedle_c", "proof"): ([], 7, GB, lambda given, jobs: True)}
+
+    def build(self, is_proved=True):
+        waits, *_, call = with_library(self.tasks, self.rt, self.file)["weedle_c", "library"]
+        self.assertEqual(waits, [("weedle_c", "proof")])
+        with redirect_stdout(StringIO()) as said:
+            return call({("weedle_c", "proof"): is_proved}, 1), said.getvalue()
+
+    def test_it_is_built_behind_the_proof(self):
+        self.assertEqual(self.build(), (True, ""))
+        self.assertEqual(self.file.read_text(), "rattle")
+
+    def test_what_is_not_proved_is_not_built(self):
+        self.assertEqual(self.build(is_proved=False), (False, ""))
+        self.assertFalse(self.file.exists())
+
+    def test_where_building_fails_it_is_said(self):
+        self.words = ["-c", "print('no'); raise SystemExit(1)"]
+        self.assertEqual(self.build(), (False, "no\ngate.py: weedle_c isn't built over what is proved\n"))
+
+    def test_another_rt_goes_on_without_it(self):
+        with redirect_stdout(StringIO()) as said:
+            self.assertEqual(with_library(self.tasks, types.SimpleNamespace(), self.file), self.tasks)
+        self.assertIn("can't be built", said.getvalue())
 
 
 class Known(unittest.TestCase):

@@ -5,6 +5,7 @@
 """
 
 import argparse
+import math
 import tempfile
 import unittest
 from pathlib import Path
@@ -27,6 +28,9 @@ TIMES = {
     "edits": {"low": [2, 100]},
     "programs": {"top": 60},
 }
+
+
+SAID = argparse.Namespace(show=False, older=False, own=False, memory=math.inf, slower=1)
 
 
 def gate_of(room, times=TIMES, rows=LIST):
@@ -87,6 +91,35 @@ class Planned(unittest.TestCase):
         self.assertIn(("low", "seed"), of_low["edits", 1].waits)
         self.assertEqual(of_low["edits", 0].needs, gate_plan.OVER * of_low[("seed",)].needs)
 
+    def test_wrong_bodies_that_name_their_functions_begin_with_a_check_of_these(self):
+        for name in ("one", "two"):
+            edit = Path(self.gate.root, "crates/low/must-fail", f"{name}.edit")
+            edit.parent.mkdir(exist_ok=True)
+            edit.write_text("# only: f\nfile: src/lib.rt\n")
+        self.gate.edits = {"low": [2, 90]}
+        seconds = {key[1:]: it.seconds for key, it in self.gate.tasks().items() if key[0] == "low"}
+        self.assertEqual(seconds, {("proof",): 60, ("tests",): 0, ("seed",): 30, ("edits", 0): 30, ("edits", 1): 30})
+
+    def test_by_the_own_order_the_static_library_is_built_behind_its_proof(self):
+        with patch.object(gate_plan.gate, "LIBRARY", "top"):
+            self.gate.library = {"top": 90}
+            log = in_own_order(self.gate.with_library(self.gate.tasks()), 4)
+        begin, end, _ = log["top", "library"]
+        self.assertEqual((begin, end - begin), (log["top", "proof"][1], 90))
+
+    def test_a_slower_machine_takes_longer_in_the_same_order(self):
+        for simulate in (simulated, in_own_order):
+            quick, slow = (simulate(self.gate.tasks(), 2, slower=it) for it in (1, 3))
+            self.assertEqual([*quick], [*slow])
+            self.assertAlmostEqual(3 * max(it[1] for it in quick.values()), max(it[1] for it in slow.values()))
+
+    def test_85_hundredths_of_the_memory_are_used(self):
+        # Each task takes 1.2 GB by rt's figure.
+        for free, minutes in ((3.0, 44), (2.7, 49)):
+            said = argparse.Namespace(**{**vars(SAID), "memory": free})
+            self.gate.edits, self.gate.tests = {}, {}
+            self.assertIn(f" {minutes} minutes", [*plan(self.gate, 2, said)][0])
+
     def test_one_wrong_body_is_tried_from_nothing(self):
         self.gate.edits = {"low": [1, 40]}
         keys = [key for key in self.gate.tasks() if key[0] == "low"]
@@ -109,7 +142,7 @@ class Planned(unittest.TestCase):
         self.assertEqual((older, newer), (608, 600))
 
     def test_a_plan_says_the_clock_and_the_work(self):
-        said = [*plan(self.gate, 1, False)]
+        said = [*plan(self.gate, 1, SAID)]
         whole = (60 + 1800 + 600 + 300 + 180 + 60 + 100) / 60
         self.assertEqual(said, [f"1 processors: {whole:.0f} minutes, {whole:.0f} of processor time"])
 

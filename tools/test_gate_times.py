@@ -30,14 +30,50 @@ class TestTimes(unittest.TestCase):
 
     def test_the_table_has_a_row_for_each_crate_and_the_sum(self):
         table = gate_times.table(gate_times.Times(self.LOG))
-        self.assertIn("| `weedle_base` | 1.0 |  | 0.5 |  |", table)
+        self.assertIn("| `weedle_base` | 1.0 |  | 0.5 |  | 0.0 |", table)
         self.assertIn("In all 5 minutes of processor time", table)
         self.assertNotIn("Calibration", table)
+
+    def test_the_static_library_is_a_kind_of_its_own_and_stands_with_programs_in_the_table(self):
+        words = ["rattle", "build", "--crate-name", "weedle_c", "--crate-type", "staticlib"]
+        checked = [words[0], "check", *words[2:]]
+        clang = entry(["clang", "-O3"], "/x/crates/weedle_c", 30.0)
+        times = gate_times.Times([entry(checked, "", 60.0), entry(words, "", 60.0), clang])
+        self.assertEqual((times.by["proof"], times.by["library"]), ({"weedle_c": 60.0}, {"weedle_c": 90.0}))
+        self.assertIn("| `weedle_c` | 1.0 |  |  | 1.5 |", gate_times.table(times))
+
+    def test_the_memory_is_the_most_of_a_task_by_one_job(self):
+        words = ["rattle", "check", "--crate-name", "weedle_base", "--jobs"]
+        log = [{**entry([*words, jobs], "", 1.0), "memory": 1e9 * most} for jobs, most in (("1", 2), ("3", 4))]
+        times = gate_times.Times([*log, entry(words[:4], "", 1.0)])
+        self.assertEqual(times.as_json()["memory"]["proof"], {"weedle_base": 2.5})
 
     def test_the_calibration_stands_below_the_table_and_in_the_json(self):
         times = gate_times.Times(self.LOG, (70.04, 80.0))
         self.assertTrue(gate_times.table(times).endswith("Calibration: 70 seconds of processor time before, 80 after."))
         self.assertEqual(times.as_json()["calibration"], [70.0, 80.0])
+
+
+class TestMemory(unittest.TestCase):
+    def test_what_a_task_takes_stands_at_each_of_its_processes(self):
+        sampler = gate_times.Sampler(1, [])
+        cwd = "/x/rt-edit-{}/crates/weedle_base"
+        for pid, at in ((11, "a"), (12, "a"), (13, "b")):
+            sampler.seen[pid] = {"words": ["rattle"], "cwd": cwd.format(at)}
+        with mock.patch.object(gate_times, "memory_of", lambda taken: sum(taken.values())):
+            sampler.note_memory({11: 300, 12: 200, 13: 100})
+            sampler.note_memory({11: 250, 13: 120})
+        self.assertEqual({pid: it["memory"] for pid, it in sampler.seen.items()}, {11: 500, 12: 500, 13: 120})
+
+    def test_a_process_alone_has_the_most_so_far_and_several_have_their_shares(self):
+        with mock.patch.object(gate_times, "bytes_in", lambda file, name, now: now + (name == "VmHWM")):
+            self.assertEqual(gate_times.memory_of({11: 300}), 301)
+            self.assertEqual(gate_times.memory_of({11: 300, 12: 200}), 500)
+
+    def test_a_figure_of_proc(self):
+        self.assertGreater(gate_times.bytes_in("/proc/self/status", "VmHWM", 0), 1_000_000)
+        self.assertEqual(gate_times.bytes_in("/proc/self/status", "NoSuch", 7), 7)
+        self.assertEqual(gate_times.bytes_in("/no/file", "Pss", 7), 7)
 
 
 class TestMachine(unittest.TestCase):

@@ -134,6 +134,32 @@ class Outcomes(unittest.TestCase):
         self.assertEqual(self.outcome(2, ""), "NOT TRIED: it didn't reach the prover: no word")
 
 
+class Functions(TryEditsTest):
+    """By which functions an edit is tried."""
+
+    SOURCE = "pub fn first() {\n    1\n}\n\nimpl Low {\n    fn second() {\n        2\n    }\n}\n"
+
+    def functions(self, path, old, head=""):
+        write(self.root, {f"crates/low/{path}": self.SOURCE})
+        self.add(f"{head}file: {path}\nold: {old}\nnew: 0\n")
+        edits = {it.name: it for it in try_edits.find_edits(self.root, ["low"])}
+        return edits["low/new"].functions()
+
+    def test_a_line_names_them(self):
+        self.assertEqual(self.functions("src/lib.rt", "1", "# only: Low::second\n# A note.\n"), ["Low::second"])
+
+    def test_the_function_in_which_the_text_stands(self):
+        self.assertEqual(self.functions("src/walk/parts.rt", "1"), ["walk::parts::first"])
+        self.assertEqual(self.functions("src/lib.rt", "1"), ["first"])
+
+    def test_of_a_method_its_module(self):
+        self.assertEqual(self.functions("src/walk.rt", "2"), ["walk"])
+        self.assertEqual(self.functions("src/lib.rt", "2"), [])
+
+    def test_what_changes_a_definition_has_none(self):
+        self.assertEqual(self.functions("specs/Rows.antt", "1"), [])
+
+
 class Tries(TryEditsTest):
     def setUp(self):
         super().setUp()
@@ -146,14 +172,15 @@ class Tries(TryEditsTest):
             patch.start()
             self.addCleanup(patch.stop)
 
-    def run_rt(self, crate):
+    def run_rt(self, crate, functions):
         """Proves a crate as it stands, and refuses every other, or says what `answers` has."""
         text = (crate / "src/lib.rt").read_text()
-        self.checks.append((crate.name, text))
+        self.checks.append((crate.name, text, *functions))
         copy = crate.parent.parent
         self.files |= {it.relative_to(copy).as_posix() for it in copy.rglob("*") if it.is_file()}
         is_wrong = text != FILES[f"crates/{crate.name}/src/lib.rt"]
-        return self.answers.get(text, (1, REFUSED) if is_wrong else (0, ""))
+        answer = self.answers.get((text, *functions), self.answers.get(text))
+        return answer or ((1, REFUSED) if is_wrong else (0, ""))
 
     def test_each_crate_is_checked_as_it_stands_and_with_each_edit(self):
         status, said = self.run_main()
@@ -164,6 +191,25 @@ class Tries(TryEditsTest):
         turned = [text.replace("<", "<=") for text in (low, high)]
         tried = [("low", low), ("low", turned[0]), ("low", turned[0])]
         self.assertEqual(self.checks, [*tried, ("high", high), ("high", turned[1])])
+
+    def test_an_edit_of_a_function_is_tried_by_that_function(self):
+        write(self.root, {"must-fail/by-hand/high/above.edit": f"# only: less\n{ONE}"})
+        self.answers["a <= b\n", "less"] = 1, "fn high::less: not proved\nonly=1 proved=0\n"
+        self.assertEqual(self.run_main("high"), (0, ["high/above: refused", "1 refused, 0 let through"]))
+        self.assertEqual(self.checks, [("high", "a < b\n", "less"), ("high", "a <= b\n", "less")])
+
+    def test_where_the_function_does_not_refuse_it_the_crate_is_asked(self):
+        write(self.root, {"must-fail/by-hand/high/above.edit": f"# only: less\n{ONE}"})
+        self.answers["a <= b\n", "less"] = 0, "only=1 proved=1\n"
+        self.assertEqual(self.run_main("high"), (0, ["high/above: refused", "1 refused, 0 let through"]))
+        self.assertEqual(self.checks[2:], [("high", "a < b\n"), ("high", "a <= b\n")])
+
+    def test_where_there_is_no_such_function_the_crate_is_asked(self):
+        write(self.root, {"must-fail/by-hand/high/above.edit": f"# only: less\n{ONE}"})
+        self.answers["a < b\n", "less"] = 2, "rattle: error: `high` has no function `less`\n"
+        status, said = self.run_main("high")
+        self.assertEqual((status, said[-1]), (0, "1 refused, 0 let through"))
+        self.assertEqual(self.checks[1:], [("high", "a < b\n"), ("high", "a <= b\n")])
 
     def test_the_copy_has_what_was_kept_below_and_no_git(self):
         self.run_main("high")

@@ -6,14 +6,17 @@
 They are the edits must-fail/by-hand/CRATE/*.edit, of all crates or of those that are named. An edit
 has a line `file: src/lib.rt`, and then pairs of lines `old: TEXT` and `new: TEXT`, each TEXT one
 line; further pairs apply to what the earlier ones made. A line that begins with `#` says something
-to the reader.
+to the reader, and `# only: PATH` names the function that the edit turns, as `rt check --only` takes it.
+Of an edit without such a line that changes nothing but `src/`, it is the function in which the first text
+stands, or the module, where that is a method.
 
 First it looks whether each edit applies: whether each old text stands in its file exactly once.
 With --check that is all. Else it copies the repository to a temporary folder, without .git but
-with what `rt check` kept of these crates and those below them. There it checks each crate as it
-stands, and then once with each edit in turn, which proves again only what the edit touches: half a
-minute, or some minutes where it touches the types that hold one another. Over all definitions each
-check begins with minutes of sums over the crates below. What isn't proved yet is proved first: an
+with what `rt check` kept of these crates and those below them. There it checks the functions of a
+crate's edits as they stand, and then those of each edit in turn, by `rt check --only`: half a
+minute, or some minutes where it touches the types that hold one another. Where an edit isn't refused
+so, or has no function, the whole crate is checked as it stands and with the edit. Over all definitions
+each check begins with minutes of sums over the crates below. What isn't proved yet is proved first: an
 hour and more over the types.
 
 It prints a line for each edit:
@@ -39,6 +42,7 @@ import sys
 import tempfile
 from pathlib import Path
 
+import gate_edits
 from crates import PARTS, Unfit, closure, read_lines
 
 TOP = Path(__file__).resolve().parent.parent
@@ -52,6 +56,8 @@ UNREAD = re.compile(
     r"(\./)?(src|specs)/\S+:\d+:\d+: error: .*"
     r"(is not in scope|has no field|is no name|operand is missing|expected the end|cannot continue)"
 )
+# The head of a function in a source file, with what stands before it.
+FUNCTION = re.compile(r"^( *)(?:pub(?:\([a-z]+\))? )?(?:unsafe )?(?:extern \"C\" )?fn (\w+)", re.MULTILINE)
 # What is said of a proof that names what an edit took away.
 NAME_GONE = re.compile(r"(\./)?proofs/.*(has no field|is not in scope|has no `|was not admitted)")
 
@@ -71,6 +77,15 @@ class Edit:
     def misfit(self):
         """Why it doesn't apply to its crate as it stands, or nothing."""
         return misfit_of(self.file.read_text(encoding="utf-8"), self.folder)
+
+    def functions(self):
+        """The functions that it turns, as `rt check --only` takes them; none where that isn't known."""
+        text = self.file.read_text(encoding="utf-8")
+        found = gate_edits.functions_of(self.file)
+        if found or any(part in text for part in ("file: specs/", "file: proofs/")):
+            return found
+        path = function_at(self.folder, *(re.search(rf"^{it}: (.*)$", text, re.MULTILINE)[1] for it in ("file", "old")))
+        return [path] if path else []
 
 
 class Outcome:
@@ -121,6 +136,17 @@ def misfit_of(text, crate):
     return ""
 
 
+def function_at(crate, path, old):
+    """The function of a source file in which a text stands, or its module where that is a method; nothing at the root."""
+    text = (crate / path.strip()).read_text(encoding="utf-8")
+    heads = [*FUNCTION.finditer(text[: text.index(old)])]
+    module = Path(path.strip()).relative_to("src").with_suffix("").parts
+    module = "::".join(it for it in module if it not in ("lib", "main", "mod"))
+    if not heads or heads[-1][1]:
+        return module
+    return f"{module}::{heads[-1][2]}" if module else heads[-1][2]
+
+
 def find_edits(root, names):
     """The edits by hand of these crates, or of all, in the order of crates.txt and their names."""
     lines = read_lines(root)
@@ -143,10 +169,11 @@ def copy_repository(root, to, names):
     shutil.copytree(root, to, symlinks=True, ignore=left_out)
 
 
-def run_rt(crate):
-    """The status of `rt check` in the folder of a crate, and what it says."""
+def run_rt(crate, functions):
+    """The status of `rt check` in the folder of a crate, of these functions or of all, and what it says."""
     how = {"stdin": subprocess.DEVNULL, "stdout": subprocess.PIPE, "stderr": subprocess.STDOUT}
-    ran = subprocess.run(["rt", "check"], cwd=crate, text=True, errors="replace", **how)
+    words = ["rt", "check", *gate_edits.words_of(functions)]
+    ran = subprocess.run(words, cwd=crate, text=True, errors="replace", **how)
     return ran.returncode, ran.stdout
 
 
@@ -159,35 +186,56 @@ def outcome_of(status, said):
         return Outcome(LET_THROUGH)
     if unread:
         return Outcome(UNTRIED, f"the prover can't read it: {unread[0]}")
-    if not any(row.startswith(NOT_PROVED) for row in rows):
+    if not gate_edits.is_refused(said) and not any(row.startswith(NOT_PROVED) for row in rows):
         return Outcome(UNTRIED, f"it didn't reach the prover: {(told or rows or ['no word'])[0]}")
     if told and all(map(NAME_GONE.match, told)):
         return Outcome(REFUSED, "only by a name that is gone")
     return Outcome(REFUSED)
 
 
-def try_one(crate, edit):
+def try_one(crate, edit, functions=()):
     """What came of one edit in the folder of its crate, which is left as it was."""
     texts = edited(edit.file.read_text(encoding="utf-8"), crate)
     before = {path: (crate / path).read_text(encoding="utf-8") for path in texts}
     try:
         for path, text in texts.items():
             (crate / path).write_text(text, encoding="utf-8")
-        return outcome_of(*run_rt(crate))
+        return outcome_of(*run_rt(crate, functions))
     finally:
         for path, text in before.items():
             (crate / path).write_text(text, encoding="utf-8")
 
 
-def try_crate(copy, crate, edits):
-    """Each edit of one crate with what came of it."""
-    folder = copy / "crates" / crate
-    status, said = run_rt(folder)
+def is_proved(crate, functions=()):
+    """Whether these functions of a crate, or all, are proved as they stand."""
+    status, said = run_rt(crate, functions)
     if status:
         print(said, end="", file=sys.stderr)
-    for edit in edits:
-        unproved = Outcome(UNTRIED, "the crate isn't proved as it stands")
-        yield edit, unproved if status else try_one(folder, edit)
+    return not status
+
+
+def by_functions(crate, edits):
+    """Of each edit that its functions alone refuse, what came of it."""
+    functions = {edit: names for edit in edits if (names := edit.functions())}
+    every = list(dict.fromkeys(it for names in functions.values() for it in names))
+    if not every or not is_proved(crate, every):
+        return
+    for edit, names in functions.items():
+        outcome = try_one(crate, edit, names)
+        if outcome.kind == REFUSED:
+            yield edit, outcome
+
+
+def try_crate(copy, crate, edits):
+    """Each edit of one crate with what came of it: those that no function refused come last."""
+    folder, refused = copy / "crates" / crate, set()
+    for edit, outcome in by_functions(folder, edits):
+        refused.add(edit)
+        yield edit, outcome
+    left = [edit for edit in edits if edit not in refused]
+    proved = not left or is_proved(folder)
+    for edit in left:
+        yield edit, try_one(folder, edit) if proved else Outcome(UNTRIED, "the crate isn't proved as it stands")
 
 
 def try_edits(root, edits):
