@@ -30,10 +30,10 @@ pub fn check_text<C: Clock + AllocGlobal, W: Write>(
         return Ok(Outcome::Refused);
     }
     if is_written_at_once(rt.alloc(), task, text, out)? {
-        return Ok(Outcome::Read);
+        return Ok(Outcome::Success);
     }
     let outcome = judge(rt.alloc(), name, text, out)?;
-    if outcome == Outcome::Read {
+    if outcome == Outcome::Success {
         match task {
             Task::Tree => write_tree(rt.alloc(), text, out)?,
             Task::Print => write_idl(rt.alloc(), text, out)?,
@@ -62,7 +62,7 @@ fn is_written_at_once<W: Write>(
 /// Whether a text is read whole. Where it isn't, it writes where and why.
 fn judge<W: Write>(alloc: Global, name: &str, text: &str, out: &mut W) -> Result<Outcome, Fault> {
     match slip_in(alloc, text)? {
-        None => Ok(Outcome::Read),
+        None => Ok(Outcome::Success),
         Some(slip) => {
             write_slip(name, text, &slip, out)?;
             Ok(Outcome::Refused)
