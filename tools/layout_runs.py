@@ -83,6 +83,21 @@ def write_replaces_files(room):
     assert room.run("--write", "a", "b") == (0, "2 files, 0 laid out, 0 refused\n", "")
 
 
+def comments_alone_stand(room):
+    """A file of whitespace and comments alone is printed as it stands, and doesn't change."""
+    text = "\n\n// c\n  /* d */ "
+    room.lay("a", text)
+    room.lay("b", "/// d")
+    before = os.stat(room.path / "a")
+    assert room.run("a") == (0, text, "")
+    assert room.run("--check", "a") == (0, "1 file, 0 to be laid out, 0 refused\n", "")
+    assert room.run("--write", "a") == (0, "1 file, 0 laid out, 0 refused\n", "")
+    after = os.stat(room.path / "a")
+    assert (before.st_ino, before.st_mtime_ns) == (after.st_ino, after.st_mtime_ns)
+    status, out, err = room.run("--check", "a", "b")
+    assert status == 1 and out.startswith("b:1:6: ") and out.endswith("2 files, 0 to be laid out, 1 refused\n") and err == ""
+
+
 def a_link_is_followed(room):
     """A link stays one, and what it leads to is replaced."""
     (room.path / "below").mkdir()
@@ -153,8 +168,8 @@ def other_arguments(room):
 
 
 RUNS = (
-    standard_input_is_printed, files_are_printed, check_prints_names, write_replaces_files, a_link_is_followed,
-    a_name_that_is_taken, what_cannot_be_read, a_mark_of_byte_order, what_cannot_be_written, worked_texts_are_laid_out,
+    standard_input_is_printed, files_are_printed, check_prints_names, write_replaces_files, comments_alone_stand,
+    a_link_is_followed, a_name_that_is_taken, what_cannot_be_read, a_mark_of_byte_order, what_cannot_be_written, worked_texts_are_laid_out,
     other_arguments,
 )
 

@@ -1,7 +1,6 @@
 //! What the arguments ask for.
 
-use std::alloc::{AllocError, Global};
-use std::env::Args;
+use weedle_program::Request;
 
 /// What is said on standard error where the arguments ask for nothing that the program does.
 pub const USAGE: &str = "usage: weedle_check [--tree | --syntax | --print | --time] [FILE..]";
@@ -37,76 +36,21 @@ pub enum Task {
     Time,
 }
 
-/// What the arguments ask for.
-#[derive(Debug, Drop)]
-pub enum Request {
-    /// How the program is used.
-    Help,
-    /// This task for each of these files, for the standard input where there is none.
-    Files(Task, Vec<String>),
+/// The task that is asked for, or None where there is no such option.
+pub fn task_of(request: &Request) -> Option<Task> {
+    match &request.option {
+        None => Some(Task::Check),
+        Some(word) => of_option(word.as_str()),
+    }
 }
 
-/// What is asked for by the arguments, of which the first is the program's name: nothing that there
-/// is use for, where an argument begins with `-` and is no option and not `-` itself, or where two
-/// options are given. It fails where memory for the names is refused.
-pub fn request_of(alloc: Global, words: Args) -> Result<Option<Request>, AllocError> {
-    let mut asked = Asked {
-        task: None,
-        is_help: false,
-        files: Vec::new(alloc),
-    };
-    for word in words.skip(1) {
-        if !asked.take(word)? {
-            return Ok(None);
-        }
-    }
-    Ok(Some(asked.request()))
-}
-
-/// What the words so far ask for.
-#[derive(Drop)]
-struct Asked {
-    task: Option<Task>,
-    is_help: bool,
-    files: Vec<String>,
-}
-
-impl Asked {
-    /// Takes an option or a file's name, and says whether there is use for it.
-    fn take(&mut self, word: String) -> Result<bool, AllocError> {
-        match word.as_str() {
-            "--help" => self.is_help = true,
-            "--tree" => return Ok(self.set(Task::Tree)),
-            "--syntax" => return Ok(self.set(Task::Syntax)),
-            "--print" => return Ok(self.set(Task::Print)),
-            "--time" => return Ok(self.set(Task::Time)),
-            "-" => self.files.push(word)?,
-            _ if word.as_str().starts_with('-') => return Ok(false),
-            _ => self.files.push(word)?,
-        }
-        Ok(true)
-    }
-
-    /// Sets the task, where no other one is set.
-    fn set(&mut self, task: Task) -> bool {
-        let is_free = match self.task {
-            None => true,
-            Some(other) => other == task,
-        };
-        self.task = Some(task);
-        is_free
-    }
-
-    /// What all words ask for.
-    fn request(self) -> Request {
-        let Asked {
-            task,
-            is_help,
-            files,
-        } = self;
-        if is_help {
-            return Request::Help;
-        }
-        Request::Files(task.unwrap_or(Task::Check), files)
+/// The task of an option, or None where there is no such option.
+fn of_option(word: &str) -> Option<Task> {
+    match word {
+        "--tree" => Some(Task::Tree),
+        "--syntax" => Some(Task::Syntax),
+        "--print" => Some(Task::Print),
+        "--time" => Some(Task::Time),
+        _ => None,
     }
 }

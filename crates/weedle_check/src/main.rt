@@ -32,14 +32,11 @@
 mod arguments;
 mod check;
 mod depth;
-mod fault;
-mod outcome;
 mod print;
 mod program;
 mod slip;
 mod syntax;
 mod table;
-mod tally;
 mod timing;
 mod tree;
 

@@ -1,11 +1,11 @@
 //! The definitions of a text, written anew as Web IDL.
 
-use crate::fault::Fault;
 use std::alloc::Global;
 use std::io::Write;
 use weedle_base::Err;
 use weedle_front::parse_quick;
 use weedle_print_idl::{PrintError, WriteIdl};
+use weedle_program::Fault;
 
 /// Writes the definitions of a text that is read whole, in the layout that there is. Comments and
 /// blanks of the text are in no value, so they are not in what is written.
@@ -18,7 +18,11 @@ pub fn write_idl<W: Write>(alloc: Global, text: &str, out: &mut W) -> Result<(),
         Err(Err::Error(_)) => return Ok(()),
         Err(Err::Failure(_)) => return Err(Fault::Memory),
     };
-    let written = idl_of(alloc, definitions)?;
+    let written = match idl_of(alloc, definitions) {
+        Ok(written) => written,
+        Err(PrintError::Memory) => return Err(Fault::Memory),
+        Err(PrintError::NoText) => return Err(Fault::NoText),
+    };
     write!(out, "{written}")?;
     Ok(())
 }

@@ -1,54 +1,53 @@
 //! A run of the program.
 
-use crate::arguments::{HELP, Request, Task, USAGE, request_of};
-use crate::check::{Source, check_source};
-use crate::fault::Fault;
-use crate::outcome::Outcome;
-use crate::tally::Tally;
-use std::fmt::Display;
-use std::io::{BufWriter, Write};
+use crate::arguments::{HELP, Task, USAGE, task_of};
+use crate::check::check_text;
+use std::io::{self, BufWriter, Write};
 use std::rt::Runtime;
-use std::{env, fs, io};
-
-/// What the standard input is called.
-const STANDARD_INPUT: &str = "<stdin>";
+use weedle_program::{Fault, Outcome, Request, Tally, ended, failed, name_of, text_in};
 
 /// Does what the arguments ask for, and says what it came to.
 ///
 /// A file that can't be checked gets a line on standard error, and the others are checked all the
 /// same. Only where the output can't be written the run ends at once.
 pub fn run<R: Runtime + AllocGlobal>(rt: &R) -> Outcome {
-    let Ok(words) = env::args(rt) else {
-        return end(rt, Fault::Memory);
-    };
-    match request_of(rt.alloc(), words) {
-        Err(_) => end(rt, Fault::Memory),
-        Ok(None) => {
-            complain(rt, USAGE);
-            Outcome::Misused
-        }
-        Ok(Some(request)) => match carry_out(rt, &request) {
-            Ok(outcome) => outcome,
-            Err(fault) => end(rt, fault),
-        },
-    }
+    ended(rt, carry_out(rt))
 }
 
-/// Does what is asked for, and says what it came to.
-fn carry_out<R: Runtime + AllocGlobal>(rt: &R, request: &Request) -> Result<Outcome, Fault> {
+/// Does what the arguments ask for, and says what it came to.
+fn carry_out<R: Runtime + AllocGlobal>(rt: &R) -> Result<Outcome, Fault> {
+    let request = Request::new(rt, USAGE)?;
+    let Some(task) = task_of(&request) else {
+        return Err(Fault::Usage(USAGE));
+    };
     let mut out = BufWriter::new(rt.alloc(), io::writer(rt))?;
     let mut tally = Tally::new();
-    match request {
-        Request::Help => writeln!(out, "{HELP}")?,
-        Request::Files(task, files) => {
-            check_all(rt, *task, files, &mut tally, &mut out)?;
-            if *task != Task::Print {
-                writeln!(out, "{tally}")?;
-            }
+    if request.is_help {
+        writeln!(out, "{HELP}")?;
+    } else {
+        check_all(rt, task, &request.files, &mut tally, &mut out)?;
+        if task != Task::Print {
+            write_tally(&tally, &mut out)?;
         }
     }
     out.flush()?;
-    Ok(tally.outcome())
+    Ok(tally.outcome)
+}
+
+/// Writes how many files there were, as `3 files, 1 refused`, and where some couldn't be read,
+/// `1 file, 0 refused, 2 not read`.
+fn write_tally<W: Write>(tally: &Tally, out: &mut W) -> io::Result<()> {
+    write!(
+        out,
+        "{} {}, {} refused",
+        tally.read,
+        tally.noun(),
+        tally.refused
+    )?;
+    if tally.failed > 0 {
+        write!(out, ", {} not read", tally.failed)?;
+    }
+    writeln!(out)
 }
 
 /// Checks these files, or the standard input where there are none.
@@ -60,65 +59,35 @@ fn check_all<R: Runtime + AllocGlobal, W: Write>(
     out: &mut W,
 ) -> Result<(), Fault> {
     if files.is_empty() {
-        return check_input(rt, task, tally, out);
+        tally.count(check_file(rt, task, "-", out)?);
     }
     for file in files {
-        let name = file.as_str();
-        if name == "-" {
-            check_input(rt, task, tally, out)?;
-        } else {
-            let source = Source {
-                name,
-                opened: fs::open(rt, name),
-            };
-            settle(rt, name, check_source(rt, task, source, out), tally)?;
-        }
+        tally.count(check_file(rt, task, file.as_str(), out)?);
     }
     Ok(())
 }
 
-/// Checks the standard input.
-fn check_input<R: Runtime + AllocGlobal, W: Write>(
+/// Checks a file, and says on standard error why there is no answer. It fails where the output can't
+/// be written.
+fn check_file<R: Runtime + AllocGlobal, W: Write>(
     rt: &R,
     task: Task,
-    tally: &mut Tally,
+    file: &str,
     out: &mut W,
-) -> Result<(), Fault> {
-    let source = Source {
-        name: STANDARD_INPUT,
-        opened: Ok(rt.reader()),
-    };
-    let checked = check_source(rt, task, source, out);
-    settle(rt, STANDARD_INPUT, checked, tally)
-}
-
-/// Counts what a check came to, and says on standard error why there was none. Where the output
-/// can't be written, it ends all.
-fn settle(
-    rt: &impl Eprint,
-    name: &str,
-    checked: Result<Outcome, Fault>,
-    tally: &mut Tally,
-) -> Result<(), Fault> {
-    match checked {
-        Ok(outcome) => tally.count(outcome),
-        Err(Fault::Output) => return Err(Fault::Output),
-        Err(fault) => {
-            tally.count(fault.outcome());
-            let _ = eprintln!(rt; "{name}: {fault}");
-        }
+) -> Result<Outcome, Fault> {
+    match read_and_check(rt, task, file, out) {
+        Ok(outcome) => Ok(outcome),
+        Err(fault) => failed(rt, name_of(file), fault),
     }
-    Ok(())
 }
 
-/// Says on standard error why the run ends.
-fn end(rt: &impl Eprint, fault: Fault) -> Outcome {
-    let outcome = fault.outcome();
-    complain(rt, fault);
-    outcome
-}
-
-/// Prints a line on standard error. A fault there changes nothing.
-fn complain<D: Display + Drop>(rt: &impl Eprint, line: D) {
-    let _ = rt.eprintln(line);
+/// Reads a file to its end, checks its text and prints what is asked for.
+fn read_and_check<R: Runtime + AllocGlobal, W: Write>(
+    rt: &R,
+    task: Task,
+    file: &str,
+    out: &mut W,
+) -> Result<Outcome, Fault> {
+    let text = text_in(rt, file)?;
+    check_text(rt, task, name_of(file), text.as_str(), out)
 }

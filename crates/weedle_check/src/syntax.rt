@@ -1,8 +1,8 @@
 //! The syntax tree of a text, as it is printed.
 
-use crate::fault::Fault;
 use std::alloc::Global;
 use std::io::{self, Write};
+use weedle_program::Fault;
 use weedle_syntax::{Node, syntax_quick};
 
 /// What stands in front of a node for each node that it stands in.

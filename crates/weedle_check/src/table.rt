@@ -2,12 +2,12 @@
 
 ghost use Rattle.std.specs.Prelude.{◌≡◌};
 
-use crate::fault::Fault;
 use crate::timing::since;
 use std::alloc::{AllocError, Global};
 use std::rt::Clock;
 use std::time::Instant;
 use weedle_build::build_definitions;
+use weedle_program::Fault;
 use weedle_rules::{Cell, Ends, Narrow, RULES};
 
 /// How many nanoseconds the parts of a reading over the table take.

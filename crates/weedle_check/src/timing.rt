@@ -1,6 +1,5 @@
 //! How long a text takes to read.
 
-use crate::fault::Fault;
 use crate::table::{TableTimes, time_table};
 use std::alloc::{AllocError, Global};
 use std::fmt::{self, Display, Formatter};
@@ -10,6 +9,7 @@ use std::time::Instant;
 use weedle_base::{Err, Error};
 use weedle_front::{parse, parse_by_descent, parse_quick};
 use weedle_nesting::suits_descent;
+use weedle_program::Fault;
 use weedle_rules::Narrow;
 
 /// How often each is timed.

@@ -2,7 +2,6 @@
 
 ghost use Rattle.std.specs.Prelude.{◌≡◌};
 
-use crate::fault::Fault;
 use std::alloc::Global;
 use std::fmt::Debug;
 use std::io::{self, Write};
@@ -11,6 +10,7 @@ use weedle_build::{Built, build_definitions};
 use weedle_explain::{Position, position_of};
 use weedle_idl::Definition;
 use weedle_places::{Place, places_of};
+use weedle_program::Fault;
 use weedle_rules::Ends;
 
 /// Writes each definition of a text on a line, behind the line and the column at which it begins:

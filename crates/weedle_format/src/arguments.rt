@@ -1,7 +1,6 @@
 //! What the arguments ask for.
 
-use std::alloc::{AllocError, Global};
-use std::env::Args;
+use weedle_program::Request;
 
 /// What is said on standard error where the arguments ask for nothing that the program does.
 pub const USAGE: &str = "usage: weedle_format [--check | --write] [FILE..]";
@@ -33,84 +32,25 @@ pub enum Task {
     Write,
 }
 
-/// What the arguments ask for.
-#[derive(Debug, Drop)]
-pub enum Request {
-    /// How the program is used.
-    Help,
-    /// This task for each of these files, for the standard input where there is none.
-    Files(Task, Vec<String>),
-}
-
-/// What is asked for by the arguments, of which the first is the program's name: nothing that there
-/// is use for, where an argument begins with `-` and is no option and not `-` itself, where two
-/// options are given, or where the standard input is to be replaced. It fails where memory for
-/// the names is refused.
-pub fn request_of(alloc: Global, words: Args) -> Result<Option<Request>, AllocError> {
-    let mut asked = Asked {
-        task: None,
-        is_help: false,
-        has_input: false,
-        files: Vec::new(alloc),
+/// The task that is asked for, or None where there is no such option, and where the standard input is
+/// to be replaced.
+pub fn task_of(request: &Request) -> Option<Task> {
+    let task = match &request.option {
+        None => Task::Print,
+        Some(word) => of_option(word.as_str())?,
     };
-    for word in words.skip(1) {
-        if !asked.take(word)? {
-            return Ok(None);
-        }
+    let reads_input = request.has_input || request.files.is_empty();
+    if task == Task::Write && reads_input && !request.is_help {
+        return None;
     }
-    Ok(asked.request())
+    Some(task)
 }
 
-/// What the words so far ask for.
-#[derive(Drop)]
-struct Asked {
-    task: Option<Task>,
-    is_help: bool,
-    has_input: bool,
-    files: Vec<String>,
-}
-
-impl Asked {
-    /// Takes an option or a file's name, and says whether there is use for it.
-    fn take(&mut self, word: String) -> Result<bool, AllocError> {
-        match word.as_str() {
-            "--help" => self.is_help = true,
-            "--check" => return Ok(self.set(Task::Check)),
-            "--write" => return Ok(self.set(Task::Write)),
-            "-" => {
-                self.has_input = true;
-                self.files.push(word)?
-            }
-            _ if word.as_str().starts_with('-') => return Ok(false),
-            _ => self.files.push(word)?,
-        }
-        Ok(true)
-    }
-
-    /// Sets the task, where no other one is set.
-    fn set(&mut self, task: Task) -> bool {
-        let is_free = match self.task {
-            None => true,
-            Some(other) => other == task,
-        };
-        self.task = Some(task);
-        is_free
-    }
-
-    /// What all words ask for, if there is use for them.
-    fn request(self) -> Option<Request> {
-        let Asked {
-            task,
-            is_help,
-            has_input,
-            files,
-        } = self;
-        if is_help {
-            return Some(Request::Help);
-        }
-        if task == Some(Task::Write) && (has_input || files.is_empty()) {
-            return None;
-        }
-        Some(Request::Files(task.unwrap_or(Task::Print), files))
+/// The task of an option, or None where there is no such option.
+fn of_option(word: &str) -> Option<Task> {
+    match word {
+        "--check" => Some(Task::Check),
+        "--write" => Some(Task::Write),
+        _ => None,
     }
 }

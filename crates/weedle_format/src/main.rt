@@ -14,6 +14,8 @@
 //! 3 files, 1 to be laid out, 0 refused
 //! ```
 //!
+//! A file of whitespace and comments alone is laid out as it stands: nothing in it could be moved.
+//!
 //! A file that isn't read whole is left as it is. It is said of it where and why, as `weedle_check`
 //! does, on standard output with `--check` and `--write`, and else on standard error; and the other
 //! files are done all the same.
@@ -27,13 +29,11 @@
 #![tactic(auto)]
 
 mod arguments;
-mod fault;
-mod input;
-mod outcome;
+mod changes;
 mod program;
 mod replace;
 mod slip;
-mod tally;
+mod trivia;
 mod work;
 
 use std::process::ExitCode;

@@ -1,9 +1,9 @@
 //! A file replaced by another text, at once.
 
-use crate::fault::Fault;
 use std::fs::{self, File, OpenFile};
 use std::io::{self, ErrorKind, Write};
 use std::rt::Runtime;
+use weedle_program::Fault;
 
 /// How many names of a new file are tried.
 const MOST_NAMES: usize = 100;

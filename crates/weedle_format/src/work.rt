@@ -1,14 +1,14 @@
 //! The work on a text.
 
 use crate::arguments::Task;
-use crate::fault::Fault;
-use crate::outcome::Outcome;
 use crate::replace::replace;
 use crate::slip::{slip_in, write_slip};
+use crate::trivia::is_trivia;
 use std::alloc::Global;
 use std::io::Write;
 use std::rt::Runtime;
 use weedle_formatter::format;
+use weedle_program::{Fault, Outcome};
 
 /// What the work on a text came to.
 #[derive(Clone, Copy)]
@@ -19,8 +19,9 @@ pub struct Done {
     pub changes: bool,
 }
 
-/// Lays out a text, and does with it what is asked for. What is said of a text that isn't read
-/// whole is written to `said`, all else to `out`. It fails where memory is refused, and where the
+/// Lays out a text, and does with it what is asked for. A text of whitespace and comments alone is
+/// laid out as it stands. What is said of a text that isn't read whole is written to `said`, all else
+/// to `out`. It fails where memory is refused, and where the
 /// file can't be replaced or an output can't be written.
 pub fn work_on<R: Runtime + AllocGlobal, W: Write, S: Write>(
     rt: &R,
@@ -30,6 +31,13 @@ pub fn work_on<R: Runtime + AllocGlobal, W: Write, S: Write>(
     out: &mut W,
     said: &mut S,
 ) -> Result<Done, Fault> {
+    if is_trivia(text) {
+        let outcome = hand_out(rt, task, name, text, false, out)?;
+        return Ok(Done {
+            outcome,
+            changes: false,
+        });
+    }
     let Some(answer) = format(rt.alloc(), text)? else {
         write_refusal(rt.alloc(), name, text, said)?;
         return Ok(Done {
@@ -47,7 +55,7 @@ pub fn work_on<R: Runtime + AllocGlobal, W: Write, S: Write>(
         "{name}: left as it is, since its layout would say something else"
     )?;
     Ok(Done {
-        outcome: Outcome::LeftAsItIs,
+        outcome: Outcome::Different,
         changes,
     })
 }
@@ -65,7 +73,7 @@ fn hand_out<R: Runtime + AllocGlobal, W: Write>(
         Task::Print => out.write_all(text.as_bytes())?,
         Task::Check if changes => {
             writeln!(out, "{name}")?;
-            return Ok(Outcome::Changing);
+            return Ok(Outcome::Different);
         }
         Task::Write if changes => {
             replace(rt, name, text)?;
@@ -73,7 +81,7 @@ fn hand_out<R: Runtime + AllocGlobal, W: Write>(
         }
         Task::Check | Task::Write => {}
     }
-    Ok(Outcome::Well)
+    Ok(Outcome::Success)
 }
 
 /// Writes where a text is refused and why.

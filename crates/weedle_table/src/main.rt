@@ -31,11 +31,10 @@
 //! the argument is another.
 #![tactic(auto)]
 
-mod fault;
 mod program;
 
 use std::process::ExitCode;
 
 fn main(rt: HostRuntime) -> ExitCode {
-    ExitCode::from(program::run(&rt))
+    ExitCode::from(program::run(&rt).status())
 }

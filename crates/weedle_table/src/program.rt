@@ -1,14 +1,17 @@
 //! A run of the program.
 
-use crate::fault::Fault;
 use std::alloc::Global;
 use std::env::{self, Args};
-use std::io::{self, BufWriter, Read, Write};
+use std::io::{self, BufWriter, Write};
 use std::rt::Runtime;
 use weedle_diagnose::diagnose_from;
 use weedle_places::{MemberPlace, Place, Span, names_of, places_of};
+use weedle_program::{Fault, Outcome, ended, text_of};
 use weedle_rules::Ends;
 use weedle_syntax::Syntax;
+
+/// What is said on standard error where the argument asks for nothing that the program does.
+const USAGE: &str = "usage: weedle_table places | names | diagnosis";
 
 /// What is asked of a text.
 #[derive(Clone, Copy, Debug, PartialEq, Eq)]
@@ -21,57 +24,52 @@ enum Task {
     Diagnosis,
 }
 
-/// Does what the argument asks for, and gives the exit status. What went wrong it says in a line on
+/// Does what the argument asks for, and says what it came to. What went wrong it says in a line on
 /// standard error.
-pub fn run<R: Runtime + AllocGlobal>(rt: &R) -> u8 {
+pub fn run<R: Runtime + AllocGlobal>(rt: &R) -> Outcome {
     match answer(rt) {
-        Ok(status) => status,
-        Err(fault) => {
-            // A fault there changes nothing.
-            let _ = rt.eprintln(fault);
-            fault.status()
+        // There is only one input, and the line says no more of it.
+        Err(Fault::Input(_)) => {
+            let _ = rt.eprintln("cannot read input");
+            Outcome::Unreadable
         }
+        answered => ended(rt, answered),
     }
 }
 
 /// Reads the text, and writes what is asked of it.
-fn answer<R: Runtime + AllocGlobal>(rt: &R) -> Result<u8, Fault> {
+fn answer<R: Runtime + AllocGlobal>(rt: &R) -> Result<Outcome, Fault> {
     let task = task_of(env::args(rt)?)?;
-    let mut bytes = Vec::new(rt.alloc());
-    rt.reader()
-        .read_to_end(&mut bytes)
-        .map_err(Fault::of_input)?;
-    let Ok(text) = str::from_utf8(&bytes) else {
-        return Err(Fault::NotUtf8);
-    };
+    let text = text_of(rt.alloc(), Ok(rt.reader()))?;
+    let text = text.as_str();
     let mut out = BufWriter::new(rt.alloc(), io::writer(rt))?;
-    let status = match task {
+    let outcome = match task {
         Task::Places => write_places(rt.alloc(), text, &mut out)?,
         Task::Names => write_names(rt.alloc(), text, &mut out)?,
         Task::Diagnosis => write_diagnosis(rt.alloc(), text, &mut out)?,
     };
     out.flush()?;
-    Ok(status)
+    Ok(outcome)
 }
 
 /// What the one argument asks for, behind the program's name.
 fn task_of(mut arguments: Args) -> Result<Task, Fault> {
     let Some(word) = arguments.nth(1) else {
-        return Err(Fault::Usage);
+        return Err(Fault::Usage(USAGE));
     };
     if arguments.next().is_some() {
-        return Err(Fault::Usage);
+        return Err(Fault::Usage(USAGE));
     }
     match word.as_str() {
         "places" => Ok(Task::Places),
         "names" => Ok(Task::Names),
         "diagnosis" => Ok(Task::Diagnosis),
-        _ => Err(Fault::Usage),
+        _ => Err(Fault::Usage(USAGE)),
     }
 }
 
 /// Writes where each definition, its members and its values stand.
-fn write_places<W: Write>(alloc: Global, text: &str, out: &mut W) -> Result<u8, Fault> {
+fn write_places<W: Write>(alloc: Global, text: &str, out: &mut W) -> Result<Outcome, Fault> {
     let table = Ends::new(alloc, text)?;
     let Some(found) = places_of(alloc, &table)? else {
         return refuse(out);
@@ -80,13 +78,13 @@ fn write_places<W: Write>(alloc: Global, text: &str, out: &mut W) -> Result<u8, 
         write_place(place, out)?;
     }
     write_count(found.len(), "definition", out)?;
-    Ok(0)
+    Ok(Outcome::Success)
 }
 
 /// Says that the text isn't read whole.
-fn refuse<W: Write>(out: &mut W) -> Result<u8, Fault> {
+fn refuse<W: Write>(out: &mut W) -> Result<Outcome, Fault> {
     writeln!(out, "refused")?;
-    Ok(1)
+    Ok(Outcome::Refused)
 }
 
 /// Writes how many there are of what has this name.
@@ -133,7 +131,7 @@ fn write_span<W: Write>(span: Span, out: &mut W) -> io::Result<()> {
 }
 
 /// Writes where each name stands, what it stands for, and its letters.
-fn write_names<W: Write>(alloc: Global, text: &str, out: &mut W) -> Result<u8, Fault> {
+fn write_names<W: Write>(alloc: Global, text: &str, out: &mut W) -> Result<Outcome, Fault> {
     let ends = Ends::new(alloc, text)?;
     let Some(syntax) = Syntax::of_table(alloc, &ends)? else {
         return refuse(out);
@@ -145,11 +143,11 @@ fn write_names<W: Write>(alloc: Global, text: &str, out: &mut W) -> Result<u8, F
         writeln!(out, " {}", name.text)?;
     }
     write_count(found.len(), "name", out)?;
-    Ok(0)
+    Ok(Outcome::Success)
 }
 
 /// Writes how far the reading of the text comes, and what fails there.
-fn write_diagnosis<W: Write>(alloc: Global, text: &str, out: &mut W) -> Result<u8, Fault> {
+fn write_diagnosis<W: Write>(alloc: Global, text: &str, out: &mut W) -> Result<Outcome, Fault> {
     let ends = Ends::new(alloc, text)?;
     let diagnosis = diagnose_from(alloc, &ends, 0)?;
     write!(out, "{}", diagnosis.place)?;
@@ -157,5 +155,5 @@ fn write_diagnosis<W: Write>(alloc: Global, text: &str, out: &mut W) -> Result<u
         write!(out, " {}", rule.name())?;
     }
     writeln!(out)?;
-    Ok(0)
+    Ok(Outcome::Success)
 }

@@ -1,12 +1,14 @@
-//! Why a check ends with no answer.
+//! Why a run ends, or the work on a file, with no answer.
+
+ghost use Rattle.std.specs.Prelude.{◌≡◌};
+ghost use Rattle.weedle_program.specs.Statuses.{outcome_of};
 
 use crate::outcome::Outcome;
 use std::alloc::AllocError;
 use std::fmt::{self, Display, Formatter, Write};
 use std::io::{self, ErrorKind};
-use weedle_print_idl::PrintError;
 
-/// Why a check ends with no answer.
+/// Why a run ends, or the work on a file, with no answer.
 #[derive(Debug, Drop)]
 pub enum Fault {
     /// The file can't be opened or read, or the clock can't.
@@ -15,14 +17,19 @@ pub enum Fault {
     NotUtf8,
     /// Memory was refused.
     Memory,
+    /// The file can't be replaced.
+    Replace(io::Error),
     /// The output can't be written.
     Output,
     /// What was read has no text. No text is known of which that is so.
     NoText,
+    /// The arguments ask for nothing that the program does: this is its usage.
+    Usage(&'static str),
 }
 
 impl Fault {
-    /// What is wrong with an input that gives this error.
+    /// What is wrong with an input that gives this error. Where the error is that memory is refused,
+    /// it is no fault of the input.
     pub fn of_input(error: io::Error) -> Fault {
         if error.kind() == ErrorKind::OutOfMemory {
             Fault::Memory
@@ -31,21 +38,25 @@ impl Fault {
         }
     }
 
-    /// What a check with this fault comes to.
-    pub fn outcome(&self) -> Outcome {
+    /// What is wrong with a file that can't be replaced for this error. Where the error is that
+    /// memory is refused, it is no fault of the file.
+    pub fn of_file(error: io::Error) -> Fault {
+        if error.kind() == ErrorKind::OutOfMemory {
+            Fault::Memory
+        } else {
+            Fault::Replace(error)
+        }
+    }
+
+    /// What a run with this fault comes to.
+    pub fn outcome(&self) -> Outcome
+        ensures { result ≡ outcome_of self.now }
+    {
         match self {
             Fault::Input(_) | Fault::NotUtf8 => Outcome::Unreadable,
             Fault::Memory => Outcome::NoMemory,
-            Fault::Output | Fault::NoText => Outcome::Unwritten,
-        }
-    }
-}
-
-impl From<PrintError> for Fault {
-    fn from(error: PrintError) -> Fault {
-        match error {
-            PrintError::Memory => Fault::Memory,
-            PrintError::NoText => Fault::NoText,
+            Fault::Replace(_) | Fault::Output | Fault::NoText => Outcome::Unwritten,
+            Fault::Usage(_) => Outcome::Misused,
         }
     }
 }
@@ -56,8 +67,8 @@ impl From<AllocError> for Fault {
     }
 }
 
-/// What fails with it is a write, or the making of the room for one: all other calls say by
-/// themselves what their errors are.
+/// What fails with it is a write to the output, or the making of the room for one: all other calls
+/// say by themselves what their errors are.
 impl From<io::Error> for Fault {
     fn from(error: io::Error) -> Fault {
         if error.kind() == ErrorKind::OutOfMemory {
@@ -75,8 +86,10 @@ impl Display for Fault {
             Fault::Input(error) => write!(f, "cannot read input: {error}"),
             Fault::NotUtf8 => f.write_str("input is not UTF-8"),
             Fault::Memory => f.write_str("out of memory"),
+            Fault::Replace(error) => write!(f, "cannot replace the file: {error}"),
             Fault::Output => f.write_str("cannot write output"),
             Fault::NoText => f.write_str("cannot write a value: no text says it"),
+            Fault::Usage(usage) => f.write_str(usage),
         }
     }
 }

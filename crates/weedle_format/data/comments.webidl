@@ -1,0 +1,4 @@
+
+// Nothing is declared yet.
+
+  /* Nor here. */ 
