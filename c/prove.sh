@@ -5,8 +5,8 @@
 #
 # `rt lib` proves one library after another, and some have a function that takes one processor for long. So what is said
 # of a refused text is proved at the same time, in a copy of the crates: `rt` takes over what it has proved in another
-# copy on the machine. With ALONE=1 that is left out: it takes longer, and half the memory. A word behind the command
-# goes on to `rt lib`, as --jobs 2.
+# copy on the machine. With ALONE=1 that is left out: it takes longer, and half the memory. It is built for every x86-64
+# processor, where no --cpu names others. A word behind the command goes on to `rt lib`, as --jobs 2.
 set -eu
 [ "${1:-}" != --help ] || { sed -n '2,${/^#/!q;s/^# \{0,1\}//p}' "$0"; exit; }
 
@@ -14,6 +14,10 @@ top=$(cd "$(dirname "$0")/.." && pwd)
 [ -z "${PROVED:-}" ] || exit 0
 copy=$(mktemp -d)
 beside=
+case " $* " in
+*" --cpu"*) ;;
+*) set -- "$@" --cpu x86-64 ;;
+esac
 
 end() {
     [ -z "$beside" ] || kill -- "-$beside" 2>/dev/null || :

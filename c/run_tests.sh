@@ -1,5 +1,6 @@
 #!/bin/sh
-# Tests the C library that c/build.sh built, and runs the examples in C, C++ and Rust.
+# Tests the C library that c/build.sh built, or where it built none the one in prebuilt/, and runs the examples in C, C++
+# and Rust.
 #
 #     c/run_tests.sh
 #
@@ -11,7 +12,9 @@ set -eu
 
 top=$(cd "$(dirname "$0")/.." && pwd)
 out=$top/c/out
-library=$out/libweedle.a
+folder=$out
+[ -f "$folder/libweedle.a" ] || folder=$top/prebuilt/x86_64-linux
+library=$folder/libweedle.a
 sample=$top/examples/pages.webidl
 warnings="-Wall -Wextra -Wpedantic -Werror"
 
@@ -20,7 +23,9 @@ failed() {
     exit 1
 }
 
-[ -f "$library" ] || failed "there is no $library; c/build.sh builds it"
+[ -f "$library" ] || failed "there is no $library, and none in $out; c/build.sh builds it"
+mkdir -p "$out"
+echo "the library $library"
 command -v "${CC:=cc}" >/dev/null || failed "there is no C compiler $CC"
 command -v "${CXX:=c++}" >/dev/null || failed "there is no C++ compiler $CXX"
 command -v "${CARGO:=cargo}" >/dev/null || failed "there is no $CARGO, which builds the example in Rust"
@@ -71,5 +76,5 @@ case $refusal in
 *"slip.webidl:2:37: expected "*) ;;
 *) failed "the example in C says otherwise: $refusal" ;;
 esac
-(cd "$top/examples/rust" && WEEDLE_LIBRARY="$out" "$CARGO" test --offline --quiet)
+(cd "$top/examples/rust" && WEEDLE_LIBRARY="$folder" "$CARGO" test --offline --quiet)
 echo "all passed"

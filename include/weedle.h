@@ -18,7 +18,7 @@
  * what nests up to 64 levels takes up to 1.6 kB for each bracket that is open, 134 kB in all, and what nests deeper
  * 31 kB. That is measured, and tested; no proof speaks of a stack.
  *
- * Link it with c/out/libweedle.a, which c/build.sh builds.
+ * Link it with prebuilt/x86_64-linux/libweedle.a, or with c/out/libweedle.a, which c/build.sh builds anew.
  */
 #ifndef WEEDLE_H
 #define WEEDLE_H
@@ -98,6 +98,10 @@ struct weedle_formatted {
  * list grows. Where brackets nest deeper than 64 levels (a `[` counts as two), or extended attributes so that descent
  * would read again and again, it takes a table of 1,544 bytes for each byte of the text beside that, and the time for
  * it: some 2 microseconds a byte.
+ *
+ * Dense texts, as those of names of a letter, have up to 8 nodes a byte. To read none of them twice, give a room of 9
+ * nodes for each byte and 64 more, and map a large one without a reserve (on Linux mmap with MAP_NORESERVE): the
+ * system then gives memory only where a node is written. What is kept of it can be cut to `count` nodes.
  */
 uint32_t weedle_syntax(
     const char *text, size_t length,

@@ -1,27 +1,15 @@
 #!/bin/sh
-# Builds the shared object of the Python package: python/weedle/libweedle.so.
+# Builds the shared object of the Python package anew: python/weedle/libweedle.so.
 #
 #     python/build.sh
 #
-# c/prove.sh proves and builds the crate weedle_c, and the C compiler (cc, or what CC names) links it with the
-# toolchain's part in C, which `rt doc` finds. A word behind the command goes on to `rt lib`, as --jobs 2.
+# A built one stands in prebuilt/ already, and the package takes it where python/weedle has none. c/build.sh proves and
+# builds the archive, and c/link_shared.sh links it. It needs the toolchain's command rt on PATH, and a C compiler: cc,
+# or what CC names. A word behind the command goes on to `rt lib`, as --jobs 2.
 set -eu
 [ "${1:-}" != --help ] || { sed -n '2,${/^#/!q;s/^# \{0,1\}//p}' "$0"; exit; }
 
 top=$(cd "$(dirname "$0")/.." && pwd)
-crate=$top/crates/weedle_c
-
-missing() {
-    echo "build.sh: $1" >&2
-    exit 1
-}
-
-command -v rt >/dev/null || missing "the toolchain's command rt isn't on PATH"
-command -v "${CC:=cc}" >/dev/null || missing "there is no C compiler $CC; CC may name another"
-part=$(dirname "$(rt doc)")/c/liblibc_c.a
-[ -f "$part" ] || missing "the toolchain has no $part"
-
-"$top/c/prove.sh" "$@"
-"$CC" -shared -o "$top/python/weedle/libweedle.so" \
-    -Wl,--whole-archive "$crate/out/libweedle_c.a" -Wl,--no-whole-archive "$part"
+"$top/c/build.sh" "$@"
+"$top/c/link_shared.sh" "$top/c/out/libweedle.a" "$top/python/weedle/libweedle.so"
 echo "built $top/python/weedle/libweedle.so"

@@ -1,34 +1,60 @@
-"""Makes the wheel of the package, with the standard library alone.
+"""Makes the wheel of the package, and the sources of one, with the standard library alone.
 
-pip calls `build_wheel`, and for `pip install -e` `build_editable`. A wheel holds the shared object
-that build.sh makes, so it is for Linux on x86-64.
+pip calls `build_wheel`, and for `pip install -e` `build_editable`. A wheel holds a shared object,
+so it is for Linux on x86-64: the one that the variable WEEDLE_SO names, or else that beside the
+package, or else the one in prebuilt/ of the repository, as `import weedle` takes them. Its tag has
+the oldest glibc that serves.
 """
 
 from __future__ import annotations
 
 import base64
 import hashlib
+import io
+import os
 import re
 import tarfile
 import zipfile
 from pathlib import Path
-from typing import Dict, Iterator, Optional, Tuple
+from typing import Dict, Iterator, List, Optional, Tuple
+
+from shared_object import SharedObject
 
 HOME = Path(__file__).resolve().parent
 PACKAGE = HOME / "weedle"
-LIBRARY = PACKAGE / "libweedle.so"
-TAG = "py3-none-linux_x86_64"
-# What a source distribution holds beside the package.
-SOURCES = ("pyproject.toml", "build_backend.py", "build.sh")
+LIBRARY = "weedle/libweedle.so"
+PREBUILT = "prebuilt/x86_64-linux/libweedle.so"
+# What a source distribution holds beside the package and the LICENSE.
+SOURCES = ("pyproject.toml", "README.md", "build_backend.py", "shared_object.py")
+# Those of its tests that want nothing of the repository.
+TESTS = ("support.py", "test_library.py", "test_package.py", "test_program.py", "test_worked_nodes.py")
+# The oldest glibc that a tag can name.
+OLDEST = (2, 5)
+
+
+def project() -> str:
+    """The text of pyproject.toml."""
+    return (HOME / "pyproject.toml").read_text(encoding="utf-8")
 
 
 def field(name: str) -> str:
     """A field of pyproject.toml that is a string on a line of its own."""
-    text = (HOME / "pyproject.toml").read_text(encoding="utf-8")
-    found = re.search(rf'^{name} = "(.*)"$', text, re.M)
+    found = re.search(rf'^{name} = (?:{{ text = )?"(.*?)"', project(), re.M)
     if not found:
         raise SystemExit(f"pyproject.toml has no {name}")
     return found[1]
+
+
+def listed(name: str) -> List[str]:
+    """A field that is a list of strings."""
+    found = re.search(rf"^{name} = \[(.*?)\]$", project(), re.M | re.S)
+    return re.findall(r'"(.*?)"', found[1]) if found else []
+
+
+def scripts() -> List[Tuple[str, str]]:
+    """The commands, each with the function that it calls."""
+    _, _, rest = project().partition("[project.scripts]\n")
+    return re.findall(r'^(\w+) = "(.*)"$', rest.partition("\n[")[0], re.M)
 
 
 def stem() -> str:
@@ -36,24 +62,69 @@ def stem() -> str:
     return f"{field('name')}-{field('version')}"
 
 
-def metadata() -> Dict[str, bytes]:
-    """The files that say what the wheel is."""
-    about = (
-        f"Metadata-Version: 2.1\nName: {field('name')}\nVersion: {field('version')}\n"
-        f"Summary: {field('description')}\nRequires-Python: {field('requires-python')}\n"
-    )
-    wheel = (
-        f"Wheel-Version: 1.0\nGenerator: build_backend\nRoot-Is-Purelib: false\nTag: {TAG}\n"
-    )
-    return {"METADATA": about.encode(), "WHEEL": wheel.encode()}
+def license_() -> bytes:
+    """The LICENSE, which stands at the top of the repository, and beside this in its sources."""
+    beside, above = HOME / "LICENSE", HOME.parent / "LICENSE"
+    return (beside if beside.exists() else above).read_bytes()
 
 
-def package_files() -> Iterator[Tuple[str, bytes]]:
+def library() -> bytes:
+    """The shared object that `import weedle` would take."""
+    named = os.environ.get("WEEDLE_SO")
+    places = [Path(named)] if named else [HOME / LIBRARY, HOME.parent / PREBUILT]
+    for place in places:
+        if place.exists():
+            return place.read_bytes()
+    raise SystemExit(
+        f"there is no {' and no '.join(map(str, places))}: python/build.sh of the repository makes one. "
+        "(A pip before 21.3 copies this folder elsewhere, and finds that beside the package alone.)"
+    )
+
+
+def tag(shared: bytes) -> str:
+    """What a wheel with this shared object is for: the oldest glibc that has what it wants."""
+    wanted = SharedObject(shared).wants()
+    found = [re.fullmatch(r"GLIBC_(\d+)\.(\d+)(?:\.\d+)?", it) for names in wanted.values() for it in names]
+    if not all(found):
+        return "py3-none-linux_x86_64"
+    major, minor = max([OLDEST, *((int(it[1]), int(it[2])) for it in found if it)])
+    return f"py3-none-manylinux_{major}_{minor}_x86_64"
+
+
+def about() -> bytes:
+    """METADATA of a wheel, and PKG-INFO of the sources."""
+    rows = [
+        "Metadata-Version: 2.1",
+        f"Name: {field('name')}",
+        f"Version: {field('version')}",
+        f"Summary: {field('description')}",
+        f"Keywords: {','.join(listed('keywords'))}",
+        f"License: {field('license')}",
+        *(f"Classifier: {it}" for it in listed("classifiers")),
+        f"Requires-Python: {field('requires-python')}",
+        "Description-Content-Type: text/markdown",
+        "",
+        (HOME / field("readme")).read_text(encoding="utf-8"),
+    ]
+    return "\n".join(rows).encode()
+
+
+def information(for_: str) -> Dict[str, bytes]:
+    """The files that say what a wheel of this tag is."""
+    wheel = f"Wheel-Version: 1.0\nGenerator: build_backend\nRoot-Is-Purelib: false\nTag: {for_}\n"
+    commands = "".join(f"{name} = {calls}\n" for name, calls in scripts())
+    return {
+        "METADATA": about(),
+        "WHEEL": wheel.encode(),
+        "entry_points.txt": f"[console_scripts]\n{commands}".encode(),
+        "licenses/LICENSE": license_(),
+    }
+
+
+def modules() -> Iterator[Tuple[str, bytes]]:
     """The modules, and what lies beside them."""
-    if not LIBRARY.exists():
-        raise SystemExit(f"there is no {LIBRARY}: python/build.sh makes it")
     for path in sorted(PACKAGE.iterdir()):
-        if path.suffix in (".py", ".so", ".typed"):
+        if path.suffix in (".py", ".typed"):
             yield f"weedle/{path.name}", path.read_bytes()
 
 
@@ -63,10 +134,10 @@ def record_line(name: str, data: bytes) -> str:
     return f"{name},sha256={digest},{len(data)}\n"
 
 
-def write_wheel(folder: str, files: Dict[str, bytes]) -> str:
-    """Writes a wheel with these files, and gives its name."""
-    info, name = f"{stem()}.dist-info", f"{stem()}-{TAG}.whl"
-    files = {**files, **{f"{info}/{it}": data for it, data in metadata().items()}}
+def write_wheel(folder: str, files: Dict[str, bytes], for_: str) -> str:
+    """Writes a wheel with these files and this tag, and gives its name."""
+    info, name = f"{stem()}.dist-info", f"{stem()}-{for_}.whl"
+    files = {**files, **{f"{info}/{it}": data for it, data in information(for_).items()}}
     record = "".join(record_line(it, data) for it, data in files.items()) + f"{info}/RECORD,,\n"
     with zipfile.ZipFile(Path(folder) / name, "w", zipfile.ZIP_DEFLATED) as wheel:
         for it, data in {**files, f"{info}/RECORD": record.encode()}.items():
@@ -79,7 +150,8 @@ def build_wheel(
     metadata_directory: Optional[str] = None,
 ) -> str:
     """Writes the wheel of the package."""
-    return write_wheel(wheel_directory, dict(package_files()))
+    shared = library()
+    return write_wheel(wheel_directory, {**dict(modules()), LIBRARY: shared}, tag(shared))
 
 
 def build_editable(
@@ -87,13 +159,17 @@ def build_editable(
     metadata_directory: Optional[str] = None,
 ) -> str:
     """Writes a wheel that points to this folder."""
-    return write_wheel(wheel_directory, {"weedle.pth": f"{HOME}\n".encode()})
+    return write_wheel(wheel_directory, {"weedle.pth": f"{HOME}\n".encode()}, tag(library()))
 
 
 def build_sdist(sdist_directory: str, config_settings: Optional[dict] = None) -> str:
-    """Writes the sources, with the shared object that was built."""
-    name = f"{stem()}.tar.gz"
-    with tarfile.open(Path(sdist_directory) / name, "w:gz") as sources:
-        for it in [*SOURCES, *(it for it, _ in package_files())]:
-            sources.add(HOME / it, f"{stem()}/{it}")
-    return name
+    """Writes the sources: the package, tests, and the shared object as it was built."""
+    files = {it: (HOME / it).read_bytes() for it in [*SOURCES, *(f"tests/{name}" for name in TESTS)]}
+    files.update(modules())
+    files.update({LIBRARY: library(), "LICENSE": license_(), "PKG-INFO": about()})
+    with tarfile.open(Path(sdist_directory) / f"{stem()}.tar.gz", "w:gz") as sources:
+        for name, data in files.items():
+            member = tarfile.TarInfo(f"{stem()}/{name}")
+            member.size = len(data)
+            sources.addfile(member, io.BytesIO(data))
+    return f"{stem()}.tar.gz"

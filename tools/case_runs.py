@@ -29,10 +29,10 @@ import signal
 import socket
 import subprocess
 import tempfile
-import tomllib
 from pathlib import Path
 
 from case_files import TESTS
+from toml_files import loads
 
 RUNS = "runs"
 SECONDS = 120
@@ -174,5 +174,4 @@ def shown(status, out, err):
 
 def runs(file=TESTS / f"{RUNS}.toml"):
     """All runs, in their order."""
-    with open(file, "rb") as it:
-        return [Run(keys) for keys in tomllib.load(it)["run"]]
+    return [Run(keys) for keys in loads(Path(file).read_text(encoding="utf-8"))["run"]]

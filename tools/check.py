@@ -17,8 +17,9 @@ there (tools/pages.py), whether the cases of tests/ are those that are listed, o
 made now (tools/make_cases.py --check), whether the table of docs/GATE.md is that of the times that
 were measured last (tools/gate_page.py --check), whether docs/SLIPS.md says what the rows say of the
 slips of tests/ (tools/run_slips.py --page --check), whether the pieces of Rust in README.md and
-docs/USING.md stand where the gate proves and runs them (tools/try_readme.py --no-run), and whether
-what the programs of the worked pages name is there (tools/try_pages.py --no-run).
+docs/USING.md stand where the gate proves and runs them (tools/try_readme.py --no-run), whether
+what the programs of the worked pages name is there (tools/try_pages.py --no-run), and whether the
+built library in prebuilt/ is the one of its sums and of this version (tools/prebuilt.py --check).
 
 It prints a line for each file that is stale, for each that no script writes though it says so, and
 for whatever else was found. It changes nothing. It needs the toolchain's command `rt` on PATH, and
@@ -51,6 +52,7 @@ LOOKS = (
     ["run_slips.py", "--page", "--check"],
     ["try_readme.py", "--no-run"],
     ["try_pages.py", "--no-run"],
+    ["prebuilt.py", "--check"],
 )
 
 

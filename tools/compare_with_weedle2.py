@@ -31,7 +31,6 @@ import re
 import subprocess
 import sys
 import tempfile
-import tomllib
 from collections import Counter
 from pathlib import Path
 
@@ -39,6 +38,7 @@ from command_line import parser_of
 from crates import read_lines
 from random_texts import Maker
 from table_reader import CHANGED, Table
+from toml_files import loads
 from tree_json import Held, Struct, definition_of, read
 from weedle2_texts import LEFT, WHOLE
 
@@ -195,7 +195,7 @@ def worked_texts():
     for lines in [*(lines for _, lines in WHOLE.values()), LEFT[2]]:
         yield from map(unescaped, lines.strip().split("\n"))
     for name in ("layouts", "table"):
-        for rows in tomllib.loads((TOP / f"tests/{name}.toml").read_text(encoding="utf-8")).values():
+        for rows in loads((TOP / f"tests/{name}.toml").read_text(encoding="utf-8")).values():
             yield from (row[key] for row in rows for key in ("text", "laid_out") if key in row)
 
 

@@ -42,6 +42,11 @@ COPIED = {
     "crates/weedle/LICENSE",
     "crates/weedle/src/lib.rt",
 }
+# The beginnings of both notices, the second as weedle2 5.0.0 has it.
+NOTICES = (
+    "Copyright (c) 2026 the engineers of Nenevanity\n\nPermission is hereby granted, free of charge",
+    "Copyright 2018-Present Sharad Chand\nCopyright 2022 Jan-Erik Rediger\n\nPermission is hereby granted, free of charge",
+)
 OWN = "# ours\napp: weedle # the program"
 LINES = "low: memchr\nmiddle: low\nweedle: middle low\n"
 
@@ -118,6 +123,13 @@ class Copies(VendorTest):
         self.assertEqual(files.keys(), COPIED | {"crates.txt", "crates/app/src/main.rt"})
         self.assertEqual(files["crates.txt"], f"{OWN}\n{LINES}")
         self.assertEqual(files["crates/weedle/LICENSE"], "MIT License\n")
+
+    def test_the_license_that_is_copied_has_both_notices(self):
+        shutil.copy(vendor.TOP / "LICENSE", self.source)
+        self.vendor()
+        copied = (self.dest / "crates/weedle/LICENSE").read_text(encoding="utf-8")
+        for notice in NOTICES:
+            self.assertIn(notice, copied)
 
     def test_an_empty_repository_is_enough(self):
         shutil.rmtree(self.dest)

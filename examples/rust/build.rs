@@ -1,10 +1,13 @@
 //! Links the C library, and takes the rules' names from its header.
 //!
-//! The library is looked for where `c/build.sh` puts it, below the repository. WEEDLE_LIBRARY names another folder.
+//! The library is looked for where `c/build.sh` puts it, and then in `prebuilt`. WEEDLE_LIBRARY names another folder.
 
 use std::env;
 use std::fs;
 use std::path::{Path, PathBuf};
+
+/// The file of the library.
+const ARCHIVE: &str = "libweedle.a";
 
 fn main() {
     let top = Path::new(env!("CARGO_MANIFEST_DIR")).join("../..");
@@ -19,12 +22,24 @@ fn main() {
 /// The folder of the library.
 fn library_folder(top: &Path) -> PathBuf {
     println!("cargo:rerun-if-env-changed=WEEDLE_LIBRARY");
-    env::var_os("WEEDLE_LIBRARY").map_or_else(|| top.join("c/out"), PathBuf::from)
+    env::var_os("WEEDLE_LIBRARY").map_or_else(|| built_or_prebuilt(top), PathBuf::from)
+}
+
+/// The folder of the library that was built here, or else that of the one that comes with the repository.
+fn built_or_prebuilt(top: &Path) -> PathBuf {
+    // it may be built later on, in a folder that isn't there yet
+    println!("cargo:rerun-if-changed={}", top.join("c").display());
+    let built = top.join("c/out");
+    if built.join(ARCHIVE).is_file() {
+        built
+    } else {
+        top.join("prebuilt/x86_64-linux")
+    }
 }
 
 /// Links the library of a folder, or says what has to be done first.
 fn link(folder: &Path) {
-    let file = folder.join("libweedle.a");
+    let file = folder.join(ARCHIVE);
     assert!(
         file.is_file(),
         "there is no {}: c/build.sh builds it",

@@ -13,7 +13,7 @@ import tempfile
 import unittest
 from pathlib import Path
 
-from support import TOP
+from support import HOME
 import weedle
 from case_files import cases_of, folders
 from compare_with_weedle2 import DEPTH, files_of
@@ -57,7 +57,7 @@ def written(cases):
         for name, case in zip(names, cases):
             Path(name).write_bytes(case.text.encode())
         done = subprocess.run(
-            [sys.executable, "-m", "weedle", "--json", *names], capture_output=True, check=False, cwd=TOP / "python"
+            [sys.executable, "-m", "weedle", "--json", *names], capture_output=True, check=False, cwd=HOME
         )
     return done.returncode, done.stdout, done.stderr
 

@@ -13,7 +13,7 @@ import tempfile
 import unittest
 from pathlib import Path
 
-from support import TOP
+from support import HOME, TOP
 import weedle
 from weedle import nodes
 
@@ -57,7 +57,7 @@ class Pages(unittest.TestCase):
         self.assertEqual((len(codes), len(printed)), (1, 1))
         done = subprocess.run(
             [sys.executable, "-c", codes[0]], capture_output=True, text=True, check=False,
-            env={**os.environ, "PYTHONPATH": str(TOP / "python")},
+            env={**os.environ, "PYTHONPATH": str(HOME)},
         )
         self.assertEqual((done.stdout, done.stderr), (f"{printed[0]}\n", ""))
 
@@ -67,7 +67,7 @@ class Pages(unittest.TestCase):
         self.assertEqual(len(codes), 1)
         done = subprocess.run(
             [sys.executable, "-c", codes[0]], capture_output=True, text=True, check=False,
-            env={**os.environ, "PYTHONPATH": str(TOP / "python")},
+            env={**os.environ, "PYTHONPATH": str(HOME)},
         )
         self.assertEqual(done.stderr, "")
         self.assertIn(f"It prints `{done.stdout.strip()}`.", page)
@@ -86,7 +86,7 @@ class Examples(unittest.TestCase):
             file.write_text(text, encoding="utf-8")
             done = subprocess.run(
                 [sys.executable, TOP / "examples/python" / name, file], capture_output=True,
-                check=False, text=True, env={**os.environ, "PYTHONPATH": str(TOP / "python")},
+                check=False, text=True, env={**os.environ, "PYTHONPATH": str(HOME)},
             )
             out, err = (it.replace(f"{file}:", "") for it in (done.stdout, done.stderr))
             return done.returncode, out, err

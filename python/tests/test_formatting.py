@@ -3,18 +3,20 @@
 What is laid out has the values and the comments of the text, and is laid out already.
 """
 
+import random
 import sys
-import tomllib
 import unittest
 
 from support import TOP
 import weedle
 from case_files import cases_of, folders
 from compare_with_weedle2 import DEPTH
+from toml_files import loads
+from weedle import _formatting
 
 FOLDERS = [name for name in folders() if name != "real"]
 # Texts, and how docs/LAYOUT.md lays them out; none where it isn't read whole.
-WORKED = tomllib.loads((TOP / "tests/layouts.toml").read_text())["layout"]
+WORKED = loads((TOP / "tests/layouts.toml").read_text())["layout"]
 # Long texts, and their layouts.
 LONG = [
     ("typedef " + 1_001 * "sequence<" + "long" + 1_001 * ">" + " T;\n", None),
@@ -28,6 +30,19 @@ LONG = [
         "namespace N {\n  undefined f(\n    long a" + 14_300 * ",\n    long a" + "\n  );\n};\n",
     ),
 ]
+
+# Texts of whitespace and comments alone, and texts that only look so.
+BLANK = ["", " ", "\n\n", "\t\r\n", "// a", "// a\n", "/* a */", "/**/", "/***/", " /* a\n */ // b\n//\n", "// \u00e9 */"]
+NOT_BLANK = ["/* a", "/*/", "/", "/// a\n", "//// a\n", "// a\n;", "/* a */ x */", "\f", "\ufeff", "\ufeff// a\n", "\0", "/ /"]
+
+
+def begins_behind(text):
+    """Whether a statement behind a text is the first thing that is read."""
+    try:
+        (definition,) = weedle.parse(f"{text}\nA includes B;")
+    except weedle.Refused:
+        return False
+    return definition.span.start == len(f"{text}\n".encode())
 
 
 def said(text):
@@ -64,6 +79,27 @@ class Formatting(unittest.TestCase):
                 self.assertEqual(weedle.format(made), made)
             count += 1
         self.assertGreater(count, 3000)
+
+    def test_whitespace_and_comments_alone_stay_as_they_stand(self):
+        for text in BLANK:
+            with self.subTest(text):
+                self.assertEqual(weedle.format(text), text)
+                self.assertEqual(weedle.format(text.encode()), text.encode())
+        for text in NOT_BLANK:
+            with self.subTest(text):
+                self.assertRaises(weedle.Refused, weedle.format, text)
+        self.assertRaises(UnicodeDecodeError, weedle.format, b"// \xff")
+
+    def test_what_is_blank_by_the_grammar(self):
+        signs = ("/", "*", " ", "\n", "\t", "\r", "//", "/*", "*/", "A", ";", "\f", "\0", "\u00e9")
+        maker = random.Random(20261129)
+        count = 0
+        for _ in range(20_000):
+            text = "".join(maker.choices(signs, k=maker.randrange(8)))
+            is_blank = _formatting.is_blank(text.encode())
+            self.assertEqual(is_blank, begins_behind(text), text)
+            count += is_blank
+        self.assertGreater(count, 2_000)
 
     def test_what_has_no_layout(self):
         with self.assertRaises(weedle.Refused) as refused:

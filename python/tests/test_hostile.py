@@ -86,7 +86,7 @@ class Long(unittest.TestCase):
     def test_no_memory(self):
         done = subprocess.run(
             [sys.executable, "-c", NO_MEMORY], capture_output=True, text=True, check=False,
-            env={"PYTHONPATH": str(support.TOP / "python"), **environment()},
+            env={"PYTHONPATH": str(support.HOME), **environment()},
         )
         self.assertEqual((done.stdout, done.returncode), ("MemoryError\n", 0), done.stderr)
 

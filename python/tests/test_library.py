@@ -1,23 +1,21 @@
-"""How the shared object is found, what is said where it isn't, and the wheel; and the shared object under valgrind.
+"""How the shared object is found, what is said where it isn't, the room for nodes; and it under valgrind."""
 
-The wheel needs python/weedle/libweedle.so, which python/build.sh makes, and pip, which takes some seconds.
-"""
-
-import importlib.metadata
 import os
 import shutil
 import subprocess
 import sys
 import tempfile
 import unittest
-import venv
 from pathlib import Path
+from unittest import mock
 
-from support import TOP
-from weedle._library import FIELDS, NO_ROOM, OWN, READ, VARIABLE, VERSION, _call, read_nodes
+from support import HOME, TOP
+from weedle import _library
+from weedle._library import FIELDS, NO_ROOM, READ, VARIABLE, VERSION, _call, place, read_nodes
 
 COMPILER = shutil.which(os.environ.get("CC", "cc"))
 VALGRIND = shutil.which(os.environ.get("VALGRIND", "valgrind"))
+HOSTILE = TOP / "c/tests/test_hostile.c"
 # A shared object of another version.
 OTHER = """
 #include <stdint.h>
@@ -27,18 +25,24 @@ uint32_t weedle_version(void) { return 0x000399; }
 uint32_t weedle_rules(void) { return 1; }
 """
 WORDS = "import weedle; print(len(weedle.parse('A includes B;')))"
+# Where the package looks.
+PLACES = "from weedle import _library; print(_library.place())"
 
 
-def others():
-    """The variables that don't say where the package or its shared object is."""
-    return {name: it for name, it in os.environ.items() if name not in ("WEEDLE_SO", "PYTHONPATH")}
+def dense(times):
+    """A text with more than two nodes a byte."""
+    return b"interface A{" + b"A a();" * times + b"};"
 
 
-def run(words, **more):
+DENSE = dense(2_000)
+
+
+def run(words, home=HOME, **more):
     """Runs Python with these variables, those that name a shared object left out."""
+    others = {name: it for name, it in os.environ.items() if name not in (VARIABLE, "PYTHONPATH")}
     return subprocess.run(
         [sys.executable, "-c", words], capture_output=True, text=True, check=False,
-        env={**others(), "PYTHONPATH": str(TOP / "python"), **more},
+        env={**others, "PYTHONPATH": str(home), **more},
     )
 
 
@@ -80,9 +84,45 @@ class Found(unittest.TestCase):
             return run(WORDS, WEEDLE_SO=str(built))
 
     def test_the_version_of_the_package(self):
-        done = run("import weedle; print(weedle.__version__)", **here())
+        done = run("import weedle; print(weedle.__version__)", WEEDLE_SO=str(place()))
         numbers = [int(it) for it in done.stdout.split(".")]
         self.assertEqual(VERSION, numbers[0] << 16 | numbers[1] << 8 | numbers[2])
+
+
+class Looked(unittest.TestCase):
+    """A copy of the package without a shared object, and where it looks for one."""
+
+    def setUp(self):
+        room = tempfile.TemporaryDirectory()
+        self.addCleanup(room.cleanup)
+        self.home = Path(room.name, "python")
+        self.own = self.home / "weedle/libweedle.so"
+        self.prebuilt = Path(room.name, "prebuilt/x86_64-linux/libweedle.so")
+        shutil.copytree(HOME / "weedle", self.own.parent, ignore=shutil.ignore_patterns("*.so", "__pycache__"))
+
+    def lay(self, file):
+        """Lays the shared object of these tests there."""
+        file.parent.mkdir(parents=True, exist_ok=True)
+        shutil.copyfile(place(), file)
+
+    def test_there_is_none(self):
+        last = run(WORDS, self.home).stderr.splitlines()[-1]
+        self.assertIn(f"looked for {self.own} and {self.prebuilt} (WEEDLE_SO isn't set)", last)
+
+    def test_the_one_of_the_repository(self):
+        self.lay(self.prebuilt)
+        self.assertEqual(run(WORDS, self.home).stdout, "1\n")
+        self.assertEqual(run(PLACES, self.home).stdout, f"{self.prebuilt}\n")
+
+    def test_the_own_one_comes_before_it(self):
+        self.lay(self.prebuilt)
+        self.lay(self.own)
+        self.assertEqual(run(PLACES, self.home).stdout, f"{self.own}\n")
+
+    def test_the_one_that_is_named_comes_first(self):
+        self.lay(self.prebuilt)
+        self.lay(self.own)
+        self.assertEqual(run(PLACES, self.home, WEEDLE_SO=str(place())).stdout, f"{place()}\n")
 
 
 class Room(unittest.TestCase):
@@ -93,22 +133,48 @@ class Room(unittest.TestCase):
         self.assertEqual((status, answer.count, any(room)), (NO_ROOM, count, False))
         self.assertEqual(_call(data, count)[0], READ)
 
+    def test_a_dense_text_is_read_once(self):
+        for times in (1, 2_000):
+            data = dense(times)
+            with mock.patch.object(_library, "_call", wraps=_call) as calls:
+                numbers = read_nodes(data)
+            self.assertGreater(len(numbers) // len(FIELDS), 2 * len(data))
+            self.assertEqual(calls.call_count, 1)
+            self.assertEqual(numbers[FIELDS.index("end")], len(data))
+
     def test_a_text_with_more_nodes_than_there_is_room_for_at_first(self):
-        data = b"typedef " + b"sequence<" * 50 + b"A" + b">" * 50 + b" B;"
-        data += b" typedef (" + b"(" * 3 + b"A or B" + b" or C)" * 3 + b" or D) E;"
-        self.assertEqual(read_nodes(data)[FIELDS.index("end")], len(data))
+        with mock.patch.object(_library, "NODES_A_BYTE", 0), mock.patch.object(_library, "_call", wraps=_call) as calls:
+            numbers = read_nodes(DENSE)
+        self.assertEqual(calls.call_count, 2)
+        self.assertEqual(numbers, read_nodes(DENSE))
+
+    def test_the_nodes_are_counted_where_the_system_grants_no_such_room(self):
+        limit = len(DENSE) * _library.NODES_A_BYTE
+
+        def granted(size):
+            if size >= limit * _library.NODE_SIZE:
+                raise MemoryError
+            return bytearray(size)
+
+        with mock.patch.object(_library, "_room", granted):
+            numbers = read_nodes(DENSE)
+        self.assertEqual(numbers, read_nodes(DENSE))
+
+    def test_no_more_is_held_than_the_nodes_take(self):
+        numbers = read_nodes(DENSE)
+        self.assertEqual(len(numbers.obj), numbers.nbytes)
 
 
 @unittest.skipUnless(COMPILER and VALGRIND, "there is no C compiler, or no valgrind")
+@unittest.skipUnless(HOSTILE.exists(), "the tests in C aren't here")
 class Memory(unittest.TestCase):
     def test_hostile_texts_under_valgrind(self):
         """The tests in C of hostile texts over the shared object, each a hundredth as long."""
-        library = os.environ.get(VARIABLE, OWN)
         with tempfile.TemporaryDirectory() as room:
             program = Path(room, "hostile")
             subprocess.run(
-                [COMPILER, "-std=c11", "-O2", f"-I{TOP / 'include'}", "-o", program, TOP / "c/tests/test_hostile.c",
-                 Path(library).resolve(), "-pthread"],
+                [COMPILER, "-std=c11", "-O2", f"-I{TOP / 'include'}", "-o", program, HOSTILE, place().resolve(),
+                 "-pthread"],
                 check=True,
             )
             done = subprocess.run(
@@ -116,65 +182,6 @@ class Memory(unittest.TestCase):
                 capture_output=True, text=True, check=False, env={**os.environ, "WEEDLE_SMALL": "1"},
             )
         self.assertEqual((done.returncode, done.stderr), (0, ""))
-
-
-def here():
-    """The variable that names the shared object, where one is set."""
-    return {"WEEDLE_SO": os.environ["WEEDLE_SO"]} if "WEEDLE_SO" in os.environ else {}
-
-
-def has_pip():
-    """Whether there is a pip that can install into another environment."""
-    try:
-        major, minor = importlib.metadata.version("pip").split(".")[:2]
-    except importlib.metadata.PackageNotFoundError:
-        return False
-    return (int(major), int(minor)) >= (22, 3)
-
-
-@unittest.skipUnless(OWN.exists(), "python/build.sh hasn't run")
-@unittest.skipUnless(has_pip(), "there is no pip from 22.3 on")
-class Wheels(unittest.TestCase):
-    """A virtual environment of its own, and no network."""
-
-    def setUp(self):
-        room = tempfile.TemporaryDirectory()
-        self.addCleanup(room.cleanup)
-        self.room = Path(room.name)
-        self.python = self.room / "bin/python"
-        venv.create(self.room)
-
-    def pip(self, *words):
-        """Runs pip, which stands in this Python, over that of the environment."""
-        subprocess.run(
-            [sys.executable, "-m", "pip", "--python", self.python, *words, "--no-index", "--quiet"],
-            check=True, env={**others(), "PIP_DISABLE_PIP_VERSION_CHECK": "1"}, cwd=self.room,
-        )
-
-    def test_the_folder_is_installed(self):
-        self.pip("install", TOP / "python")
-        self.assert_works()
-        (about,) = self.room.rglob("weedle-*.dist-info/WHEEL")
-        self.assertIn("Tag: py3-none-linux_x86_64\n", about.read_text())
-
-    def test_the_wheel_is_installed_without_the_folder(self):
-        self.pip("wheel", TOP / "python")
-        (wheel,) = self.room.glob("*.whl")
-        self.assertRegex(wheel.name, r"weedle-[0-9.]+-py3-none-linux_x86_64\.whl")
-        self.pip("install", wheel)
-        self.assert_works()
-
-    def assert_works(self):
-        """What is installed reads a text, and its program too."""
-        done = [
-            subprocess.run(
-                [self.python, *words], input="A includes B;", capture_output=True, text=True, check=False,
-                env=others(), cwd=self.room,
-            )
-            for words in (["-c", WORDS], ["-m", "weedle"])
-        ]
-        self.assertEqual([it.stderr for it in done], ["", ""])
-        self.assertEqual([it.stdout for it in done], ["1\n", "1 file, 0 refused\n"])
 
 
 if __name__ == "__main__":

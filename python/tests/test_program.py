@@ -1,8 +1,9 @@
 """The program `python3 -m weedle`: what it writes, and its status.
 
-Expected is what docs/USING.md says of weedle_check, and what tests/runs.toml has of its runs without an option.
+Expected is what docs/USING.md says of weedle_check, docs/LAYOUT.md of layouts, and docs/LANGUAGES.md of the program.
 """
 
+import json
 import os
 import subprocess
 import sys
@@ -10,18 +11,34 @@ import tempfile
 import unittest
 from pathlib import Path
 
-from support import TOP
-from case_runs import runs
-from test_values import INCLUDES
+from support import HOME
+import weedle
+
+INCLUDES = (
+    '{"IncludesStatement": {"attributes": null, "lhs_identifier": {"Identifier": "Request"}, '
+    '"includes": "Includes", "rhs_identifier": {"Identifier": "Body"}, "semi_colon": "SemiColon"}}'
+)
+# The program, with `python3 -m`, in a shell.
+SHELL = f'PYTHONPATH="{HOME}" "{sys.executable}" -m weedle'
 
 
 def run(*words, given=b"", **more):
     """Runs the program: its status, its output and what it says on standard error."""
     done = subprocess.run(
         [sys.executable, "-m", "weedle", *words], input=given, capture_output=True, check=False,
-        env={**os.environ, "PYTHONPATH": str(TOP / "python")}, **more,
+        env=environment(), **more,
     )
     return done.returncode, done.stdout.decode(), done.stderr.decode()
+
+
+def environment():
+    """The variables, with the one that names the package's folder."""
+    return {**os.environ, "PYTHONPATH": str(HOME)}
+
+
+def named(file):
+    """The line of a definition where there are several files."""
+    return f'{{"file":{json.dumps(str(file))},"definition":{INCLUDES}}}\n'
 
 
 class Program(unittest.TestCase):
@@ -48,9 +65,8 @@ class Program(unittest.TestCase):
             good.write_bytes(b"Request includes Body;")
             bad.write_bytes(b"interface")
             other.write_bytes(b"\xff")
-            self.assertEqual(run("--json", good, good)[:2], (0, f"{INCLUDES}\n{INCLUDES}\n"))
             status, out, err = run("--json", good, bad)
-            self.assertEqual((status, out), (1, f"{INCLUDES}\n"))
+            self.assertEqual((status, out), (1, named(good)))
             self.assertIn(f"{bad}:1:", err)
             self.assertEqual(run(good, bad, other)[::2], (2, f"{other}: input is not UTF-8\n"))
             self.assertEqual(run(Path(room, "none"))[0], 2)
@@ -61,7 +77,7 @@ class Program(unittest.TestCase):
         with open("/dev/full", "wb") as full:
             done = subprocess.run(
                 [sys.executable, "-m", "weedle"], input=b"", stdout=full, stderr=subprocess.PIPE, check=False,
-                env={**os.environ, "PYTHONPATH": str(TOP / "python")},
+                env=environment(),
             )
         self.assertEqual(done.returncode, 4)
         self.assertEqual(done.stderr, b"cannot write output\n")
@@ -74,7 +90,55 @@ class Program(unittest.TestCase):
         with tempfile.TemporaryDirectory() as room:
             file = Path(room, "a")
             file.write_bytes(b"Request includes Body;")
-            self.assertEqual(run(file, "--json", file)[:2], (0, f"{INCLUDES}\n{INCLUDES}\n"))
+            self.assertEqual(run(file, "--json", file)[:2], (0, 2 * named(file)))
+
+    def test_json_of_several_files_says_which(self):
+        with tempfile.TemporaryDirectory() as room:
+            one, other = Path(room, "one"), Path(room, "ot\N{LATIN SMALL LETTER E WITH ACUTE}\"r")
+            one.write_bytes(b"Request includes Body;Request includes Body;")
+            other.write_bytes(b"Request includes Body;")
+            self.assertEqual(run("--json", one)[1], f"{INCLUDES}\n{INCLUDES}\n")
+            self.assertEqual(run("--json", one, other), (0, 2 * named(one) + named(other), ""))
+            rows = [json.loads(row) for row in run("--json", other, "-", given=b"Request includes Body;")[1].split("\n")[:-1]]
+        self.assertEqual([row["file"] for row in rows], [str(other), "<stdin>"])
+        self.assertEqual([row["definition"] for row in rows], 2 * [json.loads(INCLUDES)])
+
+    def test_a_file_whose_name_is_not_utf_8(self):
+        with tempfile.TemporaryDirectory() as room:
+            file = os.path.join(os.fsencode(room), b"a\xff")
+            Path(os.fsdecode(file)).write_bytes(b"interface")
+            done = subprocess.run(
+                [sys.executable, "-m", "weedle", file], capture_output=True, check=False, env=environment(),
+            )
+        self.assertEqual((done.returncode, done.stderr), (1, b""))
+        self.assertTrue(done.stdout.startswith(file + b":1:"), done.stdout)
+
+    def test_a_layout(self):
+        laid_out = "interface A {\n  attribute long x;\n};\n"
+        self.assertEqual(run("--format", given=b"interface A{attribute long x;};"), (0, laid_out, ""))
+        status, out, err = run("--format", given=b"interface A {")
+        self.assertEqual((status, out), (1, ""))
+        self.assertTrue(err.startswith("<stdin>:1:"), err)
+        self.assertEqual(run("--format", given=b" // A\n")[:2], (0, " // A\n"))
+
+    def test_the_version(self):
+        self.assertEqual(run("--version"), (0, f"weedle {weedle.__version__}\n", ""))
+
+    def test_who_reads_no_further(self):
+        given = "Request includes Body;" * 20_000
+        for option in ("--json", "--syntax", "--format"):
+            done = subprocess.run(
+                ["sh", "-c", f"{SHELL} {option} | head -n 1 >/dev/null"], input=given.encode(), check=False,
+                stderr=subprocess.PIPE,
+            )
+            self.assertEqual((done.returncode, done.stderr), (0, b""), option)
+
+    def test_no_output_and_no_input_at_all(self):
+        for closed, wanted in ((">&-", (4, b"cannot write output\n")), ("<&-", (2, None))):
+            done = subprocess.run(["sh", "-c", f"{SHELL} {closed}"], capture_output=True, check=False)
+            self.assertEqual(done.returncode, wanted[0], done.stderr)
+            self.assertNotIn(b"Traceback", done.stderr)
+            self.assertEqual(done.stderr, wanted[1] or done.stderr)
 
     def test_what_is_refused_beside_json(self):
         status, out, err = run("--json", "-", given=b"A includes B")
@@ -82,29 +146,6 @@ class Program(unittest.TestCase):
         mark = " " * len("A includes B") + "^"
         hint = "1:13: `;` missing here?"
         self.assertEqual(err, f"<stdin>:1:13: expected `;`\nA includes B\n{mark}\n{hint}\n")
-
-
-class AsWeedleCheck(unittest.TestCase):
-    """The runs of weedle_check that ask for nothing that Python hasn't, and need no little memory or stack."""
-
-    def test_each_run(self):
-        count = 0
-        with tempfile.TemporaryDirectory() as room:
-            program = Path(room, "weedle")
-            program.write_text(f'#!/bin/sh\nPYTHONPATH="{TOP / "python"}" exec "{sys.executable}" -m weedle "$@"\n')
-            program.chmod(0o755)
-            for it in filter(is_for_python, runs()):
-                with self.subTest(it.what):
-                    self.assertEqual(it.came(str(program)), it.wanted())
-                count += 1
-        self.assertGreater(count, 20)
-
-
-def is_for_python(run_):
-    """Whether the package answers as weedle_check has to."""
-    has_options = any(it.startswith("-") and it != "-" for it in run_.keys.get("arguments", ()))
-    is_other = has_options or run_.memory or "input_folder" in run_.keys
-    return run_.program == "weedle_check" and not is_other and "nests" not in run_.keys.get("stdout", "")
 
 
 if __name__ == "__main__":

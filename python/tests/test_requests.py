@@ -11,7 +11,7 @@ import sys
 import tempfile
 import unittest
 
-from support import TOP
+from support import HOME, TOP
 from weedle import _library
 
 COMPILER = shutil.which(os.environ.get("CC", "cc"))
@@ -60,10 +60,10 @@ class Requests(unittest.TestCase):
         with tempfile.TemporaryDirectory() as room:
             tool, source = f"{room}/refuse_request.so", TOP / "tools/refuse_request.c"
             subprocess.run([COMPILER, "-O2", "-shared", "-fPIC", "-o", tool, source, "-ldl"], check=True)
-            named = os.path.basename(os.environ.get(_library.VARIABLE, _library.OWN))
+            named = _library.place().name
             cls.done = subprocess.run(
                 [sys.executable, "-c", SWEEP], input=json.dumps(TEXTS), capture_output=True, text=True, check=False,
-                cwd=TOP / "python", env={**os.environ, "LD_PRELOAD": tool, "REFUSED_OBJECT": named},
+                cwd=HOME, env={**os.environ, "LD_PRELOAD": tool, "REFUSED_OBJECT": named},
             )
 
     def test_each_of_a_text_that_is_read(self):

@@ -12,14 +12,11 @@ import weedle
 from compare_with_weedle2 import worked_texts
 from description.names import upper
 from description.webidl import BY_NAME
+from test_program import INCLUDES
 from weedle import Definition, common, interface, term, types
 from weedle._values import Terminal, Value
 
 # Of docs/USING.md, "Values as JSON".
-INCLUDES = (
-    '{"IncludesStatement": {"attributes": null, "lhs_identifier": {"Identifier": "Request"}, '
-    '"includes": "Includes", "rhs_identifier": {"Identifier": "Body"}, "semi_colon": "SemiColon"}}'
-)
 WINDOW = (
     "/// A page.\n// é\n[Exposed=Window]\ninterface _Window : EventTarget {\n"
     "  readonly attribute Storage sessionStorage; // kept\n"

@@ -30,10 +30,11 @@ from weedle.errors import Refused
 from weedle.nodes import Node, syntax
 
 __version__ = "0.10.0"
+# `format` isn't here: `from weedle import *` leaves Python's own as it is.
 __all__ = [
     "Choice", "Node", "Position", "Refused", "Span", "Terminal", "Value", "argument", "attribute",
-    "common", "dictionary", "format", "interface", "literal", "mixin", "namespace", "parse", "syntax",
-    "term", "types", *definitions.__all__,
+    "common", "dictionary", "interface", "literal", "mixin", "namespace", "parse", "syntax", "term",
+    "types", *definitions.__all__,
 ]
 
 

@@ -1,25 +1,32 @@
 """Reads files of WebIDL, and writes what stands in them.
 
-    python3 -m weedle [--json | --syntax] [FILE..]
+    weedle [--json | --syntax | --format] [FILE..]
 
-Without a file it reads standard input, which `-` names too. With `--json` it writes each definition
-as JSON on a line, with `--syntax` each node on a line, indented by its depth; what is refused, and
-why, it then says on standard error. With neither it says that on standard output, and last how many
-files were read and refused, as weedle_check does. The status is 0 where all is read, 1 where
-something is refused, 2 where a file can't be read or isn't UTF-8, 3 where memory ran out, 4 where
-the output can't be written, and 5 where the arguments are others; of several the greatest.
+`python3 -m weedle` is the same. Without a file it reads standard input, which `-` names too. With
+`--json` it writes each definition as JSON on a line; of several files each line is an object with
+the `file` and the `definition`. With `--syntax` it writes each node on a line, indented by its
+depth, with `--format` the text laid out; what is refused, and why, it then says on standard error.
+With none of them it says that on standard output, and last how many files were read and refused, as
+weedle_check does. The status is 0 where all is read, 1 where something is refused, 2 where a file
+can't be read or isn't UTF-8, 3 where memory ran out, 4 where the output can't be written, and 5
+where the arguments are others; of several the greatest.
 """
 
 from __future__ import annotations
 
 import argparse
+import errno
 import json
+import os
 import sys
+from contextlib import suppress
 from enum import IntEnum
 from typing import BinaryIO, Callable, NoReturn, Optional, Sequence
 
-from weedle import Refused, parse, syntax
+from weedle import Refused, __version__, format, parse, syntax
 
+# What writes the text of a file, whose name it is told where there are several.
+Write = Callable[[bytes, BinaryIO, Optional[str]], None]
 # How a message calls standard input, and what names it.
 STANDARD_INPUT, DASH = "<stdin>", "-"
 
@@ -43,15 +50,19 @@ class Parser(argparse.ArgumentParser):
         self.exit(Status.MISUSED, f"{self.prog}: {message}\n")
 
 
-def write_json(data: bytes, out: BinaryIO) -> None:
-    """Writes each definition on a line. One that is written is let go of."""
+def write_json(data: bytes, out: BinaryIO, name: Optional[str]) -> None:
+    """Writes each definition on a line, with the file's name where there are several.
+
+    A definition that is written is let go of.
+    """
+    front, back = (f'{{"file":{json.dumps(name)},"definition":', "}") if name else ("", "")
     definitions = parse(data)
     definitions.reverse()
     while definitions:
-        out.write(definitions.pop().to_json().encode() + b"\n")
+        out.write(f"{front}{definitions.pop().to_json()}{back}\n".encode())
 
 
-def write_syntax(data: bytes, out: BinaryIO) -> None:
+def write_syntax(data: bytes, out: BinaryIO, name: Optional[str]) -> None:
     """Writes each node on a line: its name, its bytes, and of one with none below it its text."""
     for node in syntax(data).walk():
         start, end = node.span
@@ -61,7 +72,12 @@ def write_syntax(data: bytes, out: BinaryIO) -> None:
         out.write(f"{said}\n".encode())
 
 
-def write_nothing(data: bytes, out: BinaryIO) -> None:
+def write_format(data: bytes, out: BinaryIO, name: Optional[str]) -> None:
+    """Writes the text laid out."""
+    out.write(format(data))
+
+
+def write_nothing(data: bytes, out: BinaryIO, name: Optional[str]) -> None:
     """Only reads the text."""
     parse(data)
 
@@ -69,16 +85,21 @@ def write_nothing(data: bytes, out: BinaryIO) -> None:
 def bytes_of(word: str) -> bytes:
     """What stands in a file, or comes from standard input."""
     if word == DASH:
+        if sys.stdin is None:
+            raise OSError(errno.EBADF, os.strerror(errno.EBADF))
         return sys.stdin.buffer.read()
     with open(word, "rb") as file:
         return file.read()
 
 
 class Run:
-    """A run of the program over some files, each written by the same function."""
+    """A run of the program over some files, each written by the same function.
 
-    def __init__(self, write: Callable[[bytes, BinaryIO], None], out: BinaryIO) -> None:
-        self.write, self.out = write, out
+    The function is told the name of the file where there are several.
+    """
+
+    def __init__(self, write: Write, out: BinaryIO, is_named: bool) -> None:
+        self.write, self.out, self.is_named = write, out, is_named
         self.files = self.refused = self.unread = 0
 
     def read(self, word: str) -> Status:
@@ -90,7 +111,7 @@ class Run:
             why = f"{fault.strerror} (os error {fault.errno})"
             return self.complain(name, f"cannot read input: {why}", Status.UNREADABLE)
         try:
-            self.write(data, self.out)
+            self.write(data, self.out, name if self.is_named else None)
         except Refused as refused:
             self.tell(f"{name}:{refused}")
             self.files, self.refused = self.files + 1, self.refused + 1
@@ -105,7 +126,8 @@ class Run:
     def tell(self, line: str) -> None:
         """Says why a file is refused: where nothing else is written, there."""
         if self.write is write_nothing:
-            self.out.write(line.encode() + b"\n")
+            # a file's name may have bytes that are no UTF-8
+            self.out.write(line.encode(errors="surrogateescape") + b"\n")
         else:
             self.out.flush()
             print(line, file=sys.stderr)
@@ -137,11 +159,13 @@ def arguments(words: Optional[Sequence[str]]) -> argparse.Namespace:
     for option, write, words_ in (
         ("--json", write_json, "write each definition as JSON"),
         ("--syntax", write_syntax, "write each node, indented by its depth"),
+        ("--format", write_format, "write the text laid out"),
     ):
         ways.add_argument(
             option, dest="write", action="store_const", const=write, default=write_nothing,
             help=words_,
         )
+    parser.add_argument("--version", action="version", version=f"%(prog)s {__version__}")
     parser.add_argument("files", metavar="FILE", nargs="*", help="else standard input is read, as by -")
     return parser.parse_intermixed_args(words)
 
@@ -149,13 +173,22 @@ def arguments(words: Optional[Sequence[str]]) -> argparse.Namespace:
 def main(words: Optional[Sequence[str]] = None) -> int:
     """Does what the arguments ask for."""
     wanted = arguments(words)
+    files = wanted.files or [DASH]
+    if sys.stdout is None:
+        print("cannot write output", file=sys.stderr)
+        return Status.UNWRITTEN
     # with PYTHONUNBUFFERED `sys.stdout.buffer` may take a part of what is written, and say so to nobody
     out = open(sys.stdout.fileno(), "wb", closefd=False)
     try:
-        return Run(wanted.write, out).read_all(wanted.files or [DASH])
-    except OSError:
+        return Run(wanted.write, out, len(files) > 1).read_all(files)
+    except OSError as fault:
+        # what waits is let go of: Python 3.13 says of a buffer that it can't flush it
+        with suppress(OSError):
+            out.close()
         sys.stdout = None
-        print("cannot write output", file=sys.stderr)
+        # who reads no further, as `head`, asks for no word
+        if not isinstance(fault, BrokenPipeError):
+            print("cannot write output", file=sys.stderr)
         return Status.UNWRITTEN
 
 

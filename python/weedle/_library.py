@@ -11,9 +11,12 @@ from typing import NamedTuple, Union
 
 from weedle.grammar import RULES, VERSION
 
-# The variable that names another shared object, and where the own one stands.
+# The variable that names another shared object, and where one is looked for where it isn't set:
+# beside the package, and in the repository that the package stands in.
 VARIABLE = "WEEDLE_SO"
-OWN = Path(__file__).resolve().parent / "libweedle.so"
+HOME = Path(__file__).resolve().parent
+OWN = HOME / "libweedle.so"
+PREBUILT = HOME.parents[1] / "prebuilt/x86_64-linux/libweedle.so"
 
 # The type of a node's numbers, FORMAT as a memoryview names it, and their order.
 NUMBER, FORMAT = c_uint32, "I"
@@ -21,10 +24,12 @@ FIELDS = ("rule", "depth", "start", "end")
 NODE_SIZE = len(FIELDS) * ctypes.sizeof(NUMBER)
 # What `weedle_syntax` answers.
 READ, REFUSED, NOT_UTF8, NO_MEMORY, NO_ROOM, TOO_LONG = range(6)
-# How many nodes there is room for at first: most texts have fewer than two for a byte.
-NODES_A_BYTE, LEAST_NODES = 2, 64
-# Room of more bytes is taken page by page as it is written to.
-LARGE = 1 << 20
+# How many nodes there is room for at first: dense texts have up to eight for a byte.
+NODES_A_BYTE, LEAST_NODES = 9, 64
+# Room of more bytes is taken page by page as it is written to, and none is kept free for it before:
+# Python names that flag of Linux from 3.13 on.
+LARGE = 1 << 17
+PAGED = mmap.MAP_PRIVATE | mmap.MAP_ANONYMOUS | getattr(mmap, "MAP_NORESERVE", 0x4000)
 
 Buffer = Union[bytearray, mmap.mmap]
 
@@ -70,14 +75,21 @@ class Unread(Exception):
         self.status, self.rest = status, rest
 
 
+def place() -> Path:
+    """Where the shared object is, or where it would have to be."""
+    named = os.environ.get(VARIABLE)
+    if named:
+        return Path(named)
+    return PREBUILT if PREBUILT.exists() and not OWN.exists() else OWN
+
+
 def _loaded() -> ctypes.CDLL:
     """The shared object, which has to be of this package's version."""
-    named = os.environ.get(VARIABLE)
-    path = Path(named) if named else OWN
+    path = place()
     try:
         library = ctypes.CDLL(str(path))
     except OSError as fault:
-        raise ImportError(_unloaded(path, bool(named), fault)) from None
+        raise ImportError(_unloaded(path, fault)) from None
     try:
         _compare(path, library)
         _declare(library)
@@ -97,9 +109,14 @@ def _compare(path: Path, library: ctypes.CDLL) -> None:
         )
 
 
-def _unloaded(path: Path, is_named: bool, fault: OSError) -> str:
+def _unloaded(path: Path, fault: OSError) -> str:
     """What is said where the shared object isn't there, or is for another machine."""
-    where = f"{path}, which {VARIABLE} names" if is_named else f"{path} ({VARIABLE} isn't set)"
+    if os.environ.get(VARIABLE):
+        where = f"{path}, which {VARIABLE} names"
+    elif path.exists():
+        where = f"{path} ({VARIABLE} isn't set)"
+    else:
+        where = f"{OWN} and {PREBUILT} ({VARIABLE} isn't set)"
     if path.exists():
         said = f"can't load {where}. It has to be for Linux on x86-64, as this Python"
     else:
@@ -130,14 +147,15 @@ def _room(size: int) -> Buffer:
     if size < LARGE:
         return bytearray(size)
     try:
-        return mmap.mmap(-1, size, flags=mmap.MAP_PRIVATE | mmap.MAP_ANONYMOUS)
+        return mmap.mmap(-1, size, flags=PAGED)
     except (OSError, OverflowError):
-        raise MemoryError(f"no memory for {size} bytes of nodes") from None
+        raise MemoryError(f"no memory for {size} bytes") from None
 
 
 def _call(data: bytes, nodes: int) -> tuple[int, Buffer, SyntaxAnswer]:
     """The status with room for so many nodes, the room, and the answer."""
-    room = _room(nodes * NODE_SIZE)
+    # No pointer is null, also where there is room for no node.
+    room = _room(max(nodes, 1) * NODE_SIZE)
     answer = SyntaxAnswer()
     # A view has to go before the room can shrink.
     address = ctypes.addressof(ctypes.c_char.from_buffer(room))
@@ -145,17 +163,31 @@ def _call(data: bytes, nodes: int) -> tuple[int, Buffer, SyntaxAnswer]:
     return status, room, answer
 
 
+def _first_call(data: bytes) -> tuple[int, Buffer, SyntaxAnswer]:
+    """The same with room for all nodes; where the system grants no such room, they are counted."""
+    try:
+        return _call(data, len(data) * NODES_A_BYTE + LEAST_NODES)
+    except MemoryError:
+        return _call(data, 0)
+
+
 def read_nodes(data: bytes) -> memoryview:
     """The numbers of all nodes, four a node, or Unread."""
-    status, room, answer = _call(data, len(data) * NODES_A_BYTE + LEAST_NODES)
+    status, room, answer = _first_call(data)
     if status == NO_ROOM:
         status, room, answer = _call(data, answer.count)
     if status != READ:
         raise Unread(status, answer.rest)
-    size = answer.count * NODE_SIZE
+    return memoryview(_cut(room, answer.count * NODE_SIZE)).cast("B").cast(FORMAT)
+
+
+def _cut(room: Buffer, size: int) -> Buffer:
+    """The room, cut to so many bytes: the others are given back."""
     if isinstance(room, bytearray):
         del room[size:]
-    return memoryview(room).cast("B")[:size].cast(FORMAT)
+    else:
+        room.resize(size)
+    return room
 
 
 def explain(data: bytes) -> Explanation:

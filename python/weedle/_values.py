@@ -85,7 +85,7 @@ class Value:
     def __eq__(self, other: object) -> bool:
         if type(other) is not type(self):
             return NotImplemented
-        return self.to_json() == other.to_json()
+        return other is self or self.to_json() == other.to_json()
 
     def __hash__(self) -> int:
         return hash((type(self), self.to_json()))
@@ -127,6 +127,14 @@ class Leaf(Value):
     value: str = field(default=Part(0))
     # The part that is kept.
     _kept: ClassVar[int] = 0
+
+    def __eq__(self, other: object) -> bool:
+        if type(other) is not type(self):
+            return NotImplemented
+        return self.value == other.value
+
+    def __hash__(self) -> int:
+        return hash((type(self), self.value))
 
     @classmethod
     def _read(cls, tree: Tree, node: int) -> str:

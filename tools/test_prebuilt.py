@@ -1,0 +1,171 @@
+#!/usr/bin/env python3
+"""Tests prebuilt.py over a small made-up library, with a C compiler and no toolchain, in a second.
+
+    python3 tools/test_prebuilt.py
+"""
+
+import contextlib
+import io
+import os
+import shutil
+import subprocess
+import tempfile
+import unittest
+from pathlib import Path
+
+import prebuilt
+from crates import Unfit
+from prebuilt import ARCHIVE, FOLDER, HEADER, SHARED, SUMS, TOP
+
+COMPILER = shutil.which(os.environ.get("CC", "cc"))
+ARCHIVER = shutil.which("ar")
+KIT, OTHER_KIT = "rattle-kit-1 logic 0a", "rattle-kit-2 logic 0b"
+DECLARED = """\
+#define WEEDLE_VERSION {version}
+struct weedle_answer;
+uint32_t weedle_syntax(
+    const char *text, size_t length);
+
+/* weedle_gone(1) is no call. */
+const char *weedle_rule_name(uint32_t rule);
+static const int weedle_count(void);
+"""
+CODE = "int weedle_syntax(void) {{ return {number}; }} int weedle_rule_name(void) {{ return 2; }} int rattle_alloc;"
+
+
+@unittest.skipUnless(COMPILER and ARCHIVER, "there is no C compiler, or no ar")
+class PrebuiltTest(unittest.TestCase):
+    """A repository with a header of two calls, and an archive that has them."""
+
+    def setUp(self):
+        room = tempfile.TemporaryDirectory()
+        self.addCleanup(room.cleanup)
+        self.top = Path(room.name)
+        for name in ("include", "c"):
+            (self.top / name).mkdir()
+        shutil.copy(TOP / "c/link_shared.sh", self.top / "c")
+        self.declare()
+        self.archive = self.built("built.a", 1)
+
+    def declare(self, version="0x000a02", more=""):
+        """Writes the header."""
+        text = DECLARED.format(version=version).replace("static const int weedle_count(void);\n", more)
+        (self.top / HEADER).write_text(text)
+
+    def built(self, name, number):
+        """An archive of a version of the code."""
+        source, made = self.top / "code.c", self.top / "code.o"
+        source.write_text(CODE.format(number=number))
+        subprocess.run([COMPILER, "-c", "-fPIC", "-o", made, source], check=True)
+        subprocess.run([ARCHIVER, "rcD", self.top / name, made], check=True)
+        return self.top / name
+
+    def made(self):
+        """The folder, with the pair of that archive."""
+        prebuilt.make(self.top, self.archive, KIT)
+        return self.top / FOLDER
+
+    def compared(self, archive, kit):
+        """The lines of a comparison: what is wrong, and what is printed beside."""
+        with contextlib.redirect_stdout(io.StringIO()) as out:
+            found = [*prebuilt.compared(self.top, archive, kit)]
+        return found, out.getvalue()
+
+
+class Made(PrebuiltTest):
+    def test_the_pair_and_its_sums(self):
+        folder = self.made()
+        self.assertEqual((folder / ARCHIVE).read_bytes(), self.archive.read_bytes())
+        rows = (folder / SUMS).read_text().splitlines()
+        self.assertEqual(rows[:2], ["# weedle 0.10.2", f"# {KIT}"])
+        self.assertEqual([*prebuilt.faults(self.top)], [])
+
+    @unittest.skipUnless(shutil.which("sha256sum"), "there is no sha256sum")
+    def test_the_sums_are_those_that_sha256sum_reads(self):
+        done = subprocess.run(["sha256sum", "-c", SUMS], cwd=self.made(), capture_output=True, text=True, check=True)
+        self.assertEqual((done.stdout, done.stderr), (f"{ARCHIVE}: OK\n{SHARED}: OK\n", ""))
+
+    def test_the_shared_object_exports_the_calls_alone(self):
+        shared = prebuilt.SharedObject((self.made() / SHARED).read_bytes())
+        self.assertEqual(shared.exports(), {"weedle_syntax", "weedle_rule_name"})
+
+    def test_what_is_missing(self):
+        with self.assertRaises(Unfit):
+            prebuilt.make(self.top, self.top / "none.a", KIT)
+        with self.assertRaises(Unfit):
+            prebuilt.make(self.top, self.archive, None)
+
+
+class Looked(PrebuiltTest):
+    def found(self):
+        """What is wrong, in one text."""
+        return "\n".join(prebuilt.faults(self.top))
+
+    def test_there_is_none(self):
+        with self.assertRaises(Unfit) as caught:
+            self.found()
+        self.assertIn("c/build.sh && python3 tools/prebuilt.py --make", str(caught.exception))
+
+    def test_another_version(self):
+        self.made()
+        self.declare("0x000b00")
+        self.assertIn("is of version 0.10.2, and include/weedle.h of 0.11.0", self.found())
+
+    def test_a_file_that_is_another_or_gone(self):
+        folder = self.made()
+        with open(folder / ARCHIVE, "ab") as file:
+            file.write(b" ")
+        self.assertIn(f"{FOLDER}/{ARCHIVE} isn't what SUMS has", self.found())
+        (folder / SHARED).unlink()
+        self.assertIn(f"there is no {FOLDER}/{SHARED}", self.found())
+
+    def test_a_call_that_is_not_exported(self):
+        self.made()
+        self.declare(more="uint32_t weedle_format(void);\n")
+        self.assertIn("exports no weedle_format", self.found())
+
+    def test_sums_that_were_written_otherwise(self):
+        folder = self.made()
+        text = (folder / SUMS).read_text()
+        for other in ("", text[2:], text.replace("  ", " ")):
+            (folder / SUMS).write_text(other)
+            self.assertRaises(Unfit, self.found)
+
+
+class Compared(PrebuiltTest):
+    def test_the_same_bytes(self):
+        self.made()
+        self.assertEqual(self.compared(self.archive, KIT), ([], ""))
+
+    def test_other_bytes(self):
+        self.made()
+        found, out = self.compared(self.built("other.a", 3), KIT)
+        self.assertEqual((len(found), out), (1, ""))
+        self.assertIn("has to be built anew: c/build.sh && python3 tools/prebuilt.py --make", found[0])
+
+    def test_another_toolchain_or_none(self):
+        self.made()
+        for kit, told in ((OTHER_KIT, f"this is {OTHER_KIT}"), (None, "there is no rt on PATH")):
+            found, out = self.compared(self.built("other.a", 3), kit)
+            self.assertEqual(found, [])
+            self.assertEqual(out, f"prebuilt: nothing was compared: {FOLDER} was built by {KIT}, and {told}\n")
+
+    def test_an_archive_that_is_not_there(self):
+        self.made()
+        found, _ = self.compared(self.top / "none.a", KIT)
+        self.assertIn("to compare with: c/build.sh builds it", found[0])
+
+
+class Headers(unittest.TestCase):
+    def test_the_calls_of_the_header(self):
+        found = prebuilt.calls_in((TOP / HEADER).read_text(encoding="utf-8"))
+        self.assertLessEqual({"weedle_syntax", "weedle_explain", "weedle_format", "weedle_rules"}, found)
+        self.assertFalse({it for it in found if it.endswith("_answer")})
+        self.assertEqual(prebuilt.calls_in(DECLARED), {"weedle_syntax", "weedle_rule_name", "weedle_count"})
+
+    def test_versions(self):
+        self.assertEqual(prebuilt.version_in("#define WEEDLE_VERSION 0x01020f\n"), "1.2.15")
+
+
+if __name__ == "__main__":
+    unittest.main()
