@@ -5,8 +5,9 @@
 
 The times stand in docs/gate_times.json, as `tools/gate_times.py --json` writes them, with their date and
 machine. The table stands between a line `<!-- times: written by tools/gate_page.py -->` and the next
-`<!-- end -->`: what each crate takes, and, by the lists of crates.txt, how many crates stand on it, and
-what a change of it costs, all in minutes.
+`<!-- end -->`: what each crate takes, in minutes, a static library in the column of programs; the most
+memory that one of its tasks takes, in GB; and, by the lists of crates.txt, how many crates stand on it,
+and what a change of it costs, in minutes.
 
 With --check nothing is written: a line says that the table is stale, and the status is 1.
 """
@@ -32,7 +33,11 @@ def wrong_bodies(edits):
     return f"{minutes(seconds)} ({count})" if count else ""
 
 
-HEADS = "Crate|Proof|By the clock|Tests|Wrong bodies|Program|Above|A change|Longest chain".split("|")
+def most_memory(times, name):
+    return max((kind.get(name, 0) for kind in times.get("memory", {}).values()), default=0)
+
+
+HEADS = "Crate|Proof|By the clock|Tests|Wrong bodies|Program|GB|Above|A change|Longest chain".split("|")
 
 
 def times_table(gate, times):
@@ -44,11 +49,14 @@ def times_table(gate, times):
     parts = ("proof", "clock", "tests", "edits", "programs")
     for name in gate.rows:
         proof, clock, tests, edits, program = (times.get(it, {}).get(name) for it in parts)
+        program = (program or 0) + times.get("library", {}).get(name, 0)
         cells = [minutes(proof), minutes(clock), minutes(tests), wrong_bodies(edits), minutes(program)]
+        most = most_memory(times, name)
+        cells.append(f"{most:.1f}" if most else "")
         yield f"| `{name}` | {' | '.join([*cells, *cost_of(gate, name)])} |"
-    sums = [sum(times[it].values()) for it in ("proof", "tests", "programs")]
+    sums = [sum(times.get(it, {}).values()) for it in ("proof", "tests", "programs", "library")]
     edits = sum(it[1] for it in times["edits"].values())
-    cells = [minutes(sums[0]), "", minutes(sums[1]), minutes(edits), minutes(sums[2]), "", "", ""]
+    cells = [minutes(sums[0]), "", minutes(sums[1]), minutes(edits), minutes(sums[2] + sums[3]), "", "", "", ""]
     yield f"| all of these | {' | '.join(cells)} |"
 
 

@@ -27,9 +27,16 @@ class TestTables(unittest.TestCase):
         rows = [*gate_page.times_table(self.gate, times)]
         self.assertEqual(rows[0], "Of 2026-11-28, on a machine:")
         self.assertIn("| `low` | 1.0 | 1.5 |  | 1.7 (2) |  | ", "\n".join(rows))
-        self.assertIn("| `top` | 2.0 |  | 1.0 |  | 1.0 | 0 | 4 | 4 |", rows)
-        self.assertEqual(rows[-1], "| all of these | 48.0 |  | 1.0 | 1.7 | 1.0 |  |  |  |")
-        self.assertEqual({row.count("|") for row in rows[2:]}, {10})
+        self.assertIn("| `top` | 2.0 |  | 1.0 |  | 1.0 |  | 0 | 4 | 4 |", rows)
+        self.assertEqual(rows[-1], "| all of these | 48.0 |  | 1.0 | 1.7 | 1.0 |  |  |  |  |")
+        self.assertEqual({row.count("|") for row in rows[2:]}, {11})
+
+    def test_a_static_library_and_memory_have_their_columns(self):
+        memory = {"proof": {"top": 1.24}, "tests": {"top": 2.26}}
+        more = {"library": {"top": 60}, "memory": memory, "date": "2026-11-28", "machine": "a machine"}
+        rows = [*gate_page.times_table(self.gate, {**TIMES, **more})]
+        self.assertIn("| `top` | 2.0 |  | 1.0 |  | 2.0 | 2.3 | 0 | 4 | 4 |", rows)
+        self.assertEqual(rows[-1], "| all of these | 48.0 |  | 1.0 | 1.7 | 2.0 |  |  |  |  |")
 
     def test_only_what_stands_between_the_marks_is_written(self):
         new = gate_page.written(PAGE, {"times": ["| a |", "| b |"]})
