@@ -11,7 +11,6 @@ set -eu
 [ "${1:-}" != --help ] || { sed -n '2,${/^#/!q;s/^# \{0,1\}//p}' "$0"; exit; }
 
 top=$(cd "$(dirname "$0")/.." && pwd)
-[ -z "${PROVED:-}" ] || exit 0
 copy=$(mktemp -d)
 beside=
 case " $* " in
