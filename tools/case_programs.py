@@ -2,6 +2,7 @@
 
 import os
 import subprocess
+import sys
 from pathlib import Path
 
 from case_files import compact
@@ -11,6 +12,8 @@ PROGRAMS = ("weedle_check", "weedle_list")
 BUILDS = ("", ".by-rattle")
 # How many seconds a program may run.
 SECONDS, TRIED_SECONDS = 300, 1_500
+# What compiles and runs a program that isn't built.
+TRY = (sys.executable, str(Path(__file__).resolve().parent / "try_alone.py"))
 
 
 class NoUse(Exception):
@@ -59,11 +62,11 @@ class Tried:
     def run(self, words, names=(), room=None, given=b""):
         """How it ended with these arguments and files; what is on standard error is rt's."""
         data = [word for name in dict.fromkeys(names) for word in ("--data", f"{name}={room}/{name}")]
-        words = ["rt", "try", "--seconds", str(TRIED_SECONDS), *data, "--", *words, *names]
+        words = [*TRY, "--seconds", str(TRIED_SECONDS), *data, "--", *words, *names]
         try:
             ended = subprocess.run(words, input=given, capture_output=True, cwd=self.crate, check=False)
         except OSError as fault:
-            raise NoUse(f"rt: {fault.strerror}") from None
+            raise NoUse(f"{self.crate}: {fault.strerror}") from None
         if b"run=ended" not in ended.stderr:
             raise NoUse(f"rt try gave no answer: {ended.stderr.decode(errors='replace')[-600:]}")
         return subprocess.CompletedProcess(words, ended.returncode, ended.stdout, b"")

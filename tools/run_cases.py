@@ -29,7 +29,7 @@ import tempfile
 from concurrent.futures import ThreadPoolExecutor
 from pathlib import Path
 
-from case_files import TESTS, cases_of, compact, folders
+from case_files import TESTS, cases_of, compact, folders, numbered
 from case_programs import PROGRAMS, Built, Failure, NoUse, Tried, compared, programs_at, told
 from case_runs import RUNS, runs
 from command_line import parser_of
@@ -294,9 +294,17 @@ def run_folder(program, kind, folder, cases, wanted):
     return list_texts(program, cases if folder in LISTED else cases[::wanted.every])
 
 
+def together(chosen):
+    """The cases of all folders as those of one, by other names: what is only tried is compiled at each call."""
+    cases = [(case.text, case.wanted) for found in chosen.values() for case in found]
+    return {", ".join(chosen): numbered(cases)}
+
+
 def run_program(program, kind, wanted, chosen):
     """Runs all chosen cases through a program: how many passed and failed."""
     passed = failed = 0
+    if isinstance(program, Tried):
+        chosen = together(chosen)
     for folder, cases in chosen.items():
         failures, count = run_folder(program, kind, folder, cases, wanted)
         passed, failed = passed + count - len(failures), failed + len(failures)
@@ -315,6 +323,8 @@ def chosen_cases(wanted):
     for name in names:
         if name not in there:
             raise NoUse(f"tests has no {name}")
+        if name in (RUNS, "real") and wanted.tried:
+            raise NoUse(f"{name} is run with a program that is built")
         if name == "real" and not wanted.real:
             raise NoUse("real files are run with --real FOLDER alone")
     found = {name: [] if name == RUNS else cases_of(name, wanted.tests) for name in names}

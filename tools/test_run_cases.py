@@ -15,6 +15,7 @@ import unittest
 from pathlib import Path
 from unittest import mock
 
+import case_programs
 import case_runs
 import run_cases
 import row_hints
@@ -52,6 +53,17 @@ LIST = """
 answer = answers[sys.stdin.read()]
 sys.stdout.write(answer["outline" if sys.argv[1:] else "list"])
 sys.exit(answer["is_refused"])
+"""
+# In the place of rt: it runs the program over the files that it is given, and notes that it was called.
+TRIED = """#!{python} -SE
+import os, subprocess, sys
+with open({calls!r}, "a") as it:
+    it.write("called\\n")
+cut = sys.argv.index("--")
+rooms = {{os.path.dirname(word.partition("=")[2]) for word in sys.argv[1:cut] if "=" in word}}
+ran = subprocess.run([{program!r}, *sys.argv[cut + 1:]], cwd=rooms.pop())
+print("run=ended", file=sys.stderr)
+sys.exit(ran.returncode)
 """
 
 
@@ -107,6 +119,18 @@ class Cases(unittest.TestCase):
         file.write_text(head + (LIST if name == "weedle_list" else CHECK), encoding="utf-8")
         file.chmod(0o755)
         return str(file)
+
+    def tried(self, *words, wrong=None):
+        """The same as of `ended`, of the crate of weedle_check in the place of a program, and how often it was compiled."""
+        crate, script, calls = (self.room / name for name in ("weedle_check", "try", "calls"))
+        (crate / "src").mkdir(parents=True)
+        (crate / "src/main.rt").touch()
+        program = self.program("weedle_check_itself", wrong)
+        script.write_text(TRIED.format(python=sys.executable, calls=str(calls), program=program), encoding="utf-8")
+        script.chmod(0o755)
+        with mock.patch.object(case_programs, "TRY", (str(script),)):
+            said = self.ended("--try", str(crate), *words)
+        return *said, len(calls.read_text().splitlines()) if calls.exists() else 0
 
     def ended(self, *words):
         """The status, and what is printed on both outputs."""
@@ -169,6 +193,20 @@ class Cases(unittest.TestCase):
             status, out, err = self.ended(*words)
             self.assertEqual((status, out), (2, ""), words)
             self.assertTrue(err.startswith("run_cases: "), words)
+
+    def test_all_folders_in_one_run_of_a_program_that_is_tried(self):
+        cases = numbered((text, wanted_of(text, None)) for text in TEXTS[:2])
+        (self.room / archive_of("other")).write_bytes(packed(cases))
+        said = self.tried()
+        self.assertEqual(said, (0, "weedle_check, other, some: 8 passed, 0 failed\n8 passed, 0 failed\n", "", 1))
+
+    def test_a_value_that_is_wrong_of_a_program_that_is_tried(self):
+        status, out, _, calls = self.tried("some", wrong="value")
+        self.assertEqual((status, out.splitlines()[-1], calls), (1, "5 passed, 1 failed", 1))
+
+    def test_what_is_not_for_a_program_that_is_tried(self):
+        said = self.tried("runs")
+        self.assertEqual(said, (2, "", "run_cases: runs is run with a program that is built\n", 0))
 
     def test_some_bytes_of_all(self):
         _, out, _ = self.ended(self.program("weedle_check"), "some", "--most", "40")

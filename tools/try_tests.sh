@@ -4,11 +4,11 @@
 #     tools/try_tests.sh [-j N] [CRATE..]
 #
 # A crate has tests where a file below its src/ has `#[test]`; names of crates limit the run to
-# these. Each is run by `rt try --test` in its folder. Beside them 50 kB of the texts in tests/ are
-# run through weedle_check, in one process, by tools/run_cases.py: that is called `cases`, and may
-# be named as a crate is. N crates run at once, or as many as the variable TRY_JOBS says; else one
-# for every two processors, which `rt try` keeps busy, and for every 3,000 MB of free memory. Runs
-# side by side share nothing but the sources.
+# these. Each is run by `rt try --test` in its folder, without the check that `rt` runs beside a try
+# (tools/try_alone.py). Beside them 50 kB of the texts in tests/ are run through weedle_check, which
+# is compiled once for that, by tools/run_cases.py: that is called `cases`, and may be named as a
+# crate is. N crates run at once, or as many as the variable TRY_JOBS says; else one for every
+# processor, and for every 3,000 MB of free memory. Runs side by side share nothing but the sources.
 #
 # It needs bash 5.1, Python 3.11, the toolchain's command `rt` on PATH, and 3,000 MB. It leaves
 # nothing behind.
@@ -33,8 +33,14 @@ stop() {
     exit 2
 }
 
+# In the order of crates.txt, where the one that takes longest comes first.
 crates_with_tests() {
-    grep -rlF --include='*.rt' '#[test]' crates/*/src | cut -d/ -f2 | sort -u
+    local crate
+    while IFS=': ' read -r crate _; do
+        if grep -rqF --include='*.rt' '#[test]' "crates/$crate/src"; then
+            echo "$crate"
+        fi
+    done < <(grep -v '^#' crates.txt)
 }
 
 jobs_that_fit() {
@@ -42,7 +48,7 @@ jobs_that_fit() {
     free=$(awk '/^MemAvailable:/ { print int($2 / 1024) }' /proc/meminfo)
     [ "$free" -ge "$MEGABYTES_EACH" ] ||
         stop "$free MB of memory are free, and a crate's tests need $MEGABYTES_EACH"
-    jobs=$((($(nproc) + 1) / 2))
+    jobs=$(nproc)
     echo $((free / MEGABYTES_EACH < jobs ? free / MEGABYTES_EACH : jobs))
 }
 
@@ -51,7 +57,7 @@ try_crate() {
     if [ "$1" = "$CASES" ]; then
         exec python3 tools/run_cases.py --try crates/weedle_check --most "$CASE_BYTES"
     fi
-    cd "crates/$1" && exec rt try --test --seconds "$SECONDS_EACH"
+    cd "crates/$1" && exec python3 ../../tools/try_alone.py --test --seconds "$SECONDS_EACH"
 }
 
 start() {

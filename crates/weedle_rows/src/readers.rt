@@ -78,7 +78,9 @@ fn each_node_of_the_tree_is_visited_once(rt: HostRuntime) -> Result<(), Fail> {
     Ok(())
 }
 
-/// The counts are by hand: how many rules there are at each place.
+/// The counts are by hand: how many rules there are at each place. A place takes milliseconds where
+/// accesses are checked, so texts of 300 kB of these kinds are for the built programs:
+/// `tests/memory.toml` has them.
 #[test]
 fn long_texts_are_read_in_bounded_steps(rt: HostRuntime) -> Result<(), Fail> {
     let alloc = rt.alloc();
@@ -94,13 +96,13 @@ fn long_texts_are_read_in_bounded_steps(rt: HostRuntime) -> Result<(), Fail> {
     assert_read(&rt, alloc, &text, read)?;
     let text = repeated(alloc, "typedef ", "(", 1_000, "")?;
     assert_read(&rt, alloc, &text, Outcome::Left(&text))?;
-    let text = repeated(alloc, "", "/* ", 1_000, "")?;
+    let text = repeated(alloc, "", "/* ", 100, "")?;
     assert_read(&rt, alloc, &text, Outcome::Left(&text))?;
     let (_, counts) = counted(alloc, &text);
-    assert_eq!(rt; counts.workings, RULES as u128 * 3_001);
-    assert!(rt; counts.workings <= 1_200_400);
-    let text = repeated(alloc, "enum E {", "\"a\",", 10_000, "};")?;
-    assert_eq!(rt; text.len(), 40_010);
+    assert_eq!(rt; counts.workings, RULES as u128 * 301);
+    assert!(rt; counts.workings <= 120_400);
+    let text = repeated(alloc, "enum E {", "\"a\",", 300, "};")?;
+    assert_eq!(rt; text.len(), 1_210);
     assert_read(&rt, alloc, &text, Outcome::Read(1))?;
     Ok(())
 }
