@@ -8,8 +8,7 @@ ghost use Rattle.weedle_base.specs.Own.{own};
 ghost use Rattle.weedle_base.specs.OwnLaws.{own_lawful};
 
 use std::alloc::{AllocError, Global};
-use weedle_base::identifier;
-use weedle_base::{IResult, Parse, TryClone, mismatch};
+use weedle_base::{IResult, Parse, TryClone, identifier, mismatch};
 
 /// A name, as `Window`, kept without the underscore that may stand before it, as in `_interface`.
 /// Any other text, as `__x` or `9a`, is a mismatch. It takes no memory and never gives a failure.
