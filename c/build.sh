@@ -13,6 +13,5 @@ top=$(cd "$(dirname "$0")/.." && pwd)
 out=$top/c/out
 
 "$top/c/prove.sh" "$@"
-mkdir -p "$out"
 "$top/c/join.sh" "$top/crates/weedle_c/out/libweedle_c.a" "$out/libweedle.a"
 echo "built $out/libweedle.a"

@@ -26,4 +26,5 @@ trap 'rm -rf "$room"' EXIT
 cp "$1" "$room/crate.a"
 cp "$kit/c/liblibc_c.a" "$room/part.a"
 (cd "$room" && printf 'create whole.a\naddlib crate.a\naddlib part.a\nsave\nend\n' | "$kit/toolchain/bin/llvm-ar" -M)
+mkdir -p "$(dirname "$2")"
 cp "$room/whole.a" "$2"

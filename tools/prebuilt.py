@@ -79,8 +79,8 @@ def version_in(header: str) -> str:
 
 
 def calls_in(header: str) -> set[str]:
-    """The calls that a header declares."""
-    return set(re.findall(r"^[a-z][\w ]*[ *](weedle_\w+)\(", header, re.MULTILINE))
+    """The calls that a header declares, but for those that it defines, which are static."""
+    return set(re.findall(r"^(?!static )[a-z][\w ]*[ *](weedle_\w+)\(", header, re.MULTILINE))
 
 
 def kit() -> str | None:
@@ -134,6 +134,8 @@ def make(top: Path, archive: Path, found: str | None) -> None:
     folder.mkdir(parents=True, exist_ok=True)
     shutil.copyfile(archive, folder / ARCHIVE)
     subprocess.run([top / "c/link_shared.sh", folder / ARCHIVE, folder / SHARED], check=True)
+    for name in (ARCHIVE, SHARED):
+        (folder / name).chmod(0o644)
     version = version_in((top / HEADER).read_text(encoding="utf-8"))
     files = {name: sum_of(folder / name) for name in (ARCHIVE, SHARED)}
     (folder / SUMS).write_text(Sums(version, found, files).text(), encoding="utf-8")

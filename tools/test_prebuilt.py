@@ -28,7 +28,7 @@ uint32_t weedle_syntax(
 
 /* weedle_gone(1) is no call. */
 const char *weedle_rule_name(uint32_t rule);
-static const int weedle_count(void);
+static inline int weedle_count(void) {{
 """
 CODE = "int weedle_syntax(void) {{ return {number}; }} int weedle_rule_name(void) {{ return 2; }} int rattle_alloc;"
 
@@ -49,7 +49,7 @@ class PrebuiltTest(unittest.TestCase):
 
     def declare(self, version="0x000a02", more=""):
         """Writes the header."""
-        text = DECLARED.format(version=version).replace("static const int weedle_count(void);\n", more)
+        text = DECLARED.format(version=version).replace("static", f"{more}static")
         (self.top / HEADER).write_text(text)
 
     def built(self, name, number):
@@ -161,7 +161,7 @@ class Headers(unittest.TestCase):
         found = prebuilt.calls_in((TOP / HEADER).read_text(encoding="utf-8"))
         self.assertLessEqual({"weedle_syntax", "weedle_explain", "weedle_format", "weedle_rules"}, found)
         self.assertFalse({it for it in found if it.endswith("_answer")})
-        self.assertEqual(prebuilt.calls_in(DECLARED), {"weedle_syntax", "weedle_rule_name", "weedle_count"})
+        self.assertEqual(prebuilt.calls_in(DECLARED), {"weedle_syntax", "weedle_rule_name"})
 
     def test_versions(self):
         self.assertEqual(prebuilt.version_in("#define WEEDLE_VERSION 0x01020f\n"), "1.2.15")
