@@ -34,7 +34,7 @@ run_tests() {
         exit 1
     }
     sed -n "s/^Ran /$name: /p" "$room/log"
-    sed -n "s/^\([^ ]*\) .*skipped '\(.*\)'$/left out by $name: \1, since \2/p" "$room/log" >>"$left"
+    sed -n "s/^\([^ ]*\) .*skipped [\"']\(.*\)[\"']$/left out by $name: \1, since \2/p" "$room/log" >>"$left"
 }
 
 command -v python3 >/dev/null || {

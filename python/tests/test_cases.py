@@ -45,21 +45,28 @@ def in_ports_words(value):
 
 
 def lines_of(cases):
-    """What is written of texts that are read."""
-    values = [value for case in cases for value in case.wanted["value"]]
-    return [json.dumps(in_ports_words(it), ensure_ascii=False) for it in values]
+    """What is written of texts that are read, with the file of each where there are several."""
+    for case in cases:
+        for value in case.wanted["value"]:
+            line = json.dumps(in_ports_words(value), ensure_ascii=False)
+            yield f'{{"file":"{file_of(case)}","definition":{line}}}' if len(cases) > 1 else line
+
+
+def file_of(case):
+    """The name of the file of a case."""
+    return f"{case.name}.webidl"
 
 
 def written(cases):
     """What the program writes of these texts."""
     with tempfile.TemporaryDirectory() as room:
-        names = [f"{room}/{case.name}.webidl" for case in cases]
-        for name, case in zip(names, cases):
-            Path(name).write_bytes(case.text.encode())
+        for case in cases:
+            Path(room, file_of(case)).write_bytes(case.text.encode())
         done = subprocess.run(
-            [sys.executable, "-m", "weedle", "--json", *names], capture_output=True, check=False, cwd=HOME
+            [sys.executable, "-m", "weedle", "--json", *map(file_of, cases)], capture_output=True, check=False, cwd=room,
+            env={**os.environ, "PYTHONPATH": str(HOME)},
         )
-    return done.returncode, done.stdout, done.stderr
+    return done.returncode, done.stdout.decode().split("\n"), done.stderr
 
 
 class Cases(unittest.TestCase):
@@ -73,8 +80,9 @@ class Cases(unittest.TestCase):
             for start in range(0, len(whole), TOGETHER):
                 some = whole[start:start + TOGETHER]
                 with self.subTest(folder, start=start):
-                    expected = "".join(f"{line}\n" for line in lines_of(some))
-                    self.assertEqual(written(some), (0, expected.encode(), b""))
+                    status, lines, err = written(some)
+                    self.assertEqual((status, err), (0, b""))
+                    self.assertEqual(lines, [*lines_of(some), ""])
 
     def test_where_each_definition_begins(self):
         for folder in FOLDERS:

@@ -41,7 +41,7 @@ def run(words, home=HOME, **more):
     """Runs Python with these variables, those that name a shared object left out."""
     others = {name: it for name, it in os.environ.items() if name not in (VARIABLE, "PYTHONPATH")}
     return subprocess.run(
-        [sys.executable, "-c", words], capture_output=True, text=True, check=False,
+        [sys.executable, "-c", words], capture_output=True, text=True, check=False, cwd=home,
         env={**others, "PYTHONPATH": str(home), **more},
     )
 
