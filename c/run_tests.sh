@@ -1,6 +1,6 @@
 #!/bin/sh
-# Tests the C library that c/build.sh built, or where it built none the one in prebuilt/, and runs the examples in C, C++
-# and Rust.
+# Tests the C library that c/build.sh built, or where it built none the one in prebuilt/, and runs the examples in C,
+# C++ and Rust.
 #
 #     c/run_tests.sh
 #

@@ -27,7 +27,9 @@ PREBUILT = "prebuilt/x86_64-linux/libweedle.so"
 # What a source distribution holds beside the package and the LICENSE.
 SOURCES = ("pyproject.toml", "README.md", "build_backend.py", "shared_object.py")
 # Those of its tests that want nothing of the repository.
-TESTS = ("support.py", "test_library.py", "test_package.py", "test_program.py", "test_worked_nodes.py")
+TESTS = (
+    "support.py", "test_library.py", "test_package.py", "test_program.py", "test_worked_nodes.py",
+)
 # The oldest glibc that a tag can name.
 OLDEST = (2, 5)
 
@@ -76,7 +78,8 @@ def library() -> bytes:
         if place.exists():
             return place.read_bytes()
     raise SystemExit(
-        f"there is no {' and no '.join(map(str, places))}: python/build.sh of the repository makes one. "
+        f"there is no {' and no '.join(map(str, places))}: python/build.sh of the repository makes "
+        "one. "
         "(A pip before 21.3 copies this folder elsewhere, and finds that beside the package alone.)"
     )
 
@@ -84,10 +87,13 @@ def library() -> bytes:
 def tag(shared: bytes) -> str:
     """What a wheel with this shared object is for: the oldest glibc that has what it wants."""
     wanted = SharedObject(shared).wants()
-    found = [re.fullmatch(r"GLIBC_(\d+)\.(\d+)(?:\.\d+)?", it) for names in wanted.values() for it in names]
-    if not all(found):
-        return "py3-none-linux_x86_64"
-    major, minor = max([OLDEST, *((int(it[1]), int(it[2])) for it in found if it)])
+    versions = [OLDEST]
+    for name in (it for names in wanted.values() for it in names):
+        found = re.fullmatch(r"GLIBC_(\d+)\.(\d+)(?:\.\d+)?", name)
+        if not found:
+            return "py3-none-linux_x86_64"
+        versions.append((int(found[1]), int(found[2])))
+    major, minor = max(versions)
     return f"py3-none-manylinux_{major}_{minor}_x86_64"
 
 
@@ -164,7 +170,8 @@ def build_editable(
 
 def build_sdist(sdist_directory: str, config_settings: Optional[dict] = None) -> str:
     """Writes the sources: the package, tests, and the shared object as it was built."""
-    files = {it: (HOME / it).read_bytes() for it in [*SOURCES, *(f"tests/{name}" for name in TESTS)]}
+    names = [*SOURCES, *(f"tests/{name}" for name in TESTS)]
+    files = {name: (HOME / name).read_bytes() for name in names}
     files.update(modules())
     files.update({LIBRARY: library(), "LICENSE": license_(), "PKG-INFO": about()})
     with tarfile.open(Path(sdist_directory) / f"{stem()}.tar.gz", "w:gz") as sources:

@@ -1,12 +1,13 @@
-"""What a shared object says of itself: which calls it exports, and which versions of other libraries it wants.
+"""What a shared object says of itself: what it exports, and what it wants of other libraries.
 
-It reads the tables that the loader reads, of an ELF file for 64 bits, least byte first, as on x86-64.
+It reads the tables of an ELF file for 64 bits whose numbers begin with their least byte, as on
+x86-64.
 """
 
 from __future__ import annotations
 
 import struct
-from typing import Dict, Iterator, NamedTuple, Set
+from typing import Dict, Iterator, NamedTuple, Set, Tuple
 
 MAGIC = b"\x7fELF\x02\x01"
 # The kinds of sections that are read.
@@ -61,9 +62,10 @@ class SharedObject:
 
     def wants(self) -> Dict[str, Set[str]]:
         """The libraries that it wants, each with its versions, as {"libc.so.6": {"GLIBC_2.14"}}."""
-        return dict(it for section in self._of_kind(NEEDED_VERSIONS) for it in self._libraries(section))
+        tables = self._of_kind(NEEDED_VERSIONS)
+        return {name: names for table in tables for name, names in self._libraries(table)}
 
-    def _libraries(self, section: Section) -> Iterator[tuple]:
+    def _libraries(self, section: Section) -> Iterator[Tuple[str, Set[str]]]:
         place, following = section.start, 1
         while following:
             _, count, file, first, following = VERSION.unpack_from(self.data, place)

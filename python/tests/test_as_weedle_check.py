@@ -1,4 +1,4 @@
-"""The program `python3 -m weedle` beside weedle_check: what tests/runs.toml has of the runs of that without an option."""
+"""The program `python3 -m weedle` as weedle_check: the runs of that without an option, in tests/runs.toml."""
 
 import sys
 import tempfile

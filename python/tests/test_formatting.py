@@ -32,8 +32,12 @@ LONG = [
 ]
 
 # Texts of whitespace and comments alone, and texts that only look so.
-BLANK = ["", " ", "\n\n", "\t\r\n", "// a", "// a\n", "/* a */", "/**/", "/***/", " /* a\n */ // b\n//\n", "// \u00e9 */"]
-NOT_BLANK = ["/* a", "/*/", "/", "/// a\n", "//// a\n", "// a\n;", "/* a */ x */", "\f", "\ufeff", "\ufeff// a\n", "\0", "/ /"]
+BLANK = [
+    "", " ", "\n\n", "\t\r\n", "// a", "// a\n", "/* a */", "/**/", "/***/", " /* a\n */ // b\n//\n", "// \u00e9 */",
+]
+NOT_BLANK = [
+    "/* a", "/*/", "/", "/// a\n", "//// a\n", "// a\n;", "/* a */ x */", "\f", "\ufeff", "\ufeff// a\n", "\0", "/ /",
+]
 
 
 def begins_behind(text):

@@ -99,7 +99,8 @@ class Program(unittest.TestCase):
             other.write_bytes(b"Request includes Body;")
             self.assertEqual(run("--json", one)[1], f"{INCLUDES}\n{INCLUDES}\n")
             self.assertEqual(run("--json", one, other), (0, 2 * named(one) + named(other), ""))
-            rows = [json.loads(row) for row in run("--json", other, "-", given=b"Request includes Body;")[1].split("\n")[:-1]]
+            _, out, _ = run("--json", other, "-", given=b"Request includes Body;")
+            rows = [json.loads(row) for row in out.splitlines()]
         self.assertEqual([row["file"] for row in rows], [str(other), "<stdin>"])
         self.assertEqual([row["definition"] for row in rows], 2 * [json.loads(INCLUDES)])
 

@@ -19,7 +19,7 @@ from weedle import (
     _readers, argument, attribute, common, dictionary, interface, literal, mixin, namespace, term,
     types,
 )
-from weedle._formatting import format
+from weedle._formatting import format as format  # given by this name, though not by `import *`
 from weedle._reading import tree_of
 from weedle._text import Position, Span
 from weedle._values import Choice, Terminal, Value, made

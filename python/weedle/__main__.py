@@ -166,7 +166,9 @@ def arguments(words: Optional[Sequence[str]]) -> argparse.Namespace:
             help=words_,
         )
     parser.add_argument("--version", action="version", version=f"%(prog)s {__version__}")
-    parser.add_argument("files", metavar="FILE", nargs="*", help="else standard input is read, as by -")
+    parser.add_argument(
+        "files", metavar="FILE", nargs="*", help="else standard input is read, as by -",
+    )
     return parser.parse_intermixed_args(words)
 
 
@@ -177,7 +179,7 @@ def main(words: Optional[Sequence[str]] = None) -> int:
     if sys.stdout is None:
         print("cannot write output", file=sys.stderr)
         return Status.UNWRITTEN
-    # with PYTHONUNBUFFERED `sys.stdout.buffer` may take a part of what is written, and say so to nobody
+    # with PYTHONUNBUFFERED `sys.stdout.buffer` may take a part of what is written, and tell nobody
     out = open(sys.stdout.fileno(), "wb", closefd=False)
     try:
         return Run(wanted.write, out, len(files) > 1).read_all(files)
