@@ -134,8 +134,8 @@ class Room(unittest.TestCase):
         self.assertEqual(_call(data, count)[0], READ)
 
     def test_a_dense_text_is_read_once(self):
-        for times in (1, 2_000):
-            data = dense(times)
+        densest = b"interface A{" + b"A((A)a);" * 2_000 + b"};"
+        for data in (dense(1), dense(2_000), densest):
             with mock.patch.object(_library, "_call", wraps=_call) as calls:
                 numbers = read_nodes(data)
             self.assertGreater(len(numbers) // len(FIELDS), 2 * len(data))

@@ -24,8 +24,8 @@ FIELDS = ("rule", "depth", "start", "end")
 NODE_SIZE = len(FIELDS) * ctypes.sizeof(NUMBER)
 # What `weedle_syntax` answers.
 READ, REFUSED, NOT_UTF8, NO_MEMORY, NO_ROOM, TOO_LONG = range(6)
-# How many nodes there is room for at first: dense texts have up to eight for a byte.
-NODES_A_BYTE, LEAST_NODES = 9, 64
+# How many nodes there is room for at first: the densest text that was found has 9.3 for a byte.
+NODES_A_BYTE, LEAST_NODES = 12, 64
 # Room of more bytes is taken page by page as it is written to, and none is kept free for it before:
 # Python names that flag of Linux from 3.13 on.
 LARGE = 1 << 17
