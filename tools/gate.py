@@ -11,12 +11,13 @@ behind it begins first, and a proof of four minutes or more on the longest chain
 processors, or three where it takes half an hour, if memory holds that. What is next on the longest chain finds its
 memory: nothing begins that would be in its way. What a task takes is what was measured of it, and a tenth more.
 
-A wrong body that names the function which it turns is tried by that function alone (tools/gate_edits.py). Before all else
-the layout of all sources is looked at, which `rt ci` does crate by crate: where one isn't laid out, nothing is proved.
+A wrong body that names the function which it turns is tried by that function alone (tools/gate_edits.py). Before all
+else the layout of all sources is looked at, which `rt ci` does crate by crate: where one isn't laid out, nothing is
+proved.
 
-With --library the static library of the crate weedle_c is built as FILE, for any x86-64 processor, over the libraries as
-`rt ci` has just proved and built them. Where that fails what was said is printed, and there is no FILE; the status is the
-same.
+With --library the static library of the crate weedle_c is built as FILE, for any x86-64 processor, over the libraries
+as `rt ci` has just proved and built them. Where that fails what was said is printed, and there is no FILE; the status
+is the same.
 
 Where `rt` has another scheduler than the one that is known here, or can't be read as Python, it is plain `rt ci`,
 there is no FILE, and a line says so. The status is that of `rt ci`. `rt ci` itself gives the same verdict, later.
