@@ -11,11 +11,13 @@ behind it begins first, and a proof of four minutes or more on the longest chain
 processors, or three where it takes half an hour, if memory holds that. What is next on the longest chain finds its
 memory: nothing begins that would be in its way. What a task takes is what was measured of it, and a tenth more.
 
-A wrong body that names the function which it turns is tried by that function alone (tools/gate_edits.py).
+A wrong body that names the function which it turns is tried by that function alone (tools/gate_edits.py). Before all
+else the layout of all sources is looked at, which `rt ci` does crate by crate: where one isn't laid out, nothing is
+proved.
 
 With --library the static library of the crate weedle_c is built as FILE, for any x86-64 processor, over the libraries
-as `rt ci` has just proved and built them. Where that fails what was said is printed, and there is no FILE; the status is
-the same.
+as `rt ci` has just proved and built them. Where that fails what was said is printed, and there is no FILE; the status
+is the same.
 
 Where `rt` has another scheduler than the one that is known here, or can't be read as Python, it is plain `rt ci`,
 there is no FILE, and a line says so. The status is that of `rt ci`. `rt ci` itself gives the same verdict, later.
@@ -278,6 +280,14 @@ def is_known(rt):
     return given == ["tasks"] and task in words and all(map(callable, calls))
 
 
+def out_of_layout(rt):
+    """The crates that `rt ci` would refuse for their layout, some of them after hours. It says of each file that it is."""
+    try:
+        return [it.name for it in rt.crates_of(os.getcwd()) if rt.rtlib.fmt(it.folder, "--check", sys.stdout)]
+    except AttributeError:
+        return []
+
+
 def main():
     parser = argparse.ArgumentParser(
         description=__doc__, formatter_class=argparse.RawDescriptionHelpFormatter
@@ -293,6 +303,10 @@ def main():
     if rt is None or not is_known(rt):
         print("gate.py: this rt has another scheduler, so it keeps its own order", flush=True)
         return subprocess.run(["rt", "ci"], check=False).returncode
+    refused = out_of_layout(rt)
+    if refused:
+        print(f"gate.py: run rt fmt in {' '.join(refused)}\n0 passed, {len(refused)} failed")
+        return 1
     gate_edits.replace(rt)
     times = times_in(TIMES)
     rt.in_lanes = scheduler(rt, measured(times), remembered(times), library and library.resolve())

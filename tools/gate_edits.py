@@ -1,9 +1,9 @@
 """How tools/gate.py tries wrong bodies: by the function that each turns, and not by a proof of the whole crate.
 
-An edit has a line `# only: PATH` where it is tried so. PATH names a function as `rattle check --only` takes it, and the
-edited crate is checked for that function and what it calls alone. Where that isn't proved, the crate isn't either. First
-the same functions are checked in the crate as it stands, once for all edits of a crate: where one isn't proved there,
-or can't be found, and where an edit isn't refused, `rt` tries the edit over the whole crate as it does any other.
+An edit has a line `# only: PATH` where it is tried so. PATH names a function as `rattle check --only` takes it, and
+the edited crate is checked for that function and what it calls alone. Where that isn't proved, the crate isn't
+either. First the same functions are checked in the crate as it stands, once for all edits of a crate. Where one isn't
+proved there, or can't be found, and where an edit isn't refused, `rt` tries the edit over the whole crate as any other.
 """
 
 import functools
@@ -37,7 +37,7 @@ def is_refused(said):
 
 
 def with_verdict(checked):
-    """rt's check of an edited crate, whose last line says as that of a whole check does where a function isn't proved."""
+    """rt's check of an edited crate. Its last line is that of a whole check where a function isn't proved."""
 
     @functools.wraps(checked)
     def call(crate, texts, flags, kept):
@@ -91,7 +91,8 @@ class Trial:
         if is_sound:
             kind, said = rt.must_fail(self.crate, edit, [*flags, *words_of(functions_of(edit))])
         if kind != rt.REFUSED:
-            rt.say(f"{self.crate.name}/{Path(edit).name}: not refused by its functions alone, so tried over the whole crate")
+            name = f"{self.crate.name}/{Path(edit).name}"
+            rt.say(f"{name}: not refused by its functions alone, so tried over the whole crate")
             kind, said = rt.must_fail(self.crate, edit, flags)
         if kind in rt.SETTLED and self.kept.is_untouched(self.crate):
             self.kept.keep_tried(self.name(number), kind, said)

@@ -13,7 +13,7 @@ from contextlib import nullcontext, redirect_stdout
 from io import StringIO
 from pathlib import Path
 
-from gate import Order, is_known, known, load, measured, remembered, run_all, scheduler, with_library
+from gate import Order, is_known, known, load, measured, out_of_layout, remembered, run_all, scheduler, with_library
 
 GB = 10**9
 TIMES = {("low", "proof"): 60, ("long", "proof"): 2400, ("side", "proof"): 500, ("top", "proof"): 300}
@@ -232,6 +232,13 @@ class Known(unittest.TestCase):
         rt = types.SimpleNamespace(processors=lambda: 4, free=lambda: 20 * GB, ending=nullcontext)
         tasks = rows_of(run.call)
         self.assertEqual(set(scheduler(rt, TIMES)(tasks)), set(tasks))
+
+    def test_crates_out_of_layout_are_named(self):
+        crates = [types.SimpleNamespace(name=it, folder=f"/x/{it}") for it in ("low", "top")]
+        lib = types.SimpleNamespace(fmt=lambda folder, flag, out: folder.endswith("top"))
+        rt = types.SimpleNamespace(crates_of=lambda root: crates, rtlib=lib)
+        self.assertEqual(out_of_layout(rt), ["top"])
+        self.assertEqual(out_of_layout(types.SimpleNamespace()), [])
 
     def test_what_is_no_python_is_not_loaded(self):
         self.assertIsNone(load("/bin/true"))
