@@ -1,5 +1,5 @@
 #!/usr/bin/env python3
-"""Tests try_tests.sh over a repository that is made up, with a command `rt` that is, in a second.
+"""Tests try_tests.sh over a repository that is made up, with a command `rt` that is, in some seconds.
 
     python3 tools/test_try_tests.py
 """
