@@ -46,8 +46,8 @@ TOP = Path(__file__).resolve().parent.parent
 TICKS = os.sysconf("SC_CLK_TCK")
 PAGE = os.sysconf("SC_PAGE_SIZE")
 INTERVAL = 0.5
-# At each which look memory is asked for.
-LOOKS = 4
+# At each which look memory is asked for: of a check of several GB by many jobs this takes the kernel a tenth of a second.
+LOOKS = 40
 KINDS = ("proof", "tests", "edits", "programs", "library")
 # Of a process with less memory than this, in bytes, it isn't counted.
 SMALL = 50_000_000
