@@ -41,7 +41,9 @@ class Worked(unittest.TestCase):
             with self.subTest(it["what"], text=it["text"]):
                 layout = it.get("laid_out", it["text"])
                 self.assertEqual([piece.rstrip() for piece in pieces_of(layout)], [piece.rstrip() for piece in pieces_of(it["text"])])
-                self.assertFalse("laid_out" in it and has_blanks_at_end(layout))
+                # Whitespace and comments alone stand as they are.
+                if layout != it["text"]:
+                    self.assertFalse(has_blanks_at_end(layout))
 
 
 class Blanks(unittest.TestCase):
