@@ -4,7 +4,7 @@ ghost use Rattle.std.specs.Prelude.{◌≡◌};
 
 use std::alloc::Global;
 use std::fmt::Debug;
-use std::io::{self, Write};
+use std::io::{self, ErrorKind, Write};
 use weedle_base::{Parse, sp};
 use weedle_build::{Built, build_definitions};
 use weedle_explain::{Position, position_of};
@@ -19,7 +19,7 @@ use weedle_rules::Ends;
 /// Each definition is read, written and let go of by itself, and no memory is taken but what it
 /// holds. It fails where memory is refused, and where the output can't be written.
 pub fn write_tree<W: Write>(alloc: Global, text: &str, out: &mut W) -> Result<(), Fault> {
-    write_by_descent::<Definition<'_>, W>(alloc, text, out)
+    Ok(write_by_descent::<Definition<'_>, W>(alloc, text, out)?)
 }
 
 /// Writes each definition of any text as [`write_tree`] does, where the text is read whole: says
@@ -59,7 +59,7 @@ fn write_by_descent<'a, T: Parse<'a> + Debug, W: Write>(
     alloc: Global,
     text: &'a str,
     out: &mut W,
-) -> Result<(), Fault> {
+) -> io::Result<()> {
     let mut cursor = Cursor::new(text);
     for _ in 0..text.len() {
         if cursor.rest.is_empty() {
@@ -67,7 +67,7 @@ fn write_by_descent<'a, T: Parse<'a> + Debug, W: Write>(
         }
         let start = cursor.rest;
         let Ok((rest, item)) = T::parse(alloc, start) else {
-            return Err(Fault::Memory);
+            return Err(io::Error::from(ErrorKind::OutOfMemory));
         };
         let position = cursor.go_to(sp(start).0);
         writeln!(out, "{position} {item:?}")?;
