@@ -1,11 +1,11 @@
 #!/bin/sh
-# Tests the C library that c/build.sh built, or where it built none the one in prebuilt/, and runs the examples in C,
-# C++ and Rust.
+# Tests the C library that c/build.sh built, or where it built none the one in prebuilt/, and runs the examples in C
+# and C++.
 #
 #     c/run_tests.sh
 #
 # The header is compiled by each standard; the tests run as they are, with sanitizers, and under valgrind. A compiler
-# that is missing is an error, said in a line. CC, CXX, CARGO and VALGRIND may name other commands. The large texts of
+# that is missing is an error, said in a line. CC, CXX and VALGRIND may name other commands. The large texts of
 # the tests take 2 GB of memory and some seconds.
 set -eu
 [ "${1:-}" != --help ] || { sed -n '2,${/^#/!q;s/^# \{0,1\}//p}' "$0"; exit; }
@@ -28,7 +28,6 @@ mkdir -p "$out"
 echo "the library $library"
 command -v "${CC:=cc}" >/dev/null || failed "there is no C compiler $CC"
 command -v "${CXX:=c++}" >/dev/null || failed "there is no C++ compiler $CXX"
-command -v "${CARGO:=cargo}" >/dev/null || failed "there is no $CARGO, which builds the example in Rust"
 command -v "${VALGRIND:=valgrind}" >/dev/null || failed "there is no $VALGRIND"
 
 echo "the header, by each standard"
@@ -67,14 +66,16 @@ run_tests env WEEDLE_SMALL=1 "$VALGRIND" -q --error-exitcode=1 --leak-check=full
 
 echo "the examples"
 "$CC" -std=c99 -O2 $warnings -I"$top/include" -o "$out/count_c" "$top/examples/c/count_interfaces.c" "$library"
+"$CC" -std=c99 -O2 $warnings -I"$top/include" -o "$out/read_rule" "$top/examples/c/read_rule.c" "$library"
 "$CXX" -std=c++11 -O2 $warnings -I"$top/include" -o "$out/count_cpp" \
     "$top/examples/cpp/count_interfaces.cpp" "$library"
 [ "$("$out/count_c" "$sample")" = "$(printf 'Window\nStorage\n2 interfaces')" ] || failed "the example in C"
 [ "$("$out/count_cpp" <"$sample")" = "2 interfaces" ] || failed "the example in C++"
+[ "$("$out/read_rule" type "long? x" | sed -n '1p;$p')" = "$(printf 'type `long? `\nrest: x')" ] ||
+    failed "the example of a rule in C"
 refusal=$("$out/count_c" "$top/crates/weedle_check/data/slip.webidl" 2>&1) && failed "the example in C reads a slip"
 case $refusal in
 *"slip.webidl:2:37: expected "*) ;;
 *) failed "the example in C says otherwise: $refusal" ;;
 esac
-(cd "$top/examples/rust" && WEEDLE_LIBRARY="$folder" "$CARGO" test --offline --quiet)
 echo "all passed"

@@ -27,7 +27,9 @@ HEADER = """\
  *     struct weedle_answer answer;
  *     uint32_t status = weedle_syntax(text, length, nodes, room, &answer);
  *
- * What is said here of the answers is proved of the library, against the grammar, for callers that keep this:
+ * What is said below of each status, of the fields of an answer and of what is written is proved of the library,
+ * against the grammar: each such sentence is a clause of crates/weedle_c/src/lib.rt, but those with '(tested)' behind
+ * them. What a call costs is measured. All this holds for callers that keep the following:
  *
  * - A pointer and the length or room behind it belong together: so many bytes, or so many nodes, can be
  *   read there, or written. No length and no room is more than PTRDIFF_MAX bytes.
@@ -37,9 +39,8 @@ HEADER = """\
  * - No call is made from a signal handler, nor from the forked child of a process with threads.
  *
  * Nothing is kept between calls, and calls in several threads don't touch each other. Memory is asked for by
- * malloc and realloc, and given back before a call returns. A thread with 256 kB of stack is enough for any text:
- * what nests up to 64 levels takes up to 1.6 kB for each bracket that is open, 134 kB in all, and what nests deeper
- * 31 kB. That is measured, and tested; no proof speaks of a stack.
+ * malloc and realloc, and given back before a call returns. A thread with 256 kB of stack is enough for any text, which
+ * is measured, and tested; no proof speaks of a stack.
  *
  * Link it with prebuilt/x86_64-linux/libweedle.a, or with c/out/libweedle.a, which c/build.sh builds anew.
  */
@@ -72,29 +73,31 @@ struct weedle_node {{
     uint32_t end;   /* where it ends: the place behind its last byte */
 }};
 
-/* What weedle_syntax says beside its status. */
+/* What weedle_syntax and weedle_syntax_of say beside their status. */
 struct weedle_answer {{
     size_t count; /* WEEDLE_STATUS_READ, WEEDLE_STATUS_NO_ROOM: how many nodes there are; else 0 */
-    size_t rest;  /* WEEDLE_STATUS_REFUSED: where the unread rest begins, in bytes from the front of the text;
-                     WEEDLE_STATUS_NOT_UTF8: the byte up to which the text is UTF-8;
-                     WEEDLE_STATUS_READ, WEEDLE_STATUS_NO_ROOM: the length of the text; else 0 */
+    size_t rest;  /* WEEDLE_STATUS_READ, WEEDLE_STATUS_NO_ROOM: where the unread rest begins, in bytes from the front of
+                     the text: of weedle_syntax at its end;
+                     WEEDLE_STATUS_REFUSED: the same of weedle_syntax, and 0 of weedle_syntax_of;
+                     WEEDLE_STATUS_NOT_UTF8: the byte up to which the text is UTF-8; else 0 */
 }};
 
 /* What weedle_explain says beside its status. */
 struct weedle_refusal {{
     size_t start;  /* where the unread rest begins, in bytes from the front of the text */
     size_t place;  /* the furthest place to which the reading comes;
-                      WEEDLE_STATUS_NOT_UTF8: the byte up to which the text is UTF-8 */
+                      WEEDLE_STATUS_NOT_UTF8: the byte up to which the text is UTF-8 (tested) */
     size_t line;   /* the line of that place, from 1 on */
     size_t column; /* its column, in characters, from 1 on */
-    size_t length; /* how many bytes the whole message has, without the zero behind it */
+    size_t length; /* how many bytes the whole message has, without the zero behind it (tested) */
 }};
 
 /* What weedle_format says beside its status. */
 struct weedle_formatted {{
-    size_t length;      /* WEEDLE_STATUS_READ, WEEDLE_STATUS_NO_ROOM: how many bytes the text has once it is laid out */
-    size_t rest;        /* as weedle_answer has it */
-    size_t is_laid_out; /* 1; or 0 where the layout would have changed what the text says, and it is as it stood */
+    size_t length;      /* WEEDLE_STATUS_READ, WEEDLE_STATUS_NO_ROOM: how many bytes there are; else 0 */
+    size_t rest;        /* as weedle_answer has it of weedle_syntax */
+    size_t is_laid_out; /* WEEDLE_STATUS_READ, WEEDLE_STATUS_NO_ROOM: 0 where the text is as it stood, since the layout
+                           would have changed what it says (tested), and else 1; with other statuses 0 */
 }};
 
 /*
@@ -106,16 +109,16 @@ struct weedle_formatted {{
  *     the text. What stands behind them in `nodes` stays as it was.
  * WEEDLE_STATUS_REFUSED: it doesn't, and leaves what stands from `rest` on.
  * WEEDLE_STATUS_NOT_UTF8: exactly where the bytes aren't UTF-8.
- * WEEDLE_STATUS_NO_MEMORY: memory was refused.
+ * WEEDLE_STATUS_NO_MEMORY: memory was refused (tested).
  * WEEDLE_STATUS_NO_ROOM: the grammar reads the whole text, and there are `count` nodes, more than `room`. So with a
  *     room of 0 it counts them.
- * WEEDLE_STATUS_TOO_LONG: 32 bits don't hold a place or a depth of the tree, as of a text of more than 4 GB.
+ * WEEDLE_STATUS_TOO_LONG: 32 bits don't hold the length of the text, or a place or a depth of its tree.
  * Only with WEEDLE_STATUS_READ is anything written to `nodes`.
  *
  * Most texts have 0.8 to 1.6 nodes a byte. While it is read each takes 32 bytes of memory, and up to 64 where the
- * list grows. Where brackets nest deeper than 64 levels (a `[` counts as two), or extended attributes so that descent
- * would read again and again, it takes a table of 1,544 bytes for each byte of the text beside that, and the time for
- * it: some 2 microseconds a byte.
+ * list grows. Descent tries at most 16 rules for each byte and 4,096 more, 400 nodes deep; what people write takes
+ * two, some 60 deep. Where that isn't enough it takes a table of 1,544 bytes for each byte of the text beside that, and
+ * the time for it: some 2 microseconds a byte.
  *
  * Dense texts, as those of names of a letter, have more: 9.3 nodes a byte are the most that was found. To read no text
  * twice, give a room of 12 nodes for each byte and 64 more, and map a large one without a reserve (on Linux mmap with
@@ -127,22 +130,47 @@ uint32_t weedle_syntax(
     struct weedle_answer *answer);
 
 /*
+ * Reads a rule at the front of a text, whatever stands behind it, and writes the nodes of its syntax tree: of
+ * WEEDLE_TYPE and `long? x` those of `long? `. `rule` is an enum weedle_rule.
+ *
+ * WEEDLE_STATUS_READ: the rule is read from the front of the text up to `rest`, and the first `count` of `nodes` are
+ *     its tree, as weedle_syntax writes them. What stands behind them in `nodes` stays as it was.
+ * WEEDLE_STATUS_REFUSED: the rule fails at the front of the text.
+ * WEEDLE_STATUS_NOT_UTF8: exactly where there is such a rule and the bytes aren't UTF-8, what stands behind included.
+ * WEEDLE_STATUS_NO_MEMORY: memory was refused (tested).
+ * WEEDLE_STATUS_NO_ROOM: the rule is read up to `rest`, and there are `count` nodes, more than `room`.
+ * WEEDLE_STATUS_TOO_LONG: 32 bits don't hold the length of the text, or a place or a depth of the rule's tree.
+ * WEEDLE_STATUS_NO_RULE: exactly where no rule has the number `rule`.
+ * Only with WEEDLE_STATUS_READ is anything written to `nodes`.
+ *
+ * Of WEEDLE_DEFINITIONS these are the definitions at the front of a text that weedle_syntax refuses too. It costs what
+ * weedle_syntax does for what is read, and a look at each byte of the text, whether it is UTF-8.
+ */
+uint32_t weedle_syntax_of(
+    uint32_t rule,
+    const char *text, size_t length,
+    struct weedle_node *nodes, size_t room,
+    struct weedle_answer *answer);
+
+/*
  * Says of a text that is refused where and why, and writes a message.
  *
  * WEEDLE_STATUS_READ: the grammar reads the whole text; there is nothing to say.
- * WEEDLE_STATUS_REFUSED: it doesn't, and `refusal` says where. The message is written to `message`, as
+ * WEEDLE_STATUS_REFUSED: it doesn't, and `refusal` says where. The message is written to `message` (tested), as
  *     `weedle_check` prints it behind the name of a file: line, column and what would have been read there, the line
  *     of the text, a mark below the place, and, where it is known, what would mend the text, with a line and a column.
  *     It is cut behind the last character that there is room for, and ended by a zero; so it needs a room of
- *     `length` + 1. 1,024 bytes hold any. With a room of 0 nothing is written.
+ *     `length` + 1 (tested). 1,024 bytes hold any (tested). With a room of 0 nothing is written.
  * WEEDLE_STATUS_NOT_UTF8: exactly where the bytes aren't UTF-8.
- * WEEDLE_STATUS_NO_MEMORY: memory was refused.
+ * WEEDLE_STATUS_NO_MEMORY: memory was refused (tested).
  * Only with WEEDLE_STATUS_REFUSED is anything written to `message`.
  *
  * It reads the text as weedle_syntax does, and then goes by descent over the first definition that isn't read, in some 200
  * to 300 nanoseconds for each byte of it and with no more memory than for a list. Where that would take too long or too
  * much of the stack, since the rest nests deep, it takes a table of the rest: some 1,600 bytes for each byte.
- * Where the rest nests little, descent goes over the definition again with up to eight changes, for what would mend it.
+ * Where the rest nests little, descent goes over the definition again with up to sixteen changes, for what would mend it,
+ * and once more with each where none does. Where one would take long, as of `[A, A, A` that isn't closed or of many comments
+ * in front of a definition, a table of at most 10,000 bytes is taken in its place: some tens of microseconds a byte.
  */
 uint32_t weedle_explain(
     const char *text, size_t length,
@@ -158,12 +186,13 @@ uint32_t weedle_explain(
  *     written.
  * WEEDLE_STATUS_REFUSED: it doesn't, and leaves what stands from `rest` on.
  * WEEDLE_STATUS_NOT_UTF8: exactly where the bytes aren't UTF-8.
- * WEEDLE_STATUS_NO_MEMORY: memory was refused.
+ * WEEDLE_STATUS_NO_MEMORY: memory was refused (tested).
  * WEEDLE_STATUS_NO_ROOM: it needs `length` bytes, more than `room`. So with a room of 0 it tells how much is needed.
  * Only with WEEDLE_STATUS_READ is anything written to `out`, which `text` isn't a part of.
  *
  * It reads the text as weedle_syntax does, and what was made of it once more where that isn't the text itself: so it
- * takes a third more of its time where the text is laid out already, and else 2.4 times as much, and twice its memory.
+ * takes a third more of its time where the text is laid out already, and else 2.4 times as much, and twice its memory: it
+ * asked for 2.1 to 2.3 times as many bytes where that was measured.
  */
 uint32_t weedle_format(
     const char *text, size_t length,

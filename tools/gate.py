@@ -24,12 +24,9 @@ there is no FILE, and a line says so. The status is that of `rt ci`. `rt ci` its
 """
 
 import argparse
-import importlib.machinery
-import importlib.util
 import inspect
 import json
 import os
-import shutil
 import subprocess
 import sys
 from concurrent.futures import FIRST_COMPLETED, ThreadPoolExecutor, wait
@@ -37,6 +34,7 @@ from contextlib import nullcontext
 from pathlib import Path
 
 import gate_edits
+import toolchain
 
 TOP = Path(__file__).resolve().parent.parent
 TIMES = TOP / "docs/gate_times.json"
@@ -221,13 +219,21 @@ def build_library(rt, crate, file, jobs):
     return not ran.returncode
 
 
+def crates_of(rt):
+    """The crates of the repository, as rt knows them; in older kits its own call moves what earlier runs left."""
+    top = os.getcwd()
+    if [*inspect.signature(rt.crates_of).parameters] == ["root", "aside"]:
+        return rt.rtlib.crates_below(top)
+    return rt.crates_of(top)
+
+
 def with_library(tasks, rt, file):
     """The tasks, and behind the proof of the static library one that builds it. It is for whoever comes after `rt ci`,
     so nothing that goes wrong here ends that."""
     proof = LIBRARY, "proof"
     try:
         # While nothing runs, since this looks through the folders that crates are built in.
-        crate = next(it for it in rt.crates_of(os.getcwd()) if it.name == LIBRARY)
+        crate = next(it for it in crates_of(rt) if it.name == LIBRARY)
         waits, lines, needs, _ = tasks[proof]
     except (AttributeError, KeyError, StopIteration) as why:
         print(f"gate.py: {LIBRARY} can't be built over what is proved: {why!r}", flush=True)
@@ -256,17 +262,6 @@ def scheduler(rt, times, peaks=None, library=None):
     return in_lanes
 
 
-def load(path):
-    """The command as a module, or None where it is no Python or doesn't come to its end."""
-    loader = importlib.machinery.SourceFileLoader("rt_command", path)
-    made = importlib.util.module_from_spec(importlib.util.spec_from_loader("rt_command", loader))
-    try:
-        loader.exec_module(made)
-    except (SyntaxError, ValueError, ImportError, OSError):
-        return None
-    return made
-
-
 def is_known(rt):
     """Whether the scheduler is the one that is known here: it takes the tasks alone, each what it waits for, its
     lines, its memory and a call that takes what was given and how many jobs it may use."""
@@ -283,7 +278,7 @@ def is_known(rt):
 def out_of_layout(rt):
     """The crates that `rt ci` would refuse for their layout, some of them after hours. It says of each file that it is."""
     try:
-        return [it.name for it in rt.crates_of(os.getcwd()) if rt.rtlib.fmt(it.folder, "--check", sys.stdout)]
+        return [it.name for it in crates_of(rt) if rt.rtlib.fmt(it.folder, "--check", sys.stdout)]
     except AttributeError:
         return []
 
@@ -294,12 +289,12 @@ def main():
     )
     parser.add_argument("--library", type=Path, metavar="FILE")
     library = parser.parse_args().library
-    path = shutil.which("rt")
+    path = toolchain.command()
     if path is None:
         print("gate.py: there is no command rt on PATH", file=sys.stderr)
         return 2
     os.chdir(TOP)
-    rt = load(os.path.realpath(path))
+    rt = toolchain.load(path)
     if rt is None or not is_known(rt):
         print("gate.py: this rt has another scheduler, so it keeps its own order", flush=True)
         return subprocess.run(["rt", "ci"], check=False).returncode

@@ -127,8 +127,47 @@ def can_replace(rt):
     return given == wanted and all(map(callable, [*kept, rt.need, rt.say])) and len(kinds) > 2
 
 
+def tries_at_once(rt):
+    """Whether rt tries the edits of a crate in one call and keeps nothing of earlier runs, as older kits do."""
+    wanted = {
+        "must_fail_all": ["crate", "edits", "flags"],
+        "checked": ["crate", "texts", "flags", "kept"],
+        "must_fail": ["crate", "edit", "flags", "kept"],
+    }
+    try:
+        return wanted == {name: [*inspect.signature(getattr(rt, name)).parameters] for name in wanted}
+    except (AttributeError, TypeError):
+        return False
+
+
+def all_by_functions(rt):
+    """What stands in the place of rt's `must_fail_all`: whether each edit is refused, and what is said of it."""
+    by_crate = rt.must_fail_all
+
+    def tried(crate, edit, flags, is_sound):
+        if is_sound:
+            refused, said = rt.must_fail(crate, edit, [*flags, *words_of(functions_of(edit))])
+            if refused:
+                return refused, said
+        rt.say(f"{crate.name}/{Path(edit).name}: not refused by its functions alone, so tried over the whole crate")
+        return rt.must_fail(crate, edit, flags)
+
+    @functools.wraps(by_crate)
+    def must_fail_all(crate, edits, flags):
+        if not edits or not all(map(functions_of, edits)):
+            return by_crate(crate, edits, flags)
+        paths = dict.fromkeys(path for edit in edits for path in functions_of(edit))
+        is_sound = rt.checked(crate, {}, [*flags, *words_of(paths)], None).returncode == 0
+        return [tried(crate, edit, flags, is_sound) for edit in edits]
+
+    return must_fail_all
+
+
 def replace(rt):
     """Has rt try the edits of a crate by their functions, where each of them names one."""
+    if tries_at_once(rt):
+        rt.checked = with_verdict(rt.checked)
+        rt.must_fail_all = all_by_functions(rt)
     if not can_replace(rt):
         return
     by_crate = rt.add_edits

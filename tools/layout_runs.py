@@ -10,7 +10,7 @@ from case_files import TESTS
 
 WORKED = TESTS / "layouts.toml"
 LOOSE, LAID_OUT, SLIP = "A includes B ;", "A includes B;\n", "interface A {\n  attribute long x\n};"
-MESSAGE = "{}:3:1: expected `;`\n}};\n^\n"
+MESSAGE = "{}:3:1: expected `;`\n}};\n^\n2:19: `;` missing here?\n"
 USAGE = "usage: weedle_format [--check | --write] [FILE..]\n"
 
 
@@ -95,7 +95,7 @@ def comments_alone_stand(room):
     after = os.stat(room.path / "a")
     assert (before.st_ino, before.st_mtime_ns) == (after.st_ino, after.st_mtime_ns)
     status, out, err = room.run("--check", "a", "b")
-    assert status == 1 and out.startswith("b:1:6: ") and out.endswith("2 files, 0 to be laid out, 1 refused\n") and err == ""
+    assert status == 1 and out.startswith("b:1:4: ") and out.endswith("2 files, 0 to be laid out, 1 refused\n") and err == ""
 
 
 def a_link_is_followed(room):
@@ -159,6 +159,34 @@ def worked_texts_are_laid_out(room):
                 assert room.run(given=text) == (0, layout, ""), it["what"]
 
 
+def nested(times, inner):
+    """A text of attributes in one another."""
+    return "interface A { undefined f(" + "[A(" * times + inner + ")] long y" * times + "); };"
+
+
+def deep_lists_stay_on_the_line(room):
+    """Where 16 levels are open, no list is broken; above that each is, where it doesn't fit."""
+    for times in (20, 1_000):
+        front, back = ["interface A {", "  undefined f("], ["};", "  );"]
+        for level in range(2, 16, 2):
+            front += ["  " * level + "[", "  " * level + "  A("]
+            back += ["  " * level + "] long y", "  " * level + "  )"]
+        deep = "  " * 16 + "[A(" * (times - 7) + "long x" + ")] long y" * (times - 7)
+        layout = "\n".join([*front, deep, *reversed(back), ""])
+        assert room.run(given=nested(times, "long x")) == (0, layout, "")
+        assert room.run(given=layout) == (0, layout, "")
+
+
+def what_would_be_too_long_stands(room):
+    """What would be more than eight times as long, and 1,024 bytes more, stays as it is, and this is said."""
+    text = nested(6, f"[{'A, ' * 1_999}A] long x")
+    said = "<stdin>: left as it is, since its layout would say something else or be too long\n"
+    assert room.run(given=text) == (1, text, said)
+    few = nested(6, f"[{'A, ' * 39}A] long x")
+    status, out, err = room.run(given=few)
+    assert (status, err) == (0, "") and 8 * len(few) < len(out) <= 8 * len(few) + 1_024
+
+
 def other_arguments(room):
     """What there is no use for gets the usage, with status 5."""
     for words in (["--both"], ["--check", "--write", "a"], ["--write"], ["--write", "-"]):
@@ -170,7 +198,7 @@ def other_arguments(room):
 RUNS = (
     standard_input_is_printed, files_are_printed, check_prints_names, write_replaces_files, comments_alone_stand,
     a_link_is_followed, a_name_that_is_taken, what_cannot_be_read, a_mark_of_byte_order, what_cannot_be_written, worked_texts_are_laid_out,
-    other_arguments,
+    deep_lists_stay_on_the_line, what_would_be_too_long_stands, other_arguments,
 )
 
 

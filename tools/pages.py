@@ -48,6 +48,7 @@ VERSIONS = {
     "crates/weedle_c/src/lib.rt": re.compile(r"the three numbers of (\d+\.\d+\.\d+)\."),
     "python/pyproject.toml": re.compile(r'^version = "(.*)"', re.M),
     "python/weedle/__init__.py": re.compile(r'^__version__ = "(.*)"', re.M),
+    "js/package.json": re.compile(r'^  "version": "(.*)",$', re.M),
     "examples/rust/Cargo.toml": re.compile(r'^version = "(.*)"', re.M),
 }
 

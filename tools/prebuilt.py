@@ -3,17 +3,17 @@
 
     python3 tools/prebuilt.py [--make | --check] [ARCHIVE]
 
-prebuilt/x86_64-linux has libweedle.a, libweedle.so and SUMS: the version, the line of `rt version` and a SHA-256 of
-each, as `sha256sum -c` reads it. ARCHIVE is what c/build.sh built, c/out/libweedle.a where none is named.
+prebuilt/x86_64-linux has libweedle.a, libweedle.so, weedle.node and SUMS: the version, the line of `rt version` and a
+SHA-256 of each, as `sha256sum -c` reads it. ARCHIVE is what c/build.sh built, c/out/libweedle.a where none is named.
 
 Without an option ARCHIVE has to be libweedle.a byte for byte, where this machine's `rt version` is the line in SUMS.
 Under another toolchain nothing is compared, and a line says so. Where they differ a line has the command that builds
 the library and takes it over.
 
-With --make ARCHIVE is taken over: it is copied, the shared object is linked from it by a C compiler (cc, or what CC
-names), and SUMS is written. With --check the files are looked at alone, without the toolchain: whether both are those
-of SUMS, of the version of include/weedle.h, and whether the shared object exports the header's calls and no others.
-Both other runs look at that too.
+With --make ARCHIVE is taken over: it is copied, the shared object and Node's addon are linked from it by a C compiler
+(cc, or what CC names; the addon by js/build.sh, which wants Node), and SUMS is written. With --check the files are looked
+at alone, without the toolchain: whether all are those of SUMS, of the version of include/weedle.h, and whether the shared
+object exports the header's calls and no others, and the addon what Node asks for. Both other runs look at that too.
 
 It prints a line for each thing that isn't so. The status is 0 where there is none, and else 1.
 """
@@ -35,7 +35,10 @@ sys.path.insert(0, str(TOP / "python"))
 from shared_object import SharedObject  # noqa: E402  (it stands beside the package)
 
 FOLDER = "prebuilt/x86_64-linux"
-ARCHIVE, SHARED, SUMS = "libweedle.a", "libweedle.so", "SUMS"
+ARCHIVE, SHARED, ADDON, SUMS = "libweedle.a", "libweedle.so", "weedle.node", "SUMS"
+BUILT_FILES = (ARCHIVE, SHARED, ADDON)
+# What Node calls of an addon.
+ASKED = {"napi_register_module_v1", "node_api_module_get_api_version_v1"}
 BUILT = f"c/out/{ARCHIVE}"
 HEADER = "include/weedle.h"
 ANEW = "c/build.sh && python3 tools/prebuilt.py --make"
@@ -96,20 +99,21 @@ def faults(top: Path) -> Iterator[str]:
     sums = read_sums(folder)
     if sums.version != version_in(header):
         yield f"{FOLDER} is of version {sums.version}, and {HEADER} of {version_in(header)}: {ANEW}"
-    for name in (ARCHIVE, SHARED):
+    for name in BUILT_FILES:
         if not (folder / name).exists():
             yield f"there is no {FOLDER}/{name}: {ANEW}"
         elif sum_of(folder / name) != sums.files.get(name):
             yield f"{FOLDER}/{name} isn't what {SUMS} has: {ANEW}"
-    if (folder / SHARED).exists():
-        yield from export_faults(SharedObject((folder / SHARED).read_bytes()).exports(), calls_in(header))
+    for name, calls in ((SHARED, calls_in(header)), (ADDON, ASKED)):
+        if (folder / name).exists():
+            yield from export_faults(name, SharedObject((folder / name).read_bytes()).exports(), calls)
 
 
-def export_faults(exports: set[str], calls: set[str]) -> Iterator[str]:
-    """A line for each name by which what is exported isn't what is declared."""
+def export_faults(file: str, exports: set[str], calls: set[str]) -> Iterator[str]:
+    """A line for each name by which what a file exports isn't what is called."""
     for name in sorted(exports ^ calls):
-        which = "exports no" if name in calls else f"exports, and {HEADER} doesn't declare,"
-        yield f"{FOLDER}/{SHARED} {which} {name}: {ANEW}"
+        which = "exports no" if name in calls else "exports, and nothing declares,"
+        yield f"{FOLDER}/{file} {which} {name}: {ANEW}"
 
 
 def compared(top: Path, archive: Path, found: str | None) -> Iterator[str]:
@@ -133,11 +137,12 @@ def make(top: Path, archive: Path, found: str | None) -> None:
     folder = top / FOLDER
     folder.mkdir(parents=True, exist_ok=True)
     shutil.copyfile(archive, folder / ARCHIVE)
-    subprocess.run([top / "c/link_shared.sh", folder / ARCHIVE, folder / SHARED], check=True)
-    for name in (ARCHIVE, SHARED):
+    for script, name in (("c/link_shared.sh", SHARED), ("js/build.sh", ADDON)):
+        subprocess.run([top / script, folder / ARCHIVE, folder / name], check=True)
+    for name in BUILT_FILES:
         (folder / name).chmod(0o644)
     version = version_in((top / HEADER).read_text(encoding="utf-8"))
-    files = {name: sum_of(folder / name) for name in (ARCHIVE, SHARED)}
+    files = {name: sum_of(folder / name) for name in BUILT_FILES}
     (folder / SUMS).write_text(Sums(version, found, files).text(), encoding="utf-8")
 
 

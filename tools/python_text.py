@@ -7,14 +7,19 @@ COLUMNS = 96
 NAMES = {"&": "str", "String": "str", "bool": "bool"}
 GENERIC = {"Option": "Optional", "Vec": "List", "()": "Tuple"}
 PARENTHESIZED = "Parenthesized[ArgumentList]"
-RECORD_TYPES = "Tuple[RecordKeyType, term.Comma, Type]"
+RECORD_TYPES = "Tuple[RecordKeyType.Variants, term.Comma, Type.Variants]"
 WORD = re.compile(r"(?<![.\"\w])[A-Z]\w*")
 # What a class names when it is made, and so not only in its annotations.
 BASES = re.compile(r"^class \w+\(([^)]*)\)|^\w+ = (.*)$", re.M)
+# What a module of enums names for type checkers alone.
+CHECKED = "    import typing\n\n    from typing_extensions import TypeAlias\n\n"
+# The doc of a field.
+FIELD_DOC = re.compile(r'(= (?:part|word))\(\s*(?:"(?:\\.|[^"\\])*"\s*)+\)')
 TYPING = "ClassVar Dict Generic List Optional Tuple TypeVar".split()
 VALUES = (
-    "Choice Leaf Lines Listed Name S T Terminal Truth Value Wrapped part value_class word"
+    "Choice DecimalChoice Listed Result S T Terminal Value WholeChoice Wrapped part value_class word"
 ).split()
+LEAVES = "Decimal Leaf Lines Name Quoted Truth Whole".split()
 
 
 def annotation_of(declared, modules, type_):
@@ -31,7 +36,15 @@ def annotation_of(declared, modules, type_):
     if type_.name in GENERIC:
         return f"{GENERIC[type_.name]}[{', '.join(items)}]"
     name = f"term.{type_.name}" if modules.get(type_.name) == "term" else type_.name
+    if is_choice(declared, type_):
+        return f"{name}.Variants"
     return f"{name}[{', '.join(items)}]" if items else name
+
+
+def is_choice(declared, type_):
+    """Whether a type is an enum, also one that is an alias of such."""
+    found = declared.types.get(declared.expanded(type_).name)
+    return bool(found) and found.is_enum
 
 
 def plain(doc):
@@ -60,6 +73,43 @@ def comment(doc, indent):
     """A doc comment of one sentence, or nothing where there is no doc."""
     lines = wrap(first_sentence(doc), COLUMNS - len(indent) - 3)
     return "".join(f"{indent}#: {line}\n" for line in lines)
+
+
+def field(name, annotation, maker, doc):
+    """A field of a class, with one sentence of doc that `help` shows."""
+    said = '"' + first_sentence(doc).replace("\\", "\\\\").replace('"', '\\"') + '"'
+    line = f"    {name}: {annotation} = {maker}({said})\n"
+    if len(line) <= COLUMNS + 1:
+        return line
+    rows = wrap(said[1:-1], COLUMNS - 12, drop_whitespace=False, break_on_hyphens=False)
+    rows = "".join(f'        "{it}"\n' for it in rows)
+    return f"    {name}: {annotation} = {maker}(\n{rows}    )\n"
+
+
+def method(name, parameters, body):
+    """A method that gives nothing, with its parameters."""
+    line = f"    def {name}({', '.join(['self', *parameters])}) -> None:\n"
+    if len(line) > COLUMNS + 1:
+        # a parameter stays on a line
+        whole = [it.replace(" ", "\0") for it in ["self", *parameters]]
+        rows = [it.replace("\0", " ") for it in wrap(", ".join(whole) + ",", COLUMNS - 8)]
+        line = f"    def {name}(\n" + "".join(f"        {it}\n" for it in rows) + "    ) -> None:\n"
+    return f"\n{line}        {body}\n"
+
+
+def words_of(words):
+    """Some words, as a set."""
+    if len(words) < 4:
+        return f"""frozenset([{', '.join(f'"{it}"' for it in words)}])"""
+    return f"frozenset(\n{split(words)}    )"
+
+
+def split(words):
+    """Words as a list that is split from lines of text."""
+    rows = wrap(" ".join(words), 80)
+    last = len(rows) - 1
+    rows = "".join(f'        "{it}{" " * (at < last)}"\n' for at, it in enumerate(rows))
+    return rows[:-1] + ".split()\n"
 
 
 def imports(path, names, indent=""):
@@ -97,15 +147,19 @@ def module_text(about, classes, modules):
     What only annotations name is brought in for type checkers alone: modules name one another.
     """
     body = "\n\n".join(classes)
-    code = re.sub(r'#:[^\n]*|r?""".*?"""', "", body, flags=re.S)
+    code = FIELD_DOC.sub(r"\1()", re.sub(r'#:[^\n]*|r?""".*?"""', "", body, flags=re.S))
     own = own_names(code)
     wanted = named_in([code, code.replace('"', " ")]) - own
     now = named_in("".join(it) for it in BASES.findall(code)) & wanted
-    checked = "    from weedle import term\n" if "term." in code else ""
+    checked = CHECKED if "TypeAlias" in code else ""
+    checked += "    from weedle import term\n" if "term." in code else ""
     checked += brought_in(wanted - now, modules, "    ")
     typing = [it for it in TYPING if it in wanted] + ["TYPE_CHECKING"] * bool(checked)
     lines = imports("typing", sorted(typing)) + "\n" if typing else ""
-    lines += imports("weedle._values", [it for it in VALUES if re.search(rf"\b{it}\b", code)])
+    lines += "from weedle._listing import Listing\n" if "(Listing[" in code else ""
+    for path, names in (("weedle._leaves", LEAVES), ("weedle._values", VALUES)):
+        used = [it for it in names if re.search(rf"\b{it}\b", code)]
+        lines += imports(path, used) if used else ""
     lines += brought_in(now, modules)
     lines += f"\nif TYPE_CHECKING:\n{checked}" if checked else ""
     rows = "".join(f'    "{it}",\n' for it in sorted(own) if "_" not in it.rstrip("_"))

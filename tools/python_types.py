@@ -23,7 +23,8 @@ from description.declarations import Type
 from description.names import upper
 from description.readings import Declared
 from description.webidl import BY_NAME, RULES
-from python_text import annotation_of, comment, docstring, module_text
+from python_text import annotation_of, comment, docstring, field, method, module_text, split, words_of
+from reserved_words import NAME_BEFORE, read_behind, texts_of
 
 TOP = Path(__file__).resolve().parent.parent
 PACKAGE = TOP / "python/weedle"
@@ -57,7 +58,17 @@ ABOUT = {
 PARENTHESIZED, TUPLE = "ParenthesizedArgumentList", "RecordTypes"
 VARIANTS, FIELDS = {"Type_": "Type"}, {"record_": "record"}
 # What stands behind the only field of a tuple struct, by the class that makes it.
-LEAVES = {"Identifier": "Name", "Docstring": "Lines", "BooleanLit": "Truth"}
+LEAVES = {
+    "Identifier": "Name", "Docstring": "Lines", "BooleanLit": "Truth", "StringLit": "Quoted",
+    "DecLit": "Whole", "HexLit": "Whole", "OctLit": "Whole", "FloatValueLit": "Decimal",
+}
+BASES = {"HexLit": 16, "OctLit": 8}
+# The base of an enum that is more than one of several.
+CHOICES = {"IntegerLit": "WholeChoice", "FloatLit": "DecimalChoice", "ReturnType": "Result"}
+# The struct whose last part, a default that may only follow `optional`, can have no node.
+LACKING = "SingleArgument"
+# The list of all definitions of a text, which is a class of its own.
+WHOLE = "Definitions"
 LISTS = ("Punctuated", "PunctuatedNonEmpty")
 
 
@@ -110,7 +121,10 @@ def class_text(package, declaration):
     former = package.former(declaration)
     if package.module[declaration.name] == "term":
         name = python_name(declaration.name)
-        return class_head(name, "Terminal", declaration.doc, is_dataclass=False)
+        head = class_head(name, "Terminal", declaration.doc, is_dataclass=False)
+        return f'{head}\n    _spelled = "{texts_of(RULES)[upper(declaration.name)]}"\n'
+    if declaration.name == WHOLE:
+        return class_head(WHOLE, 'Listing["Definition.Variants"]', declaration.doc, is_dataclass=False)
     if declaration.kind == "type" and not former:
         return alias_text(package, declaration)
     if (former or declaration).is_enum:
@@ -153,17 +167,29 @@ def quoted_items(text):
 
 def struct_text(package, declaration):
     base = "Value, Generic[T]" if declaration.parameters else "Value"
-    rows, renamed = [], {}
-    for number, (name, type_, doc) in enumerate(package.parts(declaration)):
-        shown = FIELDS.get(name, name)
+    rows, renamed, given = [], {}, {}
+    for name, type_, doc in package.parts(declaration):
+        shown, annotation = FIELDS.get(name, name), package.annotation(type_)
         if shown != name:
             renamed[shown] = name
-        maker = "word" if package.is_terminal(type_) else "part"
-        field = f"    {shown}: {package.annotation(type_)} = {maker}({number})\n"
-        rows.append(comment(doc, "    ") + field)
+        if not package.is_terminal(type_):
+            given[shown] = annotation
+        rows.append(field(shown, annotation, "part" if shown in given else "word", doc))
     if renamed:
         rows.append(f"    _renamed: ClassVar[Dict[str, str]] = {renamed!r}\n".replace("'", '"'))
+    if declaration.name == LACKING:
+        rows.append("    _is_whole = False\n")
+    rows.append(constructor(given))
     return class_head(declaration.name, base, declaration.doc) + "\n" + "".join(rows)
+
+
+def constructor(given):
+    """What builds a value of its parts, by their names; those may be left out that may be absent."""
+    names = [
+        f"{name}: {it} = None" if it.startswith("Optional[") else f"{name}: {it}"
+        for name, it in given.items()
+    ]
+    return method("__init__", ["*", *names] if names else [], f"self._hold({', '.join(given)})")
 
 
 def list_text(declaration):
@@ -171,7 +197,7 @@ def list_text(declaration):
     head = class_head(declaration.name, "Listed[T, S]", declaration.doc, is_dataclass=False)
     if declaration.name == "PunctuatedNonEmpty":
         head += '\n    _fronts = ("",)\n'
-        head += "\n    def _listing(self) -> int:\n        return self._parts()[0]\n"
+        head += "\n    def _listing(self) -> int:\n        return self._tree.children(self._node)[0]\n"
     return head
 
 
@@ -180,27 +206,42 @@ def leaf_text(package, declaration):
     ((_, type_, _),) = package.parts(declaration)
     if type_.name in package.module:
         head = class_head(declaration.name, "Wrapped", declaration.doc)
-        return f"{head}\n    value: {package.annotation(type_)} = part(0)\n"
+        annotation = package.annotation(type_)
+        head += "\n" + field("value", annotation, "part", declaration.parts[0].doc or declaration.doc)
+        return head + method("__init__", [f"value: {annotation}"], "self._hold(value)")
     base = LEAVES.get(declaration.name, "Leaf")
     head = class_head(declaration.name, base, declaration.doc, is_dataclass=False)
     shape = BY_NAME[upper(declaration.name)].shape
     kept = re.fullmatch(r"Kept (\d)", shape)
-    return f"{head}\n    _kept = {kept[1]}\n" if kept else head
+    rows = f"    _kept = {kept[1]}\n" if kept else ""
+    rows += f"    _base = {BASES[declaration.name]}\n" if declaration.name in BASES else ""
+    return f"{head}\n{rows}" if rows else head
 
 
 def enum_text(package, declaration):
     """The class of an enum, and one for each of its variants."""
     parts = package.parts(declaration)
     names = [VARIANTS.get(name, name) for name, _, _ in parts]
-    rows = [f"    {it}: ClassVar[type[{declaration.name}_{it}]]\n" for it in names]
-    head = class_head(declaration.name, "Choice", declaration.doc, is_dataclass=False)
-    classes = [head + "\n" + "".join(rows)]
+    rows = [f'        {it}: TypeAlias = "{declaration.name}_{it}"\n' for it in names]
+    rows.append(f"        Variants: TypeAlias = (\n{union_of(declaration.name, names)}        )\n")
+    base = CHOICES.get(declaration.name, "Choice")
+    head = class_head(declaration.name, base, declaration.doc, is_dataclass=False)
+    classes = [head + "\n    if TYPE_CHECKING:\n" + "".join(rows)]
     for shown, (name, type_, doc) in zip(names, parts):
         words = f'{declaration.name}, variant="{shown}"'
         words += f', in_json="{name}"' if shown != name else ""
         text = class_head(f"{declaration.name}_{shown}", words, doc, is_dataclass=False)
-        classes.append(f"{text}\n    value: {package.annotation(type_)}\n")
+        annotation = package.annotation(type_)
+        text += f"\n    value: {annotation}\n"
+        classes.append(text + method("__init__", [f"value: {annotation}"], "self._hold(value)"))
     return "\n\n".join(classes)
+
+
+def union_of(name, variants):
+    """The lines that name each variant of an enum, for type checkers."""
+    text = f"typing.Union[{', '.join(f'{name}_{it}' for it in variants)}]"
+    rows = wrap(text, 80, drop_whitespace=False)
+    return "".join(f'            "{it}"\n' for it in rows)
 
 
 # Which class a rule makes.
@@ -277,9 +318,9 @@ Written by tools/python_types.py, and not edited by hand.
 """
 
 from weedle import (
-    _values, {modules},
+    {modules},
 )
-from weedle._values import Between, Many, Maybe, Together, Variants
+from weedle._making import Between, Many, Maybe, Together, Variants, fill
 from weedle._writing import FOLLOWING, ITEMS
 from weedle.grammar import NUMBERS, RULES
 
@@ -289,8 +330,7 @@ MAKERS = {{
 SEPARATORS = {{
 {separators}}}
 
-_values.MAKERS[:] = [MAKERS.get(name) for name in RULES]
-_values.SEPARATORS.update((NUMBERS[name], it) for name, it in SEPARATORS.items())
+fill([MAKERS.get(name) for name in RULES], {{NUMBERS[name]: it for name, it in SEPARATORS.items()}})
 '''
 
 GRAMMAR = '''\
@@ -308,6 +348,15 @@ RULES = (
 
 #: The numbers of the rules, by their names.
 NUMBERS = {{name: number for number, name in enumerate(RULES)}}
+
+#: The words of the grammar that have the letters of a name.
+KEYWORDS = frozenset(
+{keywords})
+
+#: Which of them are read behind which word, where a name could stand too. The word is `{before}` for any
+#: name.
+READ_BEHIND = {{
+{behind}}}
 '''
 
 
@@ -320,7 +369,16 @@ def texts():
     yield "_readers", Makers(package).text()
     names = "".join(f'    "{it.name.lower()}",\n' for it in RULES)
     version = found_in(VERSION, (TOP / LIBRARY).read_text(encoding="utf-8"), LIBRARY)
-    yield "grammar", GRAMMAR.format(version=version, names=names)
+    behind = "".join(f'    "{word}": {words_of(it)},\n' for word, it in read_behind(RULES).items())
+    yield "grammar", GRAMMAR.format(
+        version=version, names=names, keywords=split(keywords()), behind=behind, before=NAME_BEFORE,
+    )
+
+
+def keywords():
+    """The words of the grammar that have the letters of a name."""
+    words = {it.row[1] for it in RULES if it.row[0] == "Bytes"}
+    return sorted(it for it in words if it[:1].isalpha())
 
 
 def main():

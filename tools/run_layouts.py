@@ -68,6 +68,11 @@ def has_blanks_at_end(text):
     return bool(BLANKS_AT_END.search(PIECE.sub(lambda found: re.sub(r"[ \t]", "x", found.group()), text.replace("\r", ""))))
 
 
+def is_trivia(text):
+    """Whether a text is whitespace and comments alone."""
+    return all(re.match(r"//(?!/)|/\*", piece) for piece in pieces_of(text))
+
+
 class Layouts:
     """What became of texts: of each the layout, or None where it isn't read; and what the program wrote."""
 
@@ -91,8 +96,10 @@ class Layouts:
         return done.stdout.decode() + done.stderr.decode()
 
     def wrong(self, number, text):
-        """What is wrong with a layout, or None."""
+        """What is wrong with a layout, or None. Whitespace and comments alone stand as they are."""
         layout, name = self.layouts[number], self.names[number]
+        if layout == text and is_trivia(text):
+            return None
         if f"{name}: left as it is" in self.said:
             return "left as it is"
         if name in self.again.splitlines():

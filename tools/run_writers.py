@@ -1,5 +1,5 @@
 #!/usr/bin/env python3
-"""Runs all scripts that write files of crates, of C and of Python, one after another, in one process.
+"""Runs all scripts that write files of crates and of the packages in C, Python, Rust and JavaScript, one after another.
 
     python3 tools/run_writers.py --here
 
@@ -28,7 +28,7 @@ TOOLS = Path(__file__).resolve().parent
 WRITERS = (
     "grammar terminals reserved_words drops in_step modules trees types_impls types_proofs build_types "
     "build_types_proofs idl_proofs builds spellings prints impls orders modules c_header "
-    "python_types"
+    "python_types rust_types javascript_types"
 ).split()
 KEPT = ("crates", "description")
 

@@ -11,7 +11,8 @@ byte, the median of N readings
 - of weedle2's own `Definitions::parse` (the mean, of many more);
 - through C: the call of `weedle_syntax`, with the nodes written to memory that the caller has;
 - through Python: `weedle.syntax` up to the root, and with each node looked at once; `weedle.parse` up to the
-  list, with each member of each interface, with each value of the tree, and with the tree as JSON;
+  list, with each member of each interface, with each value of a walk, with each field of each value, with
+  each name, and with the tree as JSON;
 
 and the kB that a process held at most: weedle2's with its list, and Python's with each of these, above those of
 one that only holds the text.
@@ -22,6 +23,7 @@ library, the program or a FOLDER's files aren't there.
 
 import argparse
 import dataclasses
+import functools
 import importlib
 import re
 import resource
@@ -82,15 +84,37 @@ def members(data):
 
 
 def values(data):
-    """Each value of the tree."""
+    """Each value of a walk."""
+    found = package().parse(data)
+    for it in found.walk():
+        it._node
+    return found
+
+
+def names(data):
+    """Each name, with its role."""
+    found = package().parse(data)
+    for it in found.names():
+        it.role
+    return found
+
+
+@functools.cache
+def fields_of(kind):
+    """The names of the fields of a class; of one without fields none."""
+    return [it.name for it in dataclasses.fields(kind)] if dataclasses.is_dataclass(kind) else []
+
+
+def fields(data):
+    """Each field of each value."""
     found = package().parse(data)
     waiting = list(found)
     while waiting:
         it = waiting.pop()
         if isinstance(it, (list, tuple)):
             waiting.extend(it)
-        elif dataclasses.is_dataclass(it):
-            waiting += [getattr(it, field.name) for field in dataclasses.fields(it)]
+        else:
+            waiting += [getattr(it, name) for name in fields_of(type(it))]
     return found
 
 
@@ -108,6 +132,8 @@ WAYS = {
     "parse": definitions,
     "parse, members": members,
     "parse, each value": values,
+    "parse, each field of each": fields,
+    "parse, each name": names,
     "parse, as JSON": as_json,
 }
 

@@ -13,7 +13,8 @@ from contextlib import nullcontext, redirect_stdout
 from io import StringIO
 from pathlib import Path
 
-from gate import Order, is_known, known, load, measured, out_of_layout, remembered, run_all, scheduler, with_library
+import toolchain
+from gate import Order, is_known, known, measured, out_of_layout, remembered, run_all, scheduler, with_library
 
 GB = 10**9
 TIMES = {("low", "proof"): 60, ("long", "proof"): 2400, ("side", "proof"): 500, ("top", "proof"): 300}
@@ -240,8 +241,13 @@ class Known(unittest.TestCase):
         self.assertEqual(out_of_layout(rt), ["top"])
         self.assertEqual(out_of_layout(types.SimpleNamespace()), [])
 
+    def test_an_older_kit_names_its_crates_by_another_call(self):
+        lib = types.SimpleNamespace(fmt=lambda folder, *_: 1, crates_below=lambda root: [types.SimpleNamespace(name="top", folder="")])
+        rt = types.SimpleNamespace(crates_of=lambda root, aside: [], rtlib=lib)
+        self.assertEqual(out_of_layout(rt), ["top"])
+
     def test_what_is_no_python_is_not_loaded(self):
-        self.assertIsNone(load("/bin/true"))
+        self.assertIsNone(toolchain.load("/bin/true"))
 
 
 if __name__ == "__main__":

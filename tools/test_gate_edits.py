@@ -124,6 +124,49 @@ class Tried(unittest.TestCase):
         self.assertIs(rt.add_edits, before)
 
 
+class OlderRt(Rt):
+    """A command that tries the edits of a crate in one call, and says whether each was refused."""
+
+    def __init__(self, answers):
+        super().__init__(answers)
+        self.must_fail_all = lambda crate, edits, flags: "rt's own"
+
+    def must_fail(self, crate, edit, flags, kept=None):
+        kind, said = super().must_fail(crate, edit, flags, kept)
+        return kind == "refused", said
+
+
+class TriedAtOnce(unittest.TestCase):
+    setUp = Tried.setUp
+
+    def run_all(self, answers):
+        rt = OlderRt(answers)
+        gate_edits.replace(rt)
+        return rt.must_fail_all(self.crate, self.edits, []), rt.checks
+
+    def test_each_is_tried_by_its_function(self):
+        answers = {("base", "functions"): PROVED, ("one", "functions"): REFUSED, ("two", "functions"): REFUSED}
+        results, checks = self.run_all(answers)
+        self.assertEqual([refused for refused, _ in results], [True, True])
+        self.assertEqual(checks, [*answers])
+
+    def test_one_that_its_function_lets_through_is_tried_over_the_crate(self):
+        answers = {("base", "functions"): PROVED, ("one", "functions"): PROVED, ("two", "functions"): REFUSED}
+        results, checks = self.run_all(answers | {("one", "crate"): PROVED})
+        self.assertEqual([refused for refused, _ in results], [False, True])
+        self.assertNotIn(("two", "crate"), checks)
+
+    def test_where_the_function_is_not_proved_as_it_stands_all_are_tried_over_the_crate(self):
+        answers = {("base", "functions"): REFUSED, ("one", "crate"): WHOLE, ("two", "crate"): PROVED}
+        results, checks = self.run_all(answers)
+        self.assertEqual([refused for refused, _ in results], [True, False])
+        self.assertEqual(checks, [*answers])
+
+    def test_a_crate_with_an_edit_without_a_function_is_left_to_rt(self):
+        self.edits[1].write_text("file: src/lib.rt\nold: <\nnew: <=\n")
+        self.assertEqual(self.run_all({}), ("rt's own", []))
+
+
 class Verdicts(unittest.TestCase):
     def test_only_a_check_that_came_to_its_end_refuses(self):
         self.assertTrue(gate_edits.is_refused(REFUSED))

@@ -97,6 +97,7 @@ class Versions(Repository):
         self.write("README.md", readme)
         self.write("crates/weedle_c/src/lib.rt", "/// The version: a byte each for the three numbers of 1.2.0.\n")
         self.write("python/pyproject.toml", '[project]\nversion = "1.2.0"\n')
+        self.write("js/package.json", '{\n  "version": "1.2.0",\n}\n')
         self.write("python/weedle/__init__.py", '__version__ = "1.2.0"\n')
         self.write("examples/rust/Cargo.toml", f'version = "{cargo}"\n')
         return list(pages.of_versions(self.root))

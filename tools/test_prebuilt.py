@@ -15,7 +15,7 @@ from pathlib import Path
 
 import prebuilt
 from crates import Unfit
-from prebuilt import ARCHIVE, FOLDER, HEADER, SHARED, SUMS, TOP
+from prebuilt import ADDON, ARCHIVE, ASKED, FOLDER, HEADER, SHARED, SUMS, TOP
 
 COMPILER = shutil.which(os.environ.get("CC", "cc"))
 ARCHIVER = shutil.which("ar")
@@ -30,6 +30,10 @@ uint32_t weedle_syntax(
 const char *weedle_rule_name(uint32_t rule);
 static inline int weedle_count(void) {{
 """
+# In place of js/build.sh, which wants Node.
+BUILD_ADDON = f"""#!/bin/sh
+echo 'int {', '.join(sorted(ASKED))};' | {COMPILER} -shared -fPIC -x c - -o "$2" -Wl,--version-script="$(dirname "$0")/exports"
+"""
 CODE = "int weedle_syntax(void) {{ return {number}; }} int weedle_rule_name(void) {{ return 2; }} int rattle_alloc;"
 
 
@@ -41,9 +45,12 @@ class PrebuiltTest(unittest.TestCase):
         room = tempfile.TemporaryDirectory()
         self.addCleanup(room.cleanup)
         self.top = Path(room.name)
-        for name in ("include", "c"):
+        for name in ("include", "c", "js"):
             (self.top / name).mkdir()
         shutil.copy(TOP / "c/link_shared.sh", self.top / "c")
+        (self.top / "js/exports").write_text("{ global: napi_*; node_api_*; local: *; };")
+        (self.top / "js/build.sh").write_text(BUILD_ADDON)
+        (self.top / "js/build.sh").chmod(0o755)
         self.declare()
         self.archive = self.built("built.a", 1)
 
@@ -83,7 +90,7 @@ class Made(PrebuiltTest):
     @unittest.skipUnless(shutil.which("sha256sum"), "there is no sha256sum")
     def test_the_sums_are_those_that_sha256sum_reads(self):
         done = subprocess.run(["sha256sum", "-c", SUMS], cwd=self.made(), capture_output=True, text=True, check=True)
-        self.assertEqual((done.stdout, done.stderr), (f"{ARCHIVE}: OK\n{SHARED}: OK\n", ""))
+        self.assertEqual((done.stdout, done.stderr), (f"{ARCHIVE}: OK\n{SHARED}: OK\n{ADDON}: OK\n", ""))
 
     def test_the_shared_object_exports_the_calls_alone(self):
         shared = prebuilt.SharedObject((self.made() / SHARED).read_bytes())
@@ -116,8 +123,14 @@ class Looked(PrebuiltTest):
         with open(folder / ARCHIVE, "ab") as file:
             file.write(b" ")
         self.assertIn(f"{FOLDER}/{ARCHIVE} isn't what SUMS has", self.found())
-        (folder / SHARED).unlink()
-        self.assertIn(f"there is no {FOLDER}/{SHARED}", self.found())
+        for name in (SHARED, ADDON):
+            (folder / name).unlink()
+            self.assertIn(f"there is no {FOLDER}/{name}", self.found())
+
+    def test_an_addon_that_node_does_not_load(self):
+        folder = self.made()
+        shutil.copy(folder / SHARED, folder / ADDON)
+        self.assertIn(f"{FOLDER}/{ADDON} exports no napi_register_module_v1", self.found())
 
     def test_a_call_that_is_not_exported(self):
         self.made()

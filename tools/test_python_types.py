@@ -14,7 +14,9 @@ from unittest import mock
 import python_text
 import python_types
 from description.declarations import type_of
+from description.names import upper
 from description.readings import Declared
+from description.webidl import RULES
 from python_types import Makers, Package, class_text, quoted_items
 
 TOP = Path(__file__).resolve().parent.parent
@@ -36,6 +38,18 @@ class Texts(unittest.TestCase):
     def test_a_backslash_makes_a_raw_docstring(self):
         self.assertEqual(python_text.docstring(r"A `\n`.", ""), 'r"""A `\\n`."""\n')
 
+    def test_a_long_doc_of_a_field_has_lines_of_its_own(self):
+        text = python_text.field("a", "B", "part", 'The "word" ' + "and " * 30 + "more. Not this.")
+        self.assertTrue(text.startswith('    a: B = part(\n        "The \\"word\\" and '), text)
+        self.assertLessEqual(max(map(len, text.splitlines())), python_text.COLUMNS)
+        said = ast.literal_eval("(" + text.partition("part(")[2])
+        self.assertEqual(said, 'The "word" ' + "and " * 30 + "more.")
+
+    def test_words_as_a_set(self):
+        self.assertEqual(eval(python_text.words_of(["a", "b"])), {"a", "b"})
+        words = [f"word{it}" for it in range(40)]
+        self.assertEqual(eval(python_text.words_of(words)), set(words))
+
     def test_items_are_quoted_one_by_one(self):
         self.assertEqual(quoted_items("Punctuated[A, B], C"), '"Punctuated[A, B]", "C"')
 
@@ -51,8 +65,8 @@ class Types(unittest.TestCase):
 
     def test_annotations(self):
         table = [
-            ("Option<Docstring>", "Optional[Docstring]"), ("Vec<Argument>", "List[Argument]"),
-            ("(Long, Long)", "Tuple[term.Long, term.Long]"), ("Box<Type>", "Type"),
+            ("Option<Docstring>", "Optional[Docstring]"), ("Vec<Argument>", "List[Argument.Variants]"),
+            ("(Long, Long)", "Tuple[term.Long, term.Long]"), ("Box<Type>", "Type.Variants"),
             ("ParenthesizedArgumentList", "Parenthesized[ArgumentList]"),
             ("MayBeNull<Identifier>", "MayBeNull[Identifier]"), ("&'a str", "str"),
         ]
@@ -74,12 +88,37 @@ class Types(unittest.TestCase):
             self.assertNotIn(name, self.package.module)
         result, record = (self.package.declared.aliases[it] for it in ("ReturnType", "RecordType"))
         self.assertIn('(ReturnType, variant="Type", in_json="Type_")', class_text(self.package, result))
-        self.assertIn("    record: term.Record = word(0)\n", class_text(self.package, record))
+        text = class_text(self.package, record)
+        self.assertIn('    record: term.Record = word("The word `record`.")\n', text)
+        self.assertIn("Generics[Tuple[RecordKeyType.Variants, term.Comma, Type.Variants]]", text)
 
     def test_words_that_are_always_the_same_are_marked(self):
         text = class_text(self.package, self.package.declared.types["AttributeInterfaceMember"])
-        self.assertIn("readonly: Optional[term.ReadOnly] = part(2)", text)
-        self.assertIn("attribute: term.Attribute = word(3)", text)
+        self.assertIn("readonly: Optional[term.ReadOnly] = part(", text)
+        self.assertIn("attribute: term.Attribute = word(", text)
+
+    def test_a_constructor_has_the_parts_that_differ(self):
+        text = class_text(self.package, self.package.declared.types["AttributeInterfaceMember"])
+        head, _, body = text.partition("    def __init__(\n")[2].partition("    ) -> None:\n")
+        self.assertIn("readonly: Optional[term.ReadOnly] = None,", head)
+        self.assertIn("identifier: Identifier,", head)
+        self.assertNotIn("semi_colon", head)
+        self.assertEqual(body, "        self._hold(attributes, modifier, readonly, type_, identifier)\n")
+
+    def test_all_variants_of_an_enum_have_a_name(self):
+        text = class_text(self.package, self.package.declared.types["IntegerLit"])
+        union = '"typing.Union[IntegerLit_Dec, IntegerLit_Hex, IntegerLit_Oct]"'
+        self.assertIn(f"        Variants: TypeAlias = (\n            {union}\n        )\n", text)
+        self.assertTrue(text.startswith("class IntegerLit(WholeChoice):\n"))
+
+    def test_a_default_may_have_no_node_where_the_row_asks_for_optional(self):
+        (rule,) = [it for it in RULES if it.row[0] == "If"]
+        self.assertEqual(rule.name, upper(python_types.LACKING))
+        self.assertIn("    _is_whole = False\n", class_text(self.package, self.package.declared.types[python_types.LACKING]))
+
+    def test_a_terminal_has_its_word(self):
+        text = class_text(self.package, self.package.declared.types["LessThan"])
+        self.assertIn('    _spelled = "<"\n', text)
 
     def test_what_rules_make(self):
         table = {

@@ -46,6 +46,9 @@ class Tokens(unittest.TestCase):
         found = [(kind, text[start:end]) for kind, start, end in tokens_of(text, 0, len(text))]
         self.assertEqual(found, [("docstring", b"///a\n // b\n ///c"), ("word", b"x"), ("open", b'"y')])
 
+    def test_a_comment_that_is_open_is_one(self):
+        self.assertEqual([(kind, start, end) for kind, start, end in tokens_of(b"a /* b /* ;", 0, 11)], [("word", 0, 1), ("comment", 2, 11)])
+
     def test_no_token_begins_behind_the_place(self):
         self.assertEqual([start for _, start, _ in tokens_of(b"ab cd ef", 0, 3)], [0, 3])
 
@@ -67,11 +70,19 @@ class Hints(unittest.TestCase):
 
     def test_what_is_tried(self):
         text = b"/// a\nlong1 byte1 any1 enum1; // b"
-        tried = list(row_hints.changes(text, len(text), tokens_of(text, 0, len(text))))
+        tried = list(row_hints.changes(text, len(text), tokens_of(text, 0, len(text)), {b"}"}))
         self.assertEqual(tried, [
             (23, 5, b"enum", "`enum` in place of `enum1`?"), (18, 4, b"any", "`any` in place of `any1`?"),
-            (12, 5, b"byte", "`byte` in place of `byte1`?"), (0, 5, b"", "no docstring here"),
-            (29, 0, b";", "`;` missing here?"), (29, 0, b"};", "`};` missing here?"), (29, 0, b"}", "`}` missing here?"),
+            (12, 5, b"byte", "`byte` in place of `byte1`?"), (0, 5, b"", "no docstring here"), (29, 0, b"};", "`};` missing here?"),
+        ])
+
+    def test_signs_that_are_tried(self):
+        """In their order: without the sign, another one, and without the `,` before it; then those that are expected."""
+        text = b"a, ;"
+        tried = [change for change in row_hints.changes(text, 3, tokens_of(text, 0, 3), {b",", b"}", b"="})]
+        self.assertEqual(tried, [
+            (3, 1, b"", "no `;` here"), (3, 1, b",", "`,` in place of `;`?"), (1, 1, b"", "no `,` here"),
+            (2, 0, b"=", "`=` missing here?"), (2, 0, b",", "`,` missing here?"), (2, 0, b"}", "`}` missing here?"),
         ])
 
     def test_a_word_is_left_behind(self):
@@ -102,9 +113,41 @@ class Hints(unittest.TestCase):
         self.assertEqual(told("interface A {\n  attribute long x;\n"), "2:20: `};` missing here?")
         self.assertEqual(told("interface A { attribute long x; /* b */ [C] namespace D { };"), "1:32: `};` missing here?")
 
+    def test_other_signs(self):
+        self.assertEqual(told("interface A { attribute long x;; };"), "1:32: no `;` here")
+        self.assertEqual(told("interface A {; };"), "1:14: no `;` here")
+        self.assertEqual(told("interface A { };;\n"), "1:17: no `;` here")
+        self.assertEqual(told("interface A { undefined f(long a, ); };"), "1:33: no `,` here")
+        self.assertEqual(told('enum E { "a"; "b" };'), "1:13: `,` in place of `;`?")
+        self.assertEqual(told("dictionary D { long x, long y; };"), "1:22: `;` in place of `,`?")
+        self.assertEqual(told("interface A {{ attribute long x; };"), "1:14: no `{` here")
+
+    def test_signs_that_are_missing(self):
+        self.assertEqual(told("dictionary D { boolean x false; };"), "1:25: `=` missing here?")
+        self.assertEqual(told("interface A attribute long x; };"), "1:12: `{` missing here?")
+        self.assertEqual(told('enum E { "a" "b" };'), "1:13: `,` missing here?")
+        self.assertEqual(told("interface A { attribute long x; ;\ninterface B { };"), "1:32: `}` missing here?")
+        self.assertEqual(told("interface A { attribute long x;\nB includes C;"), "1:32: `};` missing here?")
+
+    def test_no_sign_that_only_moves_the_error_on(self):
+        for text in ("interface A { attribute long or DOMString x; };", "dictionary D { long or DOMString x; };",
+                     "dictionary D { const long X = 1; };", "interface A { required long x; };"):
+            self.assertIsNone(told(text), text)
+
+    def test_order(self):
+        self.assertEqual(told("interface A { attribute readonly long x; };"), "1:15: `readonly` in front of `attribute`?")
+        self.assertEqual(told("dictionary D { long required x; };"), "1:16: `required` in front of `long`?")
+        self.assertEqual(told("A interface { };"), "1:1: `interface` in front of `A`?")
+
+    def test_two_slips_of_a_definition(self):
+        members = " ".join(f"attribute long x{number};" for number in range(3))
+        self.assertEqual(told(f"interface A {{ atribute long x; {members} ? }};"), "1:15: `attribute` in place of `atribute`?")
+        self.assertIsNone(told("interface A { atribute long x; ? };"))
+
     def test_what_stands_in_the_text(self):
+        self.assertEqual(told('enum E {\n  "a,\n  "b"\n};'), "2:3: the string that opens here spans lines")
+        self.assertIsNone(told("interface A { } /* b"))
         self.assertEqual(told('enum E { "a", "b };'), "1:15: the string opens here")
-        self.assertIsNone(told('enum E { "a" "b" };'))
         self.assertEqual(told("\ufeffA includes B;"), "1:1: a byte order mark")
         self.assertEqual(told("A includes B\ufeff;"), "1:13: a byte order mark")
         self.assertEqual(told(" // a\n/* b */"), "1:1: no definitions")
@@ -114,7 +157,7 @@ class Hints(unittest.TestCase):
         for behind in ("[A([A([A([A([A([A(", "(" * 65):
             self.assertIsNone(told(f"interface A {{ atribute long {behind}; }};"))
             hint = "1:15: `attribute` in place of `atribute`?"
-            self.assertEqual(told(f"interface A {{ atribute long x; }}; {behind}"), hint)
+            self.assertEqual(told(f"interface A {{ atribute long x; }}; interface B {{ {behind}"), hint)
 
 
 if __name__ == "__main__":

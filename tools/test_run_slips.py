@@ -11,7 +11,7 @@ import unittest
 
 import run_slips
 from run_cases import last_line
-from run_slips import Slip, run, slips
+from run_slips import Slip, Told, run, slips
 
 
 class ByRows:
@@ -35,9 +35,9 @@ def status_and_last(program):
 
 
 class Slips(unittest.TestCase):
-    def test_sixty(self):
-        self.assertEqual(len(slips()), 60)
-        self.assertEqual(len({slip.text for slip in slips()}), 60)
+    def test_how_many(self):
+        self.assertEqual(len(slips()), 155)
+        self.assertEqual(len({slip.text for slip in slips()}), 155)
 
     def test_each_is_marked_once(self):
         for slip in slips():
@@ -49,10 +49,20 @@ class Slips(unittest.TestCase):
         for line, is_at in (("1:4: x", True), ("2:2: x", True), ("1:5: x", True), ("1:3: x", False), ("2:3: x", False), ("x", False)):
             self.assertEqual(slip.is_at(line), is_at, line)
 
-    def test_at_least_three_of_four(self):
+    def test_what_is_counted(self):
         status, last = status_and_last(ByRows())
         self.assertEqual(status, 0)
-        self.assertGreaterEqual(int(last.split()[0]), 45)
+        self.assertRegex(last, r"^\d+ hints, \d+ of \d+ changes mend, \d+ of 155 within a line of the slip$")
+
+    def test_what_is_enough(self):
+        for counts, is_so in (((100, 95, 100, 97), True), ((100, 94, 100, 97), False), ((100, 95, 100, 96), False), ((0, 0, 0, 0), True)):
+            self.assertEqual(run_slips.is_enough(*counts), is_so, counts)
+
+    def test_what_is_told(self):
+        told = Told(b"interface A {\n  attribute long x;; };", 31)
+        self.assertTrue(told.has_change and told.mends and told.is_near)
+        told = Told(b"A includes B;\n\n\ninterface A { attribute long x; attribute long };", 0)
+        self.assertFalse(told.has_change or told.mends or told.is_near)
 
     def test_a_program_that_says_something_else(self):
         self.assertEqual(status_and_last(ByRows("1:1: expected `;`\nx\n^\n"))[0], 1)

@@ -80,6 +80,13 @@ class Copies(unittest.TestCase):
         })
         self.assertEqual([it for it in data if it.startswith("python")], ["python/weedle/b.py"])
 
+    def test_modules_of_rust_are_sources_and_what_cargo_makes_is_none(self):
+        written = b"//! A.\n//!\n//! Written by tools/x.py.\n"
+        data, _ = self.copied({
+            "rust/src/a.rs": written, "rust/src/b.rs": b"b", "rust/target/debug/build/c.rs": b"c",
+        })
+        self.assertEqual([it for it in data if it.startswith("rust")], ["rust/src/b.rs"])
+
 
 # What stands for `rt fmt`: it says where it runs, and adds a line to each file below src.
 LAYS_OUT = """#!/bin/sh

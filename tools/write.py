@@ -3,8 +3,8 @@
 
     python3 tools/write.py
 
-Files of crates, of C and of Python that a script writes name it at their heads, as `Written by tools/grammar.py`.
-In a copy of the repository without them tools/run_writers.py runs the scripts, and each crate in
+Files of crates and of the packages in C, Python, Rust and JavaScript that a script writes name it at their heads, as
+`Written by tools/grammar.py`. In a copy of the repository without them tools/run_writers.py runs the scripts, and each crate in
 which something differs is laid out by `rt fmt`. What differs then is brought back: so where a
 script fails, nothing is changed. Behind that it writes the pages of docs/ that follow from the crates.
 
@@ -32,7 +32,7 @@ WRITTEN = re.compile(r"[Ww]ritten by (tools/\w+\.py)")
 # A head is the comment that a file begins with; further down a file may speak of scripts.
 HEAD = re.compile(r'/\*(?:.|\n)*?\*/|"""(?:.|\n)*?"""|(?:(?://!|--).*\n)*')
 # The files beside those of crates that scripts write, or may write.
-BESIDE = ("include/*.h", "python/weedle/*.py")
+BESIDE = ("include/*.h", "python/weedle/*.py", "rust/src/*.rs", "js/lib/written/*.js", "js/lib/written/*.ts")
 # The scripts that write pages of docs/ from the crates, and print what they changed.
 PAGES = ("calling.py",)
 # Where files are made in memory, on systems that have it: a disk takes long to make a thousand.

@@ -239,19 +239,18 @@ static void test_attributes_in_one_another(void) {
     }
 }
 
-/* Brackets of a kind, and how many in one another descent reads: of extended attributes more only in a longer text. */
+/* Brackets of a kind. */
 struct kind {
     const char *name, *front, *open, *inner, *close, *end;
-    size_t levels;
 };
 
 static const struct kind KINDS[] = {
-    {"a type in angle brackets", "typedef ", "sequence<", "long", ">", " A;", 64},
-    {"the types of a record", "typedef ", "record<DOMString, ", "long", ">", " A;", 64},
-    {"a promise", "typedef ", "Promise<", "long", ">", " A;", 64},
-    {"a union, the first of another", "typedef ", "(", "a or b", " or c)", " d;", 64},
-    {"a union, the last of another", "typedef ", "(a or ", "(b or c)", ")", " d;", 63},
-    {"an attribute with arguments", "", "[A(", "any a", ")] any a", " interface I {};", 2},
+    {"a type in angle brackets", "typedef ", "sequence<", "long", ">", " A;"},
+    {"the types of a record", "typedef ", "record<DOMString, ", "long", ">", " A;"},
+    {"a promise", "typedef ", "Promise<", "long", ">", " A;"},
+    {"a union, the first of another", "typedef ", "(", "a or b", " or c)", " d;"},
+    {"a union, the last of another", "typedef ", "(a or ", "(b or c)", ")", " d;"},
+    {"an attribute with arguments", "", "[A(", "any a", ")] any a", " interface I {};"},
 };
 
 /* The stack that a call takes with so many of these brackets. */
@@ -262,16 +261,21 @@ static size_t stack_of(const struct kind *kind, size_t levels, unsigned char *pa
     return call.stack;
 }
 
-/* Prints what descent takes of the stack for each level, and where as many are open as it reads: at most 160 kB. */
+/* Prints what descent takes of the stack for a level, and at the most before it takes the table: less than 200 kB. */
 static void test_stack(void) {
     void *painted;
     if (getenv("WEEDLE_SMALL") || posix_memalign(&painted, 4096, STACK) != 0)
         return;
     for (size_t i = 0; i < sizeof KINDS / sizeof *KINDS; i++) {
         const struct kind *kind = &KINDS[i];
-        size_t few = stack_of(kind, 1, painted), most = stack_of(kind, kind->levels, painted);
-        printf("  %s: %zu bytes of stack, %zu in all\n", kind->name, (most - few) / (kind->levels - 1), most);
-        CHECK(most < 160 * 1024);
+        size_t ten = stack_of(kind, 10, painted), twenty = stack_of(kind, 20, painted), most = twenty, deepest = 20;
+        for (size_t levels = 21; levels < 200; levels++) {
+            size_t stack = stack_of(kind, levels, painted);
+            if (stack > most)
+                most = stack, deepest = levels;
+        }
+        printf("  %s: %zu bytes of stack, %zu in all at %zu levels\n", kind->name, (twenty - ten) / 10, most, deepest);
+        CHECK(most < 200 * 1024);
     }
     free(painted);
 }

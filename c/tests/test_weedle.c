@@ -1,18 +1,19 @@
 /*
- * Tests of the C library: statuses, nodes, messages, room, memory that is refused, and threads.
+ * Tests of the C library: statuses, nodes, messages, room, memory that is asked for and that is refused, and threads.
  *
  *     c/run_tests.sh
  *
  * builds and runs them. The expected nodes are worked out by hand from the rows of tools/description, the expected
  * words are those of docs/USING.md and of the tests of weedle_rows. It is linked with
- * `-Wl,--wrap=malloc,--wrap=realloc`, so that requests for memory can be refused.
+ * `-Wl,--wrap=malloc,--wrap=realloc`, so that requests for memory are counted, and can be refused.
  */
 #include <pthread.h>
 
 #include "checks.h"
 
-/* Memory that is refused: the request of this number, from 1 on. */
+/* Memory that is refused: the request of this number, from 1 on. And how many bytes were asked for in all. */
 static unsigned long requests, refused;
+static size_t asked;
 static int counts;
 
 void *__real_malloc(size_t size);
@@ -20,11 +21,14 @@ void *__real_realloc(void *block, size_t size);
 void *__wrap_malloc(size_t size);
 void *__wrap_realloc(void *block, size_t size);
 
-static int is_refused(void) { return counts && ++requests == refused; }
+static int is_refused(size_t size) {
+    asked += size;
+    return counts && ++requests == refused;
+}
 
-void *__wrap_malloc(size_t size) { return is_refused() ? NULL : __real_malloc(size); }
+void *__wrap_malloc(size_t size) { return is_refused(size) ? NULL : __real_malloc(size); }
 
-void *__wrap_realloc(void *block, size_t size) { return is_refused() ? NULL : __real_realloc(block, size); }
+void *__wrap_realloc(void *block, size_t size) { return is_refused(size) ? NULL : __real_realloc(block, size); }
 
 /* A statement, and what its rows read. */
 static const char STATEMENT[] = "A includes B;// c";
@@ -111,18 +115,70 @@ static void test_no_text(void) {
     CHECK(strcmp(message, "xyz") == 0);
 }
 
+/* Every field of each answer is written. */
 static void test_what_is_not_utf8(void) {
     static const char text[] = "interface A {}; // \xc3\xa9 \xff";
     struct weedle_node node = {7, 7, 7, 7};
-    struct weedle_answer answer;
-    struct weedle_refusal refusal;
+    struct weedle_answer answer = {7, 7};
+    struct weedle_refusal refusal = {7, 7, 7, 7, 7};
+    struct weedle_formatted formatted = {7, 7, 7};
     char message[4] = "xyz";
     CHECK(weedle_syntax(text, strlen(text), &node, 1, &answer) == WEEDLE_STATUS_NOT_UTF8);
     CHECK(answer.count == 0 && answer.rest == 22 && node.rule == 7);
+    answer = (struct weedle_answer){7, 7};
+    CHECK(weedle_syntax_of(WEEDLE_DEFINITION, text, strlen(text), &node, 1, &answer) == WEEDLE_STATUS_NOT_UTF8);
+    CHECK(answer.count == 0 && answer.rest == 22 && node.rule == 7);
     CHECK(weedle_explain(text, strlen(text), message, sizeof message, &refusal) == WEEDLE_STATUS_NOT_UTF8);
-    CHECK(refusal.place == 22 && strcmp(message, "xyz") == 0);
+    CHECK(refusal.start == 0 && refusal.place == 22 && refusal.line == 0 && refusal.column == 0 && refusal.length == 0);
+    CHECK(weedle_format(text, strlen(text), message, sizeof message, &formatted) == WEEDLE_STATUS_NOT_UTF8);
+    CHECK(formatted.length == 0 && formatted.rest == 22 && formatted.is_laid_out == 0);
+    CHECK(strcmp(message, "xyz") == 0);
     /* A character that is cut off at the end isn't one. */
     CHECK(counted(text, 20, &answer) == WEEDLE_STATUS_NOT_UTF8 && answer.rest == 19);
+}
+
+/* A statement alone: its nodes are those of NODES from the third on, each two less deep. */
+static void test_a_rule_at_the_front(void) {
+    struct weedle_node nodes[COUNT], wanted[COUNT];
+    struct weedle_answer answer;
+    uint32_t rule = WEEDLE_INCLUDES_STATEMENT_DEFINITION;
+    memcpy(wanted, NODES, sizeof wanted);
+    for (int i = 2; i < COUNT; i++)
+        wanted[i].depth -= 2;
+    CHECK(weedle_syntax_of(rule, STATEMENT, strlen(STATEMENT), nodes, COUNT, &answer) == WEEDLE_STATUS_READ);
+    CHECK(answer.count == COUNT - 2 && answer.rest == 17);
+    CHECK(memcmp(nodes, wanted + 2, (COUNT - 2) * sizeof *nodes) == 0);
+    /* What stands behind it is left, also where no definition is. */
+    CHECK(weedle_syntax_of(WEEDLE_TYPE, "long? x", 7, nodes, COUNT, &answer) == WEEDLE_STATUS_READ);
+    CHECK(nodes[0].rule == WEEDLE_TYPE && nodes[0].start == 0 && nodes[0].end == 6 && answer.rest == 6);
+    CHECK(weedle_syntax_of(WEEDLE_DEFINITIONS, "A includes B; foo", 17, nodes, 0, &answer) == WEEDLE_STATUS_NO_ROOM);
+    CHECK(answer.rest == 14);
+    CHECK(weedle_syntax_of(WEEDLE_DEFINITIONS, "foo", 3, nodes, COUNT, &answer) == WEEDLE_STATUS_READ);
+    CHECK(answer.count == 1 && answer.rest == 0);
+}
+
+static void test_a_rule_that_fails(void) {
+    struct weedle_node node = {7, 7, 7, 7};
+    struct weedle_answer answer = {7, 7};
+    CHECK(weedle_syntax_of(WEEDLE_TYPE, "1 x", 3, &node, 1, &answer) == WEEDLE_STATUS_REFUSED);
+    CHECK(answer.count == 0 && answer.rest == 0 && node.rule == 7);
+    answer = (struct weedle_answer){7, 7};
+    CHECK(weedle_syntax_of(WEEDLE_RULE_COUNT, "A", 1, &node, 1, &answer) == WEEDLE_STATUS_NO_RULE);
+    CHECK(answer.count == 0 && answer.rest == 0 && node.rule == 7);
+    CHECK(weedle_syntax_of(UINT32_MAX, "\xff", 1, &node, 1, &answer) == WEEDLE_STATUS_NO_RULE);
+    CHECK(weedle_syntax_of(65536 + WEEDLE_TYPE, "long", 4, &node, 1, &answer) == WEEDLE_STATUS_NO_RULE);
+}
+
+/* Each rule at the front of no text: a rule that reads it has its own node first. */
+static void test_each_rule(void) {
+    struct weedle_node nodes[COUNT];
+    for (uint32_t rule = 0; rule < WEEDLE_RULE_COUNT; rule++) {
+        struct weedle_answer answer;
+        uint32_t status = weedle_syntax_of(rule, "", 0, nodes, COUNT, &answer);
+        CHECK(status == WEEDLE_STATUS_READ || status == WEEDLE_STATUS_REFUSED);
+        CHECK(answer.rest == 0 && (answer.count > 0) == (status == WEEDLE_STATUS_READ));
+        CHECK(status != WEEDLE_STATUS_READ || nodes[0].rule == rule);
+    }
 }
 
 static void test_what_is_refused(void) {
@@ -203,7 +259,9 @@ static void test_hints(void) {
     CHECK(strcmp(hint_of("enum E { \"a };", message), "1:10: the string opens here\n") == 0);
     CHECK(strcmp(hint_of("\xef\xbb\xbftypedef long T;", message), "1:1: a byte order mark\n") == 0);
     CHECK(strcmp(hint_of("// a", message), "1:1: no definitions\n") == 0);
-    CHECK(strcmp(hint_of("enum E { \"a\" \"b\" };", message), "") == 0);
+    CHECK(strcmp(hint_of("enum E { \"a\" \"b\" };", message), "1:13: `,` missing here?\n") == 0);
+    CHECK(strcmp(hint_of("interface A { attribute long x;; };", message), "1:32: no `;` here\n") == 0);
+    CHECK(strcmp(hint_of("dictionary D { const long X = 1; };", message), "") == 0);
 }
 
 /* Laid out by hand, as docs/LAYOUT.md says. */
@@ -299,6 +357,65 @@ static void test_memory_of_a_layout_that_is_refused(void) {
     CHECK(memcmp(out, whole, ample.length) == 0);
 }
 
+/* What a call asks for of a text, in bytes. */
+static size_t asked_by(int call, const char *text, size_t length) {
+    struct weedle_node node;
+    struct weedle_answer answer;
+    struct weedle_refusal refusal;
+    struct weedle_formatted formatted;
+    char out;
+    asked = 0;
+    if (call == 0)
+        weedle_syntax(text, length, &node, 0, &answer);
+    else if (call == 1)
+        weedle_syntax_of(WEEDLE_DEFINITIONS, text, length, &node, 0, &answer);
+    else if (call == 2)
+        weedle_explain(text, length, &out, 0, &refusal);
+    else
+        weedle_format(text, length, &out, 0, &formatted);
+    return asked;
+}
+
+/*
+ * Texts of 1 to 300 kB ask for what their nodes need, each time that the list of them grows, and for no table of ends,
+ * which has 1,544 bytes for each byte of them. A layout is read once more.
+ */
+static void test_bytes_that_are_asked_for(void) {
+    static const char *const names[] = {"weedle_syntax", "weedle_syntax_of", "weedle_explain", "weedle_format"};
+    static const char member[] = "[A] interface A { [B] attribute long x; };\n";
+    static const char *const ends[] = {"", "foo", "[A interface B {};"};
+    for (int call = 0; call < 4; call++) {
+        size_t most = 0;
+        for (size_t times = 24; times < 7200; times *= 2) {
+            for (int i = 0; i < 3; i++) {
+                size_t length;
+                char *text = repeated("", member, times, ends[i], &length);
+                size_t each = asked_by(call, text, length) / length;
+                most = each > most ? each : most;
+                free(text);
+            }
+        }
+        printf("  %s: at most %zu bytes for each byte\n", names[call], most);
+        CHECK(most < (call == 3 ? 800 : 400));
+    }
+}
+
+/* Two extended attributes that aren't closed, before most of 160 kB: brackets that are open for all that follows. */
+static void test_brackets_that_are_not_closed(void) {
+    static const char member[] = "[A] interface A { [B] attribute long x; };\n";
+    static const char slips[] = "[A interface A { [B] attribute long x; };\n[A interface A {};\n";
+    size_t front_length, length;
+    char *front = repeated("", member, 100, slips, &front_length);
+    char *text = repeated(front, member, 3700, "", &length);
+    struct weedle_answer answer;
+    CHECK(length > 160000);
+    CHECK(counted(text, length, &answer) == WEEDLE_STATUS_REFUSED && answer.rest == 100 * strlen(member));
+    for (int call = 0; call < 4; call++)
+        CHECK(asked_by(call, text, length) < 400 * length);
+    free(text);
+    free(front);
+}
+
 /* What a thread reads, and what it found. */
 struct reading {
     char *text;
@@ -340,6 +457,9 @@ static const struct test TESTS[] = {
     {"room", test_room},
     {"no text", test_no_text},
     {"what isn't UTF-8", test_what_is_not_utf8},
+    {"a rule at the front", test_a_rule_at_the_front},
+    {"a rule that fails", test_a_rule_that_fails},
+    {"each rule", test_each_rule},
     {"what is refused", test_what_is_refused},
     {"words of a refusal", test_words_of_a_refusal},
     {"a message is cut at a character", test_a_message_is_cut_at_a_character},
@@ -351,6 +471,8 @@ static const struct test TESTS[] = {
     {"version, rules and names", test_version_rules_and_names},
     {"memory that is refused", test_memory_that_is_refused},
     {"memory of a layout that is refused", test_memory_of_a_layout_that_is_refused},
+    {"bytes that are asked for", test_bytes_that_are_asked_for},
+    {"brackets that aren't closed", test_brackets_that_are_not_closed},
     {"two threads", test_two_threads},
 };
 

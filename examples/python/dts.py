@@ -1,122 +1,145 @@
 #!/usr/bin/env python3
-"""Writes TypeScript declarations for the interfaces of WebIDL files.
+"""Writes TypeScript declarations with their docs:  dts.py FILE.. > types.d.ts
 
-    python3 examples/python/dts.py FILE.. > window.d.ts
-
-It declares attributes, operations and constants, with what an interface inherits from. What it has
-no word for, it says on standard error, with its place, and leaves out.
+What it has no word for it leaves out, and says so on standard error.
 """
 
+import json
 import sys
+import textwrap
+from pathlib import Path
+from typing import Any, Iterator, List
 
 import weedle
-from weedle import Definition
-from weedle.interface import InterfaceMember
-from weedle.types import NonAnyType, RecordKeyType, ReturnType, SingleType, Type
+from weedle import Definition, Index, Member, kind_of, members_of, types
+from weedle.argument import Argument
+from weedle.types import NonAnyType, ReturnType, Type, UnionMemberType
 
 # Types that TypeScript has by another name; all others are called the same.
 NAMES = {
     **dict.fromkeys(("Integer", "FloatingPoint", "Byte", "Octet"), "number"),
     **dict.fromkeys(("ByteString", "DOMString", "USVString"), "string"),
-    "Boolean": "boolean", "Object": "object", "Symbol": "symbol",
+    "Boolean": "boolean", "Object": "object", "Symbol": "symbol", "Any": "any", "Undefined": "void",
+    "WindowProxy": "Window",
 }
-LISTS = {"Sequence": "Array", "FrozenArrayType": "ReadonlyArray"}
+RESERVED = "class default delete enum function import in new this var with".split()
+WRAPPERS = (Type.Single, types.SingleType.NonAny, ReturnType.Type, UnionMemberType.Single)
 
 
-def type_text(type_):
+def type_text(it: Any) -> str:
     """A type: `unsigned long?` is `number | null`."""
-    if isinstance(type_, Type.Union):
-        return one_of(union_parts(type_.value))
-    is_any = isinstance(type_.value, SingleType.Any)
-    return "any" if is_any else one_of(single_parts(type_.value.value))
+    return " | ".join(dict.fromkeys(parts_of(it)))
 
 
-def one_of(parts):
-    """A union of types, each once: `number | null`."""
-    return " | ".join(dict.fromkeys(parts))
-
-
-def union_parts(union):
-    """The types of a union: of `(long or (Node or DOMString))?` they are four."""
-    for it in union.type_.body.list:
-        yield from union_parts(it.value) if it.variant == "Union" else single_parts(it.value.type_)
-    yield from ["null"] if union.q_mark else []
-
-
-def single_parts(type_):
-    """A type that is neither `any` nor a union, and `null` where it may be."""
-    yield single_text(type_)
-    if not isinstance(type_, NonAnyType.Promise) and type_.value.q_mark:
+def parts_of(it: Any) -> Iterator[str]:
+    """The types of a union, or the only one, and `null` where it may be."""
+    if isinstance(it, (types.AttributedType, types.AttributedNonAnyType)):
+        yield from parts_of(it.type_)
+    elif isinstance(it, WRAPPERS):
+        yield from parts_of(it.value)
+    elif isinstance(it, (Type.Union, UnionMemberType.Union)):
+        for member in it.value.type_.body:
+            yield from parts_of(member)
+    else:
+        yield single_text(it)
+    if getattr(getattr(it, "value", None), "q_mark", None):
         yield "null"
 
 
-def single_text(type_):
-    if isinstance(type_, NonAnyType.Promise):
-        return f"Promise<{result_text(type_.value.generics.body)}>"
-    inner = type_.value.type_
-    if type_.variant in LISTS:
-        return f"{LISTS[type_.variant]}<{type_text(inner.generics.body)}>"
-    if isinstance(type_, NonAnyType.RecordType):
-        key, _, value = inner.generics.body
-        is_named = isinstance(key, RecordKeyType.NonAny)
-        return f"Record<{single_text(key.value) if is_named else 'string'}, {type_text(value)}>"
-    if isinstance(type_, NonAnyType.Identifier):
-        return inner.value
-    return NAMES.get(type_.variant, type_.variant)
+def single_text(it: Any) -> str:
+    """A type that is no union, without its `?`."""
+    if isinstance(it, NonAnyType.Promise):
+        return f"Promise<{type_text(it.value.generics.body)}>"
+    if isinstance(it, NonAnyType.RecordType):
+        return f"Record<string, {type_text(it.value.type_.generics.body[2])}>"
+    if isinstance(it, (NonAnyType.Sequence, NonAnyType.FrozenArrayType)):
+        readonly = "Readonly" * (it.variant == "FrozenArrayType")
+        return f"{readonly}Array<{type_text(it.value.type_.generics.body)}>"
+    name: str = it.value.type_.value if isinstance(it, NonAnyType.Identifier) else it.variant
+    return NAMES.get(name, name)
 
 
-def result_text(type_):
-    """The type of a result."""
-    return "void" if isinstance(type_, ReturnType.Undefined) else type_text(type_.value)
+def arguments_text(arguments: List[Argument.Variants]) -> str:
+    """Arguments: `optional long x = 5, any... rest` are `x?: number, ...rest: Array<any>`."""
+    found = []
+    for it in arguments:
+        name, type_ = it.value.identifier.value.replace("-", "_"), type_text(it.value.type_)
+        name += "_" * (name in RESERVED)
+        optional = "?" * (isinstance(it, Argument.Single) and bool(it.value.optional))
+        found.append(f"{name}{optional}: {type_}" if it.variant == "Single" else f"...{name}: Array<{type_}>")
+    return ", ".join(found)
 
 
-def argument_text(argument):
-    """An argument: `optional long x = 5` is `x?: number`."""
-    it = argument.value
-    if argument.variant == "Variadic":
-        return f"...{it.identifier.value}: Array<{type_text(it.type_)}>"
-    return f"{it.identifier.value}{'?' if it.optional else ''}: {type_text(it.type_.type_)}"
+def member_text(it: Member) -> str:
+    """The declaration of a member; empty where there is no word for it."""
+    name = json.dumps(it.name) if "-" in it.name else it.name
+    type_ = type_text(it.type) if it.type else ""
+    if it.kind == "Const":
+        return f"readonly {name}: {it.inner.const_value.text};"
+    if it.kind in ("Attribute", "Field"):
+        readonly = "readonly " * bool(getattr(it.inner, "readonly", None))
+        return f"{readonly}{name}{'?' * (not getattr(it.inner, 'required', True))}: {type_};"
+    if it.kind == "Operation" and it.identifier:
+        return f"{name}({arguments_text(it.arguments)}): {type_};"
+    if it.kind in ("Iterable", "AsyncIterable"):
+        item = f"[{type_text(it.key_type)}, {type_}]" if it.key_type else type_
+        word = it.kind.replace("able", "ator")
+        return f"[Symbol.{word[0].lower()}{word[1:]}](): {word}<{item}>;"
+    return "toString(): string;" if it.kind == "Stringifier" else ""
 
 
-def member_text(member):
-    """The declaration of a member, or None."""
-    it = member.value
-    if isinstance(member, InterfaceMember.Attribute):
-        word = "readonly " if it.readonly else ""
-        return f"{word}{it.identifier.value}: {type_text(it.type_.type_)};"
-    if isinstance(member, InterfaceMember.Operation) and it.identifier:
-        arguments = ", ".join(map(argument_text, it.args.body.list))
-        return f"{it.identifier.value}({arguments}): {result_text(it.return_type)};"
-    if isinstance(member, InterfaceMember.Const):
-        return f"readonly {it.identifier.value}: {it.const_value.text};"
-    return None
+def emit(doc: str, text: str, indent: str = "") -> None:
+    """Writes a declaration behind its doc."""
+    lines = doc.replace("*/", "* /").replace("\n", "\n * ")
+    print(textwrap.indent(f"/** {lines} */\n{text}" if doc else text, indent))
 
 
-def write_interface(name, definition):
-    """Writes an interface, or a part of one: TypeScript merges these."""
-    parent = getattr(definition, "inheritance", None)
-    extends = f" extends {parent.identifier.value}" if parent else ""
-    print(f"interface {definition.identifier.value}{extends} {{")
-    for member in definition.members.body:
-        text = member_text(member)
+def write_members(index: Index, members: List[Member]) -> None:
+    for it in members:
+        text = member_text(it)
+        if it.definition.variant.endswith("Namespace") and text:
+            text = text.replace("readonly ", "const ") if it.kind == "Attribute" else f"function {text}"
         if text:
-            print(f"  {text}")
+            emit(it.doc, text, "  ")
         else:
-            place = ":".join(map(str, member.position))
-            print(f"{name}:{place}: left out: {member.text}", file=sys.stderr)
+            print(f"{index.place_of(it.value)}: left out: {it.value.text}", file=sys.stderr)
+
+
+def write_definition(index: Index, definition: Definition.Variants) -> None:
+    """Writes what a definition declares."""
+    it: Any = definition.value
+    kind = kind_of(definition).rpartition("partial ")[2]
+    if kind in ("includes", "implements"):
+        return print(f"interface {it.lhs_identifier.value} extends {it.rhs_identifier.value} {{}}")
+    name, doc, members = it.identifier.value, definition.doc, members_of(definition)
+    if kind == "enum":
+        values = " | ".join(json.dumps(value.value.value) for value in it.values.body)
+        return emit(doc, f"type {name} = {values};")
+    if kind == "typedef":
+        return emit(doc, f"type {name} = {type_text(it.type_)};")
+    if kind == "callback":
+        arguments = arguments_text(it.arguments.body.list)
+        return emit(doc, f"type {name} = ({arguments}) => {type_text(it.return_type)};")
+    above = getattr(it, "inheritance", None)
+    extends = f" extends {above.identifier.value}" if above else ""
+    emit(doc, f"{'declare namespace' if kind == 'namespace' else 'interface'} {name}{extends} {{")
+    write_members(index, [it for it in members if it.kind != "Constructor" and not it.is_static])
     print("}")
+    if definition.variant == "Interface":
+        print(f"declare var {name}: {{\n  prototype: {name};")
+        for it in (it for it in members if it.kind == "Constructor"):
+            emit(it.doc, f"new ({arguments_text(it.arguments)}): {name};", "  ")
+        write_members(index, [it for it in members if it.kind == "Const" or it.is_static])
+        print("};")
 
 
-def main(names):
+def main(files: List[str]) -> int:
     """Writes the declarations of files; the status is 1 where one is refused."""
-    status = 0
-    for name in names:
-        with open(name, "rb") as file:
-            data = file.read()
+    index, status = Index(), 0
+    for name in files:
         try:
-            for it in weedle.parse(data):
-                if isinstance(it, (Definition.Interface, Definition.PartialInterface)):
-                    write_interface(name, it.value)
+            for it in index.add(Path(name).read_bytes(), name):
+                write_definition(index, it)
         except weedle.Refused as refused:
             print(f"{name}:{refused}", file=sys.stderr)
             status = 1

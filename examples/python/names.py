@@ -10,6 +10,7 @@ the status is 1 then, or where a file is refused.
 
 import re
 import sys
+from typing import Iterator, List, Tuple
 
 import weedle
 
@@ -38,16 +39,16 @@ PARTS = {
 }
 
 
-def names_in(root):
+def names_in(root: weedle.Node) -> "Iterator[Tuple[weedle.Node, re.Pattern[str]]]":
     """The names that a text gives to what it defines, each with how it should be written."""
     for node in root.walk():
         pattern = PATTERNS.get(node.name)
-        for part in node.children if pattern else ():
-            if part.name in PARTS:
+        for part in node.children:
+            if pattern and part.name in PARTS:
                 yield from ((it, pattern) for it in part.find(PARTS[part.name]))
 
 
-def complaints(name, data):
+def complaints(name: str, data: bytes) -> Iterator[str]:
     """A line for each name of a file that is written otherwise."""
     for node, pattern in names_in(weedle.syntax(data)):
         if not pattern.fullmatch(node.text):
@@ -55,9 +56,9 @@ def complaints(name, data):
             yield f"{name}:{line}:{column}: {node.text!r} isn't written as {pattern.pattern}"
 
 
-def main(names):
+def main(names: List[str]) -> int:
     """Checks files."""
-    lines = []
+    lines: List[str] = []
     for name in names:
         with open(name, "rb") as file:
             try:

@@ -1,4 +1,4 @@
-"""Runs the examples of examples/python, the one of docs/LANGUAGES.md, and those of docstrings.
+"""Runs the examples of examples/python, those of docs/PYTHON.md and README, and those of docstrings.
 
 Expected is what a person writes for the same interfaces in TypeScript, as its library lib.dom.d.ts
 has them, what the Web's design principles say of names, and what the page says.
@@ -18,48 +18,146 @@ import weedle
 from weedle import nodes
 
 WINDOW = """\
+// A window.
+// Of a page.
 [Exposed=Window]
 interface Window : EventTarget {
-  const unsigned short ELEMENT_NODE = 1;
+  const unsigned short ELEMENT_NODE = 1; // of Node
+  // kept for the session
   readonly attribute Storage sessionStorage;
   attribute (DOMString or sequence<long>?)? mixed;
   attribute (record<DOMString, (A or B)> or (record<DOMString, (C or B)> or B? or A)) nested;
   Promise<undefined> open(optional USVString url = "", any... rest);
-  record<DOMString, (Node or ArrayBuffer)> map(FrozenArray<double> xs);
+  static record<DOMString, (Node or ArrayBuffer)> map(FrozenArray<double> xs);
   stringifier;
+  iterable<DOMString, Node>;
+  /// Opens one.
+  constructor(optional DOMString name);
+  maplike<DOMString, Node>;
 };
 partial interface Window { boolean? f(); };
-enum Kind { "local" };
+enum Kind { "local", "" };
+namespace Math { readonly attribute double pi; double max(double x, double y); };
+dictionary Options { required long id; DOMString the-name; };
+callback Handler = undefined (any default);
+typedef (Node or DOMString)? Both;
+Window includes Mixed;
 """
 DECLARED = """\
+/** A window.
+ * Of a page. */
 interface Window extends EventTarget {
   readonly ELEMENT_NODE: 1;
+  /** kept for the session */
   readonly sessionStorage: Storage;
   mixed: string | Array<number> | null;
   nested: Record<string, A | B> | Record<string, C | B> | B | null | A;
   open(url?: string, ...rest: Array<any>): Promise<void>;
-  map(xs: ReadonlyArray<number>): Record<string, Node | ArrayBuffer>;
+  toString(): string;
+  [Symbol.iterator](): Iterator<[string, Node]>;
 }
+declare var Window: {
+  prototype: Window;
+  /** Opens one. */
+  new (name?: string): Window;
+  readonly ELEMENT_NODE: 1;
+  map(xs: ReadonlyArray<number>): Record<string, Node | ArrayBuffer>;
+};
 interface Window {
   f(): boolean | null;
 }
+type Kind = "local" | "";
+declare namespace Math {
+  const pi: number;
+  function max(x: number, y: number): number;
+}
+interface Options {
+  id: number;
+  "the-name"?: string;
+}
+type Handler = (default_: any) => void;
+type Both = Node | string | null;
+interface Window extends Mixed {}
+"""
+# A text, and its page in Markdown with links.
+DOCUMENTED = """\
+<a id="Kind"></a>
+
+## Kind
+
+<code>enum Kind</code> (4:1)
+
+how it is
+
+- <code>"local"</code>
+
+- <code>""</code>
+
+  none
+
+<a id="Mixed"></a>
+
+## Mixed
+
+<code>interface mixin Mixed</code> (7:1)
+
+
+
+<a id="Options"></a>
+
+## Options
+
+<code>dictionary Options</code> (6:1)
+
+
+
+- <code>required <a href="#Kind">Kind</a> id;</code>
+
+- <code>DOMString the-name;</code>
+
+<a id="Window"></a>
+
+## Window
+
+Includes [Mixed](#Mixed).
+
+<code>partial interface <a href="#Window">Window</a></code> (1:1)
+
+
+
+- <code>sequence&lt;<a href="#Kind">Kind</a>&gt; f();</code>
+
+"""
+PAGE = """\
+partial interface Window { sequence<Kind> f(); };
+Window includes Mixed;
+// how it is
+enum Kind { "local", /* none */ "" };
+
+dictionary Options { required Kind /* of which */ id; DOMString the-name; };
+interface mixin Mixed {};
 """
 
 
 # Python on a page, and what it says that is printed.
-CODE, PRINTED = re.compile(r"^```python\n(.*?)^```$", re.M | re.S), re.compile(r"^prints `(.*)`\.$", re.M)
+CODE = re.compile(r"^```python\n(.*?)^```$", re.M | re.S)
+PRINTED = re.compile(r"^```python\n(.*?)^```\n\n```text\n(.*?)^```$", re.M | re.S)
 
 
 class Pages(unittest.TestCase):
     def test_what_the_page_prints(self):
-        page = (TOP / "docs/LANGUAGES.md").read_text(encoding="utf-8")
-        codes, printed = CODE.findall(page), PRINTED.findall(page)
-        self.assertEqual((len(codes), len(printed)), (1, 1))
-        done = subprocess.run(
-            [sys.executable, "-c", codes[0]], capture_output=True, text=True, check=False,
-            env={**os.environ, "PYTHONPATH": str(HOME)},
-        )
-        self.assertEqual((done.stdout, done.stderr), (f"{printed[0]}\n", ""))
+        page = (TOP / "docs/PYTHON.md").read_text(encoding="utf-8")
+        printed = PRINTED.findall(page)
+        self.assertEqual(len(printed), len(CODE.findall(page)))
+        self.assertGreater(len(printed), 5)
+        for code, said in printed:
+            if "match it:" in code and sys.version_info < (3, 10):
+                continue
+            done = subprocess.run(
+                [sys.executable, "-c", code], capture_output=True, text=True, check=False,
+                env={**os.environ, "PYTHONPATH": str(HOME)},
+            )
+            self.assertEqual((done.stdout, done.stderr), (said, ""))
 
     def test_what_the_readme_prints(self):
         page = (TOP / "README.md").read_text(encoding="utf-8")
@@ -79,24 +177,44 @@ class Pages(unittest.TestCase):
 
 
 class Examples(unittest.TestCase):
-    def run_example(self, name, text):
+    def run_example(self, name, text, *words):
         """Runs an example over a file with this text; its name is left out of what is written."""
         with tempfile.TemporaryDirectory() as room:
             file = Path(room, "given.webidl")
             file.write_text(text, encoding="utf-8")
             done = subprocess.run(
-                [sys.executable, TOP / "examples/python" / name, file], capture_output=True,
+                [sys.executable, TOP / "examples/python" / name, *words, file], capture_output=True,
                 check=False, text=True, env={**os.environ, "PYTHONPATH": str(HOME)},
             )
             out, err = (it.replace(f"{file}:", "") for it in (done.stdout, done.stderr))
             return done.returncode, out, err
 
     def test_declarations(self):
-        expected = (0, DECLARED, "9:3: left out: stringifier;\n")
+        expected = (0, DECLARED, "16:3: left out: maplike<DOMString, Node>;\n")
         self.assertEqual(self.run_example("dts.py", WINDOW), expected)
 
+    def test_documentation(self):
+        status, out, err = self.run_example("documentation.py", PAGE)
+        self.assertEqual((status, out, err), (0, DOCUMENTED, ""))
+
+    def test_renaming(self):
+        status, out, err = self.run_example("rename.py", "interface A {};\n// A\ntypedef A T;\n", "A", "long")
+        changes = [it for it in out.splitlines() if it[0] in "+-" and it[:3] not in ("+++", "---")]
+        self.assertEqual((status, err), (0, ""))
+        self.assertEqual(changes, ["-interface A {};", "+interface _long {};", "-typedef A T;", "+typedef _long T;"])
+        status, out, err = self.run_example("rename.py", "interface A {};", "A", "a b")
+        self.assertEqual((status, out, err), (1, "", " 'a b' would be read as something else than a name\n"))
+        self.assertEqual(self.run_example("rename.py", "interface A {};", "B", "C"), (0, "", ""))
+
+    def test_lines(self):
+        # what the page says of them
+        for name, most in (("dts.py", 150), ("documentation.py", 70), ("rename.py", 35)):
+            lines = (TOP / "examples/python" / name).read_text(encoding="utf-8").count("\n")
+            self.assertLessEqual(lines, most, name)
+        self.assertLessEqual((HOME / "weedle/lint.py").read_text(encoding="utf-8").count("\n"), 400)
+
     def test_names(self):
-        self.assertEqual(self.run_example("names.py", WINDOW), (0, "", ""))
+        self.assertEqual(self.run_example("names.py", WINDOW.replace("the-name", "name")), (0, "", ""))
         status, out, _ = self.run_example(
             "names.py", "interface a { const long b = 1; attribute any C; };\nenum D { \"E\" };"
         )
@@ -105,7 +223,7 @@ class Examples(unittest.TestCase):
         self.assertEqual(places, ["1:11:", "1:26:", "1:47:", "2:11:"])
 
     def test_a_refused_file(self):
-        for name in ("dts.py", "names.py"):
+        for name in ("dts.py", "names.py", "documentation.py"):
             self.assertEqual(self.run_example(name, "interface A {")[0], 1)
 
 

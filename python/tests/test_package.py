@@ -6,7 +6,8 @@ from unittest import mock
 
 import support  # noqa: F401  (finds the package)
 import weedle
-from weedle._values import Leaf, Value
+from weedle._leaves import Leaf
+from weedle._values import Value
 
 STATEMENT = "A includes B;"
 

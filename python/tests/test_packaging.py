@@ -22,7 +22,7 @@ import build_backend
 from shared_object import SharedObject
 from weedle._library import VARIABLE, place
 
-VERSION = "0.10.0"
+VERSION = "0.11.0"
 WORDS = "import weedle; print(len(weedle.parse('A includes B;')))"
 # The lines of copyright of LICENSE, as their owners have them.
 OWNERS = (

@@ -90,6 +90,11 @@ class Trees(unittest.TestCase):
         self.assertIs(self.window.members, members)
         self.assertNotIn("body", vars(members))
 
+    def test_an_empty_list_and_what_is_absent(self):
+        (definition,) = weedle.parse("interface A {};")
+        inner = definition.value
+        self.assertEqual((inner.members.body, inner.docstring, inner.attributes, inner.inheritance), ([], None, None, None))
+
     def test_nothing_can_be_changed(self):
         with self.assertRaises(dataclasses.FrozenInstanceError):
             self.window.identifier = None
@@ -235,7 +240,9 @@ class Faults(unittest.TestCase):
             'enum E { "a };': "1:10: the string opens here",
             "\ufefftypedef long T;": "1:1: a byte order mark",
             "// none": "1:1: no definitions",
-            'enum E { "a" "b" };': None,
+            'enum E { "a" "b" };': "1:13: `,` missing here?",
+            "interface A { attribute long x;; };": "1:32: no `;` here",
+            "dictionary D { const long X = 1; };": None,
         }
         for text, hint in hints.items():
             with self.assertRaises(weedle.Refused) as raised:

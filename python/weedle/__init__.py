@@ -13,32 +13,43 @@ expected there.
 
 from __future__ import annotations
 
-from typing import List, Union
+from typing import Union
 
 from weedle import (
-    _readers, argument, attribute, common, dictionary, interface, literal, mixin, namespace, term,
-    types,
+    _hints, _readers, argument, attribute, common, dictionary, interface, literal, mixin, namespace,
+    term, types,
 )
 from weedle._formatting import format as format  # given by this name, though not by `import *`
+from weedle._listing import listing
+from weedle._making import MAKE
 from weedle._reading import tree_of
 from weedle._text import Position, Span
-from weedle._values import Choice, Terminal, Value, made
+from weedle._values import Choice, Terminal, Value
 from weedle import definitions
 from weedle.definitions import *  # noqa: F403  (each kind of definition)
-from weedle.definitions import Definition
+from weedle.definitions import Definition, Definitions
+from weedle.edits import Edits
 from weedle.errors import Refused
+from weedle.grammar import NUMBERS
+from weedle.index import REFERENCES, Entry, Index, Member, kind_of, members_of, name_of
+from weedle.names import Name, Role
 from weedle.nodes import Node, syntax
 
-__version__ = "0.10.0"
+__version__ = "0.11.0"
 # `format` isn't here: `from weedle import *` leaves Python's own as it is.
 __all__ = [
-    "Choice", "Node", "Position", "Refused", "Span", "Terminal", "Value", "argument", "attribute",
-    "common", "dictionary", "interface", "literal", "mixin", "namespace", "parse", "syntax", "term",
-    "types", *definitions.__all__,
+    "Choice", "Edits", "Entry", "Index", "Member", "Name", "Node", "Position", "REFERENCES",
+    "Refused", "Role", "Span", "Terminal", "Value", "argument", "attribute", "common", "dictionary",
+    "interface", "kind_of", "literal", "members_of", "mixin", "name_of", "namespace", "parse",
+    "syntax", "term", "types", *definitions.__all__,
 ]
 
 
-def parse(text: Union[str, bytes]) -> List[Definition]:
+# The rule that reads a definition.
+DEFINITION = NUMBERS["definition"]
+
+
+def parse(text: Union[str, bytes]) -> Definitions:
     """The definitions of a text.
 
     >>> parse("Request includes Body;")[0].value.lhs_identifier.value
@@ -49,4 +60,6 @@ def parse(text: Union[str, bytes]) -> List[Definition]:
     ValueError of more than 4 GB.
     """
     tree = tree_of(text)
-    return [made(tree, node) for node in tree.children(0)]
+    make = MAKE[DEFINITION]
+    found: Definitions = listing(Definitions, tree, [make(tree, it) for it in tree.children(0)])
+    return found

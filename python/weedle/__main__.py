@@ -1,8 +1,11 @@
 """Reads files of WebIDL, and writes what stands in them.
 
     weedle [--json | --syntax | --format] [FILE..]
+    weedle lint [--json] [--ignore CODE].. [--known FILE].. FILE..
 
-`python3 -m weedle` is the same. Without a file it reads standard input, which `-` names too. With
+`python3 -m weedle` is the same. The second checks files by rules that the grammar doesn't have:
+weedle/lint.py says what it writes, and its statuses. The first reads: without a file it reads
+standard input, which `-` names too. With
 `--json` it writes each definition as JSON on a line; of several files each line is an object with
 the `file` and the `definition`. With `--syntax` it writes each node on a line, indented by its
 depth, with `--format` the text laid out; what is refused, and why, it then says on standard error.
@@ -23,7 +26,7 @@ from contextlib import suppress
 from enum import IntEnum
 from typing import BinaryIO, Callable, NoReturn, Optional, Sequence
 
-from weedle import Refused, __version__, format, parse, syntax
+from weedle import Refused, __version__, format, lint, parse, syntax
 
 # What writes the text of a file, whose name it is told where there are several.
 Write = Callable[[bytes, BinaryIO, Optional[str]], None]
@@ -174,7 +177,9 @@ def arguments(words: Optional[Sequence[str]]) -> argparse.Namespace:
 
 def main(words: Optional[Sequence[str]] = None) -> int:
     """Does what the arguments ask for."""
-    wanted = arguments(words)
+    words = sys.argv[1:] if words is None else list(words)
+    is_lint = words[:1] == ["lint"]
+    wanted = arguments([] if is_lint else words)
     files = wanted.files or [DASH]
     if sys.stdout is None:
         print("cannot write output", file=sys.stderr)
@@ -182,12 +187,14 @@ def main(words: Optional[Sequence[str]] = None) -> int:
     # with PYTHONUNBUFFERED `sys.stdout.buffer` may take a part of what is written, and tell nobody
     out = open(sys.stdout.fileno(), "wb", closefd=False)
     try:
+        if is_lint:
+            return lint.main(words[1:], out)
         return Run(wanted.write, out, len(files) > 1).read_all(files)
     except OSError as fault:
         # what waits is let go of: Python 3.13 says of a buffer that it can't flush it
         with suppress(OSError):
             out.close()
-        sys.stdout = None
+        sys.stdout = None  # type: ignore[assignment]  # as Python itself has it where there is none
         # who reads no further, as `head`, asks for no word
         if not isinstance(fault, BrokenPipeError):
             print("cannot write output", file=sys.stderr)

@@ -7,7 +7,7 @@ import mmap
 import os
 from ctypes import POINTER, Structure, byref, c_char_p, c_size_t, c_uint32
 from pathlib import Path
-from typing import NamedTuple, Union
+from typing import NamedTuple, Optional, Union
 
 from weedle.grammar import RULES, VERSION
 
@@ -129,6 +129,9 @@ def _declare(library: ctypes.CDLL) -> None:
         c_char_p, c_size_t, ctypes.c_void_p, c_size_t, POINTER(SyntaxAnswer),
     ]
     library.weedle_syntax.restype = c_uint32
+    if hasattr(library, "weedle_syntax_of"):
+        library.weedle_syntax_of.argtypes = [c_uint32, *library.weedle_syntax.argtypes]
+        library.weedle_syntax_of.restype = c_uint32
     library.weedle_explain.argtypes = [
         c_char_p, c_size_t, ctypes.c_void_p, c_size_t, POINTER(ExplainAnswer),
     ]
@@ -140,6 +143,8 @@ def _declare(library: ctypes.CDLL) -> None:
 
 
 LIBRARY = _loaded()
+# Whether it reads a rule alone: those that were built before version 0.11 don't.
+HAS_RULES = hasattr(LIBRARY, "weedle_syntax_of")
 
 
 def _room(size: int) -> Buffer:
@@ -152,30 +157,35 @@ def _room(size: int) -> Buffer:
         raise MemoryError(f"no memory for {size} bytes") from None
 
 
-def _call(data: bytes, nodes: int) -> tuple[int, Buffer, SyntaxAnswer]:
-    """The status with room for so many nodes, the room, and the answer."""
+def _call(data: bytes, nodes: int, rule: Optional[int] = None) -> tuple[int, Buffer, SyntaxAnswer]:
+    """The status with room for so many nodes, the room, and the answer; of a rule, or of the text."""
     # No pointer is null, also where there is room for no node.
     room = _room(max(nodes, 1) * NODE_SIZE)
     answer = SyntaxAnswer()
     # A view has to go before the room can shrink.
     address = ctypes.addressof(ctypes.c_char.from_buffer(room))
-    status = LIBRARY.weedle_syntax(data, len(data), address, nodes, byref(answer))
+    if rule is None:
+        status = LIBRARY.weedle_syntax(data, len(data), address, nodes, byref(answer))
+    else:
+        status = LIBRARY.weedle_syntax_of(rule, data, len(data), address, nodes, byref(answer))
     return status, room, answer
 
 
-def _first_call(data: bytes) -> tuple[int, Buffer, SyntaxAnswer]:
+def _first_call(data: bytes, rule: Optional[int]) -> tuple[int, Buffer, SyntaxAnswer]:
     """The same with room for all nodes; where the system grants no such room, they are counted."""
     try:
-        return _call(data, len(data) * NODES_A_BYTE + LEAST_NODES)
+        return _call(data, len(data) * NODES_A_BYTE + LEAST_NODES, rule)
     except MemoryError:
-        return _call(data, 0)
+        return _call(data, 0, rule)
 
 
-def read_nodes(data: bytes) -> memoryview:
-    """The numbers of all nodes, four a node, or Unread."""
-    status, room, answer = _first_call(data)
+def read_nodes(data: bytes, rule: Optional[int] = None) -> memoryview:
+    """The numbers of all nodes, four a node, or Unread: of a rule at the front, or of the whole text."""
+    if rule is not None and not HAS_RULES:
+        raise NotImplementedError(f"{place()} reads no rule alone: build it anew by python/build.sh")
+    status, room, answer = _first_call(data, rule)
     if status == NO_ROOM:
-        status, room, answer = _call(data, answer.count)
+        status, room, answer = _call(data, answer.count, rule)
     if status != READ:
         raise Unread(status, answer.rest)
     return memoryview(_cut(room, answer.count * NODE_SIZE)).cast("B").cast(FORMAT)

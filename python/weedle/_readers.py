@@ -4,10 +4,10 @@ Written by tools/python_types.py, and not edited by hand.
 """
 
 from weedle import (
-    _values, argument, attribute, common, definitions, dictionary, interface, literal, mixin,
+    argument, attribute, common, definitions, dictionary, interface, literal, mixin,
     namespace, term, types,
 )
-from weedle._values import Between, Many, Maybe, Together, Variants
+from weedle._making import Between, Many, Maybe, Together, Variants, fill
 from weedle._writing import FOLLOWING, ITEMS
 from weedle.grammar import NUMBERS, RULES
 
@@ -413,5 +413,4 @@ SEPARATORS = {
     "list_union_member_type_or": term.Or,
 }
 
-_values.MAKERS[:] = [MAKERS.get(name) for name in RULES]
-_values.SEPARATORS.update((NUMBERS[name], it) for name, it in SEPARATORS.items())
+fill([MAKERS.get(name) for name in RULES], {NUMBERS[name]: it for name, it in SEPARATORS.items()})

@@ -2,22 +2,32 @@
 
 from __future__ import annotations
 
-from typing import Union
+from typing import Optional, Union
 
 from weedle import _library
 from weedle._library import NO_MEMORY, NOT_UTF8, REFUSED, TOO_LONG
 from weedle._text import Text
 from weedle._tree import Tree
-from weedle.errors import Refused
+from weedle.errors import Refused, RuleRefused
+from weedle.grammar import RULES, VERSION
 
 
-def tree_of(given: Union[str, bytes]) -> Tree:
-    """The nodes of a text."""
+def tree_of(given: Union[str, bytes], rule: Optional[int] = None) -> Tree:
+    """The nodes of a text, or of a rule at its front, whatever stands behind that."""
     text = Text(given)
     try:
-        return Tree(text, _library.read_nodes(text.data))
+        return Tree(text, _library.read_nodes(text.data, rule), rule)
     except _library.Unread as unread:
+        if rule is not None and unread.status == REFUSED:
+            raise RuleRefused(text, RULES[rule]) from None
         raise fault_of(text, unread.status, unread.rest) from None
+
+
+def tree_again(data: bytes, version: int, rule: Optional[int]) -> Tree:
+    """The nodes of a text that the library of this version has read before."""
+    if version != VERSION:
+        raise ValueError(f"a tree of weedle's version {version:#08x}, and this one is {VERSION:#08x}")
+    return tree_of(data, rule)
 
 
 def fault_of(text: Text, status: int, rest: int) -> Exception:

@@ -5,13 +5,15 @@ from __future__ import annotations
 import re
 from bisect import bisect_left
 from functools import cache, cached_property
-from typing import Iterator, Optional
+from typing import Any, Iterator, List, Optional, Tuple
 
 from weedle._library import FIELDS
 from weedle._text import Span, Text
-from weedle.grammar import NUMBERS
+from weedle.grammar import NUMBERS, VERSION
 
 TRIVIA = NUMBERS["trivia"]
+# The rules that read comments. A docstring is none.
+COMMENTS = frozenset(NUMBERS[name] for name in ("line_comment", "block_comment"))
 # A docstring's line: blanks, `///` and what follows it up to an LF.
 DOC_LINE, DOC_TEXT = NUMBERS["doc_line"], NUMBERS["past_lf"]
 # After so many nodes the end of a subtree is searched for by its place in the text.
@@ -27,15 +29,15 @@ def at_most(depth: int) -> re.Pattern[bytes]:
 class Tree:
     """A text that was read, with the rule, the start, the end and the depth of each node."""
 
-    def __init__(self, text: Text, numbers: memoryview) -> None:
-        self.text, self._numbers = text, numbers
+    def __init__(self, text: Text, numbers: memoryview, rule: Optional[int] = None) -> None:
+        self.text, self._numbers, self._rule = text, numbers, rule
         columns = {name: numbers[at::len(FIELDS)] for at, name in enumerate(FIELDS)}
         self.rules, self.depths = columns["rule"], columns["depth"]
         self.starts, self.ends = columns["start"], columns["end"]
         self.count = len(self.rules)
 
     @cached_property
-    def _levels(self) -> Optional[bytes]:
+    def levels(self) -> Optional[bytes]:
         """The depths, a byte each, or None where one needs more."""
         size, raw = self._numbers.itemsize, self._numbers.cast("B")
         low = FIELDS.index("depth") * size
@@ -46,9 +48,9 @@ class Tree:
 
     def behind(self, node: int) -> int:
         """The first node behind a node and all below it."""
-        if self._levels is None:
+        if self.levels is None:
             return self._behind_deep(node)
-        found = at_most(self._levels[node]).search(self._levels, node + 1)
+        found = at_most(self.levels[node]).search(self.levels, node + 1)
         return found.start() if found else self.count
 
     def _behind_deep(self, node: int) -> int:
@@ -67,10 +69,11 @@ class Tree:
 
     def children(self, node: int) -> list[int]:
         """The nodes right below a node."""
-        levels = self._levels
+        levels = self.levels
         if levels is None:
             return self._children_deep(node)
-        found, child, behind = [], node + 1, self.behind(node)
+        found: List[int] = []
+        child, behind = node + 1, self.behind(node)
         if child == behind:
             return found
         below = levels[child]
@@ -81,7 +84,8 @@ class Tree:
 
     def _children_deep(self, node: int) -> list[int]:
         """The same in a tree of any depth."""
-        found, child, count = [], node + 1, self.count
+        found: List[int] = []
+        child, count = node + 1, self.count
         depths, below = self.depths, self.depths[node] + 1
         while child < count and depths[child] == below:
             found.append(child)
@@ -121,6 +125,48 @@ class Tree:
             if self.rules[other] == DOC_TEXT:
                 return end - 1
         return end
+
+    def child(self, node: int, number: int) -> int:
+        """The node right below a node that has this number."""
+        levels, child = self.levels, node + 1
+        if levels is None:
+            return self._children_deep(node)[number]
+        below = levels[child]
+        for _ in range(number):
+            child = levels.find(below, child + 1)
+        return child
+
+    def slice_of(self, node: int) -> str:
+        """All of the text that a node takes."""
+        return self.text.data[self.starts[node]:self.ends[node]].decode()
+
+    def above(self, node: int) -> int:
+        """The node that a node stands in, or -1."""
+        if self.levels is not None and node > 0:
+            return self.levels.rfind(self.levels[node] - 1, 0, node)
+        depths, above = self.depths, node - 1
+        while above >= 0 and depths[above] >= depths[node]:
+            above -= 1
+        return above
+
+    @cached_property
+    def comments(self) -> List[Span]:
+        """The comments of the text; a line comment has its LF."""
+        return [self.whole_span(node) for node, rule in enumerate(self.rules) if rule in COMMENTS]
+
+    @cached_property
+    def comment_starts(self) -> List[int]:
+        """Where they begin."""
+        return [it.start for it in self.comments]
+
+    def __reduce__(self) -> Tuple[Any, ...]:
+        # the text says all: what it was read as is read again
+        from weedle._reading import tree_again
+
+        return tree_again, (self.text.data, VERSION, self._rule)
+
+    def __deepcopy__(self, memo: Any) -> Tree:
+        return self
 
     def walk(self, node: int) -> Iterator[int]:
         """A node and all below it, in preorder."""

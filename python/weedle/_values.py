@@ -2,118 +2,258 @@
 
 from __future__ import annotations
 
-from dataclasses import dataclass, field, fields
-from functools import cache
-from typing import Any, ClassVar, Dict, Generic, List, TypeVar
+from dataclasses import FrozenInstanceError, dataclass, field, fields
+from typing import (
+    Any, ClassVar, Dict, Generic, Iterator, List, Optional, Tuple, Type, TypeVar, Union, overload,
+)
 
-from weedle import _writing
-from weedle._text import Position, Span
+from weedle import _building, _comments, _walking, _words, _writing
+from weedle._making import KINDS, MAKE, OPTIONS, SEPARATORS, entries_of, made
+from weedle._placed import UNPLACED, Placed
 from weedle._tree import Tree
-from weedle.grammar import NUMBERS, RULES
 
 T = TypeVar("T")
 S = TypeVar("S")
+V = TypeVar("V", bound="Value")
+
+# Keeps a part that was made: values are frozen. It makes no dictionary, as `value.__dict__` would.
+keep = object.__setattr__
 
 # What each dataclass of the typed tree is: `Value` makes, shows and compares its fields.
 value_class = dataclass(frozen=True, init=False, repr=False, eq=False)
 
 
 class Part:
-    """A field that is made when it is first asked for, of the part with this number."""
+    """A field that is made when it is first asked for, with those beside it."""
 
-    def __init__(self, number: int) -> None:
-        self.number = number
+    def __init__(self, doc: str, is_word: bool = False) -> None:
+        self.__doc__, self.is_word = doc, is_word
 
-    def __set_name__(self, owner: type, name: str) -> None:
+    def __set_name__(self, owner: Any, name: str) -> None:
         self.name = name
+        # the parts of a class, in the order of its fields, and those that are the same words always
+        own = vars(owner)
+        owner._names = (*own.get("_names", ()), name)
+        owner._words = (*own.get("_words", ()), *[name] * self.is_word)
 
     def __get__(self, value: Any, owner: Any = None) -> Any:
         if value is None:
             return self
-        made = value._part(self.number)
-        value.__dict__[self.name] = made
-        return made
+        value._fill()
+        return getattr(value, self.name)
+
+    def __repr__(self) -> str:
+        return f"<field {self.name}>"
 
 
-def part(number: int) -> Any:
-    """A field for the part with this number."""
-    return field(default=Part(number))
+def part(doc: str) -> Any:
+    """A field for a part, in the order of the parts."""
+    return field(default=Part(doc))
 
 
-def word(number: int) -> Any:
+def word(doc: str) -> Any:
     """The same for a part that is the same words in each value: `repr` leaves it out."""
-    return field(default=Part(number), repr=False)
+    return field(default=Part(doc, is_word=True), repr=False)
 
 
-class Value:
+class Value(Placed):
     """What was read of a text. Its parts are made when they are asked for.
 
     Two values are equal where all their parts are, wherever they stand.
     """
 
-    def __init__(self, tree: Tree, node: int) -> None:
-        own = self.__dict__
-        own["_tree"], own["_node"] = tree, node
+    __slots__ = ("_tree", "_node", "__dict__", "__weakref__")
+
+    # Whether each part has a node: a default that may only follow `optional` can lack it.
+    _is_whole: ClassVar[bool] = True
+    # The names of fields, and their names in JSON, where they are others.
+    _names: ClassVar[Tuple[str, ...]] = ()
+    _words: ClassVar[Tuple[str, ...]] = ()
+    _renamed: ClassVar[Dict[str, str]] = {}
+
+    def walk(self) -> Iterator[Value]:
+        """The value and all below it, each before those below it, terminals included."""
+        if self._tree is UNPLACED:
+            return _building.walk(self)
+        return _walking.values_in(self._tree, self._node)
+
+    def find(self, kind: Type[V]) -> Iterator[V]:
+        """Those of a class among them, as `value.find(Identifier)`."""
+        if self._tree is UNPLACED:
+            return (it for it in _building.walk(self) if isinstance(it, kind))
+        return _walking.values_of(self._tree, self._node, kind)
 
     @property
-    def span(self) -> Span:
-        """The bytes of the text that were read, without blanks and comments around them."""
-        return self._tree.span(self._node)
+    def parent(self) -> Optional[Value]:
+        """The value that it stands in; None of a definition, and of what was built."""
+        return None if self._tree is UNPLACED else _walking.parent_of(self._tree, self._node)
 
     @property
-    def char_span(self) -> Span:
-        """The same in characters, for a slice of a `str`."""
-        return self._tree.text.in_characters(self.span)
+    def comments(self) -> List[str]:
+        """The comments right in front of it, with their signs, the first one first.
+
+        An empty line ends them, and so does a comment that trails something else on its line.
+        """
+        if self._tree is UNPLACED:
+            return []
+        return _comments.comments_before(self._tree, self.span.start)
 
     @property
-    def position(self) -> Position:
-        """The line and the column at which it begins; both begin at 1."""
-        return self._tree.text.position(self.span.start)
+    def trailing(self) -> List[str]:
+        """The comments behind it, where nothing else follows on its line, as `// a` of `long x; // a`."""
+        if self._tree is UNPLACED:
+            return []
+        return _comments.comments_behind(self._tree, self.span.end)
 
     @property
-    def text(self) -> str:
-        """The part of the text at `span`."""
-        return self._tree.text.slice(self.span)
+    def doc(self) -> str:
+        """Its docstring, or else what its comments say, without their signs; empty without both."""
+        return _comments.doc_of(self)
+
+    def replace(self: V, **parts: Any) -> V:
+        """A value that was built of its parts, but for these, as `value.replace(identifier=name)`."""
+        found: V = _building.replaced(self, parts)
+        return found
+
+    def to_webidl(self) -> str:
+        """The value as WebIDL, without comments.
+
+        A definition is laid out as `weedle.format` does it, with a line end behind it, and any
+        other value takes one line. It raises `Refused` of a definition that was built of what can't
+        be read, as a name with a blank in it.
+        """
+        return _building.to_webidl(self)
 
     def to_json(self) -> str:
         """The value as JSON, as docs/USING.md has it."""
-        return _writing.write(self._tree, self._node, entries_of(_writing.Json))
+        return self._written(_writing.Json)
 
     def __repr__(self) -> str:
-        return _writing.write(self._tree, self._node, entries_of(_writing.Repr))
+        return self._written(_writing.Repr)
 
     def __eq__(self, other: object) -> bool:
         if type(other) is not type(self):
             return NotImplemented
+        assert isinstance(other, Value)
         return other is self or self.to_json() == other.to_json()
 
     def __hash__(self) -> int:
         return hash((type(self), self.to_json()))
 
-    def _parts(self) -> List[int]:
-        """The nodes of its parts."""
-        own = self.__dict__
-        if "_found" not in own:
-            own["_found"] = self._tree.children(self._node)
-        return own["_found"]
+    def __setattr__(self, name: str, value: object) -> None:
+        raise FrozenInstanceError(f"cannot assign to field {name!r}")
 
-    def _part(self, number: int) -> Any:
-        """The value of a part. A default that may only follow `optional` can have no node."""
-        parts = self._parts()
-        return made(self._tree, parts[number]) if number < len(parts) else None
+    def __delattr__(self, name: str) -> None:
+        raise FrozenInstanceError(f"cannot delete field {name!r}")
 
-    # The names of fields in JSON, where they are others.
-    _renamed: ClassVar[Dict[str, str]] = {}
+    def __reduce__(self) -> Tuple[Any, ...]:
+        if self._tree is UNPLACED:
+            return _building.built, (type(self), self.__dict__)
+        return _placed_at, (type(self), self._tree, self._node)
+
+    def _written(self, style: Any) -> str:
+        if self._tree is UNPLACED:
+            return _building.written(self, style)
+        return _writing.write(self._tree, self._node, entries_of(style))
+
+    def _hold(self, *parts: Any) -> None:
+        """Makes it a value that was built, of these parts: those that aren't the same words always."""
+        _building.hold(self, parts)
+
+    def _fill(self) -> None:
+        """Makes its parts."""
+        tree, kinds = self._tree, KINDS
+        rules, levels, node = tree.rules, tree.levels, self._node + 1
+        if levels is None or not self._is_whole:
+            return self._fill_slowly()
+        find, below = levels.find, levels[node]
+        *names, last = self._names
+        # most parts are words and names, which are made here without a call
+        for name in names:
+            rule, behind = rules[node], find(below, node + 1)
+            kind = kinds[rule]
+            if kind:
+                value = new(kind)
+                set_tree(value, tree)
+                set_node(value, node)
+                keep(self, name, value)
+            elif behind == node + 1 and rule in OPTIONS:
+                keep(self, name, None)
+            else:
+                keep(self, name, MAKE[rule](tree, node))
+            node = behind
+        keep(self, last, MAKE[rules[node]](tree, node))
+        return None
+
+    def _fill_slowly(self) -> None:
+        """The same in a tree of any depth, and where the last part may have no node."""
+        nodes = self._tree.children(self._node)
+        for number, name in enumerate(self._names):
+            keep(self, name, made(self._tree, nodes[number]) if number < len(nodes) else None)
+
+    def _in_order(self) -> List[Any]:
+        """What it is made of, in the order of the text."""
+        return [getattr(self, name) for name in self._names]
+
+    def _put(self, writer: Any) -> Iterator[Any]:
+        """Writes its words, or gives the values that have them."""
+        return _words.marked(self)
+
+    def _form(self, style: Any) -> Any:
+        """How a value that was built is written."""
+        return self._entry(style, 0)
+
+    def _written_parts(self, style: Any) -> Iterator[Tuple[bool, Any]]:
+        """What a value that was built is written of: texts, and the values between them."""
+        form = self._form(style)
+        yield True, form.opening
+        for number, name in enumerate(self._names):
+            front = form.front(number)
+            if front is not None:
+                yield from ((True, front), (False, getattr(self, name)))
+        yield True, form.closing
 
     @classmethod
     def _entry(cls, style: Any, rule: int) -> Any:
         """How its values are written."""
-        parts = [(it.name, cls._renamed.get(it.name, it.name), it.repr) for it in fields(cls)]
+        all_: Any = fields(cls)
+        parts = [(it.name, cls._renamed.get(it.name, it.name), it.repr) for it in all_]
         return style.struct(cls.__name__, parts)
+
+
+# What makes a value of a class, and says where it stands: values are frozen.
+new: Any = object.__new__
+set_tree, set_node = vars(Value)["_tree"].__set__, vars(Value)["_node"].__set__
+
+
+def _placed_at(kind: Type[V], tree: Tree, node: int) -> V:
+    """The value of a class at a node."""
+    value: V = new(kind)
+    set_tree(value, tree)
+    set_node(value, node)
+    return value
 
 
 class Terminal(Value):
     """A word or a sign that is always spelled the same. Two of a kind are equal."""
+
+    # How it is spelled.
+    _spelled: ClassVar[str] = ""
+
+    def __init__(self) -> None:
+        self._hold()
+
+    def _put(self, writer: Any) -> Iterator[Any]:
+        writer.put(self._spelled, self._spelled)
+        return iter(())
+
+    def _written(self, style: Any) -> str:
+        # one that separates the items of a list may have no text
+        text: str = self._entry(style(), 0)(UNPLACED, -1)
+        return text
+
+    def _written_parts(self, style: Any) -> Iterator[Tuple[bool, Any]]:
+        yield True, self._entry(style, 0)(UNPLACED, -1)
 
     @classmethod
     def _entry(cls, style: Any, rule: int) -> Any:
@@ -121,69 +261,12 @@ class Terminal(Value):
 
 
 @value_class
-class Leaf(Value):
-    """A part of the text that is kept, as a name. `value` is what it says."""
-
-    value: str = field(default=Part(0))
-    # The part that is kept.
-    _kept: ClassVar[int] = 0
-
-    def __eq__(self, other: object) -> bool:
-        if type(other) is not type(self):
-            return NotImplemented
-        return self.value == other.value
-
-    def __hash__(self) -> int:
-        return hash((type(self), self.value))
-
-    @classmethod
-    def _read(cls, tree: Tree, node: int) -> str:
-        """What the value of a node says."""
-        return tree.text.slice(tree.whole_span(tree.children(node)[cls._kept]))
-
-    def _part(self, number: int) -> str:
-        return self._read(self._tree, self._node)
-
-    @classmethod
-    def _entry(cls, style: Any, rule: int) -> Any:
-        return style.leaf(cls.__name__, cls._read)
-
-
-class Name(Leaf):
-    """A name. Its place is that of `value`: an underscore that leads it is before that."""
-
-    @property
-    def span(self) -> Span:
-        """The bytes of the name."""
-        return self._tree.whole_span(self._parts()[self._kept])
-
-
-class Lines(Leaf):
-    """The lines of a docstring, without their `///`, joined by LF."""
-
-    @classmethod
-    def _read(cls, tree: Tree, node: int) -> str:
-        first, others = tree.children(node)
-        texts = [tree.children(line)[-1] for line in [first, *tree.children(others)]]
-        return "\n".join(tree.text.slice(tree.whole_span(it))[:-1] for it in texts)
-
-
-@value_class
-class Truth(Leaf):
-    """`true` or `false`."""
-
-    value: bool = field(default=Part(0))
-
-    @classmethod
-    def _read(cls, tree: Tree, node: int) -> bool:
-        return RULES[tree.rules[node + 1]] == "true"
-
-
-@value_class
 class Wrapped(Value):
     """A value of one part, which has no name of its own."""
 
-    value: Any = field(default=Part(0))
+    __match_args__ = ("value",)
+
+    value: Any = part("What it holds.")
 
     @classmethod
     def _entry(cls, style: Any, rule: int) -> Any:
@@ -205,129 +288,105 @@ class Choice(Wrapped):
             cls.variant, cls.in_json = variant, in_json or variant
             cls.__qualname__ = f"{outer.__qualname__}.{variant}"
             setattr(outer, variant, cls)
+            others = vars(outer).get("Variants")
+            setattr(outer, "Variants", Union[others, cls] if others else cls)
 
-    def _part(self, number: int) -> Any:
-        return made(self._tree, self._node + 1)
+    def _fill(self) -> None:
+        tree, node = self._tree, self._node + 1
+        keep(self, "value", MAKE[tree.rules[node]](tree, node))
+
+    def _form(self, style: Any) -> Any:
+        return style.variant(type(self))
+
+
+class Result(Choice):
+    """The type of a result, behind which arguments stand apart."""
+
+    def _put(self, writer: Any) -> Iterator[Any]:
+        return iter((self.value, _words.TYPE_ENDS))
+
+
+class WholeChoice(Choice):
+    """A whole number, in one of several bases."""
+
+    @property
+    def number(self) -> int:
+        """The number, as 31 of `0x1F`."""
+        found: int = self.value.number
+        return found
+
+
+class DecimalChoice(Choice):
+    """A float, or one of the words for what is no number or has no end."""
+
+    @property
+    def number(self) -> float:
+        """The number nearest to it: of `-Infinity` and `NaN` those of Python."""
+        found: float = self.value.number if self.variant == "Value" else float(self.word)
+        return found
+
+    @property
+    def word(self) -> str:
+        """What Python calls the words."""
+        return {"NegInfinity": "-inf", "Infinity": "inf", "NaN": "nan"}[self.variant]
 
 
 @value_class
 class Listed(Value, Generic[T, S]):
-    """Items with separators between them."""
+    """Items with separators between them. It is iterated, indexed and counted as its `list`."""
 
-    list: List[T] = field(default=Part(0))
-    separator: S = field(default=Part(1), repr=False)
+    list: List[T] = part("The items.")
+    separator: S = field(
+        default=Part("A separator: the first one, or one without text where none was read."),  # type: ignore[assignment]
+        repr=False,
+    )
     # What stands before the parts of its node: an item, and what follows it.
     _fronts: ClassVar[Any] = ("", "")
 
-    def _part(self, number: int) -> Any:
-        return self._items() if number == 0 else self._separator()
+    def __init__(self, list: List[T], separator: S) -> None:
+        self._hold(list, separator)
+
+    def __iter__(self) -> Iterator[T]:
+        return iter(self.list)
+
+    def __len__(self) -> int:
+        return len(self.list)
+
+    @overload
+    def __getitem__(self, index: int) -> T: ...
+    @overload
+    def __getitem__(self, index: slice) -> List[T]: ...
+
+    def __getitem__(self, index: Union[int, slice]) -> Union[T, List[T]]:
+        return self.list[index]
+
+    def _in_order(self) -> List[Any]:
+        items: List[Any] = []
+        for it in self.list:
+            items += [self.separator, it] if items else [it]
+        return items
 
     def _listing(self) -> int:
         """The node of the items and what separates them."""
         return self._node
 
-    def _items(self) -> List[T]:
-        tree, parts = self._tree, self._tree.children(self._listing())
-        if not parts:
-            return []
-        first, tail = parts
-        return [made(tree, node) for node in [first, *tree.children(tail)[1::2]]]
+    def _fill(self) -> None:
+        tree, rules = self._tree, self._tree.rules
+        parts, kind = tree.children(self._listing()), SEPARATORS[rules[self._node]]
+        between = tree.children(parts[1]) if parts else []
+        items = [parts[0], *between[1::2]] if parts else []
+        keep(self, "list", [MAKE[rules[it]](tree, it) for it in items])
+        # where there is none, it has no text, and stands at the end of the items
+        at = between[0] if between else parts[1] if parts else self._node
+        keep(self, "separator", _placed_at(kind, tree, at))
 
-    def _separator(self) -> S:
-        """A separator: the first one, or one with no text at the end of the items."""
-        tree, kind = self._tree, SEPARATORS[self._tree.rules[self._node]]
-        parts = tree.children(self._listing())
-        if not parts:
-            return kind(tree, self._node)
-        between = tree.children(parts[1])
-        return kind(tree, between[0] if between else parts[1])
+    def _written_parts(self, style: Any) -> Iterator[Tuple[bool, Any]]:
+        form = style.listed(type(self).__name__, self._fronts, type(self.separator).__name__)
+        yield True, form.opening
+        for number, it in enumerate(self.list):
+            yield from ((True, ", " if number else ""), (False, it))
+        yield True, form.closing
 
     @classmethod
     def _entry(cls, style: Any, rule: int) -> Any:
         return style.listed(cls.__name__, cls._fronts, SEPARATORS[rule].__name__)
-
-
-class Parts(tuple):
-    """Parts that have no names, as the two `long` of `long long`. It is a tuple with a place."""
-
-    _tree: Tree
-    _node: int
-    span, char_span = Value.span, Value.char_span
-    position, text = Value.position, Value.text
-
-
-# What makes the values of rules that have no class of their own.
-class Maybe:
-    """Makes what may be absent, or None."""
-
-    def __call__(self, tree: Tree, node: int) -> Any:
-        below = tree.children(node)
-        return made(tree, below[0]) if below else None
-
-    def _entry(self, style: Any, rule: int) -> Any:
-        return _writing.Optional_(style.absent)
-
-
-class Many:
-    """Makes a list of items that stand one behind another."""
-
-    def __call__(self, tree: Tree, node: int) -> List[Any]:
-        return [made(tree, it) for it in tree.children(node)]
-
-    def _entry(self, style: Any, rule: int) -> Any:
-        return style.many()
-
-
-class Together:
-    """Makes a tuple of all parts. In JSON it has this name."""
-
-    def __init__(self, name: str = "") -> None:
-        self.name = name
-
-    def __call__(self, tree: Tree, node: int) -> Parts:
-        found = Parts(made(tree, it) for it in tree.children(node))
-        found._tree, found._node = tree, node
-        return found
-
-    def _entry(self, style: Any, rule: int) -> Any:
-        return style.together(self.name)
-
-
-class Variants:
-    """Makes the variant for the rule that was chosen, by the rules' names."""
-
-    def __init__(self, names: Dict[str, type]) -> None:
-        self.classes = {NUMBERS[name]: it for name, it in names.items()}
-
-    def __call__(self, tree: Tree, node: int) -> Choice:
-        return self.classes[tree.rules[node + 1]](tree, node)
-
-    def _entry(self, style: Any, rule: int) -> Any:
-        return {below: style.variant(it) for below, it in self.classes.items()}
-
-
-class Between:
-    """A part of a list with separators, which has no value."""
-
-    def __init__(self, form: _writing.Form) -> None:
-        self.form = form
-
-    def _entry(self, style: Any, rule: int) -> Any:
-        return self.form
-
-
-# How the value of a node is made, by the number of its rule, and the class of a list's separator:
-# weedle/_readers.py fills them.
-MAKERS: List[Any] = []
-SEPARATORS: Dict[int, type] = {}
-
-
-def made(tree: Tree, node: int) -> Any:
-    """The value of a node."""
-    return MAKERS[tree.rules[node]](tree, node)
-
-
-@cache
-def entries_of(style: type) -> List[Any]:
-    """How the values of the rules are written."""
-    return [it and it._entry(style(), rule) for rule, it in enumerate(MAKERS)]

@@ -6,7 +6,7 @@ itself, values may nest as deep as they will, and their parts aren't made for it
 
 from __future__ import annotations
 
-from json.encoder import encode_basestring
+from json.encoder import encode_basestring  # type: ignore[attr-defined]  # typeshed lacks it
 from typing import Any, Callable, Iterable, List, Optional, Sequence, Tuple, Union
 
 from weedle._tree import Tree
@@ -192,8 +192,10 @@ def form_of(entry: Any, tree: Tree, node: int, behind: int) -> Union[Form, str]:
     if type(entry) is Form:
         return entry
     if type(entry) is dict:
-        return entry[tree.rules[node + 1]]
+        chosen: Form = entry[tree.rules[node + 1]]
+        return chosen
     if type(entry) is Optional_:
         is_there = node + 1 < behind and tree.depths[node + 1] > tree.depths[node]
         return PRESENT if is_there else entry.absent
-    return entry(tree, node)
+    text: str = entry(tree, node)
+    return text

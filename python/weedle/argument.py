@@ -5,12 +5,16 @@ Written by tools/python_types.py, and not edited by hand.
 
 from __future__ import annotations
 
-from typing import ClassVar, Optional, TYPE_CHECKING
+from typing import Optional, TYPE_CHECKING
 
 from weedle._values import Choice, Value, part, value_class, word
 from weedle.common import Punctuated
 
 if TYPE_CHECKING:
+    import typing
+
+    from typing_extensions import TypeAlias
+
     from weedle import term
     from weedle.attribute import ExtendedAttributeList
     from weedle.common import Default, Identifier
@@ -27,8 +31,12 @@ __all__ = [
 class Argument(Choice):
     """An argument, as `long x`, or `long... xs` for any number of them."""
 
-    Single: ClassVar[type[Argument_Single]]
-    Variadic: ClassVar[type[Argument_Variadic]]
+    if TYPE_CHECKING:
+        Single: TypeAlias = "Argument_Single"
+        Variadic: TypeAlias = "Argument_Variadic"
+        Variants: TypeAlias = (
+            "typing.Union[Argument_Single, Argument_Variadic]"
+        )
 
 
 class Argument_Single(Argument, variant="Single"):
@@ -38,43 +46,64 @@ class Argument_Single(Argument, variant="Single"):
 
     value: SingleArgument
 
+    def __init__(self, value: SingleArgument) -> None:
+        self._hold(value)
+
 
 class Argument_Variadic(Argument, variant="Variadic"):
     """`[extended attributes] type... name`."""
 
     value: VariadicArgument
 
+    def __init__(self, value: VariadicArgument) -> None:
+        self._hold(value)
+
 
 @value_class
 class SingleArgument(Value):
     """An argument, as `optional long x = 5`."""
 
-    #: The extended attributes in brackets, as `[Exposed=Window]`, where they stand.
-    attributes: Optional[ExtendedAttributeList] = part(0)
-    #: The word `optional`, where it stands.
-    optional: Optional[term.Optional] = part(1)
-    #: Its type, as `long`, with extended attributes of its own, as in `optional [Clamp] long
-    #: x`.
-    type_: AttributedType = part(2)
-    #: Its name.
-    identifier: Identifier = part(3)
-    #: Its default, as `= 5`, where `optional` and a default stand.
-    default: Optional[Default] = part(4)
+    attributes: Optional[ExtendedAttributeList] = part(
+        "The extended attributes in brackets, as `[Exposed=Window]`, where they stand."
+    )
+    optional: Optional[term.Optional] = part("The word `optional`, where it stands.")
+    type_: AttributedType = part(
+        "Its type, as `long`, with extended attributes of its own, as in `optional [Clamp] "
+        "long x`."
+    )
+    identifier: Identifier = part("Its name.")
+    default: Optional[Default] = part(
+        "Its default, as `= 5`, where `optional` and a default stand."
+    )
+    _is_whole = False
+
+    def __init__(
+        self, *, attributes: Optional[ExtendedAttributeList] = None,
+        optional: Optional[term.Optional] = None, type_: AttributedType, identifier: Identifier,
+        default: Optional[Default] = None,
+    ) -> None:
+        self._hold(attributes, optional, type_, identifier, default)
 
 
 @value_class
 class VariadicArgument(Value):
     """Any number of arguments, as `long... xs`."""
 
-    #: The extended attributes in brackets, as `[Exposed=Window]`, where they stand.
-    attributes: Optional[ExtendedAttributeList] = part(0)
-    #: Their type, as `long`, with no extended attributes of its own.
-    type_: Type = part(1)
-    #: The `...`.
-    ellipsis: term.Ellipsis = word(2)
-    #: Their name.
-    identifier: Identifier = part(3)
+    attributes: Optional[ExtendedAttributeList] = part(
+        "The extended attributes in brackets, as `[Exposed=Window]`, where they stand."
+    )
+    type_: Type.Variants = part(
+        "Their type, as `long`, with no extended attributes of its own."
+    )
+    ellipsis: term.Ellipsis = word("The `...`.")
+    identifier: Identifier = part("Their name.")
+
+    def __init__(
+        self, *, attributes: Optional[ExtendedAttributeList] = None, type_: Type.Variants,
+        identifier: Identifier,
+    ) -> None:
+        self._hold(attributes, type_, identifier)
 
 
 #: Arguments, as `long x, long y`, none included.
-ArgumentList = Punctuated["Argument", "term.Comma"]
+ArgumentList = Punctuated["Argument.Variants", "term.Comma"]

@@ -5,12 +5,16 @@ Written by tools/python_types.py, and not edited by hand.
 
 from __future__ import annotations
 
-from typing import ClassVar, TYPE_CHECKING
+from typing import TYPE_CHECKING
 
 from weedle._values import Choice, Value, Wrapped, part, value_class, word
 from weedle.common import Bracketed, Punctuated
 
 if TYPE_CHECKING:
+    import typing
+
+    from typing_extensions import TypeAlias
+
     from weedle import term
     from weedle.argument import ArgumentList
     from weedle.common import Identifier, Parenthesized
@@ -32,11 +36,16 @@ __all__ = [
 class ExtendedAttribute(Choice):
     """An extended attribute, as `Exposed=Window` or `Constructor(long x)`."""
 
-    ArgList: ClassVar[type[ExtendedAttribute_ArgList]]
-    NamedArgList: ClassVar[type[ExtendedAttribute_NamedArgList]]
-    IdentList: ClassVar[type[ExtendedAttribute_IdentList]]
-    Ident: ClassVar[type[ExtendedAttribute_Ident]]
-    NoArgs: ClassVar[type[ExtendedAttribute_NoArgs]]
+    if TYPE_CHECKING:
+        ArgList: TypeAlias = "ExtendedAttribute_ArgList"
+        NamedArgList: TypeAlias = "ExtendedAttribute_NamedArgList"
+        IdentList: TypeAlias = "ExtendedAttribute_IdentList"
+        Ident: TypeAlias = "ExtendedAttribute_Ident"
+        NoArgs: TypeAlias = "ExtendedAttribute_NoArgs"
+        Variants: TypeAlias = (
+            "typing.Union[ExtendedAttribute_ArgList, ExtendedAttribute_NamedArgList, "
+            "ExtendedAttribute_IdentList, ExtendedAttribute_Ident, ExtendedAttribute_NoArgs]"
+        )
 
 
 class ExtendedAttribute_ArgList(ExtendedAttribute, variant="ArgList"):
@@ -44,11 +53,17 @@ class ExtendedAttribute_ArgList(ExtendedAttribute, variant="ArgList"):
 
     value: ExtendedAttributeArgList
 
+    def __init__(self, value: ExtendedAttributeArgList) -> None:
+        self._hold(value)
+
 
 class ExtendedAttribute_NamedArgList(ExtendedAttribute, variant="NamedArgList"):
     """`name=name(arguments)`."""
 
     value: ExtendedAttributeNamedArgList
+
+    def __init__(self, value: ExtendedAttributeNamedArgList) -> None:
+        self._hold(value)
 
 
 class ExtendedAttribute_IdentList(ExtendedAttribute, variant="IdentList"):
@@ -56,11 +71,17 @@ class ExtendedAttribute_IdentList(ExtendedAttribute, variant="IdentList"):
 
     value: ExtendedAttributeIdentList
 
+    def __init__(self, value: ExtendedAttributeIdentList) -> None:
+        self._hold(value)
+
 
 class ExtendedAttribute_Ident(ExtendedAttribute, variant="Ident"):
     """`name=name` or `name="text"`."""
 
     value: ExtendedAttributeIdent
+
+    def __init__(self, value: ExtendedAttributeIdent) -> None:
+        self._hold(value)
 
 
 class ExtendedAttribute_NoArgs(ExtendedAttribute, variant="NoArgs"):
@@ -68,67 +89,80 @@ class ExtendedAttribute_NoArgs(ExtendedAttribute, variant="NoArgs"):
 
     value: ExtendedAttributeNoArgs
 
+    def __init__(self, value: ExtendedAttributeNoArgs) -> None:
+        self._hold(value)
+
 
 @value_class
 class ExtendedAttributeArgList(Value):
     """An extended attribute with arguments, as `Constructor(long x)`."""
 
-    #: Its name.
-    identifier: Identifier = part(0)
-    #: Its arguments, between parentheses.
-    args: Parenthesized[ArgumentList] = part(1)
+    identifier: Identifier = part("Its name.")
+    args: Parenthesized[ArgumentList] = part("Its arguments, between parentheses.")
+
+    def __init__(self, *, identifier: Identifier, args: Parenthesized[ArgumentList]) -> None:
+        self._hold(identifier, args)
 
 
 @value_class
 class ExtendedAttributeNamedArgList(Value):
     """An extended attribute with a name and arguments, as `NamedConstructor=Image(long x)`."""
 
-    #: Its name, before the `=`.
-    lhs_identifier: Identifier = part(0)
-    #: The `=`.
-    assign: term.Assign = word(1)
-    #: The name behind the `=`.
-    rhs_identifier: Identifier = part(2)
-    #: Its arguments, between parentheses.
-    args: Parenthesized[ArgumentList] = part(3)
+    lhs_identifier: Identifier = part("Its name, before the `=`.")
+    assign: term.Assign = word("The `=`.")
+    rhs_identifier: Identifier = part("The name behind the `=`.")
+    args: Parenthesized[ArgumentList] = part("Its arguments, between parentheses.")
+
+    def __init__(
+        self, *, lhs_identifier: Identifier, rhs_identifier: Identifier,
+        args: Parenthesized[ArgumentList],
+    ) -> None:
+        self._hold(lhs_identifier, rhs_identifier, args)
 
 
 @value_class
 class ExtendedAttributeIdentList(Value):
     """An extended attribute with names, as `Exposed=(Window, Worker)`."""
 
-    #: Its name.
-    identifier: Identifier = part(0)
-    #: The `=`.
-    assign: term.Assign = word(1)
-    #: The names behind the `=`, between parentheses.
-    list: Parenthesized[IdentifierList] = part(2)
+    identifier: Identifier = part("Its name.")
+    assign: term.Assign = word("The `=`.")
+    list: Parenthesized[IdentifierList] = part("The names behind the `=`, between parentheses.")
+
+    def __init__(self, *, identifier: Identifier, list: Parenthesized[IdentifierList]) -> None:
+        self._hold(identifier, list)
 
 
 @value_class
 class ExtendedAttributeIdent(Value):
     """An extended attribute with a name or a string, as `PutForwards=name`."""
 
-    #: Its name, before the `=`.
-    lhs_identifier: Identifier = part(0)
-    #: The `=`.
-    assign: term.Assign = word(1)
-    #: The name or the string behind the `=`.
-    rhs: IdentifierOrString = part(2)
+    lhs_identifier: Identifier = part("Its name, before the `=`.")
+    assign: term.Assign = word("The `=`.")
+    rhs: IdentifierOrString.Variants = part("The name or the string behind the `=`.")
+
+    def __init__(self, *, lhs_identifier: Identifier, rhs: IdentifierOrString.Variants) -> None:
+        self._hold(lhs_identifier, rhs)
 
 
 @value_class
 class ExtendedAttributeNoArgs(Wrapped):
     """An extended attribute that is a name alone, as `Replaceable`."""
 
-    value: Identifier = part(0)
+    value: Identifier = part("An extended attribute that is a name alone, as `Replaceable`.")
+
+    def __init__(self, value: Identifier) -> None:
+        self._hold(value)
 
 
 class IdentifierOrString(Choice):
     """A name or a string, as `name` or `"name"`."""
 
-    Identifier: ClassVar[type[IdentifierOrString_Identifier]]
-    String: ClassVar[type[IdentifierOrString_String]]
+    if TYPE_CHECKING:
+        Identifier: TypeAlias = "IdentifierOrString_Identifier"
+        String: TypeAlias = "IdentifierOrString_String"
+        Variants: TypeAlias = (
+            "typing.Union[IdentifierOrString_Identifier, IdentifierOrString_String]"
+        )
 
 
 class IdentifierOrString_Identifier(IdentifierOrString, variant="Identifier"):
@@ -136,15 +170,21 @@ class IdentifierOrString_Identifier(IdentifierOrString, variant="Identifier"):
 
     value: Identifier
 
+    def __init__(self, value: Identifier) -> None:
+        self._hold(value)
+
 
 class IdentifierOrString_String(IdentifierOrString, variant="String"):
     """A text in quotes, as `"name"`."""
 
     value: StringLit
 
+    def __init__(self, value: StringLit) -> None:
+        self._hold(value)
+
 
 #: Extended attributes in brackets, as `[Exposed=Window, SecureContext]`; `[]` too.
-ExtendedAttributeList = Bracketed["Punctuated[ExtendedAttribute, term.Comma]"]
+ExtendedAttributeList = Bracketed["Punctuated[ExtendedAttribute.Variants, term.Comma]"]
 
 
 #: Names, as `Window, Worker`, none included.

@@ -7,7 +7,8 @@ from __future__ import annotations
 
 from typing import Generic, TYPE_CHECKING
 
-from weedle._values import Lines, Listed, Name, S, T, Value, part, value_class, word
+from weedle._leaves import Lines, Name
+from weedle._values import Listed, S, T, Value, part, value_class, word
 
 if TYPE_CHECKING:
     from weedle import term
@@ -30,48 +31,48 @@ __all__ = [
 class Parenthesized(Value, Generic[T]):
     """A body in parentheses, as `(a, b)`."""
 
-    #: The `(`.
-    open_paren: term.OpenParen = word(0)
-    #: What stands between the parentheses.
-    body: T = part(1)
-    #: The `)`.
-    close_paren: term.CloseParen = word(2)
+    open_paren: term.OpenParen = word("The `(`.")
+    body: T = part("What stands between the parentheses.")
+    close_paren: term.CloseParen = word("The `)`.")
+
+    def __init__(self, *, body: T) -> None:
+        self._hold(body)
 
 
 @value_class
 class Bracketed(Value, Generic[T]):
     """A body in square brackets, as `[Exposed]`."""
 
-    #: The `[`.
-    open_bracket: term.OpenBracket = word(0)
-    #: What stands between the square brackets.
-    body: T = part(1)
-    #: The `]`.
-    close_bracket: term.CloseBracket = word(2)
+    open_bracket: term.OpenBracket = word("The `[`.")
+    body: T = part("What stands between the square brackets.")
+    close_bracket: term.CloseBracket = word("The `]`.")
+
+    def __init__(self, *, body: T) -> None:
+        self._hold(body)
 
 
 @value_class
 class Braced(Value, Generic[T]):
     """A body in braces, as `{ .. }`."""
 
-    #: The `{`.
-    open_brace: term.OpenBrace = word(0)
-    #: What stands between the braces.
-    body: T = part(1)
-    #: The `}`.
-    close_brace: term.CloseBrace = word(2)
+    open_brace: term.OpenBrace = word("The `{`.")
+    body: T = part("What stands between the braces.")
+    close_brace: term.CloseBrace = word("The `}`.")
+
+    def __init__(self, *, body: T) -> None:
+        self._hold(body)
 
 
 @value_class
 class Generics(Value, Generic[T]):
     """A body in angle brackets, as `<long>`."""
 
-    #: The `<`.
-    open_angle: term.LessThan = word(0)
-    #: What stands between the angle brackets.
-    body: T = part(1)
-    #: The `>`.
-    close_angle: term.GreaterThan = word(2)
+    open_angle: term.LessThan = word("The `<`.")
+    body: T = part("What stands between the angle brackets.")
+    close_angle: term.GreaterThan = word("The `>`.")
+
+    def __init__(self, *, body: T) -> None:
+        self._hold(body)
 
 
 class Docstring(Lines):
@@ -98,14 +99,15 @@ class PunctuatedNonEmpty(Listed[T, S]):
     _fronts = ("",)
 
     def _listing(self) -> int:
-        return self._parts()[0]
+        return self._tree.children(self._node)[0]
 
 
 @value_class
 class Default(Value):
     """A default, as `= 5` behind an argument's name."""
 
-    #: The `=`.
-    assign: term.Assign = word(0)
-    #: The value, as `5`.
-    value: DefaultValue = part(1)
+    assign: term.Assign = word("The `=`.")
+    value: DefaultValue.Variants = part("The value, as `5`.")
+
+    def __init__(self, *, value: DefaultValue.Variants) -> None:
+        self._hold(value)

@@ -25,20 +25,23 @@ __all__ = [
 class DictionaryMember(Value):
     """A member of a dictionary, as `required long x;` or `long x = 5;`."""
 
-    #: The docstring in front, where one stands.
-    docstring: Optional[Docstring] = part(0)
-    #: The extended attributes in brackets, as `[Exposed=Window]`, where they stand.
-    attributes: Optional[ExtendedAttributeList] = part(1)
-    #: The word `required`, where it stands.
-    required: Optional[term.Required] = part(2)
-    #: Its type, as `long`, with no extended attributes of its own.
-    type_: Type = part(3)
-    #: Its name.
-    identifier: Identifier = part(4)
-    #: Its default, as `= 5`, where one stands.
-    default: Optional[Default] = part(5)
-    #: The `;` at the end.
-    semi_colon: term.SemiColon = word(6)
+    docstring: Optional[Docstring] = part("The docstring in front, where one stands.")
+    attributes: Optional[ExtendedAttributeList] = part(
+        "The extended attributes in brackets, as `[Exposed=Window]`, where they stand."
+    )
+    required: Optional[term.Required] = part("The word `required`, where it stands.")
+    type_: Type.Variants = part("Its type, as `long`, with no extended attributes of its own.")
+    identifier: Identifier = part("Its name.")
+    default: Optional[Default] = part("Its default, as `= 5`, where one stands.")
+    semi_colon: term.SemiColon = word("The `;` at the end.")
+
+    def __init__(
+        self, *, docstring: Optional[Docstring] = None,
+        attributes: Optional[ExtendedAttributeList] = None,
+        required: Optional[term.Required] = None, type_: Type.Variants, identifier: Identifier,
+        default: Optional[Default] = None,
+    ) -> None:
+        self._hold(docstring, attributes, required, type_, identifier, default)
 
 
 #: The members of a dictionary, one after another, as `long x; long y = 5;`; none included.

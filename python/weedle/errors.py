@@ -22,9 +22,9 @@ class Refused(ValueError):
     the reading comes to line 1, column 30, where a `,` or a `}` would go on.
 
     What is expected is found when it is asked for: mostly in some 300 nanoseconds for each byte of
-    the definition that isn't read, and up to eight times more in the search for a hint. Where the
-    text nests deep, by a table of it from `start` on, which takes some 1,600 bytes of memory and 2
-    microseconds a byte.
+    the definition that isn't read, and up to sixteen changes are tried for a hint, each once or
+    twice. Where the text nests deep, by a table of it from `start` on, which takes some 1,600 bytes
+    of memory and 2 microseconds a byte.
     """
 
     def __init__(self, text: Text, start: int) -> None:
@@ -85,3 +85,27 @@ class Refused(ValueError):
 
     def __repr__(self) -> str:
         return f"Refused(start={self.start})"
+
+
+class RuleRefused(Refused):
+    """A text at whose front a rule that was asked for isn't read; of it no more is said."""
+
+    def __init__(self, text: Text, rule: str) -> None:
+        super().__init__(text, 0)
+        self.args = (text, rule)
+        #: The name of the rule.
+        self.rule = rule
+
+    @property
+    def _explanation(self) -> None:
+        return None
+
+    @property
+    def expected(self) -> str:
+        """The rule."""
+        return f"the rule `{self.rule}`"
+
+    @property
+    def message(self) -> str:
+        """Where the text begins, and the rule."""
+        return f"1:1: expected {self.expected}"

@@ -4,7 +4,7 @@ Written by tools/python_types.py, and not edited by hand.
 """
 
 #: The version of the library that has these rules: a byte each for its three numbers.
-VERSION = 0x000a00
+VERSION = 0x000b00
 
 #: The names of the rules, by their numbers.
 RULES = (
@@ -398,3 +398,187 @@ RULES = (
 
 #: The numbers of the rules, by their names.
 NUMBERS = {name: number for number, name in enumerate(RULES)}
+
+#: The words of the grammar that have the letters of a name.
+KEYWORDS = frozenset(
+        "ArrayBuffer ArrayBufferView BufferSource ByteString DOMString DataView Error "
+        "Float32Array Float64Array FrozenArray Infinity Int16Array Int32Array Int8Array "
+        "NaN Promise USVString Uint16Array Uint32Array Uint8Array Uint8ClampedArray any "
+        "async attribute boolean byte callback const constructor deleter dictionary "
+        "double enum false float getter implements includes inherit interface iterable "
+        "legacycaller long maplike mixin namespace null object octet optional or partial "
+        "readonly record required sequence setlike setter short static stringifier symbol "
+        "true typedef undefined unrestricted unsigned".split()
+)
+
+#: Which of them are read behind which word, where a name could stand too. The word is `a` for any
+#: name.
+READ_BEHIND = {
+    "(": frozenset(
+        "ArrayBuffer ArrayBufferView BufferSource ByteString DOMString DataView Error "
+        "Float32Array Float64Array FrozenArray Int16Array Int32Array Int8Array Promise "
+        "USVString Uint16Array Uint32Array Uint8Array Uint8ClampedArray any boolean byte "
+        "double float long object octet optional record sequence short symbol "
+        "unrestricted unsigned".split()
+    ),
+    ")": frozenset(["or"]),
+    "]": frozenset(
+        "ArrayBuffer ArrayBufferView BufferSource ByteString DOMString DataView Error "
+        "Float32Array Float64Array FrozenArray Int16Array Int32Array Int8Array Promise "
+        "USVString Uint16Array Uint32Array Uint8Array Uint8ClampedArray any async "
+        "attribute boolean byte callback const constructor deleter dictionary double enum "
+        "float getter inherit interface iterable legacycaller long maplike namespace "
+        "object octet optional partial readonly record required sequence setlike setter "
+        "short static stringifier symbol typedef undefined unrestricted unsigned".split()
+    ),
+    "{": frozenset(
+        "ArrayBuffer ArrayBufferView BufferSource ByteString DOMString DataView Error "
+        "Float32Array Float64Array FrozenArray Int16Array Int32Array Int8Array Promise "
+        "USVString Uint16Array Uint32Array Uint8Array Uint8ClampedArray any async "
+        "attribute boolean byte const constructor deleter double float getter inherit "
+        "iterable legacycaller long maplike object octet readonly record required "
+        "sequence setlike setter short static stringifier symbol undefined unrestricted "
+        "unsigned".split()
+    ),
+    ",": frozenset(
+        "ArrayBuffer ArrayBufferView BufferSource ByteString DOMString DataView Error "
+        "Float32Array Float64Array FrozenArray Int16Array Int32Array Int8Array Promise "
+        "USVString Uint16Array Uint32Array Uint8Array Uint8ClampedArray any boolean byte "
+        "double float long object octet optional record sequence short symbol "
+        "unrestricted unsigned".split()
+    ),
+    ";": frozenset(
+        "ArrayBuffer ArrayBufferView BufferSource ByteString DOMString DataView Error "
+        "Float32Array Float64Array FrozenArray Int16Array Int32Array Int8Array Promise "
+        "USVString Uint16Array Uint32Array Uint8Array Uint8ClampedArray any async "
+        "attribute boolean byte callback const constructor deleter dictionary double enum "
+        "float getter inherit interface iterable legacycaller long maplike namespace "
+        "object octet partial readonly record required sequence setlike setter short "
+        "static stringifier symbol typedef undefined unrestricted unsigned".split()
+    ),
+    "<": frozenset(
+        "ArrayBuffer ArrayBufferView BufferSource ByteString DOMString DataView Error "
+        "Float32Array Float64Array FrozenArray Int16Array Int32Array Int8Array Promise "
+        "USVString Uint16Array Uint32Array Uint8Array Uint8ClampedArray any boolean byte "
+        "double float long object octet record sequence short symbol undefined "
+        "unrestricted unsigned".split()
+    ),
+    "=": frozenset(
+        "ArrayBuffer ArrayBufferView BufferSource ByteString DOMString DataView Error "
+        "Float32Array Float64Array FrozenArray Infinity Int16Array Int32Array Int8Array "
+        "NaN Promise USVString Uint16Array Uint32Array Uint8Array Uint8ClampedArray any "
+        "boolean byte double false float long null object octet record sequence short "
+        "symbol true undefined unrestricted unsigned".split()
+    ),
+    ">": frozenset(["or"]),
+    "?": frozenset(["or"]),
+    "or": frozenset(
+        "ArrayBuffer ArrayBufferView BufferSource ByteString DOMString DataView Error "
+        "Float32Array Float64Array FrozenArray Int16Array Int32Array Int8Array Promise "
+        "USVString Uint16Array Uint32Array Uint8Array Uint8ClampedArray boolean byte "
+        "double float long object octet record sequence short symbol unrestricted "
+        "unsigned".split()
+    ),
+    "optional": frozenset(
+        "ArrayBuffer ArrayBufferView BufferSource ByteString DOMString DataView Error "
+        "Float32Array Float64Array FrozenArray Int16Array Int32Array Int8Array Promise "
+        "USVString Uint16Array Uint32Array Uint8Array Uint8ClampedArray any boolean byte "
+        "double float long object octet record sequence short symbol unrestricted "
+        "unsigned".split()
+    ),
+    "attribute": frozenset(
+        "ArrayBuffer ArrayBufferView BufferSource ByteString DOMString DataView Error "
+        "Float32Array Float64Array FrozenArray Int16Array Int32Array Int8Array Promise "
+        "USVString Uint16Array Uint32Array Uint8Array Uint8ClampedArray any boolean byte "
+        "double float long object octet record sequence short symbol unrestricted "
+        "unsigned".split()
+    ),
+    "callback": frozenset(["interface"]),
+    "const": frozenset(
+        "boolean byte double float long octet short unrestricted unsigned".split()
+    ),
+    "deleter": frozenset(
+        "ArrayBuffer ArrayBufferView BufferSource ByteString DOMString DataView Error "
+        "Float32Array Float64Array FrozenArray Int16Array Int32Array Int8Array Promise "
+        "USVString Uint16Array Uint32Array Uint8Array Uint8ClampedArray any boolean byte "
+        "double float long object octet record sequence short symbol undefined "
+        "unrestricted unsigned".split()
+    ),
+    "getter": frozenset(
+        "ArrayBuffer ArrayBufferView BufferSource ByteString DOMString DataView Error "
+        "Float32Array Float64Array FrozenArray Int16Array Int32Array Int8Array Promise "
+        "USVString Uint16Array Uint32Array Uint8Array Uint8ClampedArray any boolean byte "
+        "double float long object octet record sequence short symbol undefined "
+        "unrestricted unsigned".split()
+    ),
+    "interface": frozenset(["mixin"]),
+    "required": frozenset(
+        "ArrayBuffer ArrayBufferView BufferSource ByteString DOMString DataView Error "
+        "Float32Array Float64Array FrozenArray Int16Array Int32Array Int8Array Promise "
+        "USVString Uint16Array Uint32Array Uint8Array Uint8ClampedArray any boolean byte "
+        "double float long object octet record sequence short symbol unrestricted "
+        "unsigned".split()
+    ),
+    "setter": frozenset(
+        "ArrayBuffer ArrayBufferView BufferSource ByteString DOMString DataView Error "
+        "Float32Array Float64Array FrozenArray Int16Array Int32Array Int8Array Promise "
+        "USVString Uint16Array Uint32Array Uint8Array Uint8ClampedArray any boolean byte "
+        "double float long object octet record sequence short symbol undefined "
+        "unrestricted unsigned".split()
+    ),
+    "static": frozenset(
+        "ArrayBuffer ArrayBufferView BufferSource ByteString DOMString DataView Error "
+        "Float32Array Float64Array FrozenArray Int16Array Int32Array Int8Array Promise "
+        "USVString Uint16Array Uint32Array Uint8Array Uint8ClampedArray any attribute "
+        "boolean byte deleter double float getter legacycaller long object octet readonly "
+        "record sequence setter short symbol undefined unrestricted unsigned".split()
+    ),
+    "stringifier": frozenset(
+        "ArrayBuffer ArrayBufferView BufferSource ByteString DOMString DataView Error "
+        "Float32Array Float64Array FrozenArray Int16Array Int32Array Int8Array Promise "
+        "USVString Uint16Array Uint32Array Uint8Array Uint8ClampedArray any attribute "
+        "boolean byte deleter double float getter legacycaller long object octet readonly "
+        "record sequence setter short symbol undefined unrestricted unsigned".split()
+    ),
+    "typedef": frozenset(
+        "ArrayBuffer ArrayBufferView BufferSource ByteString DOMString DataView Error "
+        "Float32Array Float64Array FrozenArray Int16Array Int32Array Int8Array Promise "
+        "USVString Uint16Array Uint32Array Uint8Array Uint8ClampedArray any boolean byte "
+        "double float long object octet record sequence short symbol unrestricted "
+        "unsigned".split()
+    ),
+    "symbol": frozenset(["or"]),
+    "boolean": frozenset(["or"]),
+    "byte": frozenset(["or"]),
+    "double": frozenset(["or"]),
+    "float": frozenset(["or"]),
+    "long": frozenset(["long", "or"]),
+    "object": frozenset(["or"]),
+    "octet": frozenset(["or"]),
+    "short": frozenset(["or"]),
+    "legacycaller": frozenset(
+        "ArrayBuffer ArrayBufferView BufferSource ByteString DOMString DataView Error "
+        "Float32Array Float64Array FrozenArray Int16Array Int32Array Int8Array Promise "
+        "USVString Uint16Array Uint32Array Uint8Array Uint8ClampedArray any boolean byte "
+        "double float long object octet record sequence short symbol undefined "
+        "unrestricted unsigned".split()
+    ),
+    "ByteString": frozenset(["or"]),
+    "DOMString": frozenset(["or"]),
+    "USVString": frozenset(["or"]),
+    "ArrayBuffer": frozenset(["or"]),
+    "DataView": frozenset(["or"]),
+    "Int8Array": frozenset(["or"]),
+    "Int16Array": frozenset(["or"]),
+    "Int32Array": frozenset(["or"]),
+    "Uint8Array": frozenset(["or"]),
+    "Uint16Array": frozenset(["or"]),
+    "Uint32Array": frozenset(["or"]),
+    "Uint8ClampedArray": frozenset(["or"]),
+    "Float32Array": frozenset(["or"]),
+    "Float64Array": frozenset(["or"]),
+    "ArrayBufferView": frozenset(["or"]),
+    "BufferSource": frozenset(["or"]),
+    "Error": frozenset(["or"]),
+    "a": frozenset(["implements", "includes", "or"]),
+}

@@ -5,11 +5,15 @@ Written by tools/python_types.py, and not edited by hand.
 
 from __future__ import annotations
 
-from typing import ClassVar, List, Optional, TYPE_CHECKING, Tuple
+from typing import List, Optional, TYPE_CHECKING, Tuple
 
 from weedle._values import Choice, Value, part, value_class, word
 
 if TYPE_CHECKING:
+    import typing
+
+    from typing_extensions import TypeAlias
+
     from weedle import term
     from weedle.argument import ArgumentList
     from weedle.attribute import ExtendedAttributeList
@@ -44,19 +48,25 @@ __all__ = [
 class Inheritance(Value):
     """What an interface or a dictionary inherits from, as `: Node`."""
 
-    #: The `:`.
-    colon: term.Colon = word(0)
-    #: The name of what is inherited from.
-    identifier: Identifier = part(1)
+    colon: term.Colon = word("The `:`.")
+    identifier: Identifier = part("The name of what is inherited from.")
+
+    def __init__(self, *, identifier: Identifier) -> None:
+        self._hold(identifier)
 
 
 class Special(Choice):
     """The word of a special operation, as `getter`."""
 
-    Getter: ClassVar[type[Special_Getter]]
-    Setter: ClassVar[type[Special_Setter]]
-    Deleter: ClassVar[type[Special_Deleter]]
-    LegacyCaller: ClassVar[type[Special_LegacyCaller]]
+    if TYPE_CHECKING:
+        Getter: TypeAlias = "Special_Getter"
+        Setter: TypeAlias = "Special_Setter"
+        Deleter: TypeAlias = "Special_Deleter"
+        LegacyCaller: TypeAlias = "Special_LegacyCaller"
+        Variants: TypeAlias = (
+            "typing.Union[Special_Getter, Special_Setter, Special_Deleter, "
+            "Special_LegacyCaller]"
+        )
 
 
 class Special_Getter(Special, variant="Getter"):
@@ -64,11 +74,17 @@ class Special_Getter(Special, variant="Getter"):
 
     value: term.Getter
 
+    def __init__(self, value: term.Getter) -> None:
+        self._hold(value)
+
 
 class Special_Setter(Special, variant="Setter"):
     """The word `setter`."""
 
     value: term.Setter
+
+    def __init__(self, value: term.Setter) -> None:
+        self._hold(value)
 
 
 class Special_Deleter(Special, variant="Deleter"):
@@ -76,19 +92,30 @@ class Special_Deleter(Special, variant="Deleter"):
 
     value: term.Deleter
 
+    def __init__(self, value: term.Deleter) -> None:
+        self._hold(value)
+
 
 class Special_LegacyCaller(Special, variant="LegacyCaller"):
     """The word `legacycaller`."""
 
     value: term.LegacyCaller
 
+    def __init__(self, value: term.LegacyCaller) -> None:
+        self._hold(value)
+
 
 class StringifierOrInheritOrStatic(Choice):
     """The word before an attribute, as `static`."""
 
-    Stringifier: ClassVar[type[StringifierOrInheritOrStatic_Stringifier]]
-    Inherit: ClassVar[type[StringifierOrInheritOrStatic_Inherit]]
-    Static: ClassVar[type[StringifierOrInheritOrStatic_Static]]
+    if TYPE_CHECKING:
+        Stringifier: TypeAlias = "StringifierOrInheritOrStatic_Stringifier"
+        Inherit: TypeAlias = "StringifierOrInheritOrStatic_Inherit"
+        Static: TypeAlias = "StringifierOrInheritOrStatic_Static"
+        Variants: TypeAlias = (
+            "typing.Union[StringifierOrInheritOrStatic_Stringifier, "
+            "StringifierOrInheritOrStatic_Inherit, StringifierOrInheritOrStatic_Static]"
+        )
 
 
 class StringifierOrInheritOrStatic_Stringifier(StringifierOrInheritOrStatic, variant="Stringifier"):
@@ -96,11 +123,17 @@ class StringifierOrInheritOrStatic_Stringifier(StringifierOrInheritOrStatic, var
 
     value: term.Stringifier
 
+    def __init__(self, value: term.Stringifier) -> None:
+        self._hold(value)
+
 
 class StringifierOrInheritOrStatic_Inherit(StringifierOrInheritOrStatic, variant="Inherit"):
     """The word `inherit`."""
 
     value: term.Inherit
+
+    def __init__(self, value: term.Inherit) -> None:
+        self._hold(value)
 
 
 class StringifierOrInheritOrStatic_Static(StringifierOrInheritOrStatic, variant="Static"):
@@ -108,12 +141,19 @@ class StringifierOrInheritOrStatic_Static(StringifierOrInheritOrStatic, variant=
 
     value: term.Static
 
+    def __init__(self, value: term.Static) -> None:
+        self._hold(value)
+
 
 class StringifierOrStatic(Choice):
     """The word before an operation, as `stringifier` or `static`."""
 
-    Stringifier: ClassVar[type[StringifierOrStatic_Stringifier]]
-    Static: ClassVar[type[StringifierOrStatic_Static]]
+    if TYPE_CHECKING:
+        Stringifier: TypeAlias = "StringifierOrStatic_Stringifier"
+        Static: TypeAlias = "StringifierOrStatic_Static"
+        Variants: TypeAlias = (
+            "typing.Union[StringifierOrStatic_Stringifier, StringifierOrStatic_Static]"
+        )
 
 
 class StringifierOrStatic_Stringifier(StringifierOrStatic, variant="Stringifier"):
@@ -121,168 +161,221 @@ class StringifierOrStatic_Stringifier(StringifierOrStatic, variant="Stringifier"
 
     value: term.Stringifier
 
+    def __init__(self, value: term.Stringifier) -> None:
+        self._hold(value)
+
 
 class StringifierOrStatic_Static(StringifierOrStatic, variant="Static"):
     """The word `static`."""
 
     value: term.Static
 
+    def __init__(self, value: term.Static) -> None:
+        self._hold(value)
+
 
 @value_class
 class AttributeInterfaceMember(Value):
     """An attribute of an interface, as `static readonly attribute long x;`."""
 
-    #: The extended attributes in brackets, as `[Exposed=Window]`, where they stand.
-    attributes: Optional[ExtendedAttributeList] = part(0)
-    #: The word `stringifier`, `inherit` or `static`, where one of them stands.
-    modifier: Optional[StringifierOrInheritOrStatic] = part(1)
-    #: The word `readonly`, where it stands.
-    readonly: Optional[term.ReadOnly] = part(2)
-    #: The word `attribute`.
-    attribute: term.Attribute = word(3)
-    #: Its type, as `long`, with the extended attributes that stand before it.
-    type_: AttributedType = part(4)
-    #: Its name.
-    identifier: Identifier = part(5)
-    #: The `;` at the end.
-    semi_colon: term.SemiColon = word(6)
+    attributes: Optional[ExtendedAttributeList] = part(
+        "The extended attributes in brackets, as `[Exposed=Window]`, where they stand."
+    )
+    modifier: Optional[StringifierOrInheritOrStatic.Variants] = part(
+        "The word `stringifier`, `inherit` or `static`, where one of them stands."
+    )
+    readonly: Optional[term.ReadOnly] = part("The word `readonly`, where it stands.")
+    attribute: term.Attribute = word("The word `attribute`.")
+    type_: AttributedType = part(
+        "Its type, as `long`, with the extended attributes that stand before it."
+    )
+    identifier: Identifier = part("Its name.")
+    semi_colon: term.SemiColon = word("The `;` at the end.")
+
+    def __init__(
+        self, *, attributes: Optional[ExtendedAttributeList] = None,
+        modifier: Optional[StringifierOrInheritOrStatic.Variants] = None,
+        readonly: Optional[term.ReadOnly] = None, type_: AttributedType, identifier: Identifier,
+    ) -> None:
+        self._hold(attributes, modifier, readonly, type_, identifier)
 
 
 @value_class
 class ConstMember(Value):
     """A constant, as `const long X = 5;`."""
 
-    #: The extended attributes in brackets, as `[Exposed=Window]`, where they stand.
-    attributes: Optional[ExtendedAttributeList] = part(0)
-    #: The word `const`.
-    const_: term.Const = word(1)
-    #: Its type, as `long`.
-    const_type: ConstType = part(2)
-    #: Its name.
-    identifier: Identifier = part(3)
-    #: The `=`.
-    assign: term.Assign = word(4)
-    #: Its value, as `5`.
-    const_value: ConstValue = part(5)
-    #: The `;` at the end.
-    semi_colon: term.SemiColon = word(6)
+    attributes: Optional[ExtendedAttributeList] = part(
+        "The extended attributes in brackets, as `[Exposed=Window]`, where they stand."
+    )
+    const_: term.Const = word("The word `const`.")
+    const_type: ConstType.Variants = part("Its type, as `long`.")
+    identifier: Identifier = part("Its name.")
+    assign: term.Assign = word("The `=`.")
+    const_value: ConstValue.Variants = part("Its value, as `5`.")
+    semi_colon: term.SemiColon = word("The `;` at the end.")
+
+    def __init__(
+        self, *, attributes: Optional[ExtendedAttributeList] = None,
+        const_type: ConstType.Variants, identifier: Identifier,
+        const_value: ConstValue.Variants,
+    ) -> None:
+        self._hold(attributes, const_type, identifier, const_value)
 
 
 @value_class
 class ConstructorInterfaceMember(Value):
     """A constructor, as `constructor(long x);`."""
 
-    #: The docstring in front, where one stands.
-    docstring: Optional[Docstring] = part(0)
-    #: The extended attributes in brackets, as `[Exposed=Window]`, where they stand.
-    attributes: Optional[ExtendedAttributeList] = part(1)
-    #: The word `constructor`.
-    constructor: term.Constructor = word(2)
-    #: Its arguments, between parentheses.
-    args: Parenthesized[ArgumentList] = part(3)
-    #: The `;` at the end.
-    semi_colon: term.SemiColon = word(4)
+    docstring: Optional[Docstring] = part("The docstring in front, where one stands.")
+    attributes: Optional[ExtendedAttributeList] = part(
+        "The extended attributes in brackets, as `[Exposed=Window]`, where they stand."
+    )
+    constructor: term.Constructor = word("The word `constructor`.")
+    args: Parenthesized[ArgumentList] = part("Its arguments, between parentheses.")
+    semi_colon: term.SemiColon = word("The `;` at the end.")
+
+    def __init__(
+        self, *, docstring: Optional[Docstring] = None,
+        attributes: Optional[ExtendedAttributeList] = None, args: Parenthesized[ArgumentList],
+    ) -> None:
+        self._hold(docstring, attributes, args)
 
 
 @value_class
 class OperationInterfaceMember(Value):
     """An operation of an interface, as `getter long item(long index);`."""
 
-    #: The docstring in front, where one stands.
-    docstring: Optional[Docstring] = part(0)
-    #: The extended attributes in brackets, as `[Exposed=Window]`, where they stand.
-    attributes: Optional[ExtendedAttributeList] = part(1)
-    #: The word `stringifier` or `static`, where one of them stands.
-    modifier: Optional[StringifierOrStatic] = part(2)
-    #: The word `getter`, `setter`, `deleter` or `legacycaller`, where one of them stands.
-    special: Optional[Special] = part(3)
-    #: The type of its result, as `undefined` or `long`.
-    return_type: ReturnType = part(4)
-    #: Its name, where it has one.
-    identifier: Optional[Identifier] = part(5)
-    #: Its arguments, between parentheses.
-    args: Parenthesized[ArgumentList] = part(6)
-    #: The `;` at the end.
-    semi_colon: term.SemiColon = word(7)
+    docstring: Optional[Docstring] = part("The docstring in front, where one stands.")
+    attributes: Optional[ExtendedAttributeList] = part(
+        "The extended attributes in brackets, as `[Exposed=Window]`, where they stand."
+    )
+    modifier: Optional[StringifierOrStatic.Variants] = part(
+        "The word `stringifier` or `static`, where one of them stands."
+    )
+    special: Optional[Special.Variants] = part(
+        "The word `getter`, `setter`, `deleter` or `legacycaller`, where one of them stands."
+    )
+    return_type: ReturnType.Variants = part("The type of its result, as `undefined` or `long`.")
+    identifier: Optional[Identifier] = part("Its name, where it has one.")
+    args: Parenthesized[ArgumentList] = part("Its arguments, between parentheses.")
+    semi_colon: term.SemiColon = word("The `;` at the end.")
+
+    def __init__(
+        self, *, docstring: Optional[Docstring] = None,
+        attributes: Optional[ExtendedAttributeList] = None,
+        modifier: Optional[StringifierOrStatic.Variants] = None,
+        special: Optional[Special.Variants] = None, return_type: ReturnType.Variants,
+        identifier: Optional[Identifier] = None, args: Parenthesized[ArgumentList],
+    ) -> None:
+        self._hold(docstring, attributes, modifier, special, return_type, identifier, args)
 
 
 @value_class
 class StringifierMember(Value):
     """A stringifier with no body, as `stringifier;`."""
 
-    #: The extended attributes in brackets, as `[Exposed=Window]`, where they stand.
-    attributes: Optional[ExtendedAttributeList] = part(0)
-    #: The word `stringifier`.
-    stringifier: term.Stringifier = word(1)
-    #: The `;` at the end.
-    semi_colon: term.SemiColon = word(2)
+    attributes: Optional[ExtendedAttributeList] = part(
+        "The extended attributes in brackets, as `[Exposed=Window]`, where they stand."
+    )
+    stringifier: term.Stringifier = word("The word `stringifier`.")
+    semi_colon: term.SemiColon = word("The `;` at the end.")
+
+    def __init__(self, *, attributes: Optional[ExtendedAttributeList] = None) -> None:
+        self._hold(attributes)
 
 
 @value_class
 class MaplikeInterfaceMember(Value):
     """A map, as `readonly maplike<DOMString, long>;`."""
 
-    #: The extended attributes in brackets, as `[Exposed=Window]`, where they stand.
-    attributes: Optional[ExtendedAttributeList] = part(0)
-    #: The word `readonly`, where it stands.
-    readonly: Optional[term.ReadOnly] = part(1)
-    #: The word `maplike`.
-    maplike: term.Maplike = word(2)
-    #: The types of its keys and values in angle brackets, as `<DOMString, long>`.
-    generics: Generics[Tuple[AttributedType, term.Comma, AttributedType]] = part(3)
-    #: The `;` at the end.
-    semi_colon: term.SemiColon = word(4)
+    attributes: Optional[ExtendedAttributeList] = part(
+        "The extended attributes in brackets, as `[Exposed=Window]`, where they stand."
+    )
+    readonly: Optional[term.ReadOnly] = part("The word `readonly`, where it stands.")
+    maplike: term.Maplike = word("The word `maplike`.")
+    generics: Generics[Tuple[AttributedType, term.Comma, AttributedType]] = part(
+        "The types of its keys and values in angle brackets, as `<DOMString, long>`."
+    )
+    semi_colon: term.SemiColon = word("The `;` at the end.")
+
+    def __init__(
+        self, *, attributes: Optional[ExtendedAttributeList] = None,
+        readonly: Optional[term.ReadOnly] = None,
+        generics: Generics[Tuple[AttributedType, term.Comma, AttributedType]],
+    ) -> None:
+        self._hold(attributes, readonly, generics)
 
 
 @value_class
 class SetlikeInterfaceMember(Value):
     """A set, as `readonly setlike<long>;`."""
 
-    #: The extended attributes in brackets, as `[Exposed=Window]`, where they stand.
-    attributes: Optional[ExtendedAttributeList] = part(0)
-    #: The word `readonly`, where it stands.
-    readonly: Optional[term.ReadOnly] = part(1)
-    #: The word `setlike`.
-    setlike: term.Setlike = word(2)
-    #: The type of its values in angle brackets, as `<long>`.
-    generics: Generics[AttributedType] = part(3)
-    #: The `;` at the end.
-    semi_colon: term.SemiColon = word(4)
+    attributes: Optional[ExtendedAttributeList] = part(
+        "The extended attributes in brackets, as `[Exposed=Window]`, where they stand."
+    )
+    readonly: Optional[term.ReadOnly] = part("The word `readonly`, where it stands.")
+    setlike: term.Setlike = word("The word `setlike`.")
+    generics: Generics[AttributedType] = part(
+        "The type of its values in angle brackets, as `<long>`."
+    )
+    semi_colon: term.SemiColon = word("The `;` at the end.")
+
+    def __init__(
+        self, *, attributes: Optional[ExtendedAttributeList] = None,
+        readonly: Optional[term.ReadOnly] = None, generics: Generics[AttributedType],
+    ) -> None:
+        self._hold(attributes, readonly, generics)
 
 
 @value_class
 class SingleTypedIterable(Value):
     """An iteration over values, as `iterable<long>;`."""
 
-    #: The extended attributes in brackets, as `[Exposed=Window]`, where they stand.
-    attributes: Optional[ExtendedAttributeList] = part(0)
-    #: The word `iterable`.
-    iterable: term.Iterable = word(1)
-    #: The type of its values in angle brackets, as `<long>`.
-    generics: Generics[AttributedType] = part(2)
-    #: The `;` at the end.
-    semi_colon: term.SemiColon = word(3)
+    attributes: Optional[ExtendedAttributeList] = part(
+        "The extended attributes in brackets, as `[Exposed=Window]`, where they stand."
+    )
+    iterable: term.Iterable = word("The word `iterable`.")
+    generics: Generics[AttributedType] = part(
+        "The type of its values in angle brackets, as `<long>`."
+    )
+    semi_colon: term.SemiColon = word("The `;` at the end.")
+
+    def __init__(
+        self, *, attributes: Optional[ExtendedAttributeList] = None,
+        generics: Generics[AttributedType],
+    ) -> None:
+        self._hold(attributes, generics)
 
 
 @value_class
 class DoubleTypedIterable(Value):
     """An iteration over pairs, as `iterable<DOMString, long>;`."""
 
-    #: The extended attributes in brackets, as `[Exposed=Window]`, where they stand.
-    attributes: Optional[ExtendedAttributeList] = part(0)
-    #: The word `iterable`.
-    iterable: term.Iterable = word(1)
-    #: The types of its keys and values in angle brackets, as `<DOMString, long>`.
-    generics: Generics[Tuple[AttributedType, term.Comma, AttributedType]] = part(2)
-    #: The `;` at the end.
-    semi_colon: term.SemiColon = word(3)
+    attributes: Optional[ExtendedAttributeList] = part(
+        "The extended attributes in brackets, as `[Exposed=Window]`, where they stand."
+    )
+    iterable: term.Iterable = word("The word `iterable`.")
+    generics: Generics[Tuple[AttributedType, term.Comma, AttributedType]] = part(
+        "The types of its keys and values in angle brackets, as `<DOMString, long>`."
+    )
+    semi_colon: term.SemiColon = word("The `;` at the end.")
+
+    def __init__(
+        self, *, attributes: Optional[ExtendedAttributeList] = None,
+        generics: Generics[Tuple[AttributedType, term.Comma, AttributedType]],
+    ) -> None:
+        self._hold(attributes, generics)
 
 
 class IterableInterfaceMember(Choice):
     """An iteration over values or pairs, as `iterable<long>;`."""
 
-    Single: ClassVar[type[IterableInterfaceMember_Single]]
-    Double: ClassVar[type[IterableInterfaceMember_Double]]
+    if TYPE_CHECKING:
+        Single: TypeAlias = "IterableInterfaceMember_Single"
+        Double: TypeAlias = "IterableInterfaceMember_Double"
+        Variants: TypeAlias = (
+            "typing.Union[IterableInterfaceMember_Single, IterableInterfaceMember_Double]"
+        )
 
 
 class IterableInterfaceMember_Single(IterableInterfaceMember, variant="Single"):
@@ -290,56 +383,85 @@ class IterableInterfaceMember_Single(IterableInterfaceMember, variant="Single"):
 
     value: SingleTypedIterable
 
+    def __init__(self, value: SingleTypedIterable) -> None:
+        self._hold(value)
+
 
 class IterableInterfaceMember_Double(IterableInterfaceMember, variant="Double"):
     """`[extended attributes] iterable<type, type>;`."""
 
     value: DoubleTypedIterable
 
+    def __init__(self, value: DoubleTypedIterable) -> None:
+        self._hold(value)
+
 
 @value_class
 class SingleTypedAsyncIterable(Value):
     """An asynchronous iteration over values, as `async iterable<long>;`."""
 
-    #: The extended attributes in brackets, as `[Exposed=Window]`, where they stand.
-    attributes: Optional[ExtendedAttributeList] = part(0)
-    #: The words `async` and `iterable`.
-    async_iterable: Tuple[term.Async, term.Iterable] = word(1)
-    #: The type of its values in angle brackets, as `<long>`.
-    generics: Generics[AttributedType] = part(2)
-    #: The arguments between parentheses, as `(long x)`, where they stand.
-    args: Optional[Parenthesized[ArgumentList]] = part(3)
-    #: The `;` at the end.
-    semi_colon: term.SemiColon = word(4)
+    attributes: Optional[ExtendedAttributeList] = part(
+        "The extended attributes in brackets, as `[Exposed=Window]`, where they stand."
+    )
+    async_iterable: Tuple[term.Async, term.Iterable] = word("The words `async` and `iterable`.")
+    generics: Generics[AttributedType] = part(
+        "The type of its values in angle brackets, as `<long>`."
+    )
+    args: Optional[Parenthesized[ArgumentList]] = part(
+        "The arguments between parentheses, as `(long x)`, where they stand."
+    )
+    semi_colon: term.SemiColon = word("The `;` at the end.")
+
+    def __init__(
+        self, *, attributes: Optional[ExtendedAttributeList] = None,
+        generics: Generics[AttributedType], args: Optional[Parenthesized[ArgumentList]] = None,
+    ) -> None:
+        self._hold(attributes, generics, args)
 
 
 @value_class
 class DoubleTypedAsyncIterable(Value):
     """An asynchronous iteration over pairs, as `async iterable<DOMString, long>(long x);`."""
 
-    #: The extended attributes in brackets, as `[Exposed=Window]`, where they stand.
-    attributes: Optional[ExtendedAttributeList] = part(0)
-    #: The words `async` and `iterable`.
-    async_iterable: Tuple[term.Async, term.Iterable] = word(1)
-    #: The types of its keys and values in angle brackets, as `<DOMString, long>`.
-    generics: Generics[Tuple[AttributedType, term.Comma, AttributedType]] = part(2)
-    #: The arguments between parentheses, as `(long x)`, where they stand.
-    args: Optional[Parenthesized[ArgumentList]] = part(3)
-    #: The `;` at the end.
-    semi_colon: term.SemiColon = word(4)
+    attributes: Optional[ExtendedAttributeList] = part(
+        "The extended attributes in brackets, as `[Exposed=Window]`, where they stand."
+    )
+    async_iterable: Tuple[term.Async, term.Iterable] = word("The words `async` and `iterable`.")
+    generics: Generics[Tuple[AttributedType, term.Comma, AttributedType]] = part(
+        "The types of its keys and values in angle brackets, as `<DOMString, long>`."
+    )
+    args: Optional[Parenthesized[ArgumentList]] = part(
+        "The arguments between parentheses, as `(long x)`, where they stand."
+    )
+    semi_colon: term.SemiColon = word("The `;` at the end.")
+
+    def __init__(
+        self, *, attributes: Optional[ExtendedAttributeList] = None,
+        generics: Generics[Tuple[AttributedType, term.Comma, AttributedType]],
+        args: Optional[Parenthesized[ArgumentList]] = None,
+    ) -> None:
+        self._hold(attributes, generics, args)
 
 
 class AsyncIterableInterfaceMember(Choice):
     """An asynchronous iteration over values or pairs, as `async iterable<long>;`."""
 
-    Single: ClassVar[type[AsyncIterableInterfaceMember_Single]]
-    Double: ClassVar[type[AsyncIterableInterfaceMember_Double]]
+    if TYPE_CHECKING:
+        Single: TypeAlias = "AsyncIterableInterfaceMember_Single"
+        Double: TypeAlias = "AsyncIterableInterfaceMember_Double"
+        Variants: TypeAlias = (
+            "typing.Union[AsyncIterableInterfaceMember_Single, "
+            "AsyncIterableInterfaceMember_Double]"
+        )
 
 
 class AsyncIterableInterfaceMember_Single(AsyncIterableInterfaceMember, variant="Single"):
     """`[extended attributes] async iterable<type>(arguments);`, also without `(arguments)`."""
 
     value: SingleTypedAsyncIterable
+
+    def __init__(self, value: SingleTypedAsyncIterable) -> None:
+        self._hold(value)
 
 
 class AsyncIterableInterfaceMember_Double(AsyncIterableInterfaceMember, variant="Double"):
@@ -349,19 +471,29 @@ class AsyncIterableInterfaceMember_Double(AsyncIterableInterfaceMember, variant=
 
     value: DoubleTypedAsyncIterable
 
+    def __init__(self, value: DoubleTypedAsyncIterable) -> None:
+        self._hold(value)
+
 
 class InterfaceMember(Choice):
     """A member of an interface, as `attribute long length;`."""
 
-    Const: ClassVar[type[InterfaceMember_Const]]
-    Attribute: ClassVar[type[InterfaceMember_Attribute]]
-    Constructor: ClassVar[type[InterfaceMember_Constructor]]
-    Operation: ClassVar[type[InterfaceMember_Operation]]
-    Iterable: ClassVar[type[InterfaceMember_Iterable]]
-    AsyncIterable: ClassVar[type[InterfaceMember_AsyncIterable]]
-    Maplike: ClassVar[type[InterfaceMember_Maplike]]
-    Setlike: ClassVar[type[InterfaceMember_Setlike]]
-    Stringifier: ClassVar[type[InterfaceMember_Stringifier]]
+    if TYPE_CHECKING:
+        Const: TypeAlias = "InterfaceMember_Const"
+        Attribute: TypeAlias = "InterfaceMember_Attribute"
+        Constructor: TypeAlias = "InterfaceMember_Constructor"
+        Operation: TypeAlias = "InterfaceMember_Operation"
+        Iterable: TypeAlias = "InterfaceMember_Iterable"
+        AsyncIterable: TypeAlias = "InterfaceMember_AsyncIterable"
+        Maplike: TypeAlias = "InterfaceMember_Maplike"
+        Setlike: TypeAlias = "InterfaceMember_Setlike"
+        Stringifier: TypeAlias = "InterfaceMember_Stringifier"
+        Variants: TypeAlias = (
+            "typing.Union[InterfaceMember_Const, InterfaceMember_Attribute, "
+            "InterfaceMember_Constructor, InterfaceMember_Operation, "
+            "InterfaceMember_Iterable, InterfaceMember_AsyncIterable, "
+            "InterfaceMember_Maplike, InterfaceMember_Setlike, InterfaceMember_Stringifier]"
+        )
 
 
 class InterfaceMember_Const(InterfaceMember, variant="Const"):
@@ -369,11 +501,17 @@ class InterfaceMember_Const(InterfaceMember, variant="Const"):
 
     value: ConstMember
 
+    def __init__(self, value: ConstMember) -> None:
+        self._hold(value)
+
 
 class InterfaceMember_Attribute(InterfaceMember, variant="Attribute"):
     """`[extended attributes] readonly attribute type name;`, also without `readonly`."""
 
     value: AttributeInterfaceMember
+
+    def __init__(self, value: AttributeInterfaceMember) -> None:
+        self._hold(value)
 
 
 class InterfaceMember_Constructor(InterfaceMember, variant="Constructor"):
@@ -381,11 +519,17 @@ class InterfaceMember_Constructor(InterfaceMember, variant="Constructor"):
 
     value: ConstructorInterfaceMember
 
+    def __init__(self, value: ConstructorInterfaceMember) -> None:
+        self._hold(value)
+
 
 class InterfaceMember_Operation(InterfaceMember, variant="Operation"):
     """`docstring [extended attributes] type name(arguments);`, also without the name."""
 
     value: OperationInterfaceMember
+
+    def __init__(self, value: OperationInterfaceMember) -> None:
+        self._hold(value)
 
 
 class InterfaceMember_Iterable(InterfaceMember, variant="Iterable"):
@@ -393,7 +537,10 @@ class InterfaceMember_Iterable(InterfaceMember, variant="Iterable"):
     type>;`.
     """
 
-    value: IterableInterfaceMember
+    value: IterableInterfaceMember.Variants
+
+    def __init__(self, value: IterableInterfaceMember.Variants) -> None:
+        self._hold(value)
 
 
 class InterfaceMember_AsyncIterable(InterfaceMember, variant="AsyncIterable"):
@@ -401,7 +548,10 @@ class InterfaceMember_AsyncIterable(InterfaceMember, variant="AsyncIterable"):
     without `(arguments)`.
     """
 
-    value: AsyncIterableInterfaceMember
+    value: AsyncIterableInterfaceMember.Variants
+
+    def __init__(self, value: AsyncIterableInterfaceMember.Variants) -> None:
+        self._hold(value)
 
 
 class InterfaceMember_Maplike(InterfaceMember, variant="Maplike"):
@@ -409,11 +559,17 @@ class InterfaceMember_Maplike(InterfaceMember, variant="Maplike"):
 
     value: MaplikeInterfaceMember
 
+    def __init__(self, value: MaplikeInterfaceMember) -> None:
+        self._hold(value)
+
 
 class InterfaceMember_Setlike(InterfaceMember, variant="Setlike"):
     """`[extended attributes] readonly setlike<type>;`, also without `readonly`."""
 
     value: SetlikeInterfaceMember
+
+    def __init__(self, value: SetlikeInterfaceMember) -> None:
+        self._hold(value)
 
 
 class InterfaceMember_Stringifier(InterfaceMember, variant="Stringifier"):
@@ -421,6 +577,9 @@ class InterfaceMember_Stringifier(InterfaceMember, variant="Stringifier"):
 
     value: StringifierMember
 
+    def __init__(self, value: StringifierMember) -> None:
+        self._hold(value)
+
 
 #: The members of an interface, one after another, as `long f(); long g();`; none included.
-InterfaceMembers = List["InterfaceMember"]
+InterfaceMembers = List["InterfaceMember.Variants"]

@@ -5,11 +5,16 @@ Written by tools/python_types.py, and not edited by hand.
 
 from __future__ import annotations
 
-from typing import ClassVar, TYPE_CHECKING
+from typing import TYPE_CHECKING
 
-from weedle._values import Choice, Leaf, Truth, Value, value_class, word
+from weedle._leaves import Decimal, Quoted, Truth, Whole
+from weedle._values import Choice, DecimalChoice, Value, WholeChoice, value_class, word
 
 if TYPE_CHECKING:
+    import typing
+
+    from typing_extensions import TypeAlias
+
     from weedle import term
 
 __all__ = [
@@ -36,35 +41,42 @@ class BooleanLit(Truth):
 class EmptyArrayLit(Value):
     """An empty list, as `[ ]`."""
 
-    #: The `[`.
-    open_bracket: term.OpenBracket = word(0)
-    #: The `]`.
-    close_bracket: term.CloseBracket = word(1)
+    open_bracket: term.OpenBracket = word("The `[`.")
+    close_bracket: term.CloseBracket = word("The `]`.")
+
+    def __init__(self) -> None:
+        self._hold()
 
 
 @value_class
 class EmptyDictionaryLit(Value):
     """An empty dictionary, as `{ }`."""
 
-    #: The `{`.
-    open_brace: term.OpenBrace = word(0)
-    #: The `}`.
-    close_brace: term.CloseBrace = word(1)
+    open_brace: term.OpenBrace = word("The `{`.")
+    close_brace: term.CloseBrace = word("The `}`.")
+
+    def __init__(self) -> None:
+        self._hold()
 
 
-class FloatValueLit(Leaf):
+class FloatValueLit(Decimal):
     """A number with a point or an exponent, as `-.5E+3`, `5.` or `1e3`."""
 
     _kept = 1
 
 
-class FloatLit(Choice):
+class FloatLit(DecimalChoice):
     """A float, as `-.5E+3` or `-Infinity`."""
 
-    Value: ClassVar[type[FloatLit_Value]]
-    NegInfinity: ClassVar[type[FloatLit_NegInfinity]]
-    Infinity: ClassVar[type[FloatLit_Infinity]]
-    NaN: ClassVar[type[FloatLit_NaN]]
+    if TYPE_CHECKING:
+        Value: TypeAlias = "FloatLit_Value"
+        NegInfinity: TypeAlias = "FloatLit_NegInfinity"
+        Infinity: TypeAlias = "FloatLit_Infinity"
+        NaN: TypeAlias = "FloatLit_NaN"
+        Variants: TypeAlias = (
+            "typing.Union[FloatLit_Value, FloatLit_NegInfinity, FloatLit_Infinity, "
+            "FloatLit_NaN]"
+        )
 
 
 class FloatLit_Value(FloatLit, variant="Value"):
@@ -72,11 +84,17 @@ class FloatLit_Value(FloatLit, variant="Value"):
 
     value: FloatValueLit
 
+    def __init__(self, value: FloatValueLit) -> None:
+        self._hold(value)
+
 
 class FloatLit_NegInfinity(FloatLit, variant="NegInfinity"):
     """The word `-Infinity`."""
 
     value: term.NegInfinity
+
+    def __init__(self, value: term.NegInfinity) -> None:
+        self._hold(value)
 
 
 class FloatLit_Infinity(FloatLit, variant="Infinity"):
@@ -84,37 +102,49 @@ class FloatLit_Infinity(FloatLit, variant="Infinity"):
 
     value: term.Infinity
 
+    def __init__(self, value: term.Infinity) -> None:
+        self._hold(value)
+
 
 class FloatLit_NaN(FloatLit, variant="NaN"):
     """The word `NaN`."""
 
     value: term.NaN
 
+    def __init__(self, value: term.NaN) -> None:
+        self._hold(value)
 
-class DecLit(Leaf):
+
+class DecLit(Whole):
     """A decimal number, as `-12`."""
 
     _kept = 1
 
 
-class HexLit(Leaf):
+class HexLit(Whole):
     """A hexadecimal number, as `-0x1F`."""
 
     _kept = 1
+    _base = 16
 
 
-class OctLit(Leaf):
+class OctLit(Whole):
     """An octal number, as `-017` or `0`."""
 
     _kept = 1
+    _base = 8
 
 
-class IntegerLit(Choice):
+class IntegerLit(WholeChoice):
     """A whole number, as `-12`, `0x1F` or `017`."""
 
-    Dec: ClassVar[type[IntegerLit_Dec]]
-    Hex: ClassVar[type[IntegerLit_Hex]]
-    Oct: ClassVar[type[IntegerLit_Oct]]
+    if TYPE_CHECKING:
+        Dec: TypeAlias = "IntegerLit_Dec"
+        Hex: TypeAlias = "IntegerLit_Hex"
+        Oct: TypeAlias = "IntegerLit_Oct"
+        Variants: TypeAlias = (
+            "typing.Union[IntegerLit_Dec, IntegerLit_Hex, IntegerLit_Oct]"
+        )
 
 
 class IntegerLit_Dec(IntegerLit, variant="Dec"):
@@ -122,11 +152,17 @@ class IntegerLit_Dec(IntegerLit, variant="Dec"):
 
     value: DecLit
 
+    def __init__(self, value: DecLit) -> None:
+        self._hold(value)
+
 
 class IntegerLit_Hex(IntegerLit, variant="Hex"):
     """A hexadecimal number, as `0x1F`."""
 
     value: HexLit
+
+    def __init__(self, value: HexLit) -> None:
+        self._hold(value)
 
 
 class IntegerLit_Oct(IntegerLit, variant="Oct"):
@@ -134,8 +170,11 @@ class IntegerLit_Oct(IntegerLit, variant="Oct"):
 
     value: OctLit
 
+    def __init__(self, value: OctLit) -> None:
+        self._hold(value)
 
-class StringLit(Leaf):
+
+class StringLit(Quoted):
     """A text in quotes, as `"blob"`."""
 
     _kept = 2
@@ -144,13 +183,19 @@ class StringLit(Leaf):
 class DefaultValue(Choice):
     """The value of a default, as `"blob"` or `[]`."""
 
-    Boolean: ClassVar[type[DefaultValue_Boolean]]
-    EmptyArray: ClassVar[type[DefaultValue_EmptyArray]]
-    EmptyDictionary: ClassVar[type[DefaultValue_EmptyDictionary]]
-    Float: ClassVar[type[DefaultValue_Float]]
-    Integer: ClassVar[type[DefaultValue_Integer]]
-    Null: ClassVar[type[DefaultValue_Null]]
-    String: ClassVar[type[DefaultValue_String]]
+    if TYPE_CHECKING:
+        Boolean: TypeAlias = "DefaultValue_Boolean"
+        EmptyArray: TypeAlias = "DefaultValue_EmptyArray"
+        EmptyDictionary: TypeAlias = "DefaultValue_EmptyDictionary"
+        Float: TypeAlias = "DefaultValue_Float"
+        Integer: TypeAlias = "DefaultValue_Integer"
+        Null: TypeAlias = "DefaultValue_Null"
+        String: TypeAlias = "DefaultValue_String"
+        Variants: TypeAlias = (
+            "typing.Union[DefaultValue_Boolean, DefaultValue_EmptyArray, "
+            "DefaultValue_EmptyDictionary, DefaultValue_Float, DefaultValue_Integer, "
+            "DefaultValue_Null, DefaultValue_String]"
+        )
 
 
 class DefaultValue_Boolean(DefaultValue, variant="Boolean"):
@@ -158,11 +203,17 @@ class DefaultValue_Boolean(DefaultValue, variant="Boolean"):
 
     value: BooleanLit
 
+    def __init__(self, value: BooleanLit) -> None:
+        self._hold(value)
+
 
 class DefaultValue_EmptyArray(DefaultValue, variant="EmptyArray"):
     """An empty list, as `[]`."""
 
     value: EmptyArrayLit
+
+    def __init__(self, value: EmptyArrayLit) -> None:
+        self._hold(value)
 
 
 class DefaultValue_EmptyDictionary(DefaultValue, variant="EmptyDictionary"):
@@ -170,17 +221,26 @@ class DefaultValue_EmptyDictionary(DefaultValue, variant="EmptyDictionary"):
 
     value: EmptyDictionaryLit
 
+    def __init__(self, value: EmptyDictionaryLit) -> None:
+        self._hold(value)
+
 
 class DefaultValue_Float(DefaultValue, variant="Float"):
     """A float, as `1.5` or `NaN`."""
 
-    value: FloatLit
+    value: FloatLit.Variants
+
+    def __init__(self, value: FloatLit.Variants) -> None:
+        self._hold(value)
 
 
 class DefaultValue_Integer(DefaultValue, variant="Integer"):
     """A whole number, as `-12`."""
 
-    value: IntegerLit
+    value: IntegerLit.Variants
+
+    def __init__(self, value: IntegerLit.Variants) -> None:
+        self._hold(value)
 
 
 class DefaultValue_Null(DefaultValue, variant="Null"):
@@ -188,20 +248,31 @@ class DefaultValue_Null(DefaultValue, variant="Null"):
 
     value: term.Null
 
+    def __init__(self, value: term.Null) -> None:
+        self._hold(value)
+
 
 class DefaultValue_String(DefaultValue, variant="String"):
     """A text in quotes, as `"blob"`."""
 
     value: StringLit
 
+    def __init__(self, value: StringLit) -> None:
+        self._hold(value)
+
 
 class ConstValue(Choice):
     """The value of a constant, as `1.5` or `null`."""
 
-    Boolean: ClassVar[type[ConstValue_Boolean]]
-    Float: ClassVar[type[ConstValue_Float]]
-    Integer: ClassVar[type[ConstValue_Integer]]
-    Null: ClassVar[type[ConstValue_Null]]
+    if TYPE_CHECKING:
+        Boolean: TypeAlias = "ConstValue_Boolean"
+        Float: TypeAlias = "ConstValue_Float"
+        Integer: TypeAlias = "ConstValue_Integer"
+        Null: TypeAlias = "ConstValue_Null"
+        Variants: TypeAlias = (
+            "typing.Union[ConstValue_Boolean, ConstValue_Float, ConstValue_Integer, "
+            "ConstValue_Null]"
+        )
 
 
 class ConstValue_Boolean(ConstValue, variant="Boolean"):
@@ -209,20 +280,32 @@ class ConstValue_Boolean(ConstValue, variant="Boolean"):
 
     value: BooleanLit
 
+    def __init__(self, value: BooleanLit) -> None:
+        self._hold(value)
+
 
 class ConstValue_Float(ConstValue, variant="Float"):
     """A float, as `1.5` or `NaN`."""
 
-    value: FloatLit
+    value: FloatLit.Variants
+
+    def __init__(self, value: FloatLit.Variants) -> None:
+        self._hold(value)
 
 
 class ConstValue_Integer(ConstValue, variant="Integer"):
     """A whole number, as `-12`."""
 
-    value: IntegerLit
+    value: IntegerLit.Variants
+
+    def __init__(self, value: IntegerLit.Variants) -> None:
+        self._hold(value)
 
 
 class ConstValue_Null(ConstValue, variant="Null"):
     """The word `null`."""
 
     value: term.Null
+
+    def __init__(self, value: term.Null) -> None:
+        self._hold(value)

@@ -5,11 +5,15 @@ Written by tools/python_types.py, and not edited by hand.
 
 from __future__ import annotations
 
-from typing import ClassVar, List, Optional, TYPE_CHECKING
+from typing import List, Optional, TYPE_CHECKING
 
 from weedle._values import Choice, Value, part, value_class, word
 
 if TYPE_CHECKING:
+    import typing
+
+    from typing_extensions import TypeAlias
+
     from weedle import term
     from weedle.argument import ArgumentList
     from weedle.attribute import ExtendedAttributeList
@@ -29,53 +33,68 @@ __all__ = [
 class OperationMixinMember(Value):
     """An operation of a mixin, as `stringifier long f(long x);`."""
 
-    #: The extended attributes in brackets, as `[Exposed=Window]`, where they stand.
-    attributes: Optional[ExtendedAttributeList] = part(0)
-    #: The word `stringifier`, where it stands.
-    stringifier: Optional[term.Stringifier] = part(1)
-    #: The type of its result, as `undefined` or `long`.
-    return_type: ReturnType = part(2)
-    #: Its name, where it has one.
-    identifier: Optional[Identifier] = part(3)
-    #: Its arguments, between parentheses.
-    args: Parenthesized[ArgumentList] = part(4)
-    #: The `;` at the end.
-    semi_colon: term.SemiColon = word(5)
+    attributes: Optional[ExtendedAttributeList] = part(
+        "The extended attributes in brackets, as `[Exposed=Window]`, where they stand."
+    )
+    stringifier: Optional[term.Stringifier] = part("The word `stringifier`, where it stands.")
+    return_type: ReturnType.Variants = part("The type of its result, as `undefined` or `long`.")
+    identifier: Optional[Identifier] = part("Its name, where it has one.")
+    args: Parenthesized[ArgumentList] = part("Its arguments, between parentheses.")
+    semi_colon: term.SemiColon = word("The `;` at the end.")
+
+    def __init__(
+        self, *, attributes: Optional[ExtendedAttributeList] = None,
+        stringifier: Optional[term.Stringifier] = None, return_type: ReturnType.Variants,
+        identifier: Optional[Identifier] = None, args: Parenthesized[ArgumentList],
+    ) -> None:
+        self._hold(attributes, stringifier, return_type, identifier, args)
 
 
 @value_class
 class AttributeMixinMember(Value):
     """An attribute of a mixin, as `readonly attribute long x;`."""
 
-    #: The extended attributes in brackets, as `[Exposed=Window]`, where they stand.
-    attributes: Optional[ExtendedAttributeList] = part(0)
-    #: The word `stringifier`, where it stands.
-    stringifier: Optional[term.Stringifier] = part(1)
-    #: The word `readonly`, where it stands.
-    readonly: Optional[term.ReadOnly] = part(2)
-    #: The word `attribute`.
-    attribute: term.Attribute = word(3)
-    #: Its type, as `long`, with the extended attributes that stand before it.
-    type_: AttributedType = part(4)
-    #: Its name.
-    identifier: Identifier = part(5)
-    #: The `;` at the end.
-    semi_colon: term.SemiColon = word(6)
+    attributes: Optional[ExtendedAttributeList] = part(
+        "The extended attributes in brackets, as `[Exposed=Window]`, where they stand."
+    )
+    stringifier: Optional[term.Stringifier] = part("The word `stringifier`, where it stands.")
+    readonly: Optional[term.ReadOnly] = part("The word `readonly`, where it stands.")
+    attribute: term.Attribute = word("The word `attribute`.")
+    type_: AttributedType = part(
+        "Its type, as `long`, with the extended attributes that stand before it."
+    )
+    identifier: Identifier = part("Its name.")
+    semi_colon: term.SemiColon = word("The `;` at the end.")
+
+    def __init__(
+        self, *, attributes: Optional[ExtendedAttributeList] = None,
+        stringifier: Optional[term.Stringifier] = None,
+        readonly: Optional[term.ReadOnly] = None, type_: AttributedType, identifier: Identifier,
+    ) -> None:
+        self._hold(attributes, stringifier, readonly, type_, identifier)
 
 
 class MixinMember(Choice):
     """A member of a mixin, as `readonly attribute long x;`."""
 
-    Const: ClassVar[type[MixinMember_Const]]
-    Operation: ClassVar[type[MixinMember_Operation]]
-    Attribute: ClassVar[type[MixinMember_Attribute]]
-    Stringifier: ClassVar[type[MixinMember_Stringifier]]
+    if TYPE_CHECKING:
+        Const: TypeAlias = "MixinMember_Const"
+        Operation: TypeAlias = "MixinMember_Operation"
+        Attribute: TypeAlias = "MixinMember_Attribute"
+        Stringifier: TypeAlias = "MixinMember_Stringifier"
+        Variants: TypeAlias = (
+            "typing.Union[MixinMember_Const, MixinMember_Operation, MixinMember_Attribute, "
+            "MixinMember_Stringifier]"
+        )
 
 
 class MixinMember_Const(MixinMember, variant="Const"):
     """`[extended attributes] const type name = value;`."""
 
     value: ConstMember
+
+    def __init__(self, value: ConstMember) -> None:
+        self._hold(value)
 
 
 class MixinMember_Operation(MixinMember, variant="Operation"):
@@ -85,6 +104,9 @@ class MixinMember_Operation(MixinMember, variant="Operation"):
 
     value: OperationMixinMember
 
+    def __init__(self, value: OperationMixinMember) -> None:
+        self._hold(value)
+
 
 class MixinMember_Attribute(MixinMember, variant="Attribute"):
     """`[extended attributes] stringifier readonly attribute type name;`, also without
@@ -93,12 +115,18 @@ class MixinMember_Attribute(MixinMember, variant="Attribute"):
 
     value: AttributeMixinMember
 
+    def __init__(self, value: AttributeMixinMember) -> None:
+        self._hold(value)
+
 
 class MixinMember_Stringifier(MixinMember, variant="Stringifier"):
     """`[extended attributes] stringifier;`."""
 
     value: StringifierMember
 
+    def __init__(self, value: StringifierMember) -> None:
+        self._hold(value)
+
 
 #: The members of a mixin, one after another, as `long f(); long g();`; none included.
-MixinMembers = List["MixinMember"]
+MixinMembers = List["MixinMember.Variants"]

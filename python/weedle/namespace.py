@@ -5,11 +5,15 @@ Written by tools/python_types.py, and not edited by hand.
 
 from __future__ import annotations
 
-from typing import ClassVar, List, Optional, TYPE_CHECKING
+from typing import List, Optional, TYPE_CHECKING
 
 from weedle._values import Choice, Value, part, value_class, word
 
 if TYPE_CHECKING:
+    import typing
+
+    from typing_extensions import TypeAlias
+
     from weedle import term
     from weedle.argument import ArgumentList
     from weedle.attribute import ExtendedAttributeList
@@ -28,45 +32,56 @@ __all__ = [
 class OperationNamespaceMember(Value):
     """An operation of a namespace, as `long f(long x);`."""
 
-    #: The docstring in front, where one stands.
-    docstring: Optional[Docstring] = part(0)
-    #: The extended attributes in brackets, as `[Exposed=Window]`, where they stand.
-    attributes: Optional[ExtendedAttributeList] = part(1)
-    #: The type of its result, as `undefined` or `long`.
-    return_type: ReturnType = part(2)
-    #: Its name, where it has one.
-    identifier: Optional[Identifier] = part(3)
-    #: Its arguments, between parentheses.
-    args: Parenthesized[ArgumentList] = part(4)
-    #: The `;` at the end.
-    semi_colon: term.SemiColon = word(5)
+    docstring: Optional[Docstring] = part("The docstring in front, where one stands.")
+    attributes: Optional[ExtendedAttributeList] = part(
+        "The extended attributes in brackets, as `[Exposed=Window]`, where they stand."
+    )
+    return_type: ReturnType.Variants = part("The type of its result, as `undefined` or `long`.")
+    identifier: Optional[Identifier] = part("Its name, where it has one.")
+    args: Parenthesized[ArgumentList] = part("Its arguments, between parentheses.")
+    semi_colon: term.SemiColon = word("The `;` at the end.")
+
+    def __init__(
+        self, *, docstring: Optional[Docstring] = None,
+        attributes: Optional[ExtendedAttributeList] = None, return_type: ReturnType.Variants,
+        identifier: Optional[Identifier] = None, args: Parenthesized[ArgumentList],
+    ) -> None:
+        self._hold(docstring, attributes, return_type, identifier, args)
 
 
 @value_class
 class AttributeNamespaceMember(Value):
     """An attribute of a namespace, as `readonly attribute long x;`, always `readonly`."""
 
-    #: The docstring in front, where one stands.
-    docstring: Optional[Docstring] = part(0)
-    #: The extended attributes in brackets, as `[Exposed=Window]`, where they stand.
-    attributes: Optional[ExtendedAttributeList] = part(1)
-    #: The word `readonly`, which always stands here.
-    readonly: term.ReadOnly = word(2)
-    #: The word `attribute`.
-    attribute: term.Attribute = word(3)
-    #: Its type, as `long`, with the extended attributes that stand before it.
-    type_: AttributedType = part(4)
-    #: Its name.
-    identifier: Identifier = part(5)
-    #: The `;` at the end.
-    semi_colon: term.SemiColon = word(6)
+    docstring: Optional[Docstring] = part("The docstring in front, where one stands.")
+    attributes: Optional[ExtendedAttributeList] = part(
+        "The extended attributes in brackets, as `[Exposed=Window]`, where they stand."
+    )
+    readonly: term.ReadOnly = word("The word `readonly`, which always stands here.")
+    attribute: term.Attribute = word("The word `attribute`.")
+    type_: AttributedType = part(
+        "Its type, as `long`, with the extended attributes that stand before it."
+    )
+    identifier: Identifier = part("Its name.")
+    semi_colon: term.SemiColon = word("The `;` at the end.")
+
+    def __init__(
+        self, *, docstring: Optional[Docstring] = None,
+        attributes: Optional[ExtendedAttributeList] = None, type_: AttributedType,
+        identifier: Identifier,
+    ) -> None:
+        self._hold(docstring, attributes, type_, identifier)
 
 
 class NamespaceMember(Choice):
     """A member of a namespace, as `long f(long x);`."""
 
-    Operation: ClassVar[type[NamespaceMember_Operation]]
-    Attribute: ClassVar[type[NamespaceMember_Attribute]]
+    if TYPE_CHECKING:
+        Operation: TypeAlias = "NamespaceMember_Operation"
+        Attribute: TypeAlias = "NamespaceMember_Attribute"
+        Variants: TypeAlias = (
+            "typing.Union[NamespaceMember_Operation, NamespaceMember_Attribute]"
+        )
 
 
 class NamespaceMember_Operation(NamespaceMember, variant="Operation"):
@@ -74,12 +89,18 @@ class NamespaceMember_Operation(NamespaceMember, variant="Operation"):
 
     value: OperationNamespaceMember
 
+    def __init__(self, value: OperationNamespaceMember) -> None:
+        self._hold(value)
+
 
 class NamespaceMember_Attribute(NamespaceMember, variant="Attribute"):
     """`docstring [extended attributes] readonly attribute type name;`."""
 
     value: AttributeNamespaceMember
 
+    def __init__(self, value: AttributeNamespaceMember) -> None:
+        self._hold(value)
+
 
 #: The members of a namespace, one after another, as `long f(); long g();`; none included.
-NamespaceMembers = List["NamespaceMember"]
+NamespaceMembers = List["NamespaceMember.Variants"]

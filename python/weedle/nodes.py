@@ -2,15 +2,13 @@
 
 from __future__ import annotations
 
-from typing import Iterator, List, Union
+from typing import Any, Iterator, List, Optional, Union
 
+from weedle._making import MAKE
 from weedle._reading import tree_of
 from weedle._text import Position, Span
-from weedle._tree import Tree
+from weedle._tree import COMMENTS, Tree
 from weedle.grammar import NUMBERS, RULES
-
-# The rules that read comments. A docstring is none.
-COMMENTS = frozenset(NUMBERS[name] for name in ("line_comment", "block_comment"))
 
 
 class Node:
@@ -57,6 +55,12 @@ class Node:
         return self._tree.text.slice(self.span)
 
     @property
+    def value(self) -> Any:
+        """The value of the typed tree that it has, a list of such or None."""
+        make = MAKE[self.rule]
+        return make(self._tree, self._node) if make else None
+
+    @property
     def children(self) -> List[Node]:
         """The nodes right below it. Where there are some, they take all its text in turn."""
         return [Node(self._tree, it) for it in self._tree.children(self._node)]
@@ -93,12 +97,16 @@ class Node:
         return hash((id(self._tree), self._node))
 
 
-def syntax(text: Union[str, bytes]) -> Node:
+def syntax(text: Union[str, bytes], rule: Optional[str] = None) -> Node:
     """The node of a whole text, whose children are its definitions.
 
     >>> [node.text for node in syntax("Request includes Body;").find("identifier_text")]
     ['Request', 'Body']
 
-    It raises what `weedle.parse` raises.
+    With the name of a rule, as "type", it is the node of that rule at the front of the text, whatever
+    stands behind: of "long? x" the node of `long? `. It raises what `weedle.parse` raises, ValueError
+    where no rule has that name, and NotImplementedError where the shared object is too old for it.
     """
-    return Node(tree_of(text), 0)
+    if rule is not None and rule not in NUMBERS:
+        raise ValueError(f"no rule has the name {rule!r}")
+    return Node(tree_of(text, None if rule is None else NUMBERS[rule]), 0)

@@ -1,3 +1,4 @@
 pub mod FillFacts
 pub mod TreeFacts
+pub mod RuleFacts
 mod FormatFacts

@@ -1,6 +1,6 @@
 -- What an answer says of a text, by its status.
-use Rattle.std.specs.Prelude.{◌≡◌, ◌<◌, ◌++◌, ℕ, List, length, drop, map}
-use Rattle.weedle_c.specs.Nodes.{c_node}
+use Rattle.std.specs.Prelude.{◌≡◌, ◌⊎◌, ◌≤◌, ◌<◌, ◌^◌, ◌++◌, ℕ, List, All, length, drop, map}
+use Rattle.weedle_c.specs.Nodes.{Fits, c_node}
 use Rattle.weedle_c.specs.declared.message.WeedleRefusal.{WeedleRefusal}
 use Rattle.weedle_c.specs.declared.node.WeedleNode.{WeedleNode}
 use Rattle.weedle_c.specs.declared.reader.WeedleAnswer.{WeedleAnswer}
@@ -8,7 +8,8 @@ use Rattle.weedle_refusal.specs.Position.{IsPositionOf}
 use Rattle.weedle_refusal.specs.Refusal.{IsRefusal}
 use Rattle.weedle_refusal.specs.declared.position.Position.{Position}
 use Rattle.weedle_refusal.specs.declared.refusal.Refusal.{Refusal}
-use Rattle.weedle_syntax.specs.Syntax.{IsSyntax, IsWhole, RestBegins}
+use Rattle.weedle_rules.specs.Outcomes.{EndsAt}
+use Rattle.weedle_syntax.specs.Syntax.{IsRuleTo, IsSyntax, IsWhole, RestBegins}
 use Rattle.weedle_syntax.specs.declared.node.Node.{Node}
 
 -- the grammar reads the whole text, and these are its nodes, as many as the answer says
@@ -29,6 +30,28 @@ pub record IsCounted (text : List ℕ) (room : ℕ) (answer : WeedleAnswer) : Ty
   pub tree : List Node
   pub has : HasTree text answer tree
   pub more : room < length tree
+
+-- the rule is read at the front of the text up to where the answer says, and these are its nodes, as many as it says
+pub record HasRule (text : List ℕ) (rule : ℕ) (answer : WeedleAnswer) (tree : List Node) : Type 0 where
+  pub reads : EndsAt text rule 0 answer.rest
+  pub are : IsRuleTo text rule answer.rest tree
+  pub count : answer.count ≡ length tree
+
+-- the nodes of the rule stand at the front of the room, and behind them stands what stood there
+pub record IsRuleTree (text : List ℕ) (rule : ℕ) (old new : List WeedleNode) (answer : WeedleAnswer) : Type 0 where
+  pub tree : List Node
+  pub has : HasRule text rule answer tree
+  pub written : new ≡ map c_node tree ++ drop (length tree) old
+
+-- the nodes of the rule are more than there is room for
+pub record IsRuleCounted (text : List ℕ) (rule room : ℕ) (answer : WeedleAnswer) : Type 0 where
+  pub tree : List Node
+  pub has : HasRule text rule answer tree
+  pub more : room < length tree
+
+-- 32 bits don't hold the length of the text, or a place or the depth of a node of the tree that this says it has
+abbrev pub IsTooLong : (List Node → Type 0) → List ℕ → Type 0
+IsTooLong Has text = (2 ^ 32 ≤ length text) ⊎ ((tree : List Node) × Has tree × ¬ All Fits tree)
 
 -- the text isn't read whole, and the answer says where the unread rest begins
 pub record IsUnread (text : List ℕ) (answer : WeedleAnswer) : Type 0 where

@@ -17,12 +17,11 @@ ghost use Rattle.weedle_c.specs.Formatted.{IsFormatted, IsLonger, IsUnformatted}
 ghost use Rattle.weedle_formatter.specs.Words.{SaysTheSame};
 ghost use Rattle.weedle_syntax.specs.Syntax.{IsFront, rest_of as the_rest_of};
 
-use crate::reader::front;
 use crate::status::{NO_MEMORY, NO_ROOM, NOT_UTF8, READ, REFUSED};
 use std::alloc::{AllocError, Global};
 use weedle_formatter::{lay_out, same_words};
 use weedle_refusal::rest_of;
-use weedle_syntax::Node;
+use weedle_syntax::{Node, syntax_of_front};
 
 /// What is said of a text that is laid out beside the status.
 #[repr(C)]
@@ -57,6 +56,10 @@ pub(crate) fn format(
     ensures not_utf8 { (result ≡ NOT_UTF8) ↔ ¬ IsUtf8 text.now }
     ensures byte { result ≡ NOT_UTF8 → IsValidUpTo text.now answer.new.rest }
     ensures no_room { result ≡ NO_ROOM → IsLonger text.now (length out.old) answer.new }
+    ensures measured { result ≢ READ → result ≢ NO_ROOM
+        → (answer.new.length ≡ 0) × (answer.new.is_laid_out ≡ 0) }
+    ensures laid_out { answer.new.is_laid_out ≤ 1 }
+    ensures placed { result ≡ NO_MEMORY → answer.new.rest ≡ 0 }
     ensures unwritten { result ≢ READ → out.new ≡ out.old }
 {
     *answer = NOTHING;
@@ -71,13 +74,18 @@ pub(crate) fn format(
 
 /// Lays out what is UTF-8.
 fn format_text(alloc: Global, raw: &str, out: &mut [u8], answer: &mut WeedleFormatted) -> u32
+    requires { answer.old ≡ NOTHING }
     ensures known { (result ≤ NO_ROOM) × (result ≢ NOT_UTF8) }
     ensures read { result ≡ READ → IsFormatted raw.now out.old out.new answer.new }
     ensures refused { result ≡ REFUSED → IsUnformatted raw.now answer.new }
     ensures no_room { result ≡ NO_ROOM → IsLonger raw.now (length out.old) answer.new }
+    ensures measured { result ≢ READ → result ≢ NO_ROOM
+        → (answer.new.length ≡ 0) × (answer.new.is_laid_out ≡ 0) }
+    ensures laid_out { answer.new.is_laid_out ≤ 1 }
+    ensures placed { result ≡ NO_MEMORY → answer.new.rest ≡ 0 }
     ensures unwritten { result ≢ READ → out.new ≡ out.old }
 {
-    let Ok(nodes) = front(alloc, raw) else {
+    let Ok(nodes) = syntax_of_front(alloc, raw) else {
         return NO_MEMORY;
     };
     let rest = rest_of(&nodes);
@@ -104,7 +112,7 @@ fn laid_out(alloc: Global, raw: &str, nodes: &[Node]) -> Result<Option<String>, 
     if text.as_str() == raw {
         return Ok(Some(text));
     }
-    let others = front(alloc, text.as_str())?;
+    let others = syntax_of_front(alloc, text.as_str())?;
     if rest_of(&others) < text.len() {
         return Ok(None);
     }
@@ -124,9 +132,11 @@ fn put(
 ) -> u32
     requires same { SaysTheSame raw.now text.now }
     requires stood { is_laid_out ≡ 0 → text.now ≡ raw.now }
+    requires flag { is_laid_out ≤ 1 }
     ensures known { (result ≡ READ) ⊎ (result ≡ NO_ROOM) }
     ensures read { result ≡ READ → IsFormatted raw.now out.old out.new answer.new }
     ensures no_room { result ≡ NO_ROOM → IsLonger raw.now (length out.old) answer.new }
+    ensures laid_out { answer.new.is_laid_out ≤ 1 }
     ensures unwritten { result ≢ READ → out.new ≡ out.old }
 {
     *answer = WeedleFormatted {

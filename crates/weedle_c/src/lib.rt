@@ -14,24 +14,35 @@ mod format;
 mod message;
 mod node;
 mod reader;
+mod rule;
 mod status;
 
-ghost use Rattle.std.specs.Prelude.{◌≡◌, ◌≢◌, ◌≤◌, ◌↔◌, IsUtf8, length};
+ghost use Rattle.std.specs.Prelude.{◌≡◌, ◌≢◌, ◌⊎◌, ◌≤◌, ◌<◌, ◌↔◌, IsUtf8, length};
 ghost use Rattle.std.specs.Str.{IsValidUpTo};
-ghost use Rattle.weedle_c.specs.Answers.{IsCounted, IsExplained, IsTree, IsUnread};
+ghost use Rattle.weedle_c.specs.Answers.{
+  IsCounted,
+  IsExplained,
+  IsRuleCounted,
+  IsRuleTree,
+  IsTooLong,
+  IsTree,
+  IsUnread,
+};
 ghost use Rattle.weedle_c.specs.Formatted.{IsFormatted, IsLonger, IsUnformatted};
-ghost use Rattle.weedle_syntax.specs.Syntax.{IsWhole};
+ghost use Rattle.weedle_rules.specs.Outcomes.{FailsAt};
+ghost use Rattle.weedle_syntax.specs.Syntax.{IsRuleFront, IsSyntax, IsWhole};
 
 use crate::format::{WeedleFormatted, format};
 use crate::message::{WeedleRefusal, explain};
 use crate::node::WeedleNode;
 use crate::reader::{WeedleAnswer, read};
-use crate::status::{NO_MEMORY, NO_ROOM, NOT_UTF8, READ, REFUSED, TOO_LONG};
+use crate::rule::read_rule;
+use crate::status::{NO_MEMORY, NO_ROOM, NO_RULE, NOT_UTF8, READ, REFUSED, TOO_LONG};
 use std::alloc::Global;
 use weedle_grammar::RULES;
 
-/// The version: a byte each for the three numbers of 0.10.0.
-const VERSION: u32 = 0x000a00;
+/// The version: a byte each for the three numbers of 0.11.0.
+const VERSION: u32 = 0x000b00;
 
 /// Reads a text, and writes the nodes of its syntax tree where there is room for all. The answer is
 /// the status.
@@ -48,9 +59,39 @@ pub extern "C" fn weedle_syntax(
     ensures not_utf8 { (result ≡ NOT_UTF8) ↔ ¬ IsUtf8 text.now }
     ensures byte { result ≡ NOT_UTF8 → IsValidUpTo text.now answer.new.rest }
     ensures no_room { result ≡ NO_ROOM → IsCounted text.now (length nodes.old) answer.new }
+    ensures too_long { result ≡ TOO_LONG → IsTooLong (IsSyntax text.now) text.now }
+    ensures counted { result ≢ READ → result ≢ NO_ROOM → answer.new.count ≡ 0 }
+    ensures placed { (result ≡ NO_MEMORY) ⊎ (result ≡ TOO_LONG) → answer.new.rest ≡ 0 }
     ensures unwritten { result ≢ READ → nodes.new ≡ nodes.old }
 {
     read(alloc, text, nodes, answer)
+}
+
+/// Reads a rule at the front of a text, whatever stands behind it, and writes the nodes of its
+/// syntax tree where there is room for all. The answer is the status.
+#[unsafe(no_mangle)]
+pub extern "C" fn weedle_syntax_of(
+    alloc: Global,
+    rule: u32,
+    text: &[u8],
+    nodes: &mut [WeedleNode],
+    answer: &mut WeedleAnswer,
+) -> u32
+    ensures known { result ≤ NO_RULE }
+    ensures no_rule { (result ≡ NO_RULE) ↔ (RULES ≤ rule) }
+    ensures read { result ≡ READ → IsRuleTree text.now rule nodes.old nodes.new answer.new }
+    ensures refused { result ≡ REFUSED → FailsAt text.now rule 0 }
+    ensures not_utf8 { rule < RULES → ((result ≡ NOT_UTF8) ↔ ¬ IsUtf8 text.now) }
+    ensures byte { result ≡ NOT_UTF8 → IsValidUpTo text.now answer.new.rest }
+    ensures no_room { result ≡ NO_ROOM
+        → IsRuleCounted text.now rule (length nodes.old) answer.new }
+    ensures too_long { result ≡ TOO_LONG → IsTooLong (IsRuleFront text.now rule) text.now }
+    ensures counted { result ≢ READ → result ≢ NO_ROOM → answer.new.count ≡ 0 }
+    ensures placed { result ≢ READ → result ≢ NO_ROOM → result ≢ NOT_UTF8
+        → answer.new.rest ≡ 0 }
+    ensures unwritten { result ≢ READ → nodes.new ≡ nodes.old }
+{
+    read_rule(alloc, rule, text, nodes, answer)
 }
 
 /// Says where and why a text is refused, and writes as much of the message as there is room for.
@@ -86,6 +127,10 @@ pub extern "C" fn weedle_format(
     ensures not_utf8 { (result ≡ NOT_UTF8) ↔ ¬ IsUtf8 text.now }
     ensures byte { result ≡ NOT_UTF8 → IsValidUpTo text.now answer.new.rest }
     ensures no_room { result ≡ NO_ROOM → IsLonger text.now (length out.old) answer.new }
+    ensures measured { result ≢ READ → result ≢ NO_ROOM
+        → (answer.new.length ≡ 0) × (answer.new.is_laid_out ≡ 0) }
+    ensures laid_out { answer.new.is_laid_out ≤ 1 }
+    ensures placed { result ≡ NO_MEMORY → answer.new.rest ≡ 0 }
     ensures unwritten { result ≢ READ → out.new ≡ out.old }
 {
     format(alloc, text, out, answer)

@@ -6,11 +6,11 @@ ghost use Rattle.weedle_c.specs.Answers.{IsExplained};
 ghost use Rattle.weedle_refusal.specs.Refusal.{Explains, IsRefusal};
 ghost use Rattle.weedle_syntax.specs.Syntax.{IsWhole};
 
-use crate::reader::front;
 use crate::status::{NO_MEMORY, NOT_UTF8, READ, REFUSED};
 use std::alloc::{AllocError, Global};
 use std::io;
 use weedle_refusal::{Refusal, position_of, refusal_from, rest_of, write_hint, write_message};
+use weedle_syntax::syntax_of_front;
 
 /// Where a text is refused.
 #[repr(C)]
@@ -84,7 +84,7 @@ fn refusal_in(alloc: Global, raw: &str) -> Result<Option<Refusal>, AllocError>
     ensures within { IfOk result
         (λ answer. IfSome answer (λ refusal. refusal.place ≤ length raw.now)) }
 {
-    let nodes = front(alloc, raw)?;
+    let nodes = syntax_of_front(alloc, raw)?;
     let start = rest_of(&nodes);
     drop(nodes);
     if start == raw.len() {

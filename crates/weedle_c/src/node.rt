@@ -24,14 +24,14 @@ pub const MOST: usize = u32::MAX as usize;
 
 /// Whether each node fits into the numbers that C has for it.
 pub(crate) fn all_fit(found: &[Node]) -> bool
-    ensures { IsTrue result → All Fits found.now }
+    ensures { IsTrue result ↔ All Fits found.now }
 {
     found.iter().all(fits)
 }
 
 /// Whether the node's places and depth fit.
 fn fits(node: &Node) -> bool
-    ensures { IsTrue result → Fits node.now }
+    ensures { IsTrue result ↔ Fits node.now }
 {
     node.depth <= MOST && node.start <= MOST && node.end <= MOST
 }

@@ -1,17 +1,15 @@
 //! The reading of a text, for its nodes.
 
-ghost use Rattle.std.specs.Prelude.{◌≡◌, ◌≢◌, ◌≤◌, ◌<◌, ◌↔◌, IfOk, IsUtf8, length};
+ghost use Rattle.std.specs.Prelude.{◌≡◌, ◌≢◌, ◌⊎◌, ◌≤◌, ◌<◌, ◌↔◌, IfOk, IsUtf8, length};
 ghost use Rattle.std.specs.Str.{IsValidUpTo};
-ghost use Rattle.weedle_c.specs.Answers.{IsCounted, IsTree, IsUnread};
-ghost use Rattle.weedle_syntax.specs.Syntax.{IsFront};
+ghost use Rattle.weedle_c.specs.Answers.{IsCounted, IsTooLong, IsTree, IsUnread};
+ghost use Rattle.weedle_syntax.specs.Syntax.{IsFront, IsSyntax};
 
 use crate::node::{MOST, WeedleNode, all_fit, fill};
 use crate::status::{NO_MEMORY, NO_ROOM, NOT_UTF8, READ, REFUSED, TOO_LONG};
-use std::alloc::{AllocError, Global};
-use weedle_nesting::nesting;
+use std::alloc::Global;
 use weedle_refusal::rest_of;
-use weedle_rules::Ends;
-use weedle_syntax::{Node, front_of, syntax_of_front};
+use weedle_syntax::{Node, syntax_of_front};
 
 /// What is said of a reading beside its status.
 #[repr(C)]
@@ -25,11 +23,7 @@ pub struct WeedleAnswer {
 }
 
 /// What is said where nothing is known.
-const NOTHING: WeedleAnswer = WeedleAnswer { count: 0, rest: 0 };
-
-/// How many levels a text may nest that descent reads: some 1.6 kB of stack for each, and so 100 kB
-/// at most.
-const MOST_LEVELS: usize = 64;
+pub(crate) const NOTHING: WeedleAnswer = WeedleAnswer { count: 0, rest: 0 };
 
 /// Reads a text, and writes its nodes where there is room for all. The answer is the status.
 pub(crate) fn read(
@@ -44,6 +38,9 @@ pub(crate) fn read(
     ensures not_utf8 { (result ≡ NOT_UTF8) ↔ ¬ IsUtf8 text.now }
     ensures byte { result ≡ NOT_UTF8 → IsValidUpTo text.now answer.new.rest }
     ensures no_room { result ≡ NO_ROOM → IsCounted text.now (length nodes.old) answer.new }
+    ensures too_long { result ≡ TOO_LONG → IsTooLong (IsSyntax text.now) text.now }
+    ensures counted { result ≢ READ → result ≢ NO_ROOM → answer.new.count ≡ 0 }
+    ensures placed { (result ≡ NO_MEMORY) ⊎ (result ≡ TOO_LONG) → answer.new.rest ≡ 0 }
     ensures unwritten { result ≢ READ → nodes.new ≡ nodes.old }
 {
     *answer = NOTHING;
@@ -58,16 +55,20 @@ pub(crate) fn read(
 
 /// Reads a text that is UTF-8, and writes its nodes where there is room for all.
 fn read_text(alloc: Global, raw: &str, nodes: &mut [WeedleNode], answer: &mut WeedleAnswer) -> u32
+    requires { answer.old ≡ NOTHING }
     ensures known { (result ≤ TOO_LONG) × (result ≢ NOT_UTF8) }
     ensures read { result ≡ READ → IsTree raw.now nodes.old nodes.new answer.new }
     ensures refused { result ≡ REFUSED → IsUnread raw.now answer.new }
     ensures no_room { result ≡ NO_ROOM → IsCounted raw.now (length nodes.old) answer.new }
+    ensures too_long { result ≡ TOO_LONG → IsTooLong (IsSyntax raw.now) raw.now }
+    ensures counted { result ≢ READ → result ≢ NO_ROOM → answer.new.count ≡ 0 }
+    ensures placed { (result ≡ NO_MEMORY) ⊎ (result ≡ TOO_LONG) → answer.new.rest ≡ 0 }
     ensures unwritten { result ≢ READ → nodes.new ≡ nodes.old }
 {
     if raw.len() > MOST {
         return TOO_LONG;
     }
-    match front(alloc, raw) {
+    match syntax_of_front(alloc, raw) {
         Ok(found) => answer_of(raw, &found, nodes, answer),
         Err(_) => NO_MEMORY,
     }
@@ -75,11 +76,15 @@ fn read_text(alloc: Global, raw: &str, nodes: &mut [WeedleNode], answer: &mut We
 
 /// What is answered where these nodes were read.
 fn answer_of(raw: &str, found: &[Node], nodes: &mut [WeedleNode], answer: &mut WeedleAnswer) -> u32
-    requires { IsFront raw.now found.now }
+    requires front { IsFront raw.now found.now }
+    requires nothing { answer.old ≡ NOTHING }
     ensures known { (result ≤ TOO_LONG) × (result ≢ NOT_UTF8) }
     ensures read { result ≡ READ → IsTree raw.now nodes.old nodes.new answer.new }
     ensures refused { result ≡ REFUSED → IsUnread raw.now answer.new }
     ensures no_room { result ≡ NO_ROOM → IsCounted raw.now (length nodes.old) answer.new }
+    ensures too_long { result ≡ TOO_LONG → IsTooLong (IsSyntax raw.now) raw.now }
+    ensures counted { result ≢ READ → result ≢ NO_ROOM → answer.new.count ≡ 0 }
+    ensures placed { (result ≡ NO_MEMORY) ⊎ (result ≡ TOO_LONG) → answer.new.rest ≡ 0 }
     ensures unwritten { result ≢ READ → nodes.new ≡ nodes.old }
 {
     let rest = rest_of(found);
@@ -99,29 +104,4 @@ fn answer_of(raw: &str, found: &[Node], nodes: &mut [WeedleNode], answer: &mut W
     }
     fill(found, nodes);
     READ
-}
-
-/// The nodes of the definitions at the front of a text.
-///
-/// Descent reads what nests little, and else a table of ends does: so a little stack is enough for
-/// any text.
-pub(crate) fn front(alloc: Global, raw: &str) -> Result<Vec<Node>, AllocError>
-    ensures { IfOk result (λ nodes. IsFront raw.now nodes.items) }
-{
-    if nests_little(raw) {
-        return syntax_of_front(alloc, raw);
-    }
-    let ends = Ends::new(alloc, raw)?;
-    front_of(alloc, &ends)
-}
-
-/// Whether descent needs little stack for a text. A `[` counts as two levels, since its arguments
-/// take more stack.
-fn nests_little(raw: &str) -> bool {
-    let depths = nesting(raw);
-    depths
-        .attributes
-        .saturating_mul(2)
-        .saturating_add(depths.brackets)
-        <= MOST_LEVELS
 }

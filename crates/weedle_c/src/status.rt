@@ -1,9 +1,9 @@
 //! What a call comes to, as numbers. `include/weedle.h` has a name for each.
 
-/// The grammar reads the whole text.
+/// The grammar reads the whole text, or the rule that was asked for.
 pub const READ: u32 = 0;
 
-/// The grammar doesn't read the whole text.
+/// It doesn't.
 pub const REFUSED: u32 = 1;
 
 /// The bytes aren't UTF-8.
@@ -12,8 +12,11 @@ pub const NOT_UTF8: u32 = 2;
 /// Memory was refused.
 pub const NO_MEMORY: u32 = 3;
 
-/// The grammar reads the whole text, and its nodes need more room.
+/// It does, and its nodes need more room.
 pub const NO_ROOM: u32 = 4;
 
-/// The text is longer than the numbers of a node hold.
+/// The text is longer, or nests deeper, than the numbers of a node hold.
 pub const TOO_LONG: u32 = 5;
+
+/// No rule has the number.
+pub const NO_RULE: u32 = 6;

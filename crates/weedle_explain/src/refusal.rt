@@ -16,7 +16,7 @@ use weedle_refusal::{Refusal, furthest_in, hint_of};
 ///
 /// It reads the text by [`parse_quick`], and costs what that costs. Where that leaves a rest, it
 /// goes on as [`furthest_in`] does: mostly in some 30 to 100 nanoseconds for each byte of the
-/// definition that isn't read, and up to eight times more in the search for a hint. Where memory is
+/// definition that isn't read. Beside that it costs what [`hint_of`] costs. Where memory is
 /// refused, the answer is an error.
 pub fn explain(alloc: Global, raw: &str) -> Result<Option<Refusal>, AllocError>
     ensures explains { IfOk result (Explains raw.now) }

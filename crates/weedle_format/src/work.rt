@@ -52,7 +52,7 @@ pub fn work_on<R: Runtime + AllocGlobal, W: Write, S: Write>(
     }
     writeln!(
         said,
-        "{name}: left as it is, since its layout would say something else"
+        "{name}: left as it is, since its layout would say something else or be too long"
     )?;
     Ok(Done {
         outcome: Outcome::Different,

@@ -6,7 +6,8 @@ use weedle_grammar::grammar::definitions::{
     CALLBACK_DEFINITION, IMPLEMENTS_DEFINITION, INCLUDES_STATEMENT_DEFINITION, TYPEDEF_DEFINITION,
 };
 
-/// Sets an empty line between definitions, but for statements of one kind that take a line each.
+/// Sets an empty line between definitions, but in front of those that may stand right below the one
+/// before.
 pub(crate) fn set_apart(pieces: &mut [Piece]) {
     let mut first = 0;
     let mut before = 0;
@@ -14,7 +15,7 @@ pub(crate) fn set_apart(pieces: &mut [Piece]) {
         let piece = pieces[i];
         if piece.joint == Joint::Definition && !piece.is_comment() {
             let kind = kind_at(pieces, i);
-            if first > 0 && (kind == 0 || kind != before) {
+            if first > 0 && !may_follow(kind, before) {
                 set_empty_line(pieces, first, i);
             }
             before = kind;
@@ -22,6 +23,15 @@ pub(crate) fn set_apart(pieces: &mut [Piece]) {
         if !piece.is_comment() {
             first = i + 1;
         }
+    }
+}
+
+/// Whether a definition of this kind may stand right below one of the other. So may a statement of
+/// one line below another, and one for a mixin below any definition.
+fn may_follow(kind: u16, before: u16) -> bool {
+    match kind {
+        INCLUDES_STATEMENT_DEFINITION | IMPLEMENTS_DEFINITION => true,
+        _ => kind > 0 && before > 0,
     }
 }
 

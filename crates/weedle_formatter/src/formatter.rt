@@ -2,7 +2,9 @@
 
 ghost use Rattle.std.specs.Prelude.{
   ◌≡◌,
+  ◌≤◌,
   ◌↔◌,
+  length,
   false,
   IsTrue,
   IsSome,
@@ -11,9 +13,10 @@ ghost use Rattle.std.specs.Prelude.{
   string_bytes,
 };
 ghost use Rattle.weedle_syntax.specs.Syntax.{IsWhole, IsSyntax};
+ghost use Rattle.weedle_formatter.specs.Bound.{most_laid_out};
 ghost use Rattle.weedle_formatter.specs.Words.{SaysTheSame, IsReadAlike};
 
-use crate::page::lay_out;
+use crate::page::short_layout;
 use crate::words::same_words;
 use std::alloc::{AllocError, Global};
 use weedle_syntax::{Node, syntax_quick};
@@ -23,8 +26,9 @@ use weedle_syntax::{Node, syntax_quick};
 pub struct Formatted {
     /// The text laid out, or as it stood.
     pub text: String,
-    /// Whether it was laid out. Else the layout would have changed what it says, and it is as it
-    /// stood: no text is known of which that is so.
+    /// Whether it was laid out. Else it is as it stood, since its layout would have changed what it
+    /// says, of which no text is known, or would have been too long, as that of thousands of
+    /// attributes of a letter each that stand in seven others.
     pub is_laid_out: bool,
 }
 
@@ -49,6 +53,10 @@ pub fn format(alloc: Global, raw: &str) -> Result<Option<Formatted>, AllocError>
     // So whatever trees the grammar reads of the text, it reads of the answer's, and no others.
     ensures trees { IfOk result
         (λ found. IfSome found (λ answer. IsReadAlike raw.now (string_bytes answer.text))) }
+    // It is at most eight times as long, and 1,024 bytes more.
+    ensures short { IfOk result
+        (λ found. IfSome found
+        (λ answer. length (string_bytes answer.text) ≤ most_laid_out (length raw.now))) }
     ensures as_it_stood { IfOk result
         (λ found. IfSome found
         (λ answer. answer.is_laid_out ≡ false → string_bytes answer.text ≡ raw.now)) }
@@ -56,12 +64,13 @@ pub fn format(alloc: Global, raw: &str) -> Result<Option<Formatted>, AllocError>
     let Some(nodes) = syntax_quick(alloc, raw)? else {
         return Ok(None);
     };
-    let text = lay_out(alloc, raw, &nodes)?;
-    if says_the_same(alloc, raw, &nodes, text.as_str())? {
-        return Ok(Some(Formatted {
-            text,
-            is_laid_out: true,
-        }));
+    if let Some(text) = short_layout(alloc, raw, &nodes)? {
+        if says_the_same(alloc, raw, &nodes, text.as_str())? {
+            return Ok(Some(Formatted {
+                text,
+                is_laid_out: true,
+            }));
+        }
     }
     let text = String::from_str(alloc, raw)?;
     Ok(Some(Formatted {

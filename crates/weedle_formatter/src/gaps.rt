@@ -176,9 +176,11 @@ fn gap_alone(run: &Run) -> Gap {
         Joint::Tight => Gap::Nothing,
         Joint::Space => Gap::Space,
         Joint::EndOfBody if is_behind_opener(run) => Gap::Nothing,
-        Joint::EndOfBody | Joint::Definition => Gap::Line,
-        Joint::Member if run.token.lines > 1 && !is_behind_opener(run) => Gap::EmptyLine,
-        Joint::Member => Gap::Line,
+        Joint::EndOfBody => Gap::Line,
+        Joint::Member | Joint::Definition if run.token.lines > 1 && !is_behind_opener(run) => {
+            Gap::EmptyLine
+        }
+        Joint::Member | Joint::Definition => Gap::Line,
         Joint::BehindAttributes if run.is_behind_line || run.token.lines > 0 => Gap::Line,
         Joint::BehindAttributes => Gap::Space,
     }

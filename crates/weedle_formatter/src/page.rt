@@ -1,5 +1,8 @@
 //! The pieces of a text, written in lines.
 
+ghost use Rattle.std.specs.Prelude.{◌≤◌, IfOk, IfSome, length, string_bytes};
+ghost use Rattle.weedle_formatter.specs.Bound.{most_laid_out};
+
 use crate::apart::set_apart;
 use crate::fits::list_fits;
 use crate::gaps::set_gaps;
@@ -13,6 +16,9 @@ use weedle_syntax::Node;
 /// How many blanks a level is.
 const LEVEL: usize = 2;
 
+/// How many levels a line is indented at most. Lists that stand so deep aren't broken.
+const MOST_LEVELS: usize = 16;
+
 /// What was written.
 #[derive(Drop)]
 struct Page {
@@ -21,54 +27,97 @@ struct Page {
     in_two: bool,
     /// The column at which the last line ends.
     column: usize,
-    /// How many braces with members are open.
+    /// How many braces with members and broken lists are open.
     level: usize,
     /// Whether each list that is open is broken, the innermost last.
     lists: Vec<bool>,
-    /// How many open lists are broken.
-    broken: usize,
     /// What was written last is a line comment, which an LF ends.
     is_behind_comment: bool,
     /// A line ended with what was written last.
     is_line_begun: bool,
 }
 
-/// The text of these nodes laid out. What it says isn't known before it is read again: so
+/// How many bytes a text of so many has at most once it is laid out.
+fn most_bytes(length: usize) -> usize
+    ensures { result ≤ most_laid_out length }
+{
+    length.saturating_mul(8).saturating_add(1_024)
+}
+
+/// The text of these nodes laid out; as it stood where that would be more than eight times as long
+/// and 1,024 bytes more. What it says isn't known before it is read again: so
 /// [`format`](crate::format) reads it. It is for callers who read in a way of their own.
 ///
 /// It asks for memory for what stands between the blanks of the text, and for the answer.
-pub fn lay_out(alloc: Global, raw: &str, nodes: &[Node]) -> Result<String, AllocError> {
+pub fn lay_out(alloc: Global, raw: &str, nodes: &[Node]) -> Result<String, AllocError>
+    ensures short { IfOk result
+        (λ text. length (string_bytes text) ≤ most_laid_out (length raw.now)) }
+{
+    match short_layout(alloc, raw, nodes)? {
+        Some(text) => Ok(text),
+        None => String::from_str(alloc, raw),
+    }
+}
+
+/// The text of these nodes laid out, or None where that would be longer.
+pub(crate) fn short_layout(
+    alloc: Global,
+    raw: &str,
+    nodes: &[Node],
+) -> Result<Option<String>, AllocError>
+    ensures { IfOk result
+        (λ found. IfSome found
+        (λ text. length (string_bytes text) ≤ most_laid_out (length raw.now))) }
+{
     let text = raw.as_bytes();
     let mut pieces = pieces_of(alloc, text, nodes)?;
     set_gaps(&mut pieces);
     set_apart(&mut pieces);
-    let mut page = Page {
-        out: Vec::new(alloc),
-        in_two: ends_in_two(text, nodes),
-        column: 0,
-        level: 0,
-        lists: Vec::new(alloc),
-        broken: 0,
-        is_behind_comment: false,
-        is_line_begun: true,
-    };
+    let page = written(alloc, text, &pieces, ends_in_two(text, nodes))?;
+    if page.out.len() > most_bytes(text.len()) {
+        return Ok(None);
+    }
+    match String::from_utf8(page.out) {
+        Ok(out) => Ok(Some(out)),
+        Err(_) => Ok(None),
+    }
+}
+
+/// The pieces of a text in lines, which end in CR and LF or in LF. It ends where there is more than
+/// a layout may have.
+fn written(alloc: Global, text: &[u8], pieces: &[Piece], in_two: bool) -> Result<Page, AllocError> {
+    let mut page = Page::new(alloc, in_two);
+    let most = most_bytes(text.len());
     for i in 0..pieces.len() {
         let piece = pieces[i];
         page.separate(&piece)?;
         page.write(&piece, between(text, piece.start, piece.end))?;
         if piece.role == Role::OpensList {
             let column = page.column;
-            page.open_list(!list_fits(&pieces, i, column))?;
+            page.open_list(!list_fits(pieces, i, column))?;
+        }
+        if page.out.len() > most {
+            return Ok(page);
         }
     }
     page.end_line()?;
-    match String::from_utf8(page.out) {
-        Ok(out) => Ok(out),
-        Err(_) => String::from_str(alloc, raw),
-    }
+    Ok(page)
 }
 
 impl Page {
+    /// A page on which nothing is written yet.
+    fn new(alloc: Global, in_two: bool) -> Page {
+        Page {
+            out: Vec::new(alloc),
+            in_two,
+            column: 0,
+            level: 0,
+            lists: Vec::new(alloc),
+            is_behind_comment: false,
+            is_line_begun: true,
+        }
+    }
+
     /// Writes what stands in front of a piece.
     fn separate(&mut self, piece: &Piece) -> Result<(), AllocError> {
         let is_broken = piece.is_item && self.lists.last().copied().unwrap_or(false);
@@ -93,18 +142,20 @@ impl Page {
             Role::ClosesBody => self.level = self.level.saturating_sub(1),
             Role::ClosesList => {
                 if let Some(true) = self.lists.pop() {
-                    self.broken = self.broken.saturating_sub(1);
+                    self.level = self.level.saturating_sub(1);
                 }
             }
             _ => {}
         }
     }
 
-    /// Keeps that a list is open.
-    fn open_list(&mut self, is_broken: bool) -> Result<(), AllocError> {
+    /// Keeps that a list is open, which fits on its line or doesn't. Where so many levels are open
+    /// that no line is indented further, it isn't broken.
+    fn open_list(&mut self, is_too_long: bool) -> Result<(), AllocError> {
+        let is_broken = is_too_long && self.level < MOST_LEVELS;
         self.lists.push(is_broken)?;
         if is_broken {
-            self.broken = self.broken.saturating_add(1);
+            self.level = self.level.saturating_add(1);
         }
         Ok(())
     }
@@ -112,10 +163,7 @@ impl Page {
     /// Begins a line, so many levels deeper than where a statement begins.
     fn begin_line(&mut self, deeper: usize) -> Result<(), AllocError> {
         self.end_line()?;
-        let levels = self
-            .level
-            .saturating_add(self.broken)
-            .saturating_add(deeper);
+        let levels = self.level.saturating_add(deeper).min(MOST_LEVELS);
         self.push_blanks(levels.saturating_mul(LEVEL))
     }
 

@@ -41,6 +41,20 @@ struct Walk<'a> {
     is_apart: bool,
 }
 
+/// How many pieces the text of these nodes has: a token has trivia on both sides.
+fn count_of(nodes: &[Node]) -> usize {
+    let mut trivia: usize = 0;
+    let mut others: usize = 0;
+    for node in nodes {
+        match node.rule.number() {
+            TRIVIA => trivia = trivia.saturating_add(1),
+            LINE_END | BLOCK_COMMENT | PAST_LF => others = others.saturating_add(1),
+            _ => {}
+        }
+    }
+    others.saturating_add(trivia / 2)
+}
+
 /// The pieces of the text of these nodes, in their order.
 pub(crate) fn pieces_of(
     alloc: Global,
@@ -50,7 +64,7 @@ pub(crate) fn pieces_of(
     let mut walk = Walk {
         text,
         rules: Vec::new(alloc),
-        pieces: Vec::new(alloc),
+        pieces: Vec::with_capacity(alloc, count_of(nodes))?,
         token: 0,
         start: 0,
         lines: 0,

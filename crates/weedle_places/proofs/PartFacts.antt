@@ -19,7 +19,7 @@ use Rattle.weedle_places.specs.declared.span.Span.{Span}
 use Rattle.weedle_places.specs.Items.{AreItems}
 use Rattle.weedle_places.specs.Members.{member_of, AreMembers, FitsFirst, HasMembers, IsBehindBrace, choices_in, parts_in, spans_of}
 use Rattle.weedle_places.specs.Spans.{span_at}
-use Rattle.weedle_places.specs.Standing.{IsMemberAt, IsMember}
+use Rattle.weedle_places.specs.Standing.{IsMemberAt, IsMemberOf}
 use Rattle.weedle_places.proofs.MemberFacts.{braced}
 use Rattle.weedle_places.proofs.NameFacts.{children_within}
 use Rattle.weedle_places.proofs.NumberFacts.{AreBelow}
@@ -36,10 +36,10 @@ module _ (text : List ℕ) (ns : List Node) (y d start e : ℕ) where
     pub nodes : AreItemNodes text y d at e (map (node_at ns) left)
     pub below : AreBelow (length ns) left
     pub onward : (rest : List Span) → AreItems text y at rest → AreItems text y start (spans_of members ++ rest)
-    pub each : All (IsMember text ns) members
+    pub each : All (IsMemberOf text ns y) members
 
   pub list_starts : (members : List MemberPlace) (left : List ℕ) → members ≡ [] → AreItemNodes text y d start e (map (node_at ns) left) → AreBelow (length ns) left → Listing members left
-  list_starts members left none n b = record { at = start; nodes = n; below = b; onward = λ rest a. subst (λ s. AreItems text y start (spans_of s ++ rest)) (sym none) a; each = subst (All (IsMember text ns)) (sym none) (All-nil (IsMember text ns)) }
+  list_starts members left none n b = record { at = start; nodes = n; below = b; onward = λ rest a. subst (λ s. AreItems text y start (spans_of s ++ rest)) (sym none) a; each = subst (All (IsMemberOf text ns y)) (sym none) (All-nil (IsMemberOf text ns y)) }
 
   pub list_within : (members : List MemberPlace) (left more : List ℕ) (i : ℕ) → left ≡ i ∷ more → Listing members left → i < length ns
   list_within members left more i is h = (subst (AreBelow (length ns)) is h.below).0
@@ -55,7 +55,7 @@ module _ (text : List ℕ) (ns : List Node) (y d start e : ℕ) where
         below = b.1;
         onward = λ rest a. subst (λ z. AreItems text y start (spans_of z ++ rest)) (sym e') (subst (AreItems text y start) (sym (spans_more members m rest))
             (h.onward (m.span ∷ rest) (subst (λ z. AreItems text y h.at (z ∷ rest)) (sym s) (n.0.start_is, n.0.reads, a))));
-        each = subst (All (IsMember text ns)) (sym e') (All-append (IsMember text ns) members (m ∷ []) h.each (All-cons (IsMember text ns) m [] (i, k) (All-nil (IsMember text ns))));
+        each = subst (All (IsMemberOf text ns y)) (sym e') (All-append (IsMemberOf text ns y) members (m ∷ []) h.each (All-cons (IsMemberOf text ns y) m [] (i, n.0.rule_is, k) (All-nil (IsMemberOf text ns y))));
       }
 
   pub list_ends : (members : List MemberPlace) (left : List ℕ) → left ≡ [] → Listing members left → AreItems text y start (spans_of members)

@@ -49,6 +49,7 @@ module _ (text : List ℕ) (ns : List Node) (depth end : ℕ) where
         nodes = ns;
         are = tree;
         node = i;
+        rule = n.0.rule_is;
         stands = k;
         each = all;
         values = values;

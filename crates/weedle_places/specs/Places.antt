@@ -5,6 +5,7 @@ use Rattle.weedle_places.specs.declared.place.Place.{Place}
 use Rattle.weedle_rules.specs.Outcomes.{EndsAt}
 use Rattle.weedle_syntax.specs.declared.node.Node.{Node}
 use Rattle.weedle_syntax.specs.Syntax.{IsSyntax}
+use Rattle.weedle_syntax.specs.Tree.{node_at}
 use Rattle.weedle_places.specs.Members.{HasMembers, spans_of}
 use Rattle.weedle_places.specs.Standing.{IsStanding, IsMember, AreValues}
 
@@ -22,6 +23,8 @@ pub record IsPlace (text : List ℕ) (place : Place) : Type 0 where
   pub nodes : List Node
   pub are : IsSyntax text nodes
   pub node : ℕ
+  -- of its node the rule is that of a definition: so its name is that of no other node with its bytes
+  pub rule : (node_at nodes node).rule ≡ DEFINITION
   pub stands : IsStanding text nodes node place.span place.core place.front place.name
   pub each : All (IsMember text nodes) place.members.items
   pub values : AreValues text nodes node place.values.items

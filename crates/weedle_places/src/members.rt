@@ -12,7 +12,7 @@ ghost use Rattle.weedle_places.specs.Members.{
   IsBehindBrace,
   spans_of,
 };
-ghost use Rattle.weedle_places.specs.Standing.{IsMember, IsMemberAt, AreValues};
+ghost use Rattle.weedle_places.specs.Standing.{IsMember, IsMemberAt, IsMemberOf, AreValues};
 ghost use Rattle.weedle_syntax.specs.Tree.{node_at};
 
 use crate::around::around;
@@ -172,8 +172,9 @@ fn listed(alloc: Global, syntax: &Syntax<'_>, list: usize) -> Result<Vec<MemberP
         → row_of (node_at syntax.now.nodes list).rule ≡ Many y
         → AreItems syntax.now.text y (node_at syntax.now.nodes list).start
         (spans_of members.items)) }
-    ensures each { IfOk result
-        (λ members. All (IsMember syntax.now.text syntax.now.nodes) members.items) }
+    ensures each { IfOk result (λ members. (y : ℕ)
+        → row_of (node_at syntax.now.nodes list).rule ≡ Many y
+        → All (IsMemberOf syntax.now.text syntax.now.nodes y) members.items) }
 {
     let _ = syntax.nodes();
     let mut members = Vec::new(alloc);

@@ -8,6 +8,7 @@ use Rattle.weedle_grammar.specs.Trees.{Gives}
 use Rattle.weedle_grammar.specs.declared.class.Class.{Class}
 use Rattle.weedle_grammar.specs.written.Table.{webidl, Reads}
 use Rattle.weedle_grammar.specs.written.Table.Trivia.{TRIVIA}
+use Rattle.weedle_refusal.specs.Hint.{EndsMember, Goes, MayBegin}
 use Rattle.weedle_rules.specs.Outcomes.{EndsAt}
 
 one_more : (t : Bool) (n m : ℕ) → n ≤ m → (if t then suc n else 0) ≤ suc m
@@ -29,3 +30,11 @@ all_trivia {text} {rest} {place} reads is none =
     let within : place ≤ length text = stays_inside webidl text reads (omega arith) in
     let all : place ≡ length text = omega (arith, ap length is, length-drop place text) in
     ([], subst (λ e. Reads text TRIVIA 0 (Gives [] e)) all reads)
+
+-- what stands behind the trivia of a text may begin a definition
+pub goes_on : {text rest : List ℕ} {place : ℕ} → Reads text TRIVIA 0 (Gives [] place) → rest ≡ drop place text → MayBegin rest → Goes text
+goes_on {text} {rest} {place} reads is may = record { next = place; trivia = ([], reads); begins = subst MayBegin is may }
+
+-- what stands behind a place stands behind one before it
+pub from_before : {raw : List ℕ} {at from end : ℕ} → at ≤ from → EndsMember raw from end → EndsMember raw at end
+from_before {raw} {at} {from} {end} order ends = record { after = omega (arith, order, ends.after); ends = ends.ends }

@@ -6,6 +6,8 @@ pub mod TextFacts
 pub mod StartFacts
 pub mod EmptyFacts
 pub mod FurthestFacts
+pub mod NearFacts
+pub mod InsideFacts
 pub mod HintFacts
 pub mod RefusalFacts
 pub mod FrontFacts

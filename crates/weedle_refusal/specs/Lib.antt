@@ -4,5 +4,7 @@ pub mod Words
 pub mod Texts
 pub mod Starts
 pub mod Furthest
+pub mod Near
+pub mod Inside
 pub mod Hint
 pub mod Refusal

@@ -3,26 +3,43 @@
 ghost use Rattle.std.specs.Prelude.{◌≤◌, IfOk, IfSome, length};
 ghost use Rattle.weedle_refusal.specs.Hint.{IsHint};
 
+mod again;
+mod beyond;
 mod candidates;
+mod change;
 mod check;
+mod docstring;
+mod facts;
+mod inside;
 mod keywords;
+mod mended;
 mod near;
+mod order;
 mod said;
+mod signs;
+mod stands;
 mod tokens;
+mod unread;
+mod words;
 
-use crate::hint::candidates::{candidates, fact};
-use crate::hint::check::is_right;
+use crate::expected::Expected;
+use crate::furthest::furthest_in;
+use crate::hint::candidates::candidates;
+use crate::hint::check::{Aim, helps};
+use crate::hint::facts::{fact, is_fact};
 use crate::hint::tokens::tokens_of;
+use crate::hint::unread::Unread;
 pub use said::write_hint;
 use std::alloc::{AllocError, Global};
 
 /// How many changes of a definition are tried at most.
-const MOST_TRIES: usize = 8;
+const MOST_TRIES: usize = 16;
 
 /// What would mend a refused definition, or what it lacks. Places are in bytes from the front of
 /// the text.
 ///
-/// The first three are changes that were tried: with them the reading comes further.
+/// The first six are changes that were tried: with them the definition is read to its end, or
+/// further by more than the member that is changed.
 #[derive(Clone, Copy, Debug, PartialEq, Eq)]
 pub enum Hint {
     /// A keyword in place of a word: of `interface A { atribute long x; };` the 8 bytes from 14 on,
@@ -36,12 +53,40 @@ pub enum Hint {
         /// neighbours exchanged.
         keyword: &'static str,
     },
-    /// A closing sign is missing: of `interface A {} interface B {};` a `;` at 14.
+    /// A sign is missing: of `interface A {} interface B {};` a `;` at 14.
     Missing {
         /// Where it is missing: behind what stands there.
         place: usize,
-        /// `;`, `}` or `};`.
+        /// `;`, `=`, `{`, `,`, `)`, `>`, `]`, `(`, `:`, `}` or `};`.
         sign: &'static str,
+    },
+    /// A sign is too many: of `interface A { attribute long x;; };` the second `;` at 31.
+    Extra {
+        /// Where it stands.
+        place: usize,
+        /// The sign, which is one of those that may be missing.
+        sign: &'static str,
+    },
+    /// Another sign should stand there: of `enum E { "a"; "b" };` a `,` in place of the `;` at 12.
+    WrongSign {
+        /// Where the sign stands.
+        place: usize,
+        /// The sign that stands there, `;` or `,`.
+        found: &'static str,
+        /// The other one.
+        sign: &'static str,
+    },
+    /// Two words stand in the wrong order: of `interface A { attribute readonly long x; };` the 9
+    /// bytes from 14 on and the 8 from 24 on.
+    WordOrder {
+        /// Where the first word begins.
+        place: usize,
+        /// How many bytes it has.
+        taken: usize,
+        /// Where the second begins, which belongs in front of it.
+        next: usize,
+        /// How many bytes that has.
+        next_taken: usize,
     },
     /// A docstring stands where none may: of `/// text` before `typedef long T;` the 8 bytes from 0
     /// on.
@@ -53,6 +98,12 @@ pub enum Hint {
     },
     /// A string isn't closed: of `enum E { "a };` the one from 9 on.
     OpenString {
+        /// Where its `"` stands.
+        place: usize,
+    },
+    /// A string ends in another line, where its closing `"` is mostly missing: of `enum E { "a,`
+    /// and `"b" };` in the next line the one from 9 on.
+    SplitString {
         /// Where its `"` stands.
         place: usize,
     },
@@ -71,8 +122,12 @@ impl Hint {
         match *self {
             Hint::Keyword { place, .. }
             | Hint::Missing { place, .. }
+            | Hint::Extra { place, .. }
+            | Hint::WrongSign { place, .. }
+            | Hint::WordOrder { place, .. }
             | Hint::Docstring { place, .. }
             | Hint::OpenString { place }
+            | Hint::SplitString { place }
             | Hint::ByteOrderMark { place } => place,
             Hint::NoDefinitions => 0,
         }
@@ -85,11 +140,12 @@ impl Hint {
 /// Of `interface A { atribute long x; };` the definition at 0 is read up to 28, and `attribute` at
 /// 14 would mend it.
 ///
-/// A change is told only where it was tried: the definition is read again with it, up to the `;`
-/// that follows, and comes further. At most eight are tried, the first that helps is told, and
-/// where the definition doesn't suit descent, or nests more than 64 levels deep, none is tried.
-/// Each costs a copy of the definition so far, and the time of descent over it; a table is filled
-/// of no more than 10,000 bytes. Where memory is refused, the answer is an error.
+/// A change is told only where it was tried: the definition is read again with it, and comes to its
+/// end, or beyond the second `;` behind the place. At most sixteen are tried, the first that mends
+/// is told, else the first that comes so far, and where the definition doesn't suit descent, or
+/// nests more than 64 levels deep, none is tried. Each costs a copy of the definition, and the time
+/// of descent over it; a table is filled of no more than 10,000 bytes. Beside that it looks for
+/// what would go on, as [`furthest_in`] does. Where memory is refused, the answer is an error.
 pub fn hint_of(
     alloc: Global,
     raw: &str,
@@ -100,15 +156,59 @@ pub fn hint_of(
     requires within { place ≤ length raw.now }
     ensures { IfOk result (λ hint. IfSome hint (IsHint raw.now start place)) }
 {
+    let Some(rest) = raw.get(start..) else {
+        return Ok(None);
+    };
+    let (_, expected) = furthest_in(alloc, rest)?;
+    hint_among(alloc, raw, start, place, &expected)
+}
+
+/// The same as [`hint_of`], where it is known what would go on at the place.
+pub(crate) fn hint_among(
+    alloc: Global,
+    raw: &str,
+    start: usize,
+    place: usize,
+    expected: &[Expected],
+) -> Result<Option<Hint>, AllocError>
+    requires order { start ≤ place }
+    requires within { place ≤ length raw.now }
+    ensures { IfOk result (λ hint. IfSome hint (IsHint raw.now start place)) }
+{
     let tokens = tokens_of(alloc, raw, start, place)?;
-    if let Some(hint) = fact(raw, start, place, &tokens) {
-        if is_right(alloc, raw, start, place, hint)? {
+    let unread = Unread {
+        raw,
+        start,
+        place,
+        expected,
+        tokens: &tokens,
+    };
+    if let Some(hint) = fact(&unread) {
+        if is_fact(raw, start, place, hint) {
             return Ok(Some(hint));
         }
     }
-    let hints = candidates(alloc, raw, place, &tokens)?;
-    for hint in hints.iter().take(MOST_TRIES) {
-        if is_right(alloc, raw, start, place, *hint)? {
+    let mut hints = candidates(alloc, &unread)?;
+    hints.truncate(MOST_TRIES);
+    if let Some(hint) = first_that_helps(alloc, &unread, &hints, Aim::End)? {
+        return Ok(Some(hint));
+    }
+    first_that_helps(alloc, &unread, &hints, Aim::Beyond)
+}
+
+/// The first change that brings the reading so far.
+fn first_that_helps(
+    alloc: Global,
+    unread: &Unread<'_>,
+    hints: &[Hint],
+    aim: Aim,
+) -> Result<Option<Hint>, AllocError>
+    requires { unread.now.place ≤ length unread.now.raw.now }
+    ensures { IfOk result
+        (λ hint. IfSome hint (IsHint unread.now.raw.now unread.now.start unread.now.place)) }
+{
+    for hint in hints {
+        if helps(alloc, unread, *hint, aim)? {
             return Ok(Some(*hint));
         }
     }

@@ -6,7 +6,7 @@ ghost use Rattle.weedle_syntax.specs.Syntax.{RestBegins, rest_of as the_rest_of}
 
 use crate::expected::Expected;
 use crate::furthest::furthest_in;
-use crate::hint::{Hint, hint_of};
+use crate::hint::{Hint, hint_among};
 use std::alloc::{AllocError, Global};
 use weedle_syntax::{Node, syntax_of_front};
 
@@ -68,7 +68,7 @@ pub fn refusal_from(alloc: Global, raw: &str, start: usize) -> Result<Refusal, A
 {
     let (furthest, expected) = furthest_in(alloc, &raw[start..])?;
     let place = start + furthest;
-    let hint = hint_of(alloc, raw, start, place)?;
+    let hint = hint_among(alloc, raw, start, place, &expected)?;
     Ok(Refusal {
         start,
         place,

@@ -167,3 +167,26 @@ pub fn starts() -> Starts
     }
     starts
 }
+
+/// Words that let each rule be tried anywhere: for what is read so quickly that finding the words
+/// takes longer.
+pub fn no_starts() -> Starts
+    ensures { AreStarts result }
+{
+    [u128::MAX; RULES]
+}
+
+/// How long a text is at least that is worth finding the words for.
+const LONG: usize = 400;
+
+/// The words for a rule and a text: those of all rules, or for a leaf or a short text words that
+/// let each rule be tried.
+pub fn starts_for(rule: Rule, text: &[u8]) -> Starts
+    ensures { AreStarts result }
+{
+    if text.len() < LONG || rule.number() < Rule::DOC_LINE.number() {
+        no_starts()
+    } else {
+        starts()
+    }
+}

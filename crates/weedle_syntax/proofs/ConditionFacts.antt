@@ -27,7 +27,7 @@ pub record Testing (text : List ℕ) (r k p d : ℕ) (parts : List ℕ) (old : L
   pub adds : Adds text inner old now
   pub onward : (ns : List Node) (e : ℕ) → AreInTurn text rest d at e ns → AreInTurn text parts d p e (inner ++ ns)
 
-gave_by : (text parts : List ℕ) (k p q : ℕ) (b : Bool) → NoteEnds webidl text (inl k) parts p (Some q) b → Gave text parts k p b
+pub gave_by : (text parts : List ℕ) (k p q : ℕ) (b : Bool) → NoteEnds webidl text (inl k) parts p (Some q) b → Gave text parts k p b
 gave_by text parts k p q b n = by n.pieces n.reads n.is n.note_is
   where
     by : (o : Option (List Piece)) → ReadsSeq webidl text parts p o → Some q ≡ pieces_end p o → ((ps : List Piece) → o ≡ Some ps → noted webidl text (inl k) ps ≡ b) → Gave text parts k p b

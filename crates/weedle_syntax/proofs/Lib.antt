@@ -11,6 +11,8 @@ pub mod OneFacts
 pub mod DescentFacts
 pub mod RepeatFacts
 pub mod ConditionFacts
+pub mod CountFacts
+mod TokenFacts
 pub mod EachFacts
 pub mod FrontFacts
 pub mod BelowFacts

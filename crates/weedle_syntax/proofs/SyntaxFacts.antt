@@ -3,12 +3,11 @@ use Rattle.std.proofs.Common.{◌≡◌, ℕ, ◌+◌, ◌<◌, ◌≤◌, List,
 use Rattle.std.specs.Prelude.{reverse}
 use Rattle.std.proofs.lemmas.List.{reverse-append}
 use Rattle.weedle_grammar.specs.written.Bound.{rule_count}
-use Rattle.weedle_grammar.specs.written.Table.Definitions.{DEFINITIONS}
 use Rattle.weedle_rules.specs.Outcomes.{EndsAt}
 use Rattle.weedle_syntax.specs.declared.node.Node.{Node}
 use Rattle.weedle_syntax.specs.Parts.{HasParts}
-use Rattle.weedle_syntax.specs.Syntax.{RestBegins, root_to, IsSyntaxTo}
-use Rattle.weedle_syntax.proofs.TreeFacts.{AreNodes, AreAll, trees_of}
+use Rattle.weedle_syntax.specs.Syntax.{AreTrees}
+use Rattle.weedle_syntax.proofs.TreeFacts.{AreNodes, trees_of}
 use Rattle.weedle_syntax.proofs.ChildFacts.{Each, each_append, each_so, IsChild, parts_are_children}
 use Rattle.weedle_syntax.proofs.LoadFacts.{weight, load, load_append, parts_are_light}
 
@@ -37,23 +36,24 @@ pub record Waits (text : List ℕ) (many : ℕ) (n : Node) : Type 0 where
   pub reads : EndsAt text n.rule n.start n.end
   pub shallow : n.depth ≤ many
 
-pub record Going (text : List ℕ) (end : ℕ) (nodes waiting : List Node) : Type 0 where
-  pub onward : (rest : List Node) → AreNodes text waiting rest → AreAll text end (nodes ++ rest)
+-- the root and all nodes below it
+abbrev AreBelow : List ℕ → Node → List Node → Type 0
+AreBelow text root ns = AreNodes text (root ∷ []) ns
+
+pub record Going (text : List ℕ) (root : Node) (nodes waiting : List Node) : Type 0 where
+  pub onward : (rest : List Node) → AreNodes text waiting rest → AreBelow text root (nodes ++ rest)
   pub each : Each (Waits text (length nodes)) waiting
 
-module _ (text : List ℕ) (end : ℕ) where
-  root_low : DEFINITIONS < rule_count
-  root_low = omega arith
-
-  pub set_out : (nodes pile empty : List Node) (n : Node) → nodes ≡ [] → empty ≡ [] → pile ≡ empty ++ n ∷ [] → n ≡ root_to end → RestBegins text end → Going text end nodes (reverse pile)
-  set_out nodes pile empty n none e is top w =
-      let alone : reverse pile ≡ root_to end ∷ [] = on_top pile empty n is ∙ ap (λ s. n ∷ reverse s) e ∙ ap (λ m. m ∷ []) top in
+module _ (text : List ℕ) (root : Node) where
+  pub set_out : (nodes pile empty : List Node) (n : Node) → nodes ≡ [] → empty ≡ [] → pile ≡ empty ++ n ∷ [] → n ≡ root → root.rule < rule_count → root.start ≤ length text → EndsAt text root.rule root.start root.end → root.depth ≡ 0 → Going text root nodes (reverse pile)
+  set_out nodes pile empty n none e is top low within reads depth =
+      let alone : reverse pile ≡ root ∷ [] = on_top pile empty n is ∙ ap (λ s. n ∷ reverse s) e ∙ ap (λ m. m ∷ []) top in
       record {
-        onward = λ rest a. subst (λ s. AreAll text end (s ++ rest)) (sym none) (subst (λ s. AreNodes text s rest) alone a);
-        each = subst (Each (Waits text (length nodes))) (sym alone) (record { low = root_low; within = omega arith; reads = w; shallow = omega arith }, tt);
+        onward = λ rest a. subst (λ s. AreBelow text root (s ++ rest)) (sym none) (subst (λ s. AreNodes text s rest) alone a);
+        each = subst (Each (Waits text (length nodes))) (sym alone) (record { low = low; within = within; reads = reads; shallow = omega arith }, tt);
       }
 
-  module _ (nodes : List Node) (pile rest : List Node) (n : Node) (is : pile ≡ rest ++ n ∷ []) (g : Going text end nodes (reverse pile)) where
+  module _ (nodes : List Node) (pile rest : List Node) (n : Node) (is : pile ≡ rest ++ n ∷ []) (g : Going text root nodes (reverse pile)) where
     all_waiting : Each (Waits text (length nodes)) (n ∷ reverse rest)
     all_waiting = subst (Each (Waits text (length nodes))) (on_top pile rest n is) g.each
 
@@ -69,11 +69,11 @@ module _ (text : List ℕ) (end : ℕ) where
           (λ m c. let d = c.depth_is in record { low = c.low; within = c.within; reads = c.reads; shallow = omega arith })
           (parts_are_children text n inner t.within t.low t.reads parts)
 
-      pub goes_on : (more : List Node) → more ≡ nodes ++ n ∷ [] → Going text end more (reverse new)
+      pub goes_on : (more : List Node) → more ≡ nodes ++ n ∷ [] → Going text root more (reverse new)
       goes_on more found =
           let l : length more ≡ length nodes + 1 = ap length found ∙ length-append nodes (n ∷ []) in
           record {
-            onward = λ ns a. subst (λ s. AreAll text end (s ++ ns)) (sym found) (subst (AreAll text end) (sym (append_assoc nodes (n ∷ []) ns))
+            onward = λ ns a. subst (λ s. AreBelow text root (s ++ ns)) (sym found) (subst (AreBelow text root) (sym (append_assoc nodes (n ∷ []) ns))
                 (g.onward (n ∷ ns) (inner, reverse rest, on_top pile rest n is, parts, subst (λ s. AreNodes text s ns) piled a)));
             each = subst (Each (Waits text (length more))) (sym piled) (each_append (Waits text (length more)) inner (reverse rest) (children_wait more l)
                 (each_so (Waits text (length nodes)) (Waits text (length more)) (reverse rest) (λ m w. let s = w.shallow in record { low = w.low; within = w.within; reads = w.reads; shallow = omega arith }) all_waiting.1));
@@ -87,8 +87,8 @@ module _ (text : List ℕ) (end : ℕ) where
           let c : load text (reverse pile) ≡ weight text n + load text (reverse rest) = ap (load text) (on_top pile rest n is) in
           omega arith
 
-  pub finish : (nodes pile : List Node) → pile ≡ [] → Going text end nodes (reverse pile) → AreAll text end nodes
-  finish nodes pile e g = subst (AreAll text end) (append-nil nodes) (g.onward [] (ap reverse e))
+  pub finish : (nodes pile : List Node) → pile ≡ [] → Going text root nodes (reverse pile) → AreBelow text root nodes
+  finish nodes pile e g = subst (AreBelow text root) (append-nil nodes) (g.onward [] (ap reverse e))
 
-  pub finish_trees : (nodes : List Node) → AreAll text end nodes → IsSyntaxTo text end nodes
-  finish_trees nodes a = trees_of text nodes (root_to end ∷ []) a
+  pub finish_trees : (nodes : List Node) → AreBelow text root nodes → AreTrees text (root ∷ []) nodes
+  finish_trees nodes a = trees_of text nodes (root ∷ []) a

@@ -4,3 +4,4 @@ pub mod Laid
 pub mod SyntaxView
 pub mod Tree
 pub mod Kinds
+pub mod Steps

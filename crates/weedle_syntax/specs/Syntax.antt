@@ -30,6 +30,18 @@ root_to end = record { rule = DEFINITIONS; start = 0; end = end; depth = 0 }
 abbrev pub IsSyntaxTo : List ℕ → ℕ → List Node → Type 0
 IsSyntaxTo text end ns = AreTrees text (root_to end ∷ []) ns
 
+-- the node of a rule from the front of the text up to a place
+abbrev pub node_to : ℕ → ℕ → Node
+node_to rule end = record { rule = rule; start = 0; end = end; depth = 0 }
+
+-- that node, and all nodes below it
+abbrev pub IsRuleTo : List ℕ → ℕ → ℕ → List Node → Type 0
+IsRuleTo text rule end ns = AreTrees text (node_to rule end ∷ []) ns
+
+-- all nodes of a rule that is read at the front of the text, whatever the rest is
+abbrev pub IsRuleFront : List ℕ → ℕ → List Node → Type 0
+IsRuleFront text rule ns = (end : ℕ) × EndsAt text rule 0 end × IsRuleTo text rule end ns
+
 -- all nodes of a text that is read whole
 abbrev pub IsSyntax : List ℕ → List Node → Type 0
 IsSyntax text ns = IsSyntaxTo text (length text) ns

@@ -3,40 +3,34 @@
 //! A node is laid down before its row is read. Where an attempt fails, what it laid down is taken
 //! back. What can't begin with the byte that stands there isn't tried.
 
-ghost use Rattle.std.specs.Prelude.{
-  ◌≡◌,
-  ◌≤◌,
-  ◌<◌,
-  ◌+◌,
-  [],
-  length,
-  IfOk,
-  IfSome,
-  if◌then◌else◌,
-  option_map,
-};
+ghost use Rattle.std.specs.Prelude.{◌≡◌, ◌≤◌, ◌<◌, ◌+◌, length, IfOk, OnOk};
 ghost use Rattle.weedle_grammar.specs.Rows.{Seq, First, Opt, Many, ListOf, List1, Tail, If};
 ghost use Rattle.weedle_grammar.specs.View.{numbers_of};
 ghost use Rattle.weedle_grammar.specs.written.Bound.{rule_count};
 ghost use Rattle.weedle_grammar.specs.written.Table.{row_of as the_row_of};
 ghost use Rattle.weedle_rules.specs.Cells.{HasEnd};
 ghost use Rattle.weedle_syntax.specs.Laid.{LaysNode, LaysParts};
-ghost use Rattle.weedle_syntax.specs.Syntax.{RestBegins, IsSyntaxTo};
+ghost use Rattle.weedle_syntax.specs.Steps.{RowSteps, Spends, Steps};
 
+use crate::limits::Limits;
 use crate::node::Node;
+use crate::token::{choose, read_blanks, read_name};
 use std::alloc::AllocError;
 use weedle_grammar::{Parts, Row, Rule, row_of};
 use weedle_starts::source::Source;
-use weedle_starts::starts::starts;
 
 /// Lays down the rule's node and all below it, and says where it ends; nothing where it fails.
+///
+/// What can't begin with the byte that stands there is passed over, with no call.
 #[cycle(descent)]
+#[inline(always)]
 pub(crate) fn read(
     nodes: &mut Vec<Node>,
     text: &Source<'_>,
     rule: Rule,
     place: usize,
     depth: usize,
+    limits: &mut Limits,
 ) -> Result<Option<usize>, AllocError>
     requires within { place ≤ length text.now }
     requires shallow { depth ≤ length nodes.old.items }
@@ -44,10 +38,40 @@ pub(crate) fn read(
     ensures end { IfOk result (λ o. HasEnd text.now rule place o) }
     ensures lays { IfOk result
         (λ o. LaysNode text.now rule place depth nodes.old.items nodes.new.items o) }
+    ensures steps { OnOk result
+        (Spends (Steps text.now rule place) limits.old.steps limits.new.steps) }
 {
     if text.refuses(rule, place) {
         return Ok(None);
     }
+    try_rule(nodes, text, rule, place, depth, limits)
+}
+
+/// Tries a rule: lays down its node and all below it, and says where it ends; nothing where it
+/// fails. It takes one of the steps.
+#[cycle(descent)]
+fn try_rule(
+    nodes: &mut Vec<Node>,
+    text: &Source<'_>,
+    rule: Rule,
+    place: usize,
+    depth: usize,
+    limits: &mut Limits,
+) -> Result<Option<usize>, AllocError>
+    requires within { place ≤ length text.now }
+    requires shallow { depth ≤ length nodes.old.items }
+    requires low { rule < rule_count }
+    ensures end { IfOk result (λ o. HasEnd text.now rule place o) }
+    ensures lays { IfOk result
+        (λ o. LaysNode text.now rule place depth nodes.old.items nodes.new.items o) }
+    ensures steps { OnOk result
+        (Spends (Steps text.now rule place) limits.old.steps limits.new.steps) }
+{
+    if limits.steps == 0 || depth > limits.depth {
+        limits.depth = 0;
+        return Err(AllocError);
+    }
+    limits.steps -= 1;
     let at = nodes.len();
     nodes.push(Node {
         rule,
@@ -55,7 +79,7 @@ pub(crate) fn read(
         end: place,
         depth,
     })?;
-    match read_row(nodes, text, rule, place, depth + 1)? {
+    match read_row(nodes, text, rule, place, depth + 1, limits)? {
         Some(end) => {
             nodes[at] = Node {
                 rule,
@@ -80,6 +104,7 @@ fn read_row(
     rule: Rule,
     place: usize,
     depth: usize,
+    limits: &mut Limits,
 ) -> Result<Option<usize>, AllocError>
     requires within { place ≤ length text.now }
     requires shallow { depth ≤ length nodes.old.items }
@@ -87,6 +112,8 @@ fn read_row(
     ensures end { IfOk result (λ o. HasEnd text.now rule place o) }
     ensures lays { IfOk result
         (λ o. LaysParts text.now rule place depth nodes.old.items nodes.new.items o) }
+    ensures steps { OnOk result
+        (Spends (RowSteps text.now (the_row_of rule) place) limits.old.steps limits.new.steps) }
 {
     match row_of(rule) {
         Row::Bytes(bytes) => Ok(text.end_of_bytes(bytes, place)),
@@ -94,14 +121,26 @@ fn read_row(
         Row::NotNext(class) => Ok(text.end_of_not_next(class, place)),
         Row::Run(class) => Ok(Some(text.end_of_run(class, place))),
         Row::Past(bytes) => Ok(text.end_past(bytes, place)),
-        Row::Seq(parts) => read_parts(nodes, text, rule, place, parts, depth),
-        Row::First(choices) => read_choice(nodes, text, rule, place, choices, depth),
-        Row::Opt(item) => read_optional(nodes, text, rule, place, item, depth),
-        Row::Many(item) => read_items(nodes, text, rule, place, item, depth),
-        Row::List(item, tail) => read_list(nodes, text, rule, place, item, tail, depth),
-        Row::List1(item, tail) => read_list1(nodes, text, rule, place, item, tail, depth),
-        Row::Tail(item, separator) => read_tail(nodes, text, rule, place, item, separator, depth),
-        Row::If(parts, k, y) => read_conditional(nodes, text, rule, place, parts, k, y, depth),
+        Row::Seq(parts) => {
+            if rule == Rule::BLANKS {
+                return read_blanks(nodes, text, rule, place, depth, limits);
+            }
+            if rule == Rule::IDENTIFIER_TEXT {
+                return read_name(nodes, text, rule, place, depth, limits);
+            }
+            read_parts(nodes, text, rule, place, parts, depth, limits)
+        }
+        Row::First(choices) => read_choice(nodes, text, rule, place, choices, depth, limits),
+        Row::Opt(item) => read_optional(nodes, text, rule, place, item, depth, limits),
+        Row::Many(item) => read_items(nodes, text, rule, place, item, depth, limits),
+        Row::List(item, tail) => read_list(nodes, text, rule, place, item, tail, depth, limits),
+        Row::List1(item, tail) => read_list1(nodes, text, rule, place, item, tail, depth, limits),
+        Row::Tail(item, separator) => read_tail(
+            nodes, text, rule, place, item, separator, depth, limits,
+        ),
+        Row::If(parts, k, y) => read_conditional(
+            nodes, text, rule, place, parts, k, y, depth, limits,
+        ),
     }
 }
 
@@ -114,6 +153,7 @@ fn read_parts(
     place: usize,
     parts: Parts,
     depth: usize,
+    limits: &mut Limits,
 ) -> Result<Option<usize>, AllocError>
     requires within { place ≤ length text.now }
     requires shallow { depth ≤ length nodes.old.items }
@@ -122,10 +162,12 @@ fn read_parts(
     ensures end { IfOk result (λ o. HasEnd text.now rule place o) }
     ensures lays { IfOk result
         (λ o. LaysParts text.now rule place depth nodes.old.items nodes.new.items o) }
+    ensures steps { OnOk result
+        (Spends (RowSteps text.now (the_row_of rule) place) limits.old.steps limits.new.steps) }
 {
     let mut at = place;
     for i in 0..parts.len() {
-        match read(nodes, text, parts.rule(i), at, depth)? {
+        match read(nodes, text, parts.rule(i), at, depth, limits)? {
             Some(end) => at = end,
             None => return Ok(None),
         }
@@ -142,6 +184,7 @@ fn read_choice(
     place: usize,
     choices: Parts,
     depth: usize,
+    limits: &mut Limits,
 ) -> Result<Option<usize>, AllocError>
     requires within { place ≤ length text.now }
     requires shallow { depth ≤ length nodes.old.items }
@@ -150,9 +193,11 @@ fn read_choice(
     ensures end { IfOk result (λ o. HasEnd text.now rule place o) }
     ensures lays { IfOk result
         (λ o. LaysParts text.now rule place depth nodes.old.items nodes.new.items o) }
+    ensures steps { OnOk result
+        (Spends (RowSteps text.now (the_row_of rule) place) limits.old.steps limits.new.steps) }
 {
     for i in 0..choices.len() {
-        match read(nodes, text, choices.rule(i), place, depth)? {
+        match read(nodes, text, choices.rule(i), place, depth, limits)? {
             Some(end) => return Ok(Some(end)),
             None => {}
         }
@@ -169,6 +214,7 @@ fn read_optional(
     place: usize,
     item: Rule,
     depth: usize,
+    limits: &mut Limits,
 ) -> Result<Option<usize>, AllocError>
     requires within { place ≤ length text.now }
     requires shallow { depth ≤ length nodes.old.items }
@@ -177,8 +223,10 @@ fn read_optional(
     ensures end { IfOk result (λ o. HasEnd text.now rule place o) }
     ensures lays { IfOk result
         (λ o. LaysParts text.now rule place depth nodes.old.items nodes.new.items o) }
+    ensures steps { OnOk result
+        (Spends (RowSteps text.now (the_row_of rule) place) limits.old.steps limits.new.steps) }
 {
-    match read(nodes, text, item, place, depth)? {
+    match read(nodes, text, item, place, depth, limits)? {
         Some(end) => Ok(Some(end)),
         None => Ok(Some(place)),
     }
@@ -193,6 +241,7 @@ fn read_items(
     place: usize,
     item: Rule,
     depth: usize,
+    limits: &mut Limits,
 ) -> Result<Option<usize>, AllocError>
     requires within { place ≤ length text.now }
     requires shallow { depth ≤ length nodes.old.items }
@@ -201,10 +250,12 @@ fn read_items(
     ensures end { IfOk result (λ o. HasEnd text.now rule place o) }
     ensures lays { IfOk result
         (λ o. LaysParts text.now rule place depth nodes.old.items nodes.new.items o) }
+    ensures steps { OnOk result
+        (Spends (RowSteps text.now (the_row_of rule) place) limits.old.steps limits.new.steps) }
 {
     let mut at = place;
     loop {
-        let found = read(nodes, text, item, at, depth)?;
+        let found = read(nodes, text, item, at, depth, limits)?;
         let Some(end) = found else {
             return Ok(Some(at));
         };
@@ -225,6 +276,7 @@ fn read_list(
     item: Rule,
     tail: Rule,
     depth: usize,
+    limits: &mut Limits,
 ) -> Result<Option<usize>, AllocError>
     requires within { place ≤ length text.now }
     requires shallow { depth ≤ length nodes.old.items }
@@ -233,10 +285,12 @@ fn read_list(
     ensures end { IfOk result (λ o. HasEnd text.now rule place o) }
     ensures lays { IfOk result
         (λ o. LaysParts text.now rule place depth nodes.old.items nodes.new.items o) }
+    ensures steps { OnOk result
+        (Spends (RowSteps text.now (the_row_of rule) place) limits.old.steps limits.new.steps) }
 {
-    match read(nodes, text, item, place, depth)? {
+    match read(nodes, text, item, place, depth, limits)? {
         Some(at) => {
-            let end = read(nodes, text, tail, at, depth)?;
+            let end = read(nodes, text, tail, at, depth, limits)?;
             Ok(end)
         }
         None => Ok(Some(place)),
@@ -253,6 +307,7 @@ fn read_list1(
     item: Rule,
     tail: Rule,
     depth: usize,
+    limits: &mut Limits,
 ) -> Result<Option<usize>, AllocError>
     requires within { place ≤ length text.now }
     requires shallow { depth ≤ length nodes.old.items }
@@ -261,10 +316,12 @@ fn read_list1(
     ensures end { IfOk result (λ o. HasEnd text.now rule place o) }
     ensures lays { IfOk result
         (λ o. LaysParts text.now rule place depth nodes.old.items nodes.new.items o) }
+    ensures steps { OnOk result
+        (Spends (RowSteps text.now (the_row_of rule) place) limits.old.steps limits.new.steps) }
 {
-    match read(nodes, text, item, place, depth)? {
+    match read(nodes, text, item, place, depth, limits)? {
         Some(at) => {
-            let end = read(nodes, text, tail, at, depth)?;
+            let end = read(nodes, text, tail, at, depth, limits)?;
             Ok(end)
         }
         None => Ok(None),
@@ -281,6 +338,7 @@ fn read_tail(
     item: Rule,
     separator: Rule,
     depth: usize,
+    limits: &mut Limits,
 ) -> Result<Option<usize>, AllocError>
     requires within { place ≤ length text.now }
     requires shallow { depth ≤ length nodes.old.items }
@@ -289,18 +347,20 @@ fn read_tail(
     ensures end { IfOk result (λ o. HasEnd text.now rule place o) }
     ensures lays { IfOk result
         (λ o. LaysParts text.now rule place depth nodes.old.items nodes.new.items o) }
+    ensures steps { OnOk result
+        (Spends (RowSteps text.now (the_row_of rule) place) limits.old.steps limits.new.steps) }
 {
     let mut at = place;
     loop {
         let kept = nodes.len();
-        let found = read(nodes, text, separator, at, depth)?;
+        let found = read(nodes, text, separator, at, depth, limits)?;
         let Some(behind) = found else {
             return Ok(Some(at));
         };
         if behind == at {
             return Ok(None);
         }
-        let next = read(nodes, text, item, behind, depth)?;
+        let next = read(nodes, text, item, behind, depth, limits)?;
         let Some(end) = next else {
             nodes.truncate(kept);
             return Ok(Some(at));
@@ -321,6 +381,7 @@ fn read_conditional(
     k: usize,
     y: Rule,
     depth: usize,
+    limits: &mut Limits,
 ) -> Result<Option<usize>, AllocError>
     requires within { place ≤ length text.now }
     requires shallow { depth ≤ length nodes.old.items }
@@ -329,11 +390,13 @@ fn read_conditional(
     ensures end { IfOk result (λ o. HasEnd text.now rule place o) }
     ensures lays { IfOk result
         (λ o. LaysParts text.now rule place depth nodes.old.items nodes.new.items o) }
+    ensures steps { OnOk result
+        (Spends (RowSteps text.now (the_row_of rule) place) limits.old.steps limits.new.steps) }
 {
     let mut at = place;
     let mut present = false;
     for i in 0..parts.len() {
-        match read(nodes, text, parts.rule(i), at, depth)? {
+        match read(nodes, text, parts.rule(i), at, depth, limits)? {
             Some(end) => {
                 present = choose(i == k, end != at, present);
                 at = end;
@@ -342,29 +405,8 @@ fn read_conditional(
         }
     }
     if present {
-        let end = read(nodes, text, y, at, depth)?;
+        let end = read(nodes, text, y, at, depth, limits)?;
         return Ok(end);
     }
     Ok(Some(at))
-}
-
-/// The first of two booleans where the test holds, else the second.
-fn choose(test: bool, first: bool, second: bool) -> bool
-    ensures { result ≡ (if test then first else second) }
-{
-    if test { first } else { second }
-}
-
-/// Lays down the nodes of the definitions at the front of a text, and says where the rest begins.
-pub(crate) fn front_by_descent(nodes: &mut Vec<Node>, raw: &str) -> Result<usize, AllocError>
-    requires { nodes.old.items ≡ [] }
-    ensures end { IfOk result (λ end. RestBegins raw.now end) }
-    ensures are { IfOk result (λ end. IsSyntaxTo raw.now end nodes.new.items) }
-{
-    let starts = starts();
-    let text = Source::new(raw.as_bytes(), &starts);
-    match read(nodes, &text, Rule::DEFINITIONS, 0, 0)? {
-        Some(end) => Ok(end),
-        None => unreachable!(),
-    }
 }

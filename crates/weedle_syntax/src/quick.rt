@@ -1,30 +1,34 @@
-//! Descent where it suits a text, and else the table.
+//! Descent within limits, and where they are spent the table.
 
-ghost use Rattle.std.specs.Prelude.{◌≡◌, ◌↔◌, All, take, IsSome, IfOk, IfSome};
+ghost use Rattle.std.specs.Prelude.{◌≡◌, ◌≤◌, ◌+◌, ◌*◌, ◌↔◌, All, length, take, IsSome, IfOk, IfSome, IfNone};
+ghost use Rattle.std.specs.Bool.{OnFalse};
+ghost use Rattle.weedle_rules.specs.Outcomes.{FailsAt};
+ghost use Rattle.weedle_syntax.specs.Steps.{Steps};
 ghost use Rattle.weedle_syntax.specs.Syntax.{
   IsWhole,
   IsSyntax,
   IsFront,
   IsRead,
+  IsRuleFront,
   leaves_of,
   rest_of,
 };
 
-use crate::descent::front_by_descent;
+use crate::lay::{front_by_descent, rule_by_descent};
+use crate::limits::Limits;
 use crate::node::Node;
-use crate::readers::{front_of, syntax, syntax_by_descent};
+use crate::readers::{front_of, rule_of_table, syntax, whole_within};
 use std::alloc::{AllocError, Global};
-use weedle_nesting::suits_descent;
+use weedle_grammar::Rule;
 use weedle_rules::Ends;
 
 /// Every rule that was read of a text that is read whole, as [`syntax`] gives them, by descent or
 /// over the table of ends.
 ///
-/// It looks once at the text, past strings and comments. Where extended attributes nest so little
-/// that descent looks at a byte four times on the average, and no more than 1,000 of `(` and `<`
-/// are open at once, it takes [`syntax_by_descent`], and else [`syntax`]. So for what people write
-/// it needs little time, and no memory but the nodes'; for a hostile text it needs what [`syntax`]
-/// needs.
+/// It reads by descent, as [`syntax_by_descent`](crate::syntax_by_descent) does, within limits:
+/// 16 rules for each byte and 4,096 more, 400 nodes deep. Where they are spent it takes
+/// [`syntax`]. So for what people write it needs little time, and no memory but the nodes'; for a
+/// hostile text it needs what [`syntax`] needs, and little stack.
 pub fn syntax_quick(alloc: Global, raw: &str) -> Result<Option<Vec<Node>>, AllocError>
     ensures whole { IfOk result (λ found. IsSome found ↔ IsWhole raw.now) }
     ensures are { IfOk result (λ found. IfSome found (λ nodes. IsSyntax raw.now nodes.items)) }
@@ -33,10 +37,15 @@ pub fn syntax_quick(alloc: Global, raw: &str) -> Result<Option<Vec<Node>>, Alloc
     ensures read { IfOk result
         (λ found. IfSome found (λ nodes. All (IsRead raw.now) nodes.items)) }
 {
-    if suits_descent(raw) {
-        syntax_by_descent(alloc, raw)
-    } else {
-        syntax(alloc, raw)
+    let mut limits = Limits::of_length(raw.len());
+    match whole_within(alloc, raw, &mut limits) {
+        Ok(found) => Ok(found),
+        Err(error) => {
+            if limits.are_spent() {
+                return syntax(alloc, raw);
+            }
+            Err(error)
+        }
     }
 }
 
@@ -57,12 +66,88 @@ pub fn syntax_of_front(alloc: Global, raw: &str) -> Result<Vec<Node>, AllocError
         (λ nodes. leaves_of raw.now nodes.items ≡ take (rest_of nodes.items) raw.now) }
     ensures read { IfOk result (λ nodes. All (IsRead raw.now) nodes.items) }
 {
-    if suits_descent(raw) {
-        let mut nodes = Vec::new(alloc);
-        front_by_descent(&mut nodes, raw)?;
-        return Ok(nodes);
+    let mut limits = Limits::of_length(raw.len());
+    match front_within(alloc, raw, &mut limits) {
+        Ok(nodes) => return Ok(nodes),
+        Err(error) => {
+            if !limits.are_spent() {
+                return Err(error);
+            }
+        }
     }
     let ends = Ends::new(alloc, raw)?;
     let nodes = front_of(alloc, &ends)?;
     Ok(nodes)
+}
+
+/// Every rule that was read of the definitions at the front of a text, by descent within limits.
+fn front_within(alloc: Global, raw: &str, limits: &mut Limits) -> Result<Vec<Node>, AllocError>
+    ensures are { IfOk result (λ nodes. IsFront raw.now nodes.items) }
+{
+    let mut nodes = Vec::new(alloc);
+    front_by_descent(&mut nodes, raw, limits)?;
+    Ok(nodes)
+}
+
+/// Every rule that was read where a rule is read at the front of a text, in preorder, whatever
+/// stands behind it; None where the rule fails there.
+///
+/// The first node is that of the rule, and ends where the rest begins. Of `TYPE` and
+/// `long? x` these are the nodes of `long? `. Of `DEFINITIONS` it answers what
+/// [`syntax_of_front`] answers, and it costs the same.
+pub fn syntax_of_rule(alloc: Global, raw: &str, rule: Rule) -> Result<Option<Vec<Node>>, AllocError>
+    ensures fails { IfOk result (λ found. IfNone found (FailsAt raw.now rule 0)) }
+    ensures are { IfOk result
+        (λ found. IfSome found (λ nodes. IsRuleFront raw.now rule nodes.items)) }
+{
+    let counted = syntax_counted(alloc, raw, rule)?;
+    Ok(counted.nodes)
+}
+
+/// The nodes of a rule, and how many rules were tried for them.
+#[derive(Drop)]
+pub struct Counted {
+    /// The nodes, where the rule is read.
+    pub nodes: Option<Vec<Node>>,
+    /// How many rules were tried by descent.
+    pub steps: usize,
+    /// Whether the table of ends was filled, since the limits of descent were spent.
+    pub by_table: bool,
+}
+
+/// Every rule that was read where a rule is read at the front of a text, as [`syntax_of_rule`]
+/// gives them, and how many rules were tried for that: at most 16 for each byte and 4,096 more.
+///
+/// Where these were spent, the table of ends was filled besides, which says itself what it took.
+pub fn syntax_counted(alloc: Global, raw: &str, rule: Rule) -> Result<Counted, AllocError>
+    ensures fails { IfOk result (λ counted. IfNone counted.nodes (FailsAt raw.now rule 0)) }
+    ensures are { IfOk result
+        (λ counted. IfSome counted.nodes (λ nodes. IsRuleFront raw.now rule nodes.items)) }
+    ensures few { IfOk result (λ counted. counted.steps ≤ 16 * length raw.now + 4096) }
+
+    // By descent that is how many rules were tried.
+    ensures steps { IfOk result
+        (λ counted. OnFalse counted.by_table (Steps raw.now rule 0 counted.steps)) }
+{
+    let mut limits = Limits::of_length(raw.len());
+    let most = limits.steps;
+    match rule_by_descent(alloc, raw, rule, &mut limits) {
+        Ok(nodes) => Ok(Counted {
+            nodes,
+            steps: most - limits.steps,
+            by_table: false,
+        }),
+        Err(error) => {
+            if !limits.are_spent() {
+                return Err(error);
+            }
+            let ends = Ends::new(alloc, raw)?;
+            let nodes = rule_of_table(alloc, &ends, rule)?;
+            Ok(Counted {
+                nodes,
+                steps: most.saturating_sub(limits.steps),
+                by_table: true,
+            })
+        }
+    }
 }

@@ -1,11 +1,20 @@
 //! The calls that lay down the nodes of a text, over a table and by descent.
 
-ghost use Rattle.std.specs.Prelude.{◌≡◌, ◌↔◌, All, IsSome, IfOk, IfSome};
-ghost use Rattle.weedle_syntax.specs.Syntax.{IsWhole, IsSyntax, IsFront, IsRead, leaves_of};
+ghost use Rattle.std.specs.Prelude.{◌≡◌, ◌↔◌, All, IsSome, IfOk, IfSome, IfNone};
+ghost use Rattle.weedle_rules.specs.Outcomes.{FailsAt};
+ghost use Rattle.weedle_syntax.specs.Syntax.{
+  IsWhole,
+  IsSyntax,
+  IsFront,
+  IsRead,
+  IsRuleFront,
+  leaves_of,
+};
 
-use crate::descent::front_by_descent;
+use crate::lay::front_by_descent;
+use crate::limits::Limits;
 use crate::node::Node;
-use crate::walk::nodes_to;
+use crate::walk::{laid_from, nodes_to};
 use std::alloc::{AllocError, Global};
 use weedle_grammar::Rule;
 use weedle_rules::Ends;
@@ -74,8 +83,28 @@ pub fn syntax_by_descent(alloc: Global, raw: &str) -> Result<Option<Vec<Node>>, 
     ensures read { IfOk result
         (λ found. IfSome found (λ nodes. All (IsRead raw.now) nodes.items)) }
 {
+    let mut limits = Limits {
+        steps: usize::MAX,
+        depth: usize::MAX,
+    };
+    whole_within(alloc, raw, &mut limits)
+}
+
+/// Every rule that was read of a text that is read whole, in preorder, by descent within limits.
+pub(crate) fn whole_within(
+    alloc: Global,
+    raw: &str,
+    limits: &mut Limits,
+) -> Result<Option<Vec<Node>>, AllocError>
+    ensures whole { IfOk result (λ found. IsSome found ↔ IsWhole raw.now) }
+    ensures are { IfOk result (λ found. IfSome found (λ nodes. IsSyntax raw.now nodes.items)) }
+    ensures lossless { IfOk result
+        (λ found. IfSome found (λ nodes. leaves_of raw.now nodes.items ≡ raw.now)) }
+    ensures read { IfOk result
+        (λ found. IfSome found (λ nodes. All (IsRead raw.now) nodes.items)) }
+{
     let mut nodes = Vec::new(alloc);
-    let end = front_by_descent(&mut nodes, raw)?;
+    let end = front_by_descent(&mut nodes, raw, limits)?;
     if end == raw.len() {
         Ok(Some(nodes))
     } else {
@@ -93,5 +122,27 @@ pub fn front_of(alloc: Global, ends: &Ends<'_>) -> Result<Vec<Node>, AllocError>
     match ends.end(Rule::DEFINITIONS, 0) {
         Some(end) => nodes_to(alloc, ends, end),
         None => unreachable!(),
+    }
+}
+
+/// Every rule that was read where a rule is read at the front of a text, in preorder, over the
+/// table of ends of the whole text; None where the rule fails there.
+///
+/// It asks for memory for the nodes alone.
+pub fn rule_of_table(
+    alloc: Global,
+    ends: &Ends<'_>,
+    rule: Rule,
+) -> Result<Option<Vec<Node>>, AllocError>
+    ensures fails { IfOk result (λ found. IfNone found (FailsAt ends.now.text rule 0)) }
+    ensures are { IfOk result
+        (λ found. IfSome found (λ nodes. IsRuleFront ends.now.text rule nodes.items)) }
+{
+    match ends.end(rule, 0) {
+        Some(end) => {
+            let nodes = laid_from(alloc, ends, rule, 0, end)?;
+            Ok(Some(nodes))
+        }
+        None => Ok(None),
     }
 }

@@ -5,9 +5,10 @@
 
 ghost use Rattle.std.specs.Prelude.{◌≡◌, ◌≤◌, ◌<◌, ◌∷◌, [], ◌++◌, length, reverse, IfOk, OnOk};
 ghost use Rattle.weedle_grammar.specs.written.Bound.{rule_count};
+ghost use Rattle.weedle_rules.specs.Cells.{HasEnd};
 ghost use Rattle.weedle_rules.specs.Outcomes.{EndsAt};
-ghost use Rattle.weedle_syntax.specs.Laid.{Piles};
-ghost use Rattle.weedle_syntax.specs.Syntax.{RestBegins, IsSyntaxTo};
+ghost use Rattle.weedle_syntax.specs.Laid.{LaysNode, Piles, node};
+ghost use Rattle.weedle_syntax.specs.Syntax.{AreTrees, RestBegins, IsSyntaxTo};
 
 use crate::node::Node;
 use std::alloc::{AllocError, Global};
@@ -57,17 +58,26 @@ fn go_on(
     pile_up(waiting, inner)
 }
 
-/// The nodes of the definitions that are read from the front up to a place.
-pub(crate) fn nodes_to(alloc: Global, ends: &Ends<'_>, end: usize) -> Result<Vec<Node>, AllocError>
-    requires { RestBegins ends.now.text end }
-    ensures { IfOk result (λ nodes. IsSyntaxTo ends.now.text end nodes.items) }
+/// The node of a rule that is read from one place to another, and all below it.
+pub(crate) fn laid_from(
+    alloc: Global,
+    ends: &Ends<'_>,
+    rule: Rule,
+    start: usize,
+    end: usize,
+) -> Result<Vec<Node>, AllocError>
+    requires low { rule < rule_count }
+    requires within { start ≤ length ends.now.text }
+    requires reads { EndsAt ends.now.text rule start end }
+    ensures { IfOk result
+        (λ nodes. AreTrees ends.now.text (node rule start end 0 ∷ []) nodes.items) }
 {
     let mut nodes = Vec::new(alloc);
     let mut inner = Vec::new(alloc);
     let mut waiting = Vec::new(alloc);
     waiting.push(Node {
-        rule: Rule::DEFINITIONS,
-        start: 0,
+        rule,
+        start,
         end,
         depth: 0,
     })?;
@@ -75,4 +85,40 @@ pub(crate) fn nodes_to(alloc: Global, ends: &Ends<'_>, end: usize) -> Result<Vec
         go_on(&mut nodes, &mut waiting, &mut inner, ends, node)?;
     }
     Ok(nodes)
+}
+
+/// The nodes of the definitions that are read from the front up to a place.
+pub(crate) fn nodes_to(alloc: Global, ends: &Ends<'_>, end: usize) -> Result<Vec<Node>, AllocError>
+    requires { RestBegins ends.now.text end }
+    ensures { IfOk result (λ nodes. IsSyntaxTo ends.now.text end nodes.items) }
+{
+    let nodes = laid_from(alloc, ends, Rule::DEFINITIONS, 0, end)?;
+    Ok(nodes)
+}
+
+/// Lays down the nodes of a rule that is read at a place, behind those that stand there, over the
+/// table of ends, and says where it ends; where it fails, nothing is laid down.
+///
+/// The first of them is the rule's own, of depth 0. There is no recursion, and it asks for memory
+/// for the nodes alone.
+pub fn lay_over_table(
+    alloc: Global,
+    nodes: &mut Vec<Node>,
+    ends: &Ends<'_>,
+    rule: Rule,
+    place: usize,
+) -> Result<Option<usize>, AllocError>
+    requires within { place ≤ length ends.now.text }
+    ensures end { IfOk result (λ o. HasEnd ends.now.text rule place o) }
+    ensures lays { IfOk result
+        (λ o. LaysNode ends.now.text rule place 0 nodes.old.items nodes.new.items o) }
+{
+    match ends.end(rule, place) {
+        Some(end) => {
+            let mut more = laid_from(alloc, ends, rule, place, end)?;
+            nodes.append(&mut more)?;
+            Ok(Some(end))
+        }
+        None => Ok(None),
+    }
 }

@@ -21,6 +21,21 @@ pub fn write_hint<W: Write>(text: &str, hint: &Hint, out: &mut W) -> io::Result<
             writeln!(out, "`{keyword}` in place of `{word}`?")
         }
         Hint::Missing { sign, .. } => writeln!(out, "`{sign}` missing here?"),
+        Hint::Extra { sign, .. } => writeln!(out, "no `{sign}` here"),
+        Hint::WrongSign { found, sign, .. } => writeln!(out, "`{sign}` in place of `{found}`?"),
+        Hint::WordOrder {
+            taken,
+            next,
+            next_taken,
+            ..
+        } => {
+            let first = text.get(place..place.saturating_add(taken)).unwrap_or("");
+            let second = text
+                .get(next..next.saturating_add(next_taken))
+                .unwrap_or("");
+            writeln!(out, "`{second}` in front of `{first}`?")
+        }
+        Hint::SplitString { .. } => writeln!(out, "the string that opens here spans lines"),
         Hint::Docstring { .. } => writeln!(out, "no docstring here"),
         Hint::OpenString { .. } => writeln!(out, "the string opens here"),
         Hint::ByteOrderMark { .. } => writeln!(out, "a byte order mark"),

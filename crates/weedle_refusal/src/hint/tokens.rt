@@ -1,12 +1,17 @@
 //! The words and signs of a definition.
 
 ghost use Rattle.std.specs.Prelude.{◌≤◌, ◌<◌, IfSome, length};
+ghost use Rattle.weedle_refusal.specs.Hint.{EndsMember};
 
+use crate::hint::stands::stand_at;
 use memchr::memchr;
 use std::alloc::{AllocError, Global};
 use weedle_grammar::Class;
 use weedle_grammar::scan::run;
 use weedle_grammar::trivia::skip_trivia;
+
+/// What ends a member.
+const SEMICOLON: &[u8] = b";";
 
 /// What kind of text a token is.
 #[derive(Clone, Copy, Debug, PartialEq, Eq)]
@@ -19,6 +24,8 @@ pub(crate) enum Kind {
     Open,
     /// Lines that begin with `///`, without the LF of the last.
     Docstring,
+    /// What stands from a `/*` on that no `*/` follows.
+    Comment,
     /// Any other character.
     Sign,
 }
@@ -93,19 +100,20 @@ pub(crate) fn past_semicolon(raw: &str, at: usize) -> usize
     requires { at ≤ length raw.now }
     ensures after { at ≤ result }
     ensures within { result ≤ length raw.now }
+    ensures found { result < length raw.now → EndsMember raw.now at result }
 {
     let mut end = at;
     while let Some(token) = next_token(raw, end) {
-        end = token.end;
-        if token.of(raw) == b";".as_slice() {
-            return end;
+        if token.of(raw) == b";".as_slice() && stand_at(SEMICOLON, raw.as_bytes(), token.end - 1) {
+            return token.end;
         }
+        end = token.end;
     }
     raw.len()
 }
 
 /// The first token from a place on, or None where blanks and comments alone follow.
-fn next_token(raw: &str, at: usize) -> Option<Token>
+pub(crate) fn next_token(raw: &str, at: usize) -> Option<Token>
     requires { at ≤ length raw.now }
     ensures { IfSome result
         (λ token. (at ≤ token.start) × (token.start < token.end) × (token.end ≤ length raw.now)) }
@@ -131,6 +139,10 @@ fn front_of(text: &[u8]) -> (Kind, usize)
 {
     if text.starts_with(b"///") {
         return (Kind::Docstring, line_length(text));
+    }
+    // One that is closed was skipped.
+    if text.starts_with(b"/*") {
+        return (Kind::Comment, text.len());
     }
     if text[0] == b'"' {
         return match memchr(b'"', &text[1..]) {

@@ -13,7 +13,7 @@ returns c =
     let rest : c.rest_of.result ≡ rest_of others = c.rest_of.ensures ∙ ap rest_of c.deref.ensures.value in
     let behind = c.if-rest_of-len.false in
     let done : length text ≤ rest_of others = omega (arith, rest, behind, c.len.ensures) in
-    let front = rw (bytes) at c.in_ok-others.ensures in
+    let front = rw (bytes) at c.in_ok-others.ensures.are in
     let same = c.if-not-same_words.ensures.0 refl in
     says_the_same c.requires.are c.requires.whole front done (rw (c.as_bytes.ensures.value, c.as_bytes-2.ensures.value, c.deref-2.ensures.value) at same)
 

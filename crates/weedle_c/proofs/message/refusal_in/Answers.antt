@@ -7,6 +7,6 @@ pub refusal_from-requires-clause-unread : goal.refusal_from-requires-clause-unre
 refusal_from-requires-clause-unread c =
     let nodes = c.in_ok-nodes.nodes.items in
     let start : c.rest_of-start.result ≡ rest_of nodes = c.rest_of-start.ensures ∙ ap rest_of c.deref.ensures.value in
-    let within : rest_of nodes ≤ length c.args.raw.now = rest_within c.in_ok-nodes.ensures in
+    let within : rest_of nodes ≤ length c.args.raw.now = rest_within c.in_ok-nodes.ensures.are in
     let differ = c.if-start-raw.false in
     omega arith

@@ -1,4 +1,4 @@
-use Rattle.std.proofs.Common.{◌<◌, ◌≤◌, length, refl, arith}
+use Rattle.std.proofs.Common.{◌<◌, ◌≤◌, inr, length, refl, arith}
 use Rattle.weedle_c.proofs.TreeFacts.{unread, has_tree}
 use Rattle.weedle_syntax.specs.Syntax.{rest_of}
 use Rattle.weedle_c.proofs.reader.answer_of.Goals as goal
@@ -8,7 +8,7 @@ returns-then-rest-raw-clause-refused c =
     let rest = c.rest_of-rest.ensures in
     let before = c.if-rest-raw.true in
     let inside : rest_of c.args.found.now < length c.args.raw.now = omega arith in
-    λ _. unread c.requires rest inside
+    λ _. unread c.requires.front rest inside
 
 pub returns-then-found-nodes-clause-no_room : goal.returns-then-found-nodes-clause-no_room
 returns-then-found-nodes-clause-no_room c =
@@ -17,7 +17,7 @@ returns-then-found-nodes-clause-no_room c =
     let done : length c.args.raw.now ≤ rest_of c.args.found.now = omega arith in
     λ _. record {
       tree = c.args.found.now;
-      has = has_tree c.requires done rest refl;
+      has = has_tree c.requires.front done rest refl;
       more = c.if-found-nodes.true;
     }
 
@@ -28,6 +28,14 @@ returns-clause-read c =
     let done : length c.args.raw.now ≤ rest_of c.args.found.now = omega arith in
     λ _. record {
       tree = c.args.found.now;
-      has = has_tree c.requires done rest refl;
+      has = has_tree c.requires.front done rest refl;
       written = c.fill.ensures;
     }
+
+pub returns-then-not-all_fit-clause-too_long : goal.returns-then-not-all_fit-clause-too_long
+returns-then-not-all_fit-clause-too_long c =
+    let rest = c.rest_of-rest.ensures in
+    let behind = c.if-rest-raw.false in
+    let done : length c.args.raw.now ≤ rest_of c.args.found.now = omega arith in
+    let has = has_tree c.requires.front {answer = record { count = length c.args.found.now; rest = c.rest_of-rest.result }} done rest refl in
+    λ _. inr (c.args.found.now, has.is_syntax, λ all. let t = c.if-not-all_fit.ensures.1 all in cc)

@@ -1,8 +1,10 @@
 use Rattle.std.proofs.Common.{◌≡◌, subst, ◌∙◌}
+use Rattle.std.specs.Prelude.{All}
 use Rattle.weedle_syntax.specs.Syntax.{IsFront}
 use Rattle.weedle_syntax.specs.Tree.{node_at}
 use Rattle.weedle_places.specs.Items.{AreItems}
 use Rattle.weedle_places.specs.Members.{spans_of}
+use Rattle.weedle_places.specs.Standing.{IsMemberOf}
 use Rattle.weedle_places.proofs.PartFacts.{listing_starts, list_within, list_more, list_ends}
 use Rattle.weedle_places.proofs.members.listed.Goals as goal
 
@@ -32,4 +34,8 @@ returns-clause-are c =
     subst (λ z. AreItems c.args.syntax.now.text z (node_at ns c.args.list).start (spans_of c.loop-item.members.items)) same (list_ends c.args.syntax.now.text ns i.0 _ _ _ _ _ c.in-None.ensures.steps.0 i.2))
 
 pub returns-clause-each : goal.returns-clause-each
-returns-clause-each c = c.loop-item.invariant.2.each
+returns-clause-each c =
+    let i = c.loop-item.invariant in
+    λ y is. (
+    let same : i.0 ≡ y = cc in
+    subst (λ z. All (IsMemberOf c.args.syntax.now.text c.args.syntax.now.nodes z) c.loop-item.members.items) same i.2.each)

@@ -1,4 +1,6 @@
 use Rattle.std.proofs.Common.{◌≡◌, ◌<◌, ℕ, Some, length, subst}
+use Rattle.std.proofs.lemmas.List.Elements.{All-weaker}
+use Rattle.std.specs.Prelude.{All}
 use Rattle.weedle_grammar.specs.Rows.{Many}
 use Rattle.weedle_grammar.specs.written.Table.{row_of}
 use Rattle.weedle_grammar.specs.written.Table.Symbols.{OPEN_BRACE}
@@ -7,6 +9,7 @@ use Rattle.weedle_syntax.specs.Syntax.{IsFront}
 use Rattle.weedle_syntax.specs.Tree.{node_at}
 use Rattle.weedle_places.specs.Items.{AreItems}
 use Rattle.weedle_places.specs.Members.{member_of, IsBehindBrace, spans_of}
+use Rattle.weedle_places.specs.Standing.{IsMember, IsMemberOf}
 use Rattle.weedle_places.proofs.PartFacts.{braces_of, if_ok_so, second_is}
 use Rattle.weedle_places.proofs.members.members_in.Goals as goal
 
@@ -60,3 +63,18 @@ returns-clause-are c =
       h y (subst (λ z. row_of (node_at ns z).rule ≡ Many y) same w.many),
     )))
     c.listed.ensures.are
+
+pub returns-clause-each : goal.returns-clause-each
+returns-clause-each c =
+    let ns = c.args.syntax.now.nodes in
+    let text = c.args.syntax.now.text in
+    let front = subst (IsFront text) c.nodes.ensures.are c.nodes.ensures.front in
+    let list = c.in-Some-next.list in
+    let y = c.requires.list.0 in
+    let w = braces_of text ns front c.args.braced c.requires.within y c.requires.list.1 in
+    let same = second_is _ _ _ _ _ _ w.brace w.list w.close c.children-parts.ensures w.are c.in-Some.ensures.steps c.in-Some-next.ensures.steps in
+    if_ok_so c.listed.result (λ ms. (z : ℕ) → row_of (node_at ns list).rule ≡ Many z → All (IsMemberOf text ns z) ms.items)
+    (λ ms. All (IsMember text ns) ms.items)
+    (λ ms h. All-weaker (IsMemberOf text ns y) (IsMember text ns) (λ m k. ((node_at ns c.args.braced).rule, y, c.requires.list.1, k)) ms.items
+    (h y (subst (λ z. row_of (node_at ns z).rule ≡ Many y) same w.many)))
+    c.listed.ensures.each

@@ -13,17 +13,20 @@ use Rattle.weedle_syntax.specs.Laid.{node, LaysNode, LaysParts}
 use Rattle.weedle_syntax.proofs.DescentFacts.{has_now, added_length, node_laid, leaf_laid, reading_start, reading_step, reading_fails, reading_end, reading_laid, picking_start, picking_step, picked_end, picked_laid, none_picked}
 use Rattle.weedle_syntax.proofs.RepeatFacts.{opt_there, opt_none, opt_not_laid, opt_before, list_more, list_none, list_laid, list_not_laid, list_before, list_next, list1_more, list1_none, list1_laid, list1_before, list1_next, again_start, again_before, again_step, again_on, again_stuck, again_end, again_laid, behind_start, behind_before, behind_item, behind_step, behind_on, behind_stuck, behind_end, behind_laid, behind_back, back_laid}
 use Rattle.weedle_syntax.proofs.ConditionFacts.{testing_start, testing_fails, testing_step, testing_next, testing_length, absent_end, absent_laid, present_end, present_laid}
+use Rattle.weedle_syntax.proofs.CountFacts.{count_passed, count_tried, count_leaf, count_parts, count_part, count_part_fails, count_parts_end, count_choices, count_choice, count_choice_fits, count_choices_end, count_optional, count_no_list, count_list, count_no_list1, count_list1, count_items, count_item, count_items_end, count_items_stuck, count_tail, count_tail_end, count_tail_stuck, count_tail_back, count_tail_on, count_conditional, count_no_condition, count_absent, count_present}
 use Rattle.weedle_syntax.proofs.descent.+descent.Goals as goal
 
 pub read_parts-loop-i-init : goal.read_parts-loop-i-init
-read_parts-loop-i-init t c =
-    reading_start c.args.text.now c.args.rule c.args.place c.args.depth (numbers_of c.args.parts)
-    c.args.nodes.now.items c.requires.row c.requires.within
+read_parts-loop-i-init t c = (
+  reading_start c.args.text.now c.args.rule c.args.place c.args.depth (numbers_of c.args.parts)
+      c.args.nodes.now.items c.requires.row c.requires.within,
+  count_parts c.args.text.now c.args.rule c.args.limits.now.steps c.requires.row,
+)
 
 pub read_parts-returns-in-None-clause-end : goal.read_parts-returns-in-None-clause-end
 read_parts-returns-in-None-clause-end t c =
     let g = rw (next_part (numbers_of c.args.parts) c.len-i-end.ensures c.loop-i-test.true c.rule.ensures.value) at
-    c.loop-i.invariant in
+    c.loop-i.invariant.0 in
     reading_fails c.args.text.now c.args.rule c.args.place c.args.depth (numbers_of c.args.parts)
     c.args.nodes.now.items c.rule.result _ c.loop-i.at c.loop-i.nodes.items c.requires.row g
     (has_now c.in-None.is c.in_ok-end.ensures.end)
@@ -31,35 +34,40 @@ read_parts-returns-in-None-clause-end t c =
 pub read_parts-loop-i-preserved : goal.read_parts-loop-i-preserved
 read_parts-loop-i-preserved t c =
     let g = rw (next_part (numbers_of c.args.parts) c.len-i-end.ensures c.loop-i-test.true c.rule.ensures.value) at
-    c.loop-i.invariant in
-    reading_step c.args.text.now c.args.rule c.args.place c.args.depth (numbers_of c.args.parts)
-    c.args.nodes.now.items c.rule.result _ c.loop-i.at c.in-Some.end c.loop-i.nodes.items c.read.new.nodes.items g
-    (has_now c.in-Some.is c.in_ok-end.ensures.end)
-    (subst
-    (LaysNode c.args.text.now c.rule.result c.loop-i.at c.args.depth c.loop-i.nodes.items
-    c.read.new.nodes.items) c.in-Some.is c.in_ok-end.ensures.lays)
+    c.loop-i.invariant.0 in
+    let n = rw (next_part (numbers_of c.args.parts) c.len-i-end.ensures c.loop-i-test.true c.rule.ensures.value) at c.loop-i.invariant.1 in (
+      reading_step c.args.text.now c.args.rule c.args.place c.args.depth (numbers_of c.args.parts)
+          c.args.nodes.now.items c.rule.result _ c.loop-i.at c.in-Some.end c.loop-i.nodes.items c.read.new.nodes.items g
+          (has_now c.in-Some.is c.in_ok-end.ensures.end)
+          (subst
+          (LaysNode c.args.text.now c.rule.result c.loop-i.at c.args.depth c.loop-i.nodes.items
+          c.read.new.nodes.items) c.in-Some.is c.in_ok-end.ensures.lays),
+      count_part c.args.text.now n c.in_ok-end.ensures.steps (has_now c.in-Some.is c.in_ok-end.ensures.end),
+    )
 
 pub read_parts-returns-clause-end : goal.read_parts-returns-clause-end
 read_parts-returns-clause-end t c =
-    let g = rw (no_part (numbers_of c.args.parts) c.len-i-end.ensures c.loop-i-test.false) at c.loop-i.invariant in
+    let g = rw (no_part (numbers_of c.args.parts) c.len-i-end.ensures c.loop-i-test.false) at c.loop-i.invariant.0 in
     reading_end c.args.text.now c.args.rule c.args.place c.args.depth (numbers_of c.args.parts) c.args.nodes.now.items
     c.loop-i.at c.loop-i.nodes.items c.requires.row g
 
 pub read_parts-returns-clause-lays : goal.read_parts-returns-clause-lays
 read_parts-returns-clause-lays t c =
-    let g = rw (no_part (numbers_of c.args.parts) c.len-i-end.ensures c.loop-i-test.false) at c.loop-i.invariant in
+    let g = rw (no_part (numbers_of c.args.parts) c.len-i-end.ensures c.loop-i-test.false) at c.loop-i.invariant.0 in
     reading_laid c.args.text.now c.args.rule c.args.place c.args.depth (numbers_of c.args.parts)
     c.args.nodes.now.items c.loop-i.at c.loop-i.nodes.items c.requires.row g
 
 pub read_choice-loop-i-init : goal.read_choice-loop-i-init
-read_choice-loop-i-init t c =
-    picking_start c.args.text.now c.args.rule c.args.place c.args.depth (numbers_of c.args.choices)
-    c.args.nodes.now.items c.requires.row
+read_choice-loop-i-init t c = (
+  picking_start c.args.text.now c.args.rule c.args.place c.args.depth (numbers_of c.args.choices)
+      c.args.nodes.now.items c.requires.row,
+  count_choices c.args.text.now c.args.rule c.args.limits.now.steps c.requires.row,
+)
 
 pub read_choice-returns-in-Some-clause-end : goal.read_choice-returns-in-Some-clause-end
 read_choice-returns-in-Some-clause-end t c =
     let g = rw (next_part (numbers_of c.args.choices) c.len-i-end.ensures c.loop-i-test.true c.rule.ensures.value) at
-    c.loop-i.invariant in
+    c.loop-i.invariant.0 in
     picked_end c.args.text.now c.args.rule c.args.place c.args.depth (numbers_of c.args.choices)
     c.args.nodes.now.items c.rule.result c.in-Some.end _ c.loop-i.nodes.items c.requires.row g
     (has_now c.in-Some.is c.in_ok-end.ensures.end)
@@ -67,7 +75,7 @@ read_choice-returns-in-Some-clause-end t c =
 pub read_choice-returns-in-Some-clause-lays : goal.read_choice-returns-in-Some-clause-lays
 read_choice-returns-in-Some-clause-lays t c =
     let g = rw (next_part (numbers_of c.args.choices) c.len-i-end.ensures c.loop-i-test.true c.rule.ensures.value) at
-    c.loop-i.invariant in
+    c.loop-i.invariant.0 in
     picked_laid c.args.text.now c.args.rule c.args.place c.args.depth (numbers_of c.args.choices)
     c.args.nodes.now.items c.rule.result c.in-Some.end _ c.loop-i.nodes.items c.read.new.nodes.items
     c.requires.row g (has_now c.in-Some.is c.in_ok-end.ensures.end)
@@ -78,17 +86,20 @@ read_choice-returns-in-Some-clause-lays t c =
 pub read_choice-loop-i-preserved : goal.read_choice-loop-i-preserved
 read_choice-loop-i-preserved t c =
     let g = rw (next_part (numbers_of c.args.choices) c.len-i-end.ensures c.loop-i-test.true c.rule.ensures.value) at
-    c.loop-i.invariant in
-    picking_step c.args.text.now c.args.rule c.args.place c.args.depth (numbers_of c.args.choices)
-    c.args.nodes.now.items c.rule.result _ c.loop-i.nodes.items c.read.new.nodes.items g
-    (has_now c.in-None.is c.in_ok-end.ensures.end)
-    (subst
-    (LaysNode c.args.text.now c.rule.result c.args.place c.args.depth c.loop-i.nodes.items
-    c.read.new.nodes.items) c.in-None.is c.in_ok-end.ensures.lays)
+    c.loop-i.invariant.0 in
+    let n = rw (next_part (numbers_of c.args.choices) c.len-i-end.ensures c.loop-i-test.true c.rule.ensures.value) at c.loop-i.invariant.1 in (
+      picking_step c.args.text.now c.args.rule c.args.place c.args.depth (numbers_of c.args.choices)
+          c.args.nodes.now.items c.rule.result _ c.loop-i.nodes.items c.read.new.nodes.items g
+          (has_now c.in-None.is c.in_ok-end.ensures.end)
+          (subst
+          (LaysNode c.args.text.now c.rule.result c.args.place c.args.depth c.loop-i.nodes.items
+          c.read.new.nodes.items) c.in-None.is c.in_ok-end.ensures.lays),
+      count_choice c.args.text.now n c.in_ok-end.ensures.steps (has_now c.in-None.is c.in_ok-end.ensures.end),
+    )
 
 pub read_choice-returns-clause-end : goal.read_choice-returns-clause-end
 read_choice-returns-clause-end t c =
-    let g = rw (no_part (numbers_of c.args.choices) c.len-i-end.ensures c.loop-i-test.false) at c.loop-i.invariant in
+    let g = rw (no_part (numbers_of c.args.choices) c.len-i-end.ensures c.loop-i-test.false) at c.loop-i.invariant.0 in
     none_picked c.args.text.now c.args.rule c.args.place c.args.depth (numbers_of c.args.choices)
     c.args.nodes.now.items c.loop-i.nodes.items c.requires.row g
 
@@ -166,20 +177,22 @@ read_list1-returns-in-None-clause-lays t c = (
 )
 
 pub read_items-loop-found-init : goal.read_items-loop-found-init
-read_items-loop-found-init t c =
-    again_start c.args.text.now c.args.rule c.args.item c.args.place c.args.depth c.args.nodes.now.items
-    c.requires.row c.requires.within
+read_items-loop-found-init t c = (
+  again_start c.args.text.now c.args.rule c.args.item c.args.place c.args.depth c.args.nodes.now.items
+      c.requires.row c.requires.within,
+  count_items c.args.text.now c.args.rule c.args.limits.now.steps c.requires.row,
+)
 
 pub read_items-returns-in_default-clause-end : goal.read_items-returns-in_default-clause-end
 read_items-returns-in_default-clause-end t c =
     again_end c.args.text.now c.args.rule c.args.item c.args.place c.args.depth c.args.nodes.now.items c.requires.row
-    c.loop-found.at c.loop-found.nodes.items c.loop-found.invariant
+    c.loop-found.at c.loop-found.nodes.items c.loop-found.invariant.0
     (has_now c.in_default.is c.in_ok-found.ensures.end)
 
 pub read_items-returns-in_default-clause-lays : goal.read_items-returns-in_default-clause-lays
 read_items-returns-in_default-clause-lays t c =
     again_laid c.args.text.now c.args.rule c.args.item c.args.place c.args.depth c.args.nodes.now.items c.requires.row
-    c.loop-found.at c.loop-found.nodes.items c.read.new.nodes.items c.loop-found.invariant
+    c.loop-found.at c.loop-found.nodes.items c.read.new.nodes.items c.loop-found.invariant.0
     (has_now c.in_default.is c.in_ok-found.ensures.end)
     (subst
     (LaysNode c.args.text.now c.args.item c.loop-found.at c.args.depth c.loop-found.nodes.items
@@ -188,41 +201,45 @@ read_items-returns-in_default-clause-lays t c =
 pub read_items-returns-then-end-at-clause-end : goal.read_items-returns-then-end-at-clause-end
 read_items-returns-then-end-at-clause-end t c =
     again_stuck c.args.text.now c.args.rule c.args.item c.args.place c.args.depth c.args.nodes.now.items
-    c.requires.row c.loop-found.at c.in-Some.end c.loop-found.nodes.items c.loop-found.invariant
+    c.requires.row c.loop-found.at c.in-Some.end c.loop-found.nodes.items c.loop-found.invariant.0
     (has_now c.in-Some.is c.in_ok-found.ensures.end) c.if-end-at.true
 
 pub read_items-loop-found-smaller : goal.read_items-loop-found-smaller
 read_items-loop-found-smaller t c =
     let on = again_on c.args.text.now c.args.rule c.args.item c.args.place c.args.depth c.args.nodes.now.items
-    c.requires.row c.loop-found.at c.in-Some.end c.loop-found.nodes.items c.loop-found.invariant
+    c.requires.row c.loop-found.at c.in-Some.end c.loop-found.nodes.items c.loop-found.invariant.0
     (has_now c.in-Some.is c.in_ok-found.ensures.end) c.if-end-at.false in
     omega (arith, on.0, on.1)
 
 pub read_items-loop-found-preserved : goal.read_items-loop-found-preserved
-read_items-loop-found-preserved t c =
-    again_step c.args.text.now c.args.rule c.args.item c.args.place c.args.depth c.args.nodes.now.items c.requires.row
-    c.loop-found.at c.in-Some.end c.loop-found.nodes.items c.read.new.nodes.items c.loop-found.invariant
-    (has_now c.in-Some.is c.in_ok-found.ensures.end) c.if-end-at.false
-    (subst
-    (LaysNode c.args.text.now c.args.item c.loop-found.at c.args.depth c.loop-found.nodes.items
-    c.read.new.nodes.items) c.in-Some.is c.in_ok-found.ensures.lays)
+read_items-loop-found-preserved t c = (
+  again_step c.args.text.now c.args.rule c.args.item c.args.place c.args.depth c.args.nodes.now.items c.requires.row
+      c.loop-found.at c.in-Some.end c.loop-found.nodes.items c.read.new.nodes.items c.loop-found.invariant.0
+      (has_now c.in-Some.is c.in_ok-found.ensures.end) c.if-end-at.false
+      (subst
+      (LaysNode c.args.text.now c.args.item c.loop-found.at c.args.depth c.loop-found.nodes.items
+      c.read.new.nodes.items) c.in-Some.is c.in_ok-found.ensures.lays),
+  count_item c.args.text.now c.loop-found.invariant.1 c.in_ok-found.ensures.steps (has_now c.in-Some.is c.in_ok-found.ensures.end) c.if-end-at.false,
+)
 
 pub read_tail-loop-found-init : goal.read_tail-loop-found-init
-read_tail-loop-found-init t c =
-    behind_start c.args.text.now c.args.rule c.args.item c.args.separator c.args.place c.args.depth
-    c.args.nodes.now.items c.requires.row c.requires.within
+read_tail-loop-found-init t c = (
+  behind_start c.args.text.now c.args.rule c.args.item c.args.separator c.args.place c.args.depth
+      c.args.nodes.now.items c.requires.row c.requires.within,
+  count_tail c.args.text.now c.args.rule c.args.limits.now.steps c.requires.row,
+)
 
 pub read_tail-returns-in_default-clause-end : goal.read_tail-returns-in_default-clause-end
 read_tail-returns-in_default-clause-end t c =
     behind_end c.args.text.now c.args.rule c.args.item c.args.separator c.args.place c.args.depth
-    c.args.nodes.now.items c.requires.row c.loop-found.at c.loop-found.nodes.items c.loop-found.invariant
+    c.args.nodes.now.items c.requires.row c.loop-found.at c.loop-found.nodes.items c.loop-found.invariant.0
     (has_now c.in_default.is c.in_ok-found.ensures.end)
 
 pub read_tail-returns-in_default-clause-lays : goal.read_tail-returns-in_default-clause-lays
 read_tail-returns-in_default-clause-lays t c =
     behind_laid c.args.text.now c.args.rule c.args.item c.args.separator c.args.place c.args.depth
     c.args.nodes.now.items c.requires.row c.loop-found.at c.loop-found.nodes.items c.read.new.nodes.items
-    c.loop-found.invariant (has_now c.in_default.is c.in_ok-found.ensures.end)
+    c.loop-found.invariant.0 (has_now c.in_default.is c.in_ok-found.ensures.end)
     (subst
     (LaysNode c.args.text.now c.args.separator c.loop-found.at c.args.depth c.loop-found.nodes.items
     c.read.new.nodes.items) c.in_default.is c.in_ok-found.ensures.lays)
@@ -231,20 +248,20 @@ pub read_tail-returns-then-behind-at-clause-end : goal.read_tail-returns-then-be
 read_tail-returns-then-behind-at-clause-end t c =
     behind_stuck c.args.text.now c.args.rule c.args.item c.args.separator c.args.place c.args.depth
     c.args.nodes.now.items c.requires.row c.loop-found.at c.in-Some.behind c.loop-found.nodes.items
-    c.loop-found.invariant (has_now c.in-Some.is c.in_ok-found.ensures.end) c.if-behind-at.true
+    c.loop-found.invariant.0 (has_now c.in-Some.is c.in_ok-found.ensures.end) c.if-behind-at.true
 
 pub read_tail-returns-in_default-next-clause-end : goal.read_tail-returns-in_default-next-clause-end
 read_tail-returns-in_default-next-clause-end t c =
     behind_back c.args.text.now c.args.rule c.args.item c.args.separator c.args.place c.args.depth
     c.args.nodes.now.items c.requires.row c.loop-found.at c.in-Some.behind c.loop-found.nodes.items
-    c.loop-found.invariant (has_now c.in-Some.is c.in_ok-found.ensures.end) c.if-behind-at.false
+    c.loop-found.invariant.0 (has_now c.in-Some.is c.in_ok-found.ensures.end) c.if-behind-at.false
     (has_now c.in_default-next.is c.in_ok-next.ensures.end)
 
 pub read_tail-returns-in_default-next-clause-lays : goal.read_tail-returns-in_default-next-clause-lays
 read_tail-returns-in_default-next-clause-lays t c =
     back_laid c.args.text.now c.args.rule c.args.item c.args.separator c.args.place c.args.depth
     c.args.nodes.now.items c.requires.row c.loop-found.at c.in-Some.behind c.loop-found.nodes.items
-    c.read.new.nodes.items c.read-in-loop-found.new.nodes.items c.truncate.new.self.items c.loop-found.invariant
+    c.read.new.nodes.items c.read-in-loop-found.new.nodes.items c.truncate.new.self.items c.loop-found.invariant.0
     (has_now c.in-Some.is c.in_ok-found.ensures.end)
     (subst
     (LaysNode c.args.text.now c.args.separator c.loop-found.at c.args.depth c.loop-found.nodes.items
@@ -260,37 +277,39 @@ pub read_tail-loop-found-smaller : goal.read_tail-loop-found-smaller
 read_tail-loop-found-smaller t c =
     let on = behind_on c.args.text.now c.args.rule c.args.item c.args.separator c.args.place c.args.depth
     c.args.nodes.now.items c.requires.row c.loop-found.at c.in-Some.behind c.in-Some-next.end
-    c.loop-found.nodes.items c.loop-found.invariant (has_now c.in-Some.is c.in_ok-found.ensures.end)
+    c.loop-found.nodes.items c.loop-found.invariant.0 (has_now c.in-Some.is c.in_ok-found.ensures.end)
     c.if-behind-at.false (has_now c.in-Some-next.is c.in_ok-next.ensures.end) in
     omega (arith, on.0, on.1)
 
 pub read_tail-loop-found-preserved : goal.read_tail-loop-found-preserved
-read_tail-loop-found-preserved t c =
-    behind_step c.args.text.now c.args.rule c.args.item c.args.separator c.args.place c.args.depth
-    c.args.nodes.now.items c.requires.row c.loop-found.at c.in-Some.behind c.in-Some-next.end
-    c.loop-found.nodes.items c.read.new.nodes.items c.read-in-loop-found.new.nodes.items c.loop-found.invariant
-    (has_now c.in-Some.is c.in_ok-found.ensures.end) c.if-behind-at.false
-    (subst
-    (LaysNode c.args.text.now c.args.separator c.loop-found.at c.args.depth c.loop-found.nodes.items
-    c.read.new.nodes.items) c.in-Some.is c.in_ok-found.ensures.lays)
-    (has_now c.in-Some-next.is c.in_ok-next.ensures.end)
-    (subst
-    (LaysNode c.args.text.now c.args.item c.in-Some.behind c.args.depth c.read.new.nodes.items
-    c.read-in-loop-found.new.nodes.items) c.in-Some-next.is c.in_ok-next.ensures.lays)
+read_tail-loop-found-preserved t c = (
+  behind_step c.args.text.now c.args.rule c.args.item c.args.separator c.args.place c.args.depth
+      c.args.nodes.now.items c.requires.row c.loop-found.at c.in-Some.behind c.in-Some-next.end
+      c.loop-found.nodes.items c.read.new.nodes.items c.read-in-loop-found.new.nodes.items c.loop-found.invariant.0
+      (has_now c.in-Some.is c.in_ok-found.ensures.end) c.if-behind-at.false
+      (subst
+      (LaysNode c.args.text.now c.args.separator c.loop-found.at c.args.depth c.loop-found.nodes.items
+      c.read.new.nodes.items) c.in-Some.is c.in_ok-found.ensures.lays)
+      (has_now c.in-Some-next.is c.in_ok-next.ensures.end)
+      (subst
+      (LaysNode c.args.text.now c.args.item c.in-Some.behind c.args.depth c.read.new.nodes.items
+      c.read-in-loop-found.new.nodes.items) c.in-Some-next.is c.in_ok-next.ensures.lays),
+  count_tail_on c.args.text.now c.loop-found.invariant.1 c.in_ok-found.ensures.steps (has_now c.in-Some.is c.in_ok-found.ensures.end) c.if-behind-at.false c.in_ok-next.ensures.steps (has_now c.in-Some-next.is c.in_ok-next.ensures.end),
+)
 
 pub read_items-read-requires : goal.read_items-read-requires
 read_items-read-requires t c =
     let b = again_before c.args.text.now c.args.rule c.args.item c.args.place c.args.depth c.args.nodes.now.items
-    c.requires.row c.loop-found.at c.loop-found.nodes.items c.requires.low c.loop-found.invariant in (
+    c.requires.row c.loop-found.at c.loop-found.nodes.items c.requires.low c.loop-found.invariant.0 in (
       omega (arith, b.1, c.decreases),
       (
-        c.loop-found.invariant.within,
+        c.loop-found.invariant.0.within,
         (
           omega (
             arith,
             c.requires.shallow,
-            added_length c.args.text.now c.loop-found.invariant.inner
-                c.args.nodes.now.items c.loop-found.nodes.items c.loop-found.invariant.adds,
+            added_length c.args.text.now c.loop-found.invariant.0.inner
+                c.args.nodes.now.items c.loop-found.nodes.items c.loop-found.invariant.0.adds,
           ),
           b.0,
         ),
@@ -367,16 +386,16 @@ pub read_tail-read-requires : goal.read_tail-read-requires
 read_tail-read-requires t c =
     let b = behind_before c.args.text.now c.args.rule c.args.item c.args.separator c.args.place c.args.depth
     c.args.nodes.now.items c.requires.row c.loop-found.at c.loop-found.nodes.items c.requires.low
-    c.loop-found.invariant in (
+    c.loop-found.invariant.0 in (
       omega (arith, b.1, c.decreases),
       (
-        c.loop-found.invariant.within,
+        c.loop-found.invariant.0.within,
         (
           omega (
             arith,
             c.requires.shallow,
-            added_length c.args.text.now c.loop-found.invariant.inner
-                c.args.nodes.now.items c.loop-found.nodes.items c.loop-found.invariant.adds,
+            added_length c.args.text.now c.loop-found.invariant.0.inner
+                c.args.nodes.now.items c.loop-found.nodes.items c.loop-found.invariant.0.adds,
           ),
           b.0,
         ),
@@ -387,7 +406,7 @@ pub read_tail-read-requires-in-loop-found : goal.read_tail-read-requires-in-loop
 read_tail-read-requires-in-loop-found t c =
     let b = behind_item c.args.text.now c.args.rule c.args.item c.args.separator c.args.place c.args.depth
     c.args.nodes.now.items c.requires.row c.loop-found.at c.in-Some.behind c.loop-found.nodes.items
-    c.loop-found.invariant (has_now c.in-Some.is c.in_ok-found.ensures.end) c.if-behind-at.false in (
+    c.loop-found.invariant.0 (has_now c.in-Some.is c.in_ok-found.ensures.end) c.if-behind-at.false in (
       omega (arith, b.2, c.decreases),
       (
         b.0,
@@ -395,8 +414,8 @@ read_tail-read-requires-in-loop-found t c =
           omega (
             arith,
             c.requires.shallow,
-            added_length c.args.text.now c.loop-found.invariant.inner
-                c.args.nodes.now.items c.loop-found.nodes.items c.loop-found.invariant.adds,
+            added_length c.args.text.now c.loop-found.invariant.0.inner
+                c.args.nodes.now.items c.loop-found.nodes.items c.loop-found.invariant.0.adds,
             added_length
                 c.args.text.now (node c.args.separator c.loop-found.at c.in-Some.behind c.args.depth ∷ [])
                 c.loop-found.nodes.items c.read.new.nodes.items
@@ -410,8 +429,8 @@ read_tail-read-requires-in-loop-found t c =
       ),
     )
 
-pub read-returns-in-Some-clause-lays : goal.read-returns-in-Some-clause-lays
-read-returns-in-Some-clause-lays t c =
+pub try_rule-returns-in-Some-clause-lays : goal.try_rule-returns-in-Some-clause-lays
+try_rule-returns-in-Some-clause-lays t c =
     node_laid c.args.text.now c.args.rule c.args.place c.args.depth c.args.nodes.now.items c.push.new.self.items
     c.read_row.new.nodes.items (node c.args.rule c.args.place c.args.place c.args.depth)
     c.in_ok-push.ensures.items c.in-Some.end _
@@ -469,15 +488,17 @@ read_row-returns-in-Run-clause-lays t c =
 
 pub read_conditional-loop-i-init : goal.read_conditional-loop-i-init
 read_conditional-loop-i-init t c =
-    let z : c.args.k - 0 ≡ c.args.k = omega arith in
-    rw (note_high c.args.k 0 false (omega arith), z)
-    (testing_start c.args.text.now c.args.rule c.args.k c.args.y c.args.place c.args.depth
-    (numbers_of c.args.parts) c.args.nodes.now.items c.requires.row c.requires.within)
+    let z : c.args.k - 0 ≡ c.args.k = omega arith in (
+      rw (note_high c.args.k 0 false (omega arith), z)
+          (testing_start c.args.text.now c.args.rule c.args.k c.args.y c.args.place c.args.depth
+          (numbers_of c.args.parts) c.args.nodes.now.items c.requires.row c.requires.within),
+      count_conditional c.args.text.now c.args.limits.now.steps,
+    )
 
 pub read_conditional-returns-in-None-clause-end : goal.read_conditional-returns-in-None-clause-end
 read_conditional-returns-in-None-clause-end t c =
     let g = rw (next_part (numbers_of c.args.parts) c.len-i-end.ensures c.loop-i-test.true c.rule.ensures.value) at
-    c.loop-i.invariant in
+    c.loop-i.invariant.0 in
     testing_fails c.args.text.now c.args.rule c.args.k c.args.y c.args.place c.args.depth (numbers_of c.args.parts)
     c.args.nodes.now.items c.requires.row c.rule.result _ _ c.loop-i.at c.loop-i.nodes.items g
     (has_now c.in-None.is c.in_ok-end.ensures.end)
@@ -485,22 +506,25 @@ read_conditional-returns-in-None-clause-end t c =
 pub read_conditional-loop-i-preserved : goal.read_conditional-loop-i-preserved
 read_conditional-loop-i-preserved t c =
     let g = rw (next_part (numbers_of c.args.parts) c.len-i-end.ensures c.loop-i-test.true c.rule.ensures.value) at
-    c.loop-i.invariant in
+    c.loop-i.invariant.0 in
     let sw = (if_switch c.requires.low c.requires.row).2 in
-    testing_step c.args.text.now c.args.rule c.args.k c.args.y c.args.place c.args.depth (numbers_of c.args.parts)
-    c.args.nodes.now.items c.requires.row c.rule.result _ _ _ c.loop-i.at c.in-Some.end c.loop-i.nodes.items
-    c.read.new.nodes.items g
-    (if_step webidl c.args.text.now takes ranked _ _ _ _ _ _ _ _ _ _ g.along (has_now c.in-Some.is c.in_ok-end.ensures.end) (λ ts d. note_more webidl c.args.text.now c.args.k c.loop-i.i c.loop-i.present (is_present ts) c.choose-present.result
-    (λ e.
-    let at : c.rule.result ≡ get_or (numbers_of c.args.parts) c.args.k 0 = c.rule.ensures.value ∙ ap
-    (λ z. get_or (numbers_of c.args.parts) z 0) e in
-    chosen_here c.loop-i.i c.args.k c.in-Some.end c.loop-i.at c.loop-i.present c.choose-present.result (is_present ts)
-    e c.choose-present.ensures
-    (present webidl c.args.text.now takes ranked _ sw.x _ _ ts sw.row_is sw.shape_is sw.mark_is sw.takes_it
-    (subst (λ s. ReadsBy webidl c.args.text.now s c.loop-i.at (Gives ts c.in-Some.end)) at d)))
-    (λ n. chosen_other c.loop-i.i c.args.k _ c.loop-i.present c.choose-present.result n c.choose-present.ensures))) (has_now c.in-Some.is c.in_ok-end.ensures.end) (subst (LaysNode
-    c.args.text.now c.rule.result c.loop-i.at c.args.depth c.loop-i.nodes.items
-    c.read.new.nodes.items) c.in-Some.is c.in_ok-end.ensures.lays)
+    let n = rw (next_part (numbers_of c.args.parts) c.len-i-end.ensures c.loop-i-test.true c.rule.ensures.value) at c.loop-i.invariant.1 in (
+      testing_step c.args.text.now c.args.rule c.args.k c.args.y c.args.place c.args.depth (numbers_of c.args.parts)
+          c.args.nodes.now.items c.requires.row c.rule.result _ _ _ c.loop-i.at c.in-Some.end c.loop-i.nodes.items
+          c.read.new.nodes.items g
+          (if_step webidl c.args.text.now takes ranked _ _ _ _ _ _ _ _ _ _ g.along (has_now c.in-Some.is c.in_ok-end.ensures.end) (λ ts d. note_more webidl c.args.text.now c.args.k c.loop-i.i c.loop-i.present (is_present ts) c.choose-present.result
+          (λ e.
+          let at : c.rule.result ≡ get_or (numbers_of c.args.parts) c.args.k 0 = c.rule.ensures.value ∙ ap
+          (λ z. get_or (numbers_of c.args.parts) z 0) e in
+          chosen_here c.loop-i.i c.args.k c.in-Some.end c.loop-i.at c.loop-i.present c.choose-present.result (is_present ts)
+          e c.choose-present.ensures
+          (present webidl c.args.text.now takes ranked _ sw.x _ _ ts sw.row_is sw.shape_is sw.mark_is sw.takes_it
+          (subst (λ s. ReadsBy webidl c.args.text.now s c.loop-i.at (Gives ts c.in-Some.end)) at d)))
+          (λ n. chosen_other c.loop-i.i c.args.k _ c.loop-i.present c.choose-present.result n c.choose-present.ensures))) (has_now c.in-Some.is c.in_ok-end.ensures.end) (subst (LaysNode
+          c.args.text.now c.rule.result c.loop-i.at c.args.depth c.loop-i.nodes.items
+          c.read.new.nodes.items) c.in-Some.is c.in_ok-end.ensures.lays),
+      count_part c.args.text.now n c.in_ok-end.ensures.steps (has_now c.in-Some.is c.in_ok-end.ensures.end),
+    )
 
 pub read_conditional-read-requires-then-present : goal.read_conditional-read-requires-then-present
 read_conditional-read-requires-then-present t c =
@@ -511,7 +535,7 @@ read_conditional-read-requires-then-present t c =
       note_low c.args.k c.loop-i.i
           c.loop-i.present (omega (arith, c.len-i-end.ensures)),
       c.if-present.true,
-    ) at c.loop-i.invariant in
+    ) at c.loop-i.invariant.0 in
     let b = testing_next c.args.text.now c.args.rule c.args.k c.args.y c.args.place c.args.depth
     (numbers_of c.args.parts) c.args.nodes.now.items c.requires.row c.loop-i.at c.loop-i.nodes.items g in (
       omega (arith, b.2, c.decreases),
@@ -539,7 +563,7 @@ read_conditional-returns-then-present-clause-end t c =
       note_low c.args.k c.loop-i.i
           c.loop-i.present (omega (arith, c.len-i-end.ensures)),
       c.if-present.true,
-    ) at c.loop-i.invariant in
+    ) at c.loop-i.invariant.0 in
     present_end c.args.text.now c.args.rule c.args.k c.args.y c.args.place c.args.depth (numbers_of c.args.parts)
     c.args.nodes.now.items c.requires.row c.loop-i.at c.loop-i.nodes.items _ g c.in_ok-end-2.ensures.end
 
@@ -552,7 +576,7 @@ read_conditional-returns-then-present-clause-lays t c =
       note_low c.args.k c.loop-i.i
           c.loop-i.present (omega (arith, c.len-i-end.ensures)),
       c.if-present.true,
-    ) at c.loop-i.invariant in
+    ) at c.loop-i.invariant.0 in
     present_laid c.args.text.now c.args.rule c.args.k c.args.y c.args.place c.args.depth (numbers_of c.args.parts)
     c.args.nodes.now.items c.requires.row c.loop-i.at c.loop-i.nodes.items c.read-then-present.new.nodes.items _ g
     c.in_ok-end-2.ensures.end c.in_ok-end-2.ensures.lays
@@ -566,7 +590,7 @@ read_conditional-returns-clause-end t c =
       note_low c.args.k c.loop-i.i
           c.loop-i.present (omega (arith, c.len-i-end.ensures)),
       c.if-present.false,
-    ) at c.loop-i.invariant in
+    ) at c.loop-i.invariant.0 in
     absent_end c.args.text.now c.args.rule c.args.k c.args.y c.args.place c.args.depth (numbers_of c.args.parts)
     c.args.nodes.now.items c.requires.row c.loop-i.at c.loop-i.nodes.items g
 
@@ -579,6 +603,132 @@ read_conditional-returns-clause-lays t c =
       note_low c.args.k c.loop-i.i
           c.loop-i.present (omega (arith, c.len-i-end.ensures)),
       c.if-present.false,
-    ) at c.loop-i.invariant in
+    ) at c.loop-i.invariant.0 in
     absent_laid c.args.text.now c.args.rule c.args.k c.args.y c.args.place c.args.depth (numbers_of c.args.parts)
     c.args.nodes.now.items c.requires.row c.loop-i.at c.loop-i.nodes.items g
+
+pub read_parts-returns-in-None-clause-steps : goal.read_parts-returns-in-None-clause-steps
+read_parts-returns-in-None-clause-steps t c =
+    let n = rw (next_part (numbers_of c.args.parts) c.len-i-end.ensures c.loop-i-test.true c.rule.ensures.value) at c.loop-i.invariant.1 in
+    count_part_fails c.args.text.now n c.in_ok-end.ensures.steps (has_now c.in-None.is c.in_ok-end.ensures.end)
+
+pub read_parts-returns-clause-steps : goal.read_parts-returns-clause-steps
+read_parts-returns-clause-steps t c =
+    let n = rw (no_part (numbers_of c.args.parts) c.len-i-end.ensures c.loop-i-test.false) at c.loop-i.invariant.1 in
+    count_parts_end c.args.text.now n
+
+pub read_choice-returns-in-Some-clause-steps : goal.read_choice-returns-in-Some-clause-steps
+read_choice-returns-in-Some-clause-steps t c =
+    let n = rw (next_part (numbers_of c.args.choices) c.len-i-end.ensures c.loop-i-test.true c.rule.ensures.value) at c.loop-i.invariant.1 in
+    count_choice_fits c.args.text.now n c.in_ok-end.ensures.steps (has_now c.in-Some.is c.in_ok-end.ensures.end)
+
+pub read_choice-returns-clause-steps : goal.read_choice-returns-clause-steps
+read_choice-returns-clause-steps t c =
+    let n = rw (no_part (numbers_of c.args.choices) c.len-i-end.ensures c.loop-i-test.false) at c.loop-i.invariant.1 in
+    count_choices_end c.args.text.now n
+
+pub read_optional-returns-in-Some-clause-steps : goal.read_optional-returns-in-Some-clause-steps
+read_optional-returns-in-Some-clause-steps t c =
+    count_optional c.args.text.now c.args.rule c.requires.row c.in_ok-end.ensures.steps
+
+pub read_optional-returns-in-None-clause-steps : goal.read_optional-returns-in-None-clause-steps
+read_optional-returns-in-None-clause-steps t c =
+    count_optional c.args.text.now c.args.rule c.requires.row c.in_ok-end.ensures.steps
+
+pub read_list-returns-in-None-clause-steps : goal.read_list-returns-in-None-clause-steps
+read_list-returns-in-None-clause-steps t c =
+    count_no_list c.args.text.now c.args.rule c.requires.row c.in_ok-at.ensures.steps (has_now c.in-None.is c.in_ok-at.ensures.end)
+
+pub read_list-returns-in_ok-end-in-Some-clause-steps : goal.read_list-returns-in_ok-end-in-Some-clause-steps
+read_list-returns-in_ok-end-in-Some-clause-steps t c =
+    count_list c.args.text.now c.args.rule c.requires.row c.in_ok-at.ensures.steps (has_now c.in-Some.is c.in_ok-at.ensures.end) c.in_ok-end-in-Some.ensures.steps
+
+pub read_list1-returns-in-None-clause-steps : goal.read_list1-returns-in-None-clause-steps
+read_list1-returns-in-None-clause-steps t c =
+    count_no_list1 c.args.text.now c.args.rule c.requires.row c.in_ok-at.ensures.steps (has_now c.in-None.is c.in_ok-at.ensures.end)
+
+pub read_list1-returns-in_ok-end-in-Some-clause-steps : goal.read_list1-returns-in_ok-end-in-Some-clause-steps
+read_list1-returns-in_ok-end-in-Some-clause-steps t c =
+    count_list1 c.args.text.now c.args.rule c.requires.row c.in_ok-at.ensures.steps (has_now c.in-Some.is c.in_ok-at.ensures.end) c.in_ok-end-in-Some.ensures.steps
+
+pub read_items-returns-in_default-clause-steps : goal.read_items-returns-in_default-clause-steps
+read_items-returns-in_default-clause-steps t c =
+    count_items_end c.args.text.now c.loop-found.invariant.1 c.in_ok-found.ensures.steps (has_now c.in_default.is c.in_ok-found.ensures.end)
+
+pub read_items-returns-then-end-at-clause-steps : goal.read_items-returns-then-end-at-clause-steps
+read_items-returns-then-end-at-clause-steps t c =
+    count_items_stuck c.args.text.now c.loop-found.invariant.1 c.in_ok-found.ensures.steps (has_now c.in-Some.is c.in_ok-found.ensures.end) c.if-end-at.true
+
+pub read_tail-returns-in_default-clause-steps : goal.read_tail-returns-in_default-clause-steps
+read_tail-returns-in_default-clause-steps t c =
+    count_tail_end c.args.text.now c.loop-found.invariant.1 c.in_ok-found.ensures.steps (has_now c.in_default.is c.in_ok-found.ensures.end)
+
+pub read_tail-returns-then-behind-at-clause-steps : goal.read_tail-returns-then-behind-at-clause-steps
+read_tail-returns-then-behind-at-clause-steps t c =
+    count_tail_stuck c.args.text.now c.loop-found.invariant.1 c.in_ok-found.ensures.steps (has_now c.in-Some.is c.in_ok-found.ensures.end) c.if-behind-at.true
+
+pub read_tail-returns-in_default-next-clause-steps : goal.read_tail-returns-in_default-next-clause-steps
+read_tail-returns-in_default-next-clause-steps t c =
+    count_tail_back c.args.text.now c.loop-found.invariant.1 c.in_ok-found.ensures.steps (has_now c.in-Some.is c.in_ok-found.ensures.end) c.if-behind-at.false c.in_ok-next.ensures.steps (has_now c.in_default-next.is c.in_ok-next.ensures.end)
+
+pub read_conditional-returns-in-None-clause-steps : goal.read_conditional-returns-in-None-clause-steps
+read_conditional-returns-in-None-clause-steps t c =
+    let g = rw (next_part (numbers_of c.args.parts) c.len-i-end.ensures c.loop-i-test.true c.rule.ensures.value) at c.loop-i.invariant in
+    count_no_condition c.args.text.now c.args.rule c.args.k c.args.y c.args.place c.args.depth (numbers_of c.args.parts) c.args.nodes.now.items c.requires.row c.rule.result _ c.loop-i.at c.loop-i.nodes.items g.0 g.1 c.in_ok-end.ensures.steps (has_now c.in-None.is c.in_ok-end.ensures.end)
+
+pub read_conditional-returns-clause-steps : goal.read_conditional-returns-clause-steps
+read_conditional-returns-clause-steps t c =
+    let e = c.loop-i-test.false in
+    let q = (if_switch c.requires.low c.requires.row).1 in
+    let g = rw (
+      no_part (numbers_of c.args.parts) c.len-i-end.ensures c.loop-i-test.false,
+      note_low c.args.k c.loop-i.i
+          c.loop-i.present (omega (arith, c.len-i-end.ensures)),
+      c.if-present.false,
+    ) at c.loop-i.invariant in
+    count_absent c.args.text.now c.args.rule c.args.k c.args.y c.args.place c.args.depth (numbers_of c.args.parts) c.args.nodes.now.items c.requires.row c.loop-i.at c.loop-i.nodes.items g.0 g.1
+
+pub read_conditional-returns-then-present-clause-steps : goal.read_conditional-returns-then-present-clause-steps
+read_conditional-returns-then-present-clause-steps t c =
+    let e = c.loop-i-test.false in
+    let q = (if_switch c.requires.low c.requires.row).1 in
+    let g = rw (
+      no_part (numbers_of c.args.parts) c.len-i-end.ensures c.loop-i-test.false,
+      note_low c.args.k c.loop-i.i
+          c.loop-i.present (omega (arith, c.len-i-end.ensures)),
+      c.if-present.true,
+    ) at c.loop-i.invariant in
+    count_present c.args.text.now c.args.rule c.args.k c.args.y c.args.place c.args.depth (numbers_of c.args.parts) c.args.nodes.now.items c.requires.row c.loop-i.at c.loop-i.nodes.items g.0 g.1 c.in_ok-end-2.ensures.steps
+
+pub read_row-returns-in-Bytes-clause-steps : goal.read_row-returns-in-Bytes-clause-steps
+read_row-returns-in-Bytes-clause-steps t c =
+    count_leaf c.args.text.now c.args.rule (sym c.in-Bytes.ensures) refl
+
+pub read_row-returns-in-OneOf-clause-steps : goal.read_row-returns-in-OneOf-clause-steps
+read_row-returns-in-OneOf-clause-steps t c =
+    count_leaf c.args.text.now c.args.rule (sym c.in-OneOf.ensures) refl
+
+pub read_row-returns-in-NotNext-clause-steps : goal.read_row-returns-in-NotNext-clause-steps
+read_row-returns-in-NotNext-clause-steps t c =
+    count_leaf c.args.text.now c.args.rule (sym c.in-NotNext.ensures) refl
+
+pub read_row-returns-in-Past-clause-steps : goal.read_row-returns-in-Past-clause-steps
+read_row-returns-in-Past-clause-steps t c =
+    count_leaf c.args.text.now c.args.rule (sym c.in-Past.ensures) refl
+
+pub read_row-returns-in-Run-clause-steps : goal.read_row-returns-in-Run-clause-steps
+read_row-returns-in-Run-clause-steps t c =
+    count_leaf c.args.text.now c.args.rule (sym c.in-Run.ensures) refl
+
+pub read-returns-then-refuses-clause-steps : goal.read-returns-then-refuses-clause-steps
+read-returns-then-refuses-clause-steps t c = count_passed c.args.text.now c.if-refuses.ensures.end c.if-refuses.ensures.here
+
+pub try_rule-returns-in-Some-clause-steps : goal.try_rule-returns-in-Some-clause-steps
+try_rule-returns-in-Some-clause-steps t c =
+    let some = c.if-limits-eq0.false in
+    count_tried c.args.text.now (omega (arith, some)) c.in_ok-end.ensures.steps
+
+pub try_rule-returns-in-None-clause-steps : goal.try_rule-returns-in-None-clause-steps
+try_rule-returns-in-None-clause-steps t c =
+    let some = c.if-limits-eq0.false in
+    count_tried c.args.text.now (omega (arith, some)) c.in_ok-end.ensures.steps

@@ -1,0 +1,12 @@
+pub mod TableFacts
+pub mod ChainFacts
+pub mod KnownFacts
+pub mod ResumeFacts
+pub mod IfFacts
+pub mod BeginFacts
+pub mod CoveredFacts
+pub mod IfCovered
+pub mod GrowthFacts
+pub mod LeafFacts
+pub mod StepFacts
+pub mod MemoFacts

@@ -1,0 +1,6 @@
+pub mod Entries
+pub mod Tables
+pub mod Wanted
+pub mod Closure
+pub mod Frames
+pub mod ReaderView

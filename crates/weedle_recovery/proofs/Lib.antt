@@ -1,0 +1,3 @@
+pub mod DivisionFacts
+pub mod TokenFacts
+pub mod StopFacts

@@ -1,0 +1,6 @@
+use Rattle.std.proofs.Common.{length, ◌≤◌}
+use Rattle.weedle_recovery.proofs.definitions.failing_place.Given as goal
+
+-- the place is one of the text
+abbrev pub invariant-loop-number : goal.invariant-loop-number
+invariant-loop-number l = l.at ≤ length l.text

@@ -1,0 +1,40 @@
+use Rattle.std.proofs.Common.{◌≡◌, ◌<◌, ◌++◌, ◌∷◌, [], ℕ, List, Option, true, length, arith, subst, refl}
+use Rattle.std.specs.Prelude.{IfSome, IfNone}
+use Rattle.weedle_grammar.specs.written.Table.Definitions.{DEFINITION}
+use Rattle.weedle_rules.specs.Outcomes.{EndsAt, FailsAt}
+use Rattle.weedle_syntax.specs.declared.node.Node.{Node}
+use Rattle.weedle_recovery.specs.declared.part.Part.{Part}
+use Rattle.weedle_recovery.specs.Recovery.{IsDivided}
+use Rattle.weedle_recovery.proofs.DivisionFacts.{at_front, definition_takes, whole_front, whole_more, whole_not}
+use Rattle.weedle_recovery.proofs.recovered.divided.Goals as goal
+
+pub loop-at-init : goal.loop-at-init
+loop-at-init c = (at_front _ _ _ c.new.ensures.items c.new-2.ensures.items, whole_front c.new.ensures.items refl)
+
+-- what a definition's reading ensures, once it is known to end
+abbrev Took : List ℕ → ℕ → List Part → List Node → ℕ → Option ℕ → Type 0
+Took text place parts nodes definition o = IfSome o (λ end. EndsAt text DEFINITION place end × IsDivided text parts nodes definition end)
+
+abbrev Added : ℕ → List Part → List Part → Option ℕ → Type 0
+Added place old new o = IfSome o (λ end. new ≡ old ++ record { rule = DEFINITION; is_read = true; start = place; end = end; definition = place } ∷ [])
+
+abbrev Refused : List ℕ → ℕ → List Part → List Node → ℕ → Option ℕ → Type 0
+Refused text place parts nodes definition o = IfNone o (FailsAt text DEFINITION place × IsDivided text parts nodes definition place)
+
+pub loop-at-smaller-in-Some : goal.loop-at-smaller-in-Some
+loop-at-smaller-in-Some c =
+    let read = subst (Took c.args.text.now c.loop-at.at c.take.new.self.parts.items c.take.new.self.nodes.items c.take.new.self.definition) c.in-Some.is c.in_ok-end.ensures.read in
+    let on = definition_takes read.0 in
+    omega arith
+
+pub loop-at-preserved-in-Some : goal.loop-at-preserved-in-Some
+loop-at-preserved-in-Some c =
+    let read = subst (Took c.args.text.now c.loop-at.at c.take.new.self.parts.items c.take.new.self.nodes.items c.take.new.self.definition) c.in-Some.is c.in_ok-end.ensures.read in
+    let added = subst (Added c.loop-at.at c.loop-at.found.parts.items c.take.new.self.parts.items) c.in-Some.is c.in_ok-end.ensures.added in
+    (read.1, whole_more c.loop-at.at c.loop-at.invariant.1 read.0 added)
+
+pub loop-at-preserved : goal.loop-at-preserved
+loop-at-preserved c =
+    let refused = subst (Refused c.args.text.now c.loop-at.at c.take.new.self.parts.items c.take.new.self.nodes.items c.take.new.self.definition) c.in-None.is c.in_ok-end.ensures.not in
+    let short : c.loop-at.at < length c.args.text.now = omega (arith, c.loop-at-test.true) in
+    (c.in_ok-at-in-None.ensures.divided, whole_not c.loop-at.invariant.1 refused.0 short)

@@ -1,0 +1,28 @@
+//! Error recovery: all definitions of a text that can be read, and what stands between them.
+//!
+//! [`recover`] divides a text into parts, one behind another. At a part a rule is read, as that of a
+//! definition, and its nodes are laid down; or it is unread, and its rule fails where it begins.
+//! This is panic mode: behind an unread part the reading goes on at the next synchronisation point,
+//! a token that is the first of its line or stands behind a `;` or a `}`, at which a definition
+//! begins. In the body of a definition the members are parts too.
+//!
+//! ```rust
+//! use weedle_recovery::recover;
+//!
+//! let found = recover(rt.alloc(), "typedef long;\nenum E { \"a\" };")?;
+//! assert!(rt; !found.parts[0].is_read);
+//! assert!(rt; found.parts[1].is_read);
+//! ```
+#![tactic(auto)]
+
+mod definitions;
+mod division;
+mod part;
+mod reading;
+mod recovered;
+mod recovery;
+mod stops;
+mod token;
+
+pub use part::Part;
+pub use recovered::{Recovered, recover};

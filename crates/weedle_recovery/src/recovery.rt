@@ -1,0 +1,343 @@
+//! Panic mode: how the reading goes on where no definition is read.
+
+ghost use Rattle.std.specs.Prelude.{◌≡◌, ◌≤◌, ◌<◌, length, IfOk, IfSome, IfNone};
+ghost use Rattle.weedle_grammar.specs.written.Table.Definitions.{DEFINITION};
+ghost use Rattle.weedle_recovery.specs.Recovery.{DefinitionPasses, IsDivided};
+ghost use Rattle.weedle_rules.specs.Outcomes.{FailsAt};
+
+use crate::definitions::{
+    MOST_PARTS, begins, begun, ends_body, failing_place, front_rule, member_behind, member_of,
+    opened, part_of,
+};
+use crate::division::Division;
+use crate::reading::Reading;
+use crate::stops::{Goal, stop_behind};
+use std::alloc::{AllocError, Global};
+use weedle_grammar::Rule;
+
+impl Division {
+    /// Goes on where no definition is read, and says from where on one may be read again.
+    pub(crate) fn go_on(
+        &mut self,
+        alloc: Global,
+        text: &Reading<'_>,
+        place: usize,
+    ) -> Result<usize, AllocError>
+        requires divided { IsDivided text.now self.old.parts.items self.old.nodes.items
+            self.old.definition place }
+        requires definition { self.old.definition ≡ place }
+        requires fails { FailsAt text.now DEFINITION place }
+        requires unread { place < length text.now }
+        ensures divided { IfOk result
+            (λ e. IsDivided text.now self.new.parts.items self.new.nodes.items self.new.definition
+            e) }
+        ensures onward { IfOk result (λ e. place < e) }
+    {
+        match opened(alloc, text, place, &mut self.limits)? {
+            Some(definition) => self.go_inside(alloc, text, definition, place),
+            None => self.pass(alloc, text, place),
+        }
+    }
+
+    /// Reads a definition with a body whose front is read.
+    fn go_inside(
+        &mut self,
+        alloc: Global,
+        text: &Reading<'_>,
+        definition: Rule,
+        place: usize,
+    ) -> Result<usize, AllocError>
+        requires divided { IsDivided text.now self.old.parts.items self.old.nodes.items
+            self.old.definition place }
+        requires definition { self.old.definition ≡ place }
+        requires fails { FailsAt text.now DEFINITION place }
+        requires unread { place < length text.now }
+        ensures divided { IfOk result
+            (λ e. IsDivided text.now self.new.parts.items self.new.nodes.items self.new.definition
+            e) }
+        ensures onward { IfOk result (λ e. place < e) }
+    {
+        let inside = self.open(alloc, text, definition, place)?;
+        if inside > place {
+            self.body(alloc, text, member_of(definition), inside)
+        } else {
+            self.pass(alloc, text, inside)
+        }
+    }
+
+    /// Passes over a definition whose front isn't read.
+    fn pass(&mut self, alloc: Global, text: &Reading<'_>, place: usize) -> Result<usize, AllocError>
+        requires divided { IsDivided text.now self.old.parts.items self.old.nodes.items
+            self.old.definition place }
+        requires definition { self.old.definition ≡ place }
+        requires fails { FailsAt text.now DEFINITION place }
+        requires unread { place < length text.now }
+        ensures divided { IfOk result
+            (λ e. IsDivided text.now self.new.parts.items self.new.nodes.items self.new.definition
+            e) }
+        ensures onward { IfOk result (λ e. place < e) }
+    {
+        let brace = stop_behind(alloc, text, &Goal::Body, place, &mut self.limits)?;
+        match member_behind(alloc, text, brace, &mut self.limits)? {
+            Some(found) => {
+                let at = self.leave_front(alloc, text, place, found.1)?;
+                self.body(alloc, text, found.0, at)
+            }
+            None => {
+                let end = stop_behind(alloc, text, &Goal::Definition, place, &mut self.limits)?;
+                self.leave_front(alloc, text, place, end)
+            }
+        }
+    }
+
+    /// Reads the front of a definition with a body, and says where the body begins.
+    fn open(
+        &mut self,
+        alloc: Global,
+        text: &Reading<'_>,
+        definition: Rule,
+        place: usize,
+    ) -> Result<usize, AllocError>
+        requires { IsDivided text.now self.old.parts.items self.old.nodes.items self.old.definition
+            place }
+        ensures divided { IfOk result
+            (λ e. IsDivided text.now self.new.parts.items self.new.nodes.items self.new.definition
+            e) }
+        ensures after { IfOk result (λ e. place ≤ e) }
+        ensures same { IfOk result (λ e. self.new.definition ≡ self.old.definition) }
+    {
+        let mut at = place;
+        for number in 0..MOST_PARTS {
+            let Some(rule) = front_rule(definition, number) else {
+                return Ok(at);
+            };
+            match self.take(alloc, text, rule, at)? {
+                Some(end) => at = end,
+                None => return self.leave(text, rule, at, at),
+            }
+        }
+        Ok(at)
+    }
+
+    /// Leaves a definition unread up to a place. Where it begins as one, its parts are read up to
+    /// the one that fails.
+    fn leave_front(
+        &mut self,
+        alloc: Global,
+        text: &Reading<'_>,
+        place: usize,
+        end: usize,
+    ) -> Result<usize, AllocError>
+        requires divided { IsDivided text.now self.old.parts.items self.old.nodes.items
+            self.old.definition place }
+        requires fails { FailsAt text.now DEFINITION place }
+        requires definition { self.old.definition ≡ place }
+        requires onward { place < end }
+        requires within { end ≤ length text.now }
+        requires passes { DefinitionPasses text.now place end }
+        ensures divided { IfOk result
+            (λ e. IsDivided text.now self.new.parts.items self.new.nodes.items self.new.definition
+            e) }
+        ensures onward { IfOk result (λ e. place < e) }
+    {
+        match begun(alloc, text, place, &mut self.limits)? {
+            Some(definition) => self.leave_begun(alloc, text, definition, place, end),
+            None => self.leave(text, Rule::DEFINITION, place, end),
+        }
+    }
+
+    /// Leaves a definition unread up to a place; its parts are read up to the one that fails, if
+    /// that stands there too.
+    fn leave_begun(
+        &mut self,
+        alloc: Global,
+        text: &Reading<'_>,
+        definition: Rule,
+        place: usize,
+        end: usize,
+    ) -> Result<usize, AllocError>
+        requires divided { IsDivided text.now self.old.parts.items self.old.nodes.items
+            self.old.definition place }
+        requires fails { FailsAt text.now DEFINITION place }
+        requires definition { self.old.definition ≡ place }
+        requires onward { place < end }
+        requires within { end ≤ length text.now }
+        requires passes { DefinitionPasses text.now place end }
+        ensures divided { IfOk result
+            (λ e. IsDivided text.now self.new.parts.items self.new.nodes.items self.new.definition
+            e) }
+        ensures onward { IfOk result (λ e. place < e) }
+    {
+        let failing = failing_place(alloc, text, definition, place, &mut self.limits)?;
+        if place < failing && failing <= end {
+            self.leave_rest(alloc, text, definition, place, end)
+        } else {
+            self.leave(text, Rule::DEFINITION, place, end)
+        }
+    }
+
+    /// Reads the parts of a definition up to the one that fails, and leaves the rest unread up to a
+    /// place.
+    fn leave_rest(
+        &mut self,
+        alloc: Global,
+        text: &Reading<'_>,
+        definition: Rule,
+        place: usize,
+        end: usize,
+    ) -> Result<usize, AllocError>
+        requires divided { IsDivided text.now self.old.parts.items self.old.nodes.items
+            self.old.definition place }
+        requires fails { FailsAt text.now DEFINITION place }
+        requires definition { self.old.definition ≡ place }
+        requires onward { place < end }
+        requires within { end ≤ length text.now }
+        requires passes { DefinitionPasses text.now place end }
+        ensures divided { IfOk result
+            (λ e. IsDivided text.now self.new.parts.items self.new.nodes.items self.new.definition
+            e) }
+        ensures onward { IfOk result (λ e. place < e) }
+    {
+        let mut at = place;
+        for number in 0..MOST_PARTS {
+            let Some(rule) = part_of(definition, number) else {
+                break;
+            };
+            match self.take(alloc, text, rule, at)? {
+                Some(next) => at = next,
+                None => return self.leave_behind(text, rule, at, end),
+            }
+        }
+        if at > place {
+            return Ok(at);
+        }
+        self.leave(text, Rule::DEFINITION, at, end)
+    }
+
+    /// Leaves the rest of a definition unread up to a place, whose rule fails behind the parts that
+    /// are read; where these come further, it is missing.
+    fn leave_behind(
+        &mut self,
+        text: &Reading<'_>,
+        rule: Rule,
+        start: usize,
+        end: usize,
+    ) -> Result<usize, AllocError>
+        requires divided { IsDivided text.now self.old.parts.items self.old.nodes.items
+            self.old.definition start }
+        requires fails { FailsAt text.now rule start }
+        requires within { end ≤ length text.now }
+        requires passes { DefinitionPasses text.now self.old.definition end }
+        ensures divided { IfOk result
+            (λ e. IsDivided text.now self.new.parts.items self.new.nodes.items self.new.definition
+            e) }
+        ensures after { IfOk result (λ e. end ≤ e) }
+    {
+        if start < end {
+            self.leave(text, rule, start, end)
+        } else {
+            self.leave(text, rule, start, start)
+        }
+    }
+
+    /// Reads the members of a body and what closes it; what is no member is unread.
+    fn body(
+        &mut self,
+        alloc: Global,
+        text: &Reading<'_>,
+        member: Rule,
+        inside: usize,
+    ) -> Result<usize, AllocError>
+        requires { IsDivided text.now self.old.parts.items self.old.nodes.items self.old.definition
+            inside }
+        ensures divided { IfOk result
+            (λ e. IsDivided text.now self.new.parts.items self.new.nodes.items self.new.definition
+            e) }
+        ensures after { IfOk result (λ e. inside ≤ e) }
+    {
+        let mut at = inside;
+        loop {
+            match self.take(alloc, text, member, at)? {
+                Some(end) => {
+                    if end == at {
+                        return Ok(at);
+                    }
+                    at = end;
+                }
+                None => match self.end_body(alloc, text, at)? {
+                    Some(end) => return Ok(end),
+                    None => {
+                        let end = stop_behind(
+                            alloc,
+                            text,
+                            &Goal::Member(member),
+                            at,
+                            &mut self.limits,
+                        )?;
+                        self.leave(text, member, at, end)?;
+                        if end == at || begins(alloc, text, end, &mut self.limits)? {
+                            return Ok(end);
+                        }
+                        at = end;
+                    }
+                },
+            }
+        }
+    }
+
+    /// Reads what closes a body, where no member is read. Where the body goes on, the answer is
+    /// None.
+    fn end_body(
+        &mut self,
+        alloc: Global,
+        text: &Reading<'_>,
+        place: usize,
+    ) -> Result<Option<usize>, AllocError>
+        requires { IsDivided text.now self.old.parts.items self.old.nodes.items self.old.definition
+            place }
+        ensures ended { IfOk result
+            (λ o. IfSome o
+            (λ e. IsDivided text.now self.new.parts.items self.new.nodes.items self.new.definition
+            e)) }
+        ensures after { IfOk result (λ o. IfSome o (λ e. place ≤ e)) }
+        ensures goes { IfOk result
+            (λ o. IfNone o
+            (IsDivided text.now self.new.parts.items self.new.nodes.items self.new.definition
+            place)) }
+    {
+        if let Some(end) = self.take(alloc, text, Rule::CLOSE_BRACE, place)? {
+            let end = self.close(alloc, text, end)?;
+            return Ok(Some(end));
+        }
+        if place >= text.len() || begins(alloc, text, place, &mut self.limits)? {
+            let end = self.leave(text, Rule::CLOSE_BRACE, place, place)?;
+            return Ok(Some(end));
+        }
+        if ends_body(alloc, text, place, &mut self.limits)? {
+            self.leave(text, Rule::CLOSE_BRACE, place, place)?;
+            let end = self.close(alloc, text, place)?;
+            return Ok(Some(end));
+        }
+        Ok(None)
+    }
+
+    /// Reads the `;` behind a body.
+    fn close(
+        &mut self,
+        alloc: Global,
+        text: &Reading<'_>,
+        place: usize,
+    ) -> Result<usize, AllocError>
+        requires { IsDivided text.now self.old.parts.items self.old.nodes.items self.old.definition
+            place }
+        ensures divided { IfOk result
+            (λ e. IsDivided text.now self.new.parts.items self.new.nodes.items self.new.definition
+            e) }
+        ensures after { IfOk result (λ e. place ≤ e) }
+    {
+        match self.take(alloc, text, Rule::SEMI_COLON, place)? {
+            Some(end) => Ok(end),
+            None => self.leave(text, Rule::SEMI_COLON, place, place),
+        }
+    }
+}

@@ -1,0 +1,40 @@
+//! How much a descent may do.
+
+ghost use Rattle.std.specs.Prelude.{◌≡◌, ◌≤◌, ◌+◌, ◌*◌, ◌↔◌, IsTrue};
+
+/// How much a descent may still do: where it would do more, it gives up with an error.
+///
+/// A caller then reads over the table of ends, whose time and memory follow from the length of the
+/// text. So every text is read within a bound, and with little stack.
+#[derive(Clone, Copy)]
+pub struct Limits {
+    /// How many rules it may still try. Each rule that is tried takes one; what can't begin with
+    /// the byte that stands there is passed over, and takes none.
+    pub steps: usize,
+    /// How deep the nodes may stand in one another; 0 once a limit was spent.
+    pub depth: usize,
+}
+
+/// How many nodes deep a descent goes, for which 180 kB of stack are enough.
+const DEPTH: usize = 400;
+
+impl Limits {
+    /// The limits for a text of so many bytes: 16 rules for each byte and 4,096 more, 400 nodes
+    /// deep. What people write takes two rules a byte, some 60 nodes deep.
+    pub fn of_length(length: usize) -> Limits
+        ensures steps { result.steps ≤ 16 * length + 4096 }
+        ensures depth { result.depth ≡ 400 }
+    {
+        Limits {
+            steps: length.saturating_mul(16).saturating_add(4_096),
+            depth: DEPTH,
+        }
+    }
+
+    /// Whether a descent gave up since one of them was spent, and not for want of memory.
+    pub fn are_spent(&self) -> bool
+        ensures { IsTrue result ↔ (self.now.depth ≡ 0) }
+    {
+        self.depth == 0
+    }
+}

@@ -1,0 +1,151 @@
+// A parser of WebIDL, with the typed tree of weedle2.
+
+import { Kind, Position, Span, Value } from "./lib/value.js";
+import { Definition, Identifier } from "./lib/written/values.js";
+import { Role } from "./lib/written/roles.js";
+
+export * from "./lib/value.js";
+export * from "./lib/written/values.js";
+export * as term from "./lib/written/term.js";
+export { Role };
+
+/** The version of the package. */
+export declare const version: string;
+
+/** The names of the grammar's rules, by their numbers. */
+export declare const RULES: readonly string[];
+
+/**
+ * The definitions of a text, as `parse("Request includes Body;")[0]`.
+ *
+ * Parts are made when they are asked for. It throws `Refused` where the grammar doesn't read the whole text, `NotUtf8`
+ * of bytes that aren't UTF-8 or a string with a lone surrogate, `NoMemory` where memory is refused, a RangeError of
+ * more than 4 GB, and a TypeError of what is no text.
+ */
+export declare function parse(text: string | Uint8Array): Definitions;
+
+/** The node of a whole text, whose children are its definitions. It throws what `parse` throws. */
+export declare function syntax(text: string | Uint8Array): Node;
+
+/**
+ * The text laid out anew: a string of a string, a Buffer of bytes.
+ *
+ * Blanks are moved, and nothing else changes: the answer is read by the same rules, with the same words, strings and
+ * comments. A text of whitespace and comments alone stays as it stands. It throws what `parse` throws.
+ */
+export declare function format<T extends string | Uint8Array>(text: T): T extends string ? string : T;
+
+/** The definitions of a text: an array, of which `map` and the like give plain ones. */
+export declare class Definitions extends Array<Definition> {
+  private constructor();
+  /** The whole text. */
+  readonly text: string;
+  /** The node of the whole text, as `syntax` gives it; it isn't read again. */
+  readonly syntax: Node;
+  /** All values, each before those below it. */
+  walk(): Generator<Value, void>;
+  /** Those of `walk` that are of a class, as `find(InterfaceDefinition)`; of another function what an array finds. */
+  find<S extends Definition>(
+    predicate: (value: Definition, index: number, all: Definition[]) => value is S,
+    self?: unknown,
+  ): S | undefined;
+  find(
+    predicate: (value: Definition, index: number, all: Definition[]) => unknown,
+    self?: unknown,
+  ): Definition | undefined;
+  find<V extends Value>(kind: Kind<V>): Generator<V, void>;
+  /** Each name of the text and what it stands for, in the order of the text. */
+  names(): Generator<Name, void>;
+}
+
+/**
+ * A name that stands in a text, and what it stands for.
+ *
+ * In `interface _A {};` the text is `A`, the role `Interface`, and the span from 10 to 12 has the underscore in it.
+ */
+export declare class Name {
+  private constructor();
+  /** Its letters, without an underscore in front. */
+  readonly text: string;
+  /** What it stands for. */
+  readonly role: Role;
+  /** The value of the name. */
+  readonly value: Identifier;
+  /** Where it stands, with an underscore in front, in UTF-16 units. */
+  readonly span: Span;
+  /** The same in bytes of UTF-8. */
+  readonly byteSpan: Span;
+  /** The line and the column at which it begins. */
+  readonly position: Position;
+}
+
+/** A rule that was read, and the part of the text that it took. */
+export declare class Node {
+  private constructor();
+  /** The number of the rule, as include/weedle.h has it. */
+  readonly rule: number;
+  /** The name of the rule, as `interface_definition`. */
+  readonly name: string;
+  /** How many nodes it stands in. */
+  readonly depth: number;
+  /** All that was read, blanks and comments around words included, in UTF-16 units. */
+  readonly span: Span;
+  /** The same in bytes of UTF-8. */
+  readonly byteSpan: Span;
+  /** The line and the column at which it begins. */
+  readonly position: Position;
+  /** The part of the text at `span`. */
+  readonly text: string;
+  /** The nodes right below it. Where there are some, they take all its text in turn. */
+  readonly children: Node[];
+  /** Whether no node stands below it. */
+  readonly isLeaf: boolean;
+  /** The node right above it; null of the whole text's. */
+  readonly parent: Node | null;
+  /** The comments in it, line comments with their LF. Docstrings, from `///` on, are none. */
+  readonly comments: Node[];
+  /** The node and all below it, each before those below it. */
+  walk(): Generator<Node, void>;
+  /** The nodes of `walk` whose rule has this name; a RangeError where none has. */
+  find(name: string): Generator<Node, void>;
+  /** Whether another is the same node of the same reading. */
+  equals(other: unknown): boolean;
+}
+
+/**
+ * A text that the grammar doesn't read whole. Its message is the one that weedle_check prints.
+ *
+ * Of `interface A {}; enum E { "a" "b" };` the second definition, from 16 on, isn't read: the reading comes to line 1,
+ * column 30, where a `,` or a `}` would go on.
+ */
+export declare class Refused extends SyntaxError {
+  private constructor();
+  /** Where the unread rest begins, in UTF-16 units: at the first definition that isn't read. */
+  readonly start: number;
+  /** The same in bytes of UTF-8. */
+  readonly byteStart: number;
+  /** The furthest place to which the reading comes, in UTF-16 units; `start` where memory ran out for more. */
+  readonly place: number;
+  /** The same in bytes of UTF-8. */
+  readonly bytePlace: number;
+  /** The line of that place, from 1 on. */
+  readonly line: number;
+  /** Its column in characters, from 1 on. */
+  readonly column: number;
+  /** What would have been read there, as "`,` or `}`"; empty where memory ran out for it. */
+  readonly expected: string;
+  /** What would mend the text, as "1:15: `attribute` in place of `atribute`?", or null. */
+  readonly hint: string | null;
+}
+
+/** Bytes that aren't UTF-8, or a string with a lone surrogate, which UTF-8 hasn't. */
+export declare class NotUtf8 extends TypeError {
+  private constructor();
+  /** The byte up to which the text is UTF-8. */
+  readonly byteStart: number;
+}
+
+/** Memory was refused. */
+export declare class NoMemory extends RangeError {
+  private constructor();
+}

@@ -1,0 +1,40 @@
+"use strict";
+
+/**
+ * A parser of WebIDL: the proved parser of this repository, with the typed tree of weedle2.
+ *
+ * `parse` gives the definitions of a text, each with its parts as fields; `syntax` gives the nodes, rule by rule;
+ * `format` lays a text out. What isn't WebIDL is `Refused`, with line, column and what was expected there.
+ * index.d.ts has what each gives.
+ * @module
+ */
+
+const { NoMemory, NotUtf8, Refused } = require("./lib/errors.js");
+const { format } = require("./lib/formatting.js");
+const { Name } = require("./lib/names.js");
+const { Node, syntax } = require("./lib/nodes.js");
+const { Definitions, parse } = require("./lib/parsing.js");
+const { Choice, Listed, Terminal, Value } = require("./lib/value.js");
+const { RULES } = require("./lib/written/grammar.js");
+const term = require("./lib/written/term.js");
+const { version } = require("./package.json");
+
+module.exports = {
+  Choice,
+  Definitions,
+  Listed,
+  Name,
+  NoMemory,
+  Node,
+  NotUtf8,
+  RULES,
+  Refused,
+  Terminal,
+  Value,
+  format,
+  parse,
+  syntax,
+  term,
+  version,
+  ...require("./lib/written/values.js"),
+};

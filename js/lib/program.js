@@ -1,0 +1,211 @@
+"use strict";
+
+/**
+ * The program `weedle`: reads files of WebIDL, and writes what stands in them.
+ * @module
+ */
+
+const fs = require("node:fs");
+const { parseArgs } = require("node:util");
+
+const { NoMemory, NotUtf8, Refused } = require("./errors.js");
+const { format } = require("./formatting.js");
+const { library } = require("./library.js");
+const { syntax } = require("./nodes.js");
+const { Output } = require("./output.js");
+const { parse } = require("./parsing.js");
+const { version } = require("../package.json");
+
+const USAGE = "usage: weedle [--help] [--json | --syntax | --format] [--version] [FILE ...]";
+const HELP = `${USAGE}
+
+Reads files of WebIDL. Without a file it reads standard input, which \`-\` names too.
+
+  --json     write each definition as JSON on a line; of several files each line is an object with
+             the \`file\` and the \`definition\`
+  --syntax   write each node on a line, indented by its depth
+  --format   write the text laid out
+  --version  write the version
+
+What is refused, and why, it then says on standard error. With none of these it says that on standard output, and last
+how many files were read and refused, as weedle_check does. The status is 0 where all is read, 1 where something is
+refused, 2 where a file can't be read or isn't UTF-8, 3 where memory ran out, 4 where the output can't be written, and 5
+where the arguments are others; of several the greatest.
+`;
+
+/** What a run comes to. */
+const Status = Object.freeze({ READ: 0, REFUSED: 1, UNREADABLE: 2, NO_MEMORY: 3, UNWRITTEN: 4, MISUSED: 5 });
+/** How a message calls standard input, and what names it. */
+const [STANDARD_INPUT, DASH] = ["<stdin>", "-"];
+
+/** A string as JSON with nothing but ASCII, as the file's name in a line. */
+const asciiJson = (text) =>
+  JSON.stringify(text).replace(/[\u0080-\uffff]/g, (it) => `\\u${it.charCodeAt(0).toString(16).padStart(4, "0")}`);
+
+/** Writes each definition on a line, with the file's name where there are several. */
+function writeJson(bytes, out, name) {
+  const [front, back] = name === null ? ["", ""] : [`{"file":${asciiJson(name)},"definition":`, "}"];
+  for (const definition of parse(bytes)) {
+    out.write(`${front}${definition.jsonText()}${back}\n`);
+  }
+}
+
+/** Writes each node on a line: its name, its bytes, and of one with none below it its text. */
+function writeSyntax(bytes, out) {
+  for (const node of syntax(bytes).walk()) {
+    const { start, end } = node.byteSpan;
+    const text = node.isLeaf ? ` ${JSON.stringify(node.text)}` : "";
+    out.write(`${"  ".repeat(node.depth)}${node.name} ${start}..${end}${text}\n`);
+  }
+}
+
+/** What writes the text of a file, by the option. */
+const WRITERS = { json: writeJson, syntax: writeSyntax, format: (bytes, out) => out.write(format(bytes)) };
+
+/** A run over some files. */
+class Run {
+  #write;
+  #out;
+  #isNamed;
+  #files = 0;
+  #refused = 0;
+  #unread = 0;
+
+  constructor(write, out, isNamed) {
+    this.#write = write;
+    this.#out = out;
+    this.#isNamed = isNamed;
+  }
+
+  /** Reads all files, and says how many there were where nothing else is written. */
+  readAll(words) {
+    const status = Math.max(...words.map((word) => this.#read(word)));
+    if (!this.#write) {
+      this.#out.write(`${this.#summary()}\n`);
+    }
+    this.#out.flush();
+    return status;
+  }
+
+  /** Reads the file that an argument names, and writes what stands in it. */
+  #read(word) {
+    const name = word === DASH ? STANDARD_INPUT : word;
+    let bytes;
+    try {
+      bytes = fs.readFileSync(word === DASH ? 0 : word);
+    } catch (fault) {
+      return this.#complain(name, `cannot read input: ${said(fault)}`, Status.UNREADABLE);
+    }
+    try {
+      this.#write ? this.#write(bytes, this.#out, this.#isNamed ? name : null) : parse(bytes);
+    } catch (fault) {
+      return this.#faulty(name, fault);
+    }
+    this.#files += 1;
+    return Status.READ;
+  }
+
+  /** What a file comes to that gives no tree. */
+  #faulty(name, fault) {
+    if (fault instanceof Refused) {
+      this.#tell(`${name}:${fault.message}\n`);
+      this.#files += 1;
+      this.#refused += 1;
+      return Status.REFUSED;
+    }
+    if (fault instanceof NotUtf8) {
+      return this.#complain(name, "input is not UTF-8", Status.UNREADABLE);
+    }
+    if (fault instanceof NoMemory) {
+      return this.#complain(name, "out of memory", Status.NO_MEMORY);
+    }
+    throw fault;
+  }
+
+  /** Says why a file is refused: where nothing else is written, there. */
+  #tell(line) {
+    if (this.#write) {
+      this.#out.flush();
+      complain(line);
+    } else {
+      this.#out.write(line);
+    }
+  }
+
+  /** Says on standard error why a file isn't read. */
+  #complain(name, why, status) {
+    this.#unread += 1;
+    complain(`${name}: ${why}\n`);
+    return status;
+  }
+
+  /** How many files there were. */
+  #summary() {
+    const unread = this.#unread ? `, ${this.#unread} not read` : "";
+    return `${this.#files} file${this.#files === 1 ? "" : "s"}, ${this.#refused} refused${unread}`;
+  }
+}
+
+/** Writes to standard error, if that takes anything. */
+function complain(text) {
+  try {
+    fs.writeSync(2, text);
+  } catch {
+    // nobody reads it
+  }
+}
+
+/** What the system says of a fault. */
+const said = (fault) =>
+  fault.errno === undefined ? fault.message : `${library.describe(-fault.errno)} (os error ${-fault.errno})`;
+
+/** The arguments of a run, or null where they are others. */
+function wantedBy(words) {
+  const names = [...Object.keys(WRITERS), "version", "help"];
+  const options = { ...Object.fromEntries(names.map((name) => [name, { type: "boolean" }])) };
+  options.help.short = "h";
+  try {
+    const { values, positionals } = parseArgs({ args: words, options, allowPositionals: true });
+    const ways = Object.keys(WRITERS).filter((name) => values[name]);
+    if (ways.length > 1) {
+      throw new TypeError(`--${ways[1]} isn't for use beside --${ways[0]}`);
+    }
+    return { ...values, write: WRITERS[ways[0]], files: positionals.length ? positionals : [DASH] };
+  } catch (fault) {
+    complain(`${USAGE}\nweedle: ${fault.message}\n`);
+    return null;
+  }
+}
+
+/** Writes a text alone. */
+function show(text, out) {
+  out.write(text);
+  out.flush();
+  return Status.READ;
+}
+
+/** Does what the arguments ask for. The status. */
+function main(words) {
+  const wanted = wantedBy(words);
+  if (!wanted) {
+    return Status.MISUSED;
+  }
+  const out = new Output(1);
+  try {
+    if (wanted.help || wanted.version) {
+      return show(wanted.help ? HELP : `weedle ${version}\n`, out);
+    }
+    return new Run(wanted.write, out, wanted.files.length > 1).readAll(wanted.files);
+  } catch (fault) {
+    if (fault.syscall !== "write") {
+      throw fault;
+    }
+    // who reads no further, as `head`, asks for no word
+    if (fault.code !== "EPIPE") {
+      complain("cannot write output\n");
+    }
+    return Status.UNWRITTEN;
+  }
+}
+
+module.exports = { main };

@@ -1,0 +1,71 @@
+"use strict";
+
+/**
+ * The reading of a text, with an exception for each way in which it may have no tree.
+ * @module
+ */
+
+const { NoMemory, NotUtf8, Refused } = require("./errors.js");
+const { Status, library } = require("./library.js");
+const { Text } = require("./text.js");
+const { STRIDE, Tree } = require("./tree.js");
+
+/** How many nodes there is room for at first: most texts have 0.8 to 1.6 a byte. */
+const [NODES_A_BYTE, LEAST_NODES] = [1.75, 64];
+
+/** What is thrown of a text for which the library has this status. */
+function faultOf(text, status, rest) {
+  switch (status) {
+    case Status.REFUSED:
+      return new Refused(text, rest);
+    case Status.NOT_UTF8:
+      return new NotUtf8(rest);
+    case Status.NO_MEMORY:
+      return new NoMemory(text);
+    case Status.TOO_LONG:
+      return new RangeError(`a text of ${text.bytes.length} bytes is longer than nodes can hold`);
+    default:
+      return new Error(`the library gives the status ${status}`);
+  }
+}
+
+/** A text that was given, which has to be Unicode. */
+function textOf(given) {
+  const text = new Text(given);
+  if (typeof given === "string" && text.surrogate >= 0) {
+    throw new NotUtf8(text.surrogate);
+  }
+  return text;
+}
+
+/** Room for so many nodes, or null where there is no memory for it. */
+function roomFor(nodes) {
+  try {
+    return new Uint32Array(nodes * STRIDE);
+  } catch (fault) {
+    if (fault instanceof RangeError) {
+      return null;
+    }
+    throw fault;
+  }
+}
+
+/** The nodes of a text. A text that has more of them than most is read again with as much room as it takes. */
+function treeOf(given) {
+  const text = textOf(given);
+  let room = roomFor(Math.ceil(text.bytes.length * NODES_A_BYTE) + LEAST_NODES) ?? new Uint32Array(0);
+  let found = library.syntax(text.bytes, room);
+  if (found.status === Status.NO_ROOM) {
+    room = roomFor(found.count);
+    if (room === null) {
+      throw new NoMemory(text);
+    }
+    found = library.syntax(text.bytes, room);
+  }
+  if (found.status !== Status.READ) {
+    throw faultOf(text, found.status, found.rest);
+  }
+  return new Tree(text, room.subarray(0, found.count * STRIDE));
+}
+
+module.exports = { faultOf, textOf, treeOf };

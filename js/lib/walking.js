@@ -1,0 +1,44 @@
+"use strict";
+
+/**
+ * Ways over the values of a tree: all of them, those of a class, and the one above.
+ * @module
+ */
+
+const { kindAt, made, rulesOf, rulesOfAll } = require("./making.js");
+
+/** The values of the nodes from one up to another, in preorder. */
+function* valuesIn(tree, node, behind) {
+  const wanted = rulesOfAll();
+  for (let at = node; at < behind; at++) {
+    if (wanted[tree.rule(at)] === 1) {
+      yield made(tree, at);
+    }
+  }
+}
+
+/** Those of a class among them. */
+function* valuesOf(tree, node, behind, kind) {
+  const wanted = rulesOf(kind);
+  for (let at = node; at < behind; at++) {
+    if (wanted[tree.rule(at)] === 1 && isOf(kindAt(tree, at), kind)) {
+      yield made(tree, at);
+    }
+  }
+}
+
+/** Whether a class is another, or derives from it. */
+const isOf = (one, other) => one === other || one.prototype instanceof other;
+
+/** The value that a node stands in, or null. */
+function parentOf(tree, node) {
+  const values = rulesOfAll();
+  for (let above = tree.above(node); above > 0; above = tree.above(above)) {
+    if (values[tree.rule(above)] === 1) {
+      return made(tree, above);
+    }
+  }
+  return null;
+}
+
+module.exports = { parentOf, valuesIn, valuesOf };

@@ -1,0 +1,52 @@
+/*
+ * What names stand for.
+ *
+ * Written by tools/javascript_types.py, and not edited by hand.
+ */
+
+"use strict";
+
+/** What a name stands for, by the rule that reads it. */
+const ROLES = Object.freeze({
+  callback_definition: "Callback",
+  callback_interface_definition: "CallbackInterface",
+  interface_definition: "Interface",
+  interface_mixin_definition: "Mixin",
+  namespace_definition: "Namespace",
+  dictionary_definition: "Dictionary",
+  partial_interface_definition: "PartialInterface",
+  partial_interface_mixin_definition: "PartialMixin",
+  partial_dictionary_definition: "PartialDictionary",
+  partial_namespace_definition: "PartialNamespace",
+  enum_definition: "Enum",
+  typedef_definition: "Typedef",
+  includes_statement_definition: "Includer",
+  implements_definition: "Implementer",
+  const_member: "Const",
+  attribute_interface_member: "Attribute",
+  attribute_mixin_member: "Attribute",
+  attribute_namespace_member: "Attribute",
+  opt_identifier: "Operation",
+  dictionary_member: "DictionaryMember",
+  single_argument: "Argument",
+  variadic_argument: "Argument",
+  may_be_null_identifier: "Type",
+  inheritance: "Inherited",
+  extended_attribute_arg_list: "ExtendedAttribute",
+  extended_attribute_named_arg_list: "ExtendedAttribute",
+  extended_attribute_ident_list: "ExtendedAttribute",
+  extended_attribute_ident: "ExtendedAttribute",
+  extended_attribute_no_args: "ExtendedAttribute",
+  identifier_list: "ExtendedAttributeValue",
+  tail_identifier_comma: "ExtendedAttributeValue",
+  identifier_or_string: "ExtendedAttributeValue",
+});
+
+/** What a name stands for, by that rule, where it has read a name before. */
+const LATER = Object.freeze({
+  extended_attribute_named_arg_list: "ExtendedAttributeValue",
+  includes_statement_definition: "Included",
+  implements_definition: "Implemented",
+});
+
+module.exports = { LATER, ROLES };

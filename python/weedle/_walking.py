@@ -1,0 +1,39 @@
+"""Ways over the values of a tree: all of them, those of a class, and the one above."""
+
+from __future__ import annotations
+
+from typing import Any, Iterator, Optional
+
+from weedle._making import MAKE_VALUE, Variants, MAKERS, rules_of
+from weedle._tree import Tree
+
+
+def values_in(tree: Tree, node: int) -> Iterator[Any]:
+    """The values of a node and of all nodes below it, in preorder."""
+    makes = MAKE_VALUE
+    for at, rule in enumerate(tree.rules[node:tree.behind(node)], node):
+        make = makes[rule]
+        if make:
+            yield make(tree, at)
+
+
+def values_of(tree: Tree, node: int, kind: type) -> Iterator[Any]:
+    """Those of a class among them."""
+    wanted = rules_of(kind)
+    for at, rule in enumerate(tree.rules[node:tree.behind(node)], node):
+        if rule in wanted:
+            it = MAKERS[rule]
+            found = it.classes[tree.rules[at + 1]] if isinstance(it, Variants) else it
+            if issubclass(found, kind):
+                yield MAKE_VALUE[rule](tree, at)
+
+
+def parent_of(tree: Tree, node: int) -> Optional[Any]:
+    """The value that a node stands in, or None."""
+    above = tree.above(node)
+    while above >= 0:
+        make = MAKE_VALUE[tree.rules[above]]
+        if make:
+            return make(tree, above)
+        above = tree.above(above)
+    return None

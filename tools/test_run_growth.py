@@ -1,0 +1,50 @@
+#!/usr/bin/env python3
+"""Tests run_growth.py with made-up costs, in a second.
+
+    python3 tools/test_run_growth.py
+"""
+
+import unittest
+
+import run_growth
+from families import Family
+from run_growth import FEW, MOST, growth, text_of
+
+MANY = Family("many", "refused", "", f'"a" {10 * FEW}*"bc"')
+LENGTHS = (4_000, 16_000)
+
+
+class Texts(unittest.TestCase):
+    def test_a_text_has_about_the_length_that_is_asked_for(self):
+        for length in (1_000, 4_000, 100_000):
+            self.assertAlmostEqual(len(text_of(MANY, length)), length, delta=length / 100)
+
+    def test_pieces_that_stand_a_few_times_stand_as_often(self):
+        family = Family("few", "read", '4*"[A(" 1000*"x"')
+        for length in (100, 10_000):
+            self.assertEqual(text_of(family, length).count(b"[A("), 4)
+
+
+class Growth(unittest.TestCase):
+    def test_what_grows_with_the_text_passes(self):
+        self.assertLess(growth(lambda text: 70 * len(text), MANY, LENGTHS, 0), MOST)
+
+    def test_what_grows_with_its_square_does_not(self):
+        self.assertGreater(growth(lambda text: len(text) ** 2, MANY, LENGTHS, 0), MOST)
+
+    def test_a_pair_that_goes_two_ways_is_not_the_last_word(self):
+        by_table = lambda text: len(text) * (1_544 if len(text) > 2_000 else 32)
+        self.assertLess(growth(by_table, MANY, LENGTHS, 0), MOST)
+
+    def test_what_each_call_takes_is_left_aside(self):
+        self.assertLess(growth(lambda text: 10 + len(text) ** 2 // 10**7, MANY, LENGTHS, 10**4), MOST)
+
+
+class Told(unittest.TestCase):
+    def test_a_line_says_what_grows_how_much(self):
+        line = run_growth.Tried("quotes", "weedle_explain", "bytes", 15.96).line()
+        self.assertEqual(line, "quotes, weedle_explain: 16.0 times the bytes for four times the text")
+
+
+if __name__ == "__main__":
+    unittest.main()
