@@ -9,6 +9,9 @@ const COLUMNS: usize = 80;
 /// How many blanks a level is.
 const LEVEL: usize = 2;
 
+/// How many levels a line is indented at most. Lists that stand so deep aren't broken.
+const MOST_LEVELS: usize = 16;
+
 /// How many characters extended attributes have at most that stand in front of what they belong to,
 /// on its line.
 const MOST_IN_FRONT: usize = 40;
@@ -160,7 +163,7 @@ impl Layout {
             } else {
                 empty.saturating_add(1)
             },
-            blanks: self.level.saturating_mul(LEVEL),
+            blanks: self.level.min(MOST_LEVELS).saturating_mul(LEVEL),
         }
     }
 
@@ -290,10 +293,11 @@ impl Layout {
         };
     }
 
-    /// Whether the list that was tried fits on its line with a sign of so many characters behind
-    /// it.
+    /// Whether the list that was tried stays on its line: it fits there with a sign of so many
+    /// characters behind it, or stands too deep to be broken.
     pub fn fits(&self, start: &Layout, sign: usize) -> bool {
-        self.lines == start.lines && self.column.saturating_add(sign) <= COLUMNS
+        start.level >= MOST_LEVELS
+            || self.lines == start.lines && self.column.saturating_add(sign) <= COLUMNS
     }
 
     /// Opens the list anew, with a line for each item. The answer is how many characters it had on
