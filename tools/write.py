@@ -6,7 +6,7 @@
 Files of crates and of the packages in C, Python, Rust and JavaScript that a script writes name it at their heads, as
 `Written by tools/grammar.py`. In a copy of the repository without them tools/run_writers.py runs the scripts, and each crate in
 which something differs is laid out by `rt fmt`. What differs then is brought back: so where a
-script fails, nothing is changed. Behind that it writes the pages of docs/ that follow from the crates.
+script fails, nothing is changed. Behind that it writes the pages of docs/ that follow from the crates, and those of man/.
 
 It prints a line for each file that it changed, removed or wrote for the first time. It needs the
 toolchain's command `rt` on PATH, and about two seconds where four processors are idle.
@@ -33,8 +33,8 @@ WRITTEN = re.compile(r"[Ww]ritten by (tools/\w+\.py)")
 HEAD = re.compile(r'/\*(?:.|\n)*?\*/|"""(?:.|\n)*?"""|(?:(?://!|--).*\n)*')
 # The files beside those of crates that scripts write, or may write.
 BESIDE = ("include/*.h", "python/weedle/*.py", "rust/src/*.rs", "js/lib/written/*.js", "js/lib/written/*.ts")
-# The scripts that write pages of docs/ from the crates, and print what they changed.
-PAGES = ("calling.py",)
+# The scripts that write pages of docs/ and of man/ from the sources, and print what they changed.
+PAGES = ("calling.py", "man_pages.py")
 # Where files are made in memory, on systems that have it: a disk takes long to make a thousand.
 MEMORY = "/dev/shm"
 
