@@ -112,7 +112,9 @@ def unpack(top: Path, commit: str, into: Path) -> bool:
     words = ["git", "archive", commit, *(it for it in FOLDERS if it in there)]
     packed = subprocess.run(words, cwd=top, capture_output=True, check=True).stdout
     with tarfile.open(fileobj=io.BytesIO(packed)) as files:
-        files.extractall(into, filter="data")
+        for it in filter(tarfile.TarInfo.isfile, files.getmembers()):
+            (into / it.name).parent.mkdir(parents=True, exist_ok=True)
+            (into / it.name).write_bytes(files.extractfile(it).read())
     return True
 
 

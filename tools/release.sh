@@ -107,7 +107,10 @@ pack_programs() {
 command -v python3 >/dev/null || failed "there is no python3"
 [ -z "$(ls -A "$out" 2>/dev/null)" ] || [ -f "$out/SUMS" ] || failed "$out holds other things than a release"
 python3 "$top/tools/prebuilt.py" --check
-python3 "$top/tools/next_version.py" || [ -n "$is_draft" ] || failed "the version's number has to be another first"
+python3 "$top/tools/next_version.py" || {
+    [ $? = 1 ] || failed "the last version can't be compared"
+    [ -n "$is_draft" ] || failed "the version's number has to be another first"
+}
 version=$(sed -n 's/^# weedle //p' "$built/SUMS")
 rm -rf "$out"
 mkdir -p "$out"

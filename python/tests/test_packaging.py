@@ -183,6 +183,12 @@ class Installed(InRoom):
         self.pip("install", HOME)
         self.assert_works()
 
+    def test_the_top_of_the_repository_is_installed(self):
+        if not (HOME.parent / "pyproject.toml").exists():
+            self.skipTest("this is no repository")
+        self.pip("install", HOME.parent)
+        self.assert_works()
+
     def test_the_folder_is_installed_without_isolation(self):
         self.pip("install", "--no-build-isolation", HOME)
         self.assert_works()
