@@ -7,8 +7,9 @@ In a copy of the repository all that scripts write is written anew, and each cra
 tools/write.py does it. Then the copy has to hold the very files of the repository.
 Beside that it is looked whether each public field and each variant has a doc line
 (tools/undocumented.py), whether the types are declared as the grammar has them
-(tools/unmatched.py), whether the `Drop` behind each declaration is what follows from it
-(tools/drops.py --check), whether docs/CALLING.md is as the crates are (tools/calling.py --check),
+(tools/unmatched.py), whether anything that no proof would miss was forgotten of a new type or file
+(tools/forgotten.py), what still has the old name of what was renamed since the last commit
+(tools/renamed.py), whether docs/CALLING.md is as the crates are (tools/calling.py --check),
 whether the numbers in pages that follow from the grammar still do (tools/grammar_numbers.py),
 whether each wrong body that is tried by hand, or that tests have to find, still applies
 (tools/try_edits.py --check, tools/try_wrong_programs.py --check), whether
@@ -40,7 +41,8 @@ from write import TOP, sources, write_anew, writer_in, writers
 LOOKS = (
     ["undocumented.py"],
     ["unmatched.py"],
-    ["drops.py", "--check"],
+    ["forgotten.py"],
+    ["renamed.py"],
     ["calling.py", "--check"],
     ["grammar_numbers.py"],
     ["try_edits.py", "--check"],

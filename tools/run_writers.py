@@ -23,12 +23,10 @@ from pathlib import Path
 from command_line import parser_of, refused
 
 TOOLS = Path(__file__).resolve().parent
-# Each stands behind those whose files it reads. The lines of modules.py come twice: of types before
-# others name them, and of written files when they are there.
+# Each stands behind those whose files it reads.
 WRITERS = (
-    "grammar terminals reserved_words drops in_step modules trees types_impls types_proofs build_types "
-    "build_types_proofs idl_proofs builds spellings prints impls orders modules c_header "
-    "python_types rust_types javascript_types"
+    "grammar terminals idl_proofs builds spellings prints impls orders c_header python_types rust_types "
+    "javascript_types"
 ).split()
 KEPT = ("crates", "description")
 
