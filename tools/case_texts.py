@@ -3,6 +3,10 @@
 Each stands on a line, as a string of Rust says it.
 """
 
+# Texts of rules that weedle2 lacks, wanted by the rows alone: the folder `added` of tests/, which is there once this
+# has a line.
+ADDED = ""
+
 # Texts with what is said of them where they are refused, by hand and by a reader of the rows that is older than
 # row_words.py: the byte where the rest begins, the furthest byte, its line and column, and the words.
 SAID = r"""

@@ -14,7 +14,8 @@ give weedle2's with those rules as they were. Where a text is refused, the furth
 by the rows alone (row_words.py), and so is what would mend it (row_hints.py). Nothing is taken from the port. tests/README.md says what stands in which file.
 
 With --rows-alone only what the rows say alone is made again, of the texts that the archives have: of each that is
-refused the place, the words, the excerpt and the hint. It needs no weedle2. Without FOLDER it leaves the real files as
+refused the place, the words, the excerpt and the hint; and all of the texts that weedle2 isn't asked of, as those of
+case_texts.ADDED, which are read by rules that it lacks. It needs no weedle2. Without FOLDER it leaves the real files as
 they are; each file of FOLDER has to be the one that is known.
 
 With --check nothing is written: it prints a line for each archive that isn't the one that tests/INDEX lists,
@@ -48,6 +49,10 @@ from tree_json import plain
 
 SEED = 7
 RANDOM, PREFIXES, CHANGED, NEAR = 2_000, 5_000, 2_000, 1_000
+# The folders whose texts were made by the grammar as it was when weedle2 was asked: they stay as the archives have them.
+FROZEN = ("random", "near", "prefixes", "changed")
+# Those that weedle2 isn't asked of: it takes too long, or lacks the rules.
+BY_ROWS_ALONE = ("deep", "added")
 # Who says it.
 BY_WEEDLE2, BY_ROWS = "weedle2", "the grammar's rows"
 # How many characters are shown of a line.
@@ -132,15 +137,28 @@ def hostile_texts():
         yield "enum E {" + '"a",' * count
 
 
-def made_texts():
+def made_texts(tests=TESTS):
     """The folders that need nothing from outside, with their texts."""
-    maker = Maker(SEED)
-    texts = [maker.text() for _ in range(RANDOM)]
-    return {
+    added = lines_in(case_texts.ADDED) if case_texts.ADDED else []
+    by_hand = {
         "tests": texts_of_tests(),
         "worked": worked_texts(),
         "deep": deep_texts(),
         "hostile": list(dict.fromkeys(hostile_texts())),
+    }
+    is_there = all((Path(tests) / archive_of(folder)).is_file() for folder in FROZEN)
+    return by_hand | ({"added": added} if added else {}) | (frozen_texts(tests) if is_there else random_texts())
+
+
+def frozen_texts(tests):
+    return {folder: [case.text for case in cases_of(folder, tests)] for folder in FROZEN}
+
+
+def random_texts():
+    """The folders of FROZEN, by the grammar as it is."""
+    maker = Maker(SEED)
+    texts = [maker.text() for _ in range(RANDOM)]
+    return {
         "random": texts,
         "near": [maker.near(texts[number]) for number in range(NEAR)],
         "prefixes": first_of(prefixes(texts), PREFIXES),
@@ -243,7 +261,7 @@ def answers_of(weedle2, texts):
 
 def cases_of_texts(weedle2, folder, texts):
     """The cases of a folder's texts."""
-    answers = [None] * len(texts) if folder == "deep" else answers_of(weedle2, texts)
+    answers = [None] * len(texts) if folder in BY_ROWS_ALONE else answers_of(weedle2, texts)
     return numbered((text, wanted_of(text, answer)) for text, answer in zip(texts, answers, strict=True))
 
 
@@ -332,8 +350,8 @@ def write(tests, made):
 def stale(tests=TESTS):
     """A line for each archive that isn't what is listed, or whose texts are made otherwise now."""
     yield from wrong_sums(tests)
-    for folder, texts in made_texts().items():
-        if (Path(tests) / archive_of(folder)).is_file() and [case.text for case in cases_of(folder, tests)] != texts:
+    for folder, texts in made_texts(tests).items():
+        if folder not in FROZEN and (Path(tests) / archive_of(folder)).is_file() and [case.text for case in cases_of(folder, tests)] != texts:
             yield f"tests/{archive_of(folder)}: stale, tools/make_cases.py makes other texts"
 
 
@@ -350,7 +368,12 @@ def make(weedle2, real):
 
 
 def make_with_rows_again(real):
-    made = {folder: [with_rows_again(case) for case in cases_of(folder, TESTS)] for folder in made_texts()}
+    made = {}
+    for folder, texts in made_texts().items():
+        if folder in BY_ROWS_ALONE:
+            made[folder] = cases_of_texts(None, folder, texts)
+        else:
+            made[folder] = [with_rows_again(case) for case in cases_of(folder, TESTS)]
     for cases in made.values():
         hold_to_rows(cases)
         hold_to_words(cases)

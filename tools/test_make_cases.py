@@ -11,6 +11,7 @@ import unittest
 from pathlib import Path
 from unittest import mock
 
+import case_texts
 import make_cases
 from case_files import INDEX, Case, archive_of, cases_of, compact, folders, numbered, packed, unpacked, wrong_sums
 from compare_with_weedle2 import answer_by_rows
@@ -173,9 +174,23 @@ class Texts(unittest.TestCase):
 
     def test_how_many_there_are(self):
         with mock.patch.multiple(make_cases, RANDOM=20, NEAR=5, PREFIXES=30, CHANGED=20):
-            counts = {folder: len(texts) for folder, texts in make_cases.made_texts().items()}
+            counts = {folder: len(texts) for folder, texts in make_cases.made_texts("nowhere").items()}
         self.assertEqual([counts[it] for it in ("random", "near", "prefixes", "changed")], [20, 5, 30, 20])
         self.assertGreater(counts["tests"], 300)
+        self.assertNotIn("added", counts)
+
+    def test_those_that_weedle2_was_asked_of_stay(self):
+        cases = numbered([("an older text", {"by": "weedle2"})])
+        with tempfile.TemporaryDirectory() as room, mock.patch("builtins.print"):
+            make_cases.write(room, {folder: cases for folder in make_cases.FROZEN})
+            self.assertEqual(make_cases.made_texts(room)["near"], ["an older text"])
+            self.assertEqual(list(make_cases.stale(room)), [])
+
+    def test_those_of_new_rules_are_wanted_by_the_rows_alone(self):
+        with mock.patch.object(case_texts, "ADDED", "A includes B;\n\\n A includes B;"):
+            texts = make_cases.made_texts()["added"]
+        self.assertEqual(texts, ["A includes B;", "\n A includes B;"])
+        self.assertEqual(cases_of_texts(None, "added", texts)[1].wanted["at"], ["2:2"])
 
 
 class Archives(unittest.TestCase):
@@ -196,7 +211,7 @@ class Archives(unittest.TestCase):
         with tempfile.TemporaryDirectory() as room, mock.patch("builtins.print"):
             make_cases.write(room, {"a": self.CASES, "b": self.CASES})
             self.assertEqual(list(wrong_sums(room)), [])
-            with mock.patch.object(make_cases, "made_texts", lambda: {"a": ["é\n", ""], "b": ["other"]}):
+            with mock.patch.object(make_cases, "made_texts", lambda tests: {"a": ["é\n", ""], "b": ["other"]}):
                 self.assertEqual(list(make_cases.stale(room)), ["tests/b.tar.xz: stale, tools/make_cases.py makes other texts"])
             (Path(room) / archive_of("a")).write_bytes(packed(self.CASES[:1]))
             (Path(room) / archive_of("b")).unlink()
