@@ -15,8 +15,8 @@ so, and each public field and variant has a doc line (tools/pages.py), whether t
 made now (tools/make_cases.py --check), whether the table of docs/GATE.md is that of the times that
 were measured last (tools/gate_page.py --check), whether docs/SLIPS.md says what the rows say of the
 slips of tests/ (tools/run_slips.py --page --check), whether the pieces of Rust in README.md and
-docs/USING.md stand where the gate proves and runs them (tools/try_readme.py --no-run), whether
-what the programs of the worked pages name is there (tools/try_pages.py --no-run), and whether the
+docs/USING.md stand where the gate proves and runs them and what the programs of README and of the
+worked pages name is there (tools/try_pages.py --no-run), and whether the
 built library in prebuilt/ is the one of its sums and of this version (tools/prebuilt.py --check).
 
 It prints a line for each file that is stale, for each that no script writes though it says so, and
@@ -46,7 +46,6 @@ LOOKS = (
     ["make_cases.py", "--check"],
     ["gate_page.py", "--check"],
     ["run_slips.py", "--page", "--check"],
-    ["try_readme.py", "--no-run"],
     ["try_pages.py", "--no-run"],
     ["prebuilt.py", "--check"],
 )
