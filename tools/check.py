@@ -9,7 +9,7 @@ Beside that it is looked whether the types are declared as the grammar has them 
 (tools/forgotten.py), what still has the old name of what was renamed since the last commit
 (tools/renamed.py), whether docs/CALLING.md is as the crates are (tools/calling.py --check),
 whether each wrong body that is tried by hand, or that tests have to find, still applies
-(tools/try_edits.py --check, tools/try_wrong_programs.py --check), whether
+(tools/try_edits.py --check, and with --programs), whether
 each link of the pages leads somewhere, what they name of the repository is there and what they count is
 so, and each public field and variant has a doc line (tools/pages.py), whether the cases of tests/ are those that are listed, of the texts that are
 made now (tools/make_cases.py --check), whether the table of docs/GATE.md is that of the times that
@@ -41,7 +41,7 @@ LOOKS = (
     ["renamed.py"],
     ["calling.py", "--check"],
     ["try_edits.py", "--check"],
-    ["try_wrong_programs.py", "--check"],
+    ["try_edits.py", "--programs", "--check"],
     ["pages.py"],
     ["make_cases.py", "--check"],
     ["gate_page.py", "--check"],
