@@ -41,7 +41,6 @@ from command_line import parser_of
 from compare_with_weedle2 import (
     DEPTH, TOGETHER, WEEDLE2, NoUse, Weedle2, answer_by_rows, explanation, files_of, unescaped,
 )
-from hostile import attributes
 from random_texts import TOKEN, Maker
 from row_ends import NOW, reads_otherwise
 from row_words import position, refusal
@@ -112,8 +111,13 @@ def first_of(texts, count):
     return list(chosen)
 
 
+def attributes(levels):
+    """Extended attributes in one another, which weedle2 reads over and over."""
+    return "[A(" * levels + "[A(a... b" + ")] a... b" * levels + ")] interface I {};"
+
+
 def hostile_texts():
-    """The families of hostile.py, small: each opens what isn't closed, or nests."""
+    """Families of tests/families.txt, small: each opens what isn't closed, or nests."""
     fronts = ("[A(", '[A(optional long a = "]", ', "[A(/*]*/", '[A(/*"*/optional long a = "/*]//", /*//"]*/')
     for count in range(1, 5):
         yield from (front * count for front in fronts)
