@@ -264,6 +264,8 @@ def main():
     parser.add_argument("--weedle2", default=str(WEEDLE2))
     parser.add_argument("--held", nargs=2, help=argparse.SUPPRESS)
     wanted = parser.parse_args()
+    if wanted.what == "depth" and not shutil.which(program := (wanted.words or ["nothing"])[0]):
+        parser.error(f"{program} is no program that can be run")
     wanted.size = wanted.size or (100_000 if wanted.what == "refusals" else 1_000_000)
     wanted.rounds = wanted.rounds or (5 if wanted.what == "bindings" else 15)
     if wanted.held:
