@@ -1,12 +1,12 @@
 #!/usr/bin/env python3
-"""Tests reserved_words.py over a made-up grammar and over that of WebIDL, without the toolchain, in a second.
+"""Tests description/following.py over a made-up grammar and over that of WebIDL, without the toolchain, in a second.
 
-    python3 tools/test_reserved_words.py
+    python3 tools/test_following.py
 """
 
 import unittest
 
-import reserved_words
+from description import following
 from description.rules import Rule
 from description.webidl import RULES
 
@@ -23,37 +23,28 @@ MADE_UP = [
 ]
 
 
-class ReservedWordsTest(unittest.TestCase):
+class FollowingTest(unittest.TestCase):
     def test_a_keyword_is_read_where_an_option_reads_it(self):
-        self.assertEqual(reserved_words.read_behind(MADE_UP), {"long": ["long"]})
+        self.assertEqual(following.read_behind(MADE_UP), {"long": ["long"]})
 
     def test_what_follows_a_repetition_is_its_front(self):
-        known = reserved_words.Neighbours(MADE_UP)
+        known = following.Neighbours(MADE_UP)
         self.assertEqual(known.behind["MARK"], {"LONG"})
         self.assertEqual(known.behind["IDENTIFIER"], {"MARK"})
 
     def test_behind_interface_a_mixin_may_be_read_and_behind_a_dictionary_nothing(self):
-        found = reserved_words.read_behind(RULES)
+        found = following.read_behind(RULES)
         self.assertEqual(found["interface"], ["mixin"])
         self.assertNotIn("dictionary", found)
         self.assertEqual(found["long"], ["long", "or"])
         self.assertEqual(found["a"], ["implements", "includes", "or"])
 
     def test_where_a_type_may_begin_its_words_are_read(self):
-        found = reserved_words.read_behind(RULES)
+        found = following.read_behind(RULES)
         for before in ("(", "typedef", "attribute", "<", ";"):
             self.assertIn("sequence", found[before])
         self.assertIn("optional", found["("])
         self.assertNotIn("optional", found["typedef"])
-
-    def test_the_table_has_each_list_once(self):
-        text = reserved_words.table(MADE_UP)
-        self.assertIn('const BEHIND_LONG: &str = "long";', text)
-        self.assertIn('    (is_among(before, "long") && is_among(name, BEHIND_LONG))', text)
-        self.assertEqual(reserved_words.table(RULES).count("const BEHIND_OPEN_PAREN: "), 1)
-
-    def test_no_line_is_too_long(self):
-        self.assertLess(max(map(len, reserved_words.table(RULES).split("\n"))), 101)
 
 
 if __name__ == "__main__":

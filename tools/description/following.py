@@ -1,25 +1,11 @@
-#!/usr/bin/env python3
-"""Writes which names would be read as words of the grammar behind which word, from the rows.
-
-tools/write.py runs it.
+"""Which keywords may be read behind which word, from the rows.
 
 A name stands for itself where no rule reads a keyword of its letters. What is read at a place is
 told by the word before it: the keywords that stand behind that word somewhere in the grammar. So
 `long` needs an underscore behind `long`, since `long long` is a type, and none behind `interface`.
-At the front, and behind a docstring, any keyword is taken to be read. It writes
-crates/weedle_print/src/written/reserved.rt.
+At the front, and behind a docstring, any keyword is taken to be read.
 """
 
-import sys
-from pathlib import Path
-
-from command_line import refuse_writer
-from description.layout import COLUMNS, filled
-from description.webidl import RULES
-from written_places import put
-
-TOP = Path(__file__).resolve().parent.parent
-OUT = "weedle_print/src/reserved.rt"
 # What the layout keeps as the word before, where that is a name.
 NAME_BEFORE = "a"
 
@@ -112,67 +98,3 @@ def read_behind(rules):
         if text and "IDENTIFIER" in behind and read:
             found[text] = read
     return found
-
-
-def constant(name, doc, texts):
-    """A constant of these texts with a blank between two, in lines that aren't too long."""
-    lines = filled(list(texts), "", columns=COLUMNS - 6).rstrip("\n").split("\n")
-    value = " \\\n    ".join(lines)
-    start = "\n    " if lines[1:] else " "
-    return filled(doc.split(), "", "/// ") + f'const {name}: &str ={start}"{value}";\n'
-
-
-def told(before):
-    """What a doc calls a word before."""
-    return "a name" if before == NAME_BEFORE else f"`{before}`"
-
-
-CALLS = """/// Whether a text is one of these.
-fn is_among(text: &str, texts: &str) -> bool {
-    for one in texts.split(' ') {
-        if one == text {
-            return true;
-        }
-    }
-    false
-}
-
-/// Whether a name is read as a word of the grammar behind this word. What stands there is `a` for
-/// any name, and nothing for the front of a text, a docstring, a string and a number.
-pub(crate) fn is_read_behind(before: &str, name: &str) -> bool {
-    if before.is_empty() {
-        return is_word(name);
-    }
-"""
-
-
-def table(rules):
-    """The file."""
-    found = read_behind(rules)
-    rule_of = {NAME_BEFORE: "NAME"} | {text: rule.strip("_") for rule, text in texts_of(rules).items() if text}
-    grouped = {}
-    for before, read in found.items():
-        grouped.setdefault(tuple(read), []).append(before)
-    out = ["//! Which names are read as words of the grammar, by the word before them.\n//!\n"
-           "//! Written by tools/reserved_words.py, and not edited by hand.\n\nuse crate::reserved::is_word;\n"]
-    calls = []
-    for read, befores in grouped.items():
-        first = rule_of[befores[0]]
-        behind = f"BEHIND_{first}"
-        out.append(constant(behind, f"What is read behind {told(befores[0])}" + (" and its like." if befores[1:] else "."), read))
-        one = f'"{befores[0]}"'
-        if befores[1:]:
-            one = f"AS_{first}"
-            out.append(constant(one, f"Behind what the same is read as behind {told(befores[0])}.", befores))
-        calls.append(f"(is_among(before, {one}) && is_among(name, {behind}))")
-    return "\n".join(out) + "\n" + CALLS + "    " + "\n        || ".join(calls) + "\n}\n"
-
-
-def main():
-    found = read_behind(RULES)
-    put(TOP, OUT, table(RULES))
-    print(f"{len(found)} words before")
-
-
-if __name__ == "__main__":
-    sys.exit(refuse_writer(__doc__))
