@@ -7,9 +7,10 @@ from typing import AbstractSet, Dict, FrozenSet, Iterator, List, Optional, Tuple
 from weedle._text import Span
 from weedle.index import BUILTIN, kind_of
 from weedle.lint import KNOWN
+from weedle.lsp.outline import STATEMENTS
 from weedle.lsp.protocol import ItemKind, Json
 from weedle.lsp.sources import Source
-from weedle.lsp.words import Expected, Front, expected, front_at
+from weedle.lsp.words import BEGINNINGS, Expected, Front, expected, front_at
 from weedle.lsp.workspace import Workspace
 
 #: What a definition is shown as.
@@ -65,7 +66,9 @@ def items(workspace: Workspace, front: Front) -> Iterator[Json]:
     found = expected(front)
     if found is None:
         return
-    yield from ({"label": it, "kind": ItemKind.KEYWORD, "sortText": f"1{it}"} for it in sorted(found.words))
+    # `enum includes A;` is read, and isn't what one writes
+    words = found.words - STATEMENTS if front.words[-1:] and front.words[-1] in BEGINNINGS else found.words
+    yield from ({"label": it, "kind": ItemKind.KEYWORD, "sortText": f"1{it}"} for it in sorted(words))
     if BEGINS_TYPE in found.words:
         is_any = BEGINS_ANY_TYPE in found.words
         names = PLAIN | NAMED | BUILTIN if is_any else PLAIN

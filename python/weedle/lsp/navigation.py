@@ -21,7 +21,11 @@ MEMBERS = frozenset([Role.ATTRIBUTE, Role.OPERATION, Role.CONST, Role.DICTIONARY
 PARTS = frozenset([
     Role.PARTIAL_INTERFACE, Role.PARTIAL_MIXIN, Role.PARTIAL_DICTIONARY, Role.PARTIAL_NAMESPACE,
 ])
+#: Names that speak of something that is defined elsewhere.
+SPEAKING = RENAMED - DEFINING | {Role.EXTENDED_ATTRIBUTE}
 ARGUMENTS = frozenset([NUMBERS["single_argument"], NUMBERS["variadic_argument"]])
+ENUM = NUMBERS["enum_definition"]
+BODIES = frozenset(number for name, number in NUMBERS.items() if name.startswith("braced_"))
 # A definition without members is shown whole, up to so many characters.
 LONGEST = 600
 
@@ -60,6 +64,9 @@ def names(workspace: Workspace, source: Source, it: Target) -> Iterator[Tuple[So
             yield from ((other, name) for name in other.names_of(it.text))
     elif it.name and it.name.role in MEMBERS:
         yield from members(workspace, source, it.name)
+    elif it.name and it.name.role is Role.EXTENDED_ATTRIBUTE:
+        for other in workspace.sources():
+            yield from ((other, name) for name in other.attribute_names(it.text))
     elif it.name:
         yield source, it.name
 
@@ -79,9 +86,11 @@ def definition(workspace: Workspace, source: Source, place: int) -> List[Json]:
     it = target(source, place)
     if it is None:
         return []
-    found = list(names(workspace, source, it))
+    if it.name and it.name.role is Role.EXTENDED_ATTRIBUTE:
+        return []
     if not it.is_global:
         return [source.location(it.span)]
+    found = list(names(workspace, source, it))
     for roles in (DEFINING, PARTS):
         chosen = [other.location(name.span) for other, name in found if name.role in roles]
         if chosen:
@@ -96,7 +105,7 @@ def references(workspace: Workspace, source: Source, place: int, with_definition
         return []
     return [
         other.location(name.span) for other, name in names(workspace, source, it)
-        if with_definition or name.role in RENAMED - DEFINING
+        if with_definition or name.role in SPEAKING
     ]
 
 
@@ -114,7 +123,7 @@ def highlights(source: Source, place: int) -> List[Json]:
 
 def highlight_kind(name: Name) -> HighlightKind:
     """Whether something is defined there, or spoken of."""
-    return HighlightKind.READ if name.role in RENAMED - DEFINING else HighlightKind.WRITE
+    return HighlightKind.READ if name.role in SPEAKING else HighlightKind.WRITE
 
 
 def hover(workspace: Workspace, source: Source, place: int) -> Optional[Json]:
@@ -153,14 +162,13 @@ def code(text: str) -> str:
 
 
 def head(tree: Tree, node: int) -> str:
-    """A definition up to its body, or all of one that has none, without extended attributes."""
+    """A definition up to its body, or all of what has none, without extended attributes."""
     below = node if tree.rules[node] in KINDS else node + 1
     span = Span(words_start(tree, below), tree.span(below).end)
-    text = tree.text.slice(span)
-    is_enum = tree.rules[below] == NUMBERS["enum_definition"]
-    if is_enum and len(text) <= LONGEST:
-        return text
-    return " ".join(text.partition("{")[0].split())[:LONGEST]
+    if tree.rules[below] == ENUM and span.end - span.start <= LONGEST:
+        return tree.text.slice(span)
+    end = next((tree.starts[it] for it in tree.children(below) if tree.rules[it] in BODIES), span.end)
+    return one_line(tree, Span(span.start, end))[:LONGEST]
 
 
 def count_said(it: Any) -> str:

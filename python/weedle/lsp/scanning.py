@@ -3,7 +3,7 @@
 from __future__ import annotations
 
 import re
-from typing import Iterator, List, NamedTuple, Optional
+from typing import Iterator, NamedTuple, Optional
 
 #: What a token is, for a pattern with blanks in it; signs are the others.
 PATTERN = rb"""(?P<doc>///[^\n]*) | (?P<comment>//[^\n]*|/\*(?s:.*?)(?:\*/|\Z))
@@ -11,8 +11,6 @@ PATTERN = rb"""(?P<doc>///[^\n]*) | (?P<comment>//[^\n]*|/\*(?s:.*?)(?:\*/|\Z))
     | (?P<number>-?(?:0[xX][0-9A-Fa-f]+|(?:[0-9]+\.[0-9]*|\.?[0-9]+)(?:[eE][+-]?[0-9]+)?))"""
 SIGN = rb"| (?P<sign>\.\.\.|[\x21-\x7e]|[\x80-\xff]+)"
 TOKEN = re.compile(PATTERN + SIGN, re.VERBOSE)
-#: The signs that open something, each with the one that closes it.
-PAIRS = {b"{": b"}", b"(": b")", b"[": b"]", b"<": b">"}
 #: Tokens that no rule but that of blanks reads.
 COMMENTS = frozenset(["comment", "doc"])
 
@@ -29,27 +27,3 @@ def scan(data: bytes, start: int = 0, end: Optional[int] = None) -> Iterator[Tok
     """The tokens of a part of a text. A string ends with its line."""
     for it in TOKEN.finditer(data, start, len(data) if end is None else end):
         yield Token(it.lastgroup or "", it.start(), it.end())
-
-
-class Pair(NamedTuple):
-    """Two signs and what is between them: where the one begins, and where the other does."""
-
-    start: int
-    end: int
-
-
-def pairs(data: bytes) -> List[Pair]:
-    """The braces, parentheses and brackets of a text that are closed, those in others behind them."""
-    found: List[Pair] = []
-    waiting: List[Token] = []
-    for it in scan(data):
-        if it.kind != "sign" or data[it.start:it.end] not in b"{}()[]":
-            continue
-        sign = data[it.start:it.end]
-        if sign in PAIRS:
-            waiting.append(it)
-        elif waiting and PAIRS[data[waiting[-1].start:waiting[-1].end]] == sign:
-            found.append(Pair(waiting.pop().start, it.start))
-        elif sign == b"}":
-            waiting.clear()  # what it closes was left open
-    return sorted(found)

@@ -90,6 +90,13 @@ class Source:
                 last.add(it.text)
         return found
 
+    def attribute_names(self, text: str) -> List[Name]:
+        """Where an extended attribute of this name stands."""
+        return [
+            it for it in (self.definitions.names() if text in self.attributes else ())
+            if it.role is Role.EXTENDED_ATTRIBUTE and it.text == text
+        ]
+
     def names_of(self, text: str) -> List[Name]:
         """Where a definition of this name is defined or spoken of."""
         # most files of a folder don't have the word at all

@@ -2,50 +2,67 @@
 
 from __future__ import annotations
 
-from typing import Iterator, List, Set
+import re
+from typing import Dict, Iterator, List, Set, Tuple
 
 from weedle._text import Span
 from weedle.lsp.protocol import Json
-from weedle.lsp.scanning import COMMENTS, pairs, scan
 from weedle.lsp.sources import Source
+
+
+# What a fold can begin or end with, and what hides such signs.
+TOKEN = re.compile(
+    rb"""(?P<comment>//[^\n]*|/\*(?s:.*?)(?:\*/|\Z)) | "[^"\n]*"? | (?P<sign>[{}()\[\]])""", re.VERBOSE,
+)
+#: The signs that open something, each with the one that closes it.
+PAIRS = {b"{": b"}", b"(": b")", b"[": b"]"}
+
+
+class Folds:
+    """The parts of a text that an editor folds."""
+
+    def __init__(self, source: Source) -> None:
+        self._lines = source.lines
+        self.found: Dict[int, Json] = {}
+        # what is open, the signs with their places, and the lines of comments one below another
+        self._open: List[Tuple[bytes, int]] = []
+        self._first, self._last = -1, -2
+        for it in TOKEN.finditer(source.data):
+            if it.lastgroup == "sign":
+                self._take_sign(it[0], it.start())
+            elif it.lastgroup == "comment" and is_alone(source, it.start()):
+                self._take_comment(*it.span())
+        self._end_comments()
+
+    def _take_sign(self, sign: bytes, place: int) -> None:
+        """What stands between two signs is folded, and the line of the closing one stays."""
+        if sign in PAIRS:
+            self._open.append((sign, place))
+        elif self._open and PAIRS[self._open[-1][0]] == sign:
+            first = self._lines.line_of(self._open.pop()[1])
+            last = self._lines.line_of(place) - 1
+            if last > first:
+                self.found[first] = {"startLine": first, "endLine": last}
+        elif sign == b"}":
+            self._open.clear()  # what it closes was left open
+
+    def _take_comment(self, start: int, end: int) -> None:
+        first, last = self._lines.line_of(start), self._lines.line_of(end - 1)
+        if first != self._last + 1:
+            self._end_comments()
+            self._first = first
+        self._last = last
+
+    def _end_comments(self) -> None:
+        if self._last > self._first:
+            fold = {"startLine": self._first, "endLine": self._last, "kind": "comment"}
+            self.found.setdefault(self._first, fold)
 
 
 def folds(source: Source) -> List[Json]:
     """The bodies and lists of more than two lines, and the comments of more than one."""
-    found, seen = [], set()
-    for it in [*bodies(source), *comments(source)]:
-        if it["startLine"] not in seen:
-            seen.add(it["startLine"])
-            found.append(it)
-    return sorted(found, key=lambda it: (it["startLine"], -it["endLine"]))
-
-
-def bodies(source: Source) -> Iterator[Json]:
-    """What stands between braces, parentheses or brackets. The line of the closing sign stays."""
-    for pair in pairs(source.data):
-        first, last = source.lines.line_of(pair.start), source.lines.line_of(pair.end) - 1
-        if last > first:
-            yield {"startLine": first, "endLine": last}
-
-
-def comments(source: Source) -> Iterator[Json]:
-    """The comments and docstrings, those of lines one below another together."""
-    first, last = -1, -2
-    for it in scan(source.data):
-        if it.kind not in COMMENTS or not is_alone(source, it.start):
-            continue
-        lines = source.lines.line_of(it.start), source.lines.line_of(it.end - 1)
-        if lines[0] != last + 1:
-            yield from comment(first, last)
-            first = lines[0]
-        last = lines[1]
-    yield from comment(first, last)
-
-
-def comment(first: int, last: int) -> Iterator[Json]:
-    """Lines of comments, where they are more than one."""
-    if last > first:
-        yield {"startLine": first, "endLine": last, "kind": "comment"}
+    found = Folds(source).found
+    return [found[line] for line in sorted(found)]
 
 
 def is_alone(source: Source, place: int) -> bool:

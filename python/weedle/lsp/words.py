@@ -21,6 +21,8 @@ EXPECTED = re.compile(r"\d+:\d+: ([^\n]*)")
 BEGINNINGS = frozenset([
     b"interface", b"dictionary", b"enum", b"namespace", b"typedef", b"callback", b"partial",
 ])
+# Behind `constructor` the same is expected as behind a name: it is read where all of these are.
+BESIDE_CONSTRUCTOR = frozenset(["iterable", "maplike", "stringifier"])
 # A front that has more tokens is no front that people write.
 MOST = 2000
 
@@ -110,4 +112,6 @@ def expected(front: Front) -> Optional[Expected]:
         place, behind = answer(text + word.encode())
         if place == len(text) + len(word) and not (has_name and behind == behind_name):
             found.add(word)
+    if found >= BESIDE_CONSTRUCTOR:
+        found.add("constructor")
     return Expected(frozenset(found), has_name)
