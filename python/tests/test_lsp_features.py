@@ -8,7 +8,8 @@ import unittest
 from pathlib import Path
 
 from lsp_client import PAGE, Client, places, range_, where
-from weedle.lsp import renaming
+from weedle import Span
+from weedle.lsp import layout, renaming
 from weedle.lsp.protocol import Fault
 from weedle.lsp.sources import Source
 
@@ -333,6 +334,13 @@ class Layouts(Features):
 
     def test_blanks_alone(self):
         self.assertEqual(self.laid_out(" // a\n"), " // a\n")
+
+    def test_lines_that_end_with_a_cr_too(self):
+        source = Source(PAGE, b"interface  A{\r\n};\r\n\r\ninterface  B{};\r\n")
+        found = [(it["newText"], *places([it])[0]) for it in layout.layout(source)]
+        self.assertEqual(found, [("", 0, 10, 0, 11), (" ", 0, 12, 0, 12), ("", 0, 13, 1, 0), ("", 3, 10, 3, 11), (" ", 3, 12, 3, 12)])
+        found = [places([it])[0] for it in layout.layout_of(source, Span(0, 3))]
+        self.assertEqual(found, [(0, 10, 0, 11), (0, 12, 0, 12), (0, 13, 1, 0)])
 
 
 class Tokens(Features):

@@ -44,9 +44,7 @@ NONE: FrozenSet[str] = frozenset()
 def completions(workspace: Workspace, source: Source, place: int) -> List[Json]:
     """What may go on at a place, or stand there in place of the word."""
     word = source.word_at(place)
-    definition = source.definition_at(word.start)
-    start = source.tree.starts[definition._node] if definition else source.tree.ends[0]
-    front = front_at(source.data, min(start, word.start), word.start)
+    front = front_at(source.data, source.read_before(word.start), word.start)
     if front is None:
         return []
     prefix = source.text(Span(word.start, place)).lstrip("_").lower()

@@ -3,13 +3,15 @@
 from __future__ import annotations
 
 import re
-from typing import List, Optional
+from typing import List, Optional, Tuple
 
 from weedle._text import Span
 from weedle.lsp.protocol import Json, Severity
 from weedle.lsp.reading import Hint, Problem
 from weedle.lsp.sources import Source
 
+# A change that mends an error: what it is called, what it replaces, and by what.
+Mending = Tuple[str, Span, str]
 # The hints that tell a change; each has what is to be written between backticks.
 IN_PLACE = re.compile(r"`(?P<new>[^`]+)` in place of `(?P<old>[^`]+)`\?")
 MISSING = re.compile(r"`(?P<new>[^`]+)` missing here\?")
@@ -59,13 +61,12 @@ def marked(source: Source, place: int) -> Span:
 def actions(source: Source, span: Span) -> List[Json]:
     """What would mend the errors of a text at a part of it."""
     found = []
+    first, last = source.lines.line_of(span.start), source.lines.line_of(span.end)
     for problem in source.reading.problems:
         shown = diagnostic(source, problem)
-        where = source.lines.span(shown["range"])
         edit = mending(source.data, problem.hint) if problem.hint else None
         # the line of an error offers what mends it
-        lines = source.lines.line_of(where.start), source.lines.line_of(where.end)
-        if edit and lines[0] <= source.lines.line_of(span.end) and source.lines.line_of(span.start) <= lines[1]:
+        if edit and shown["range"]["start"]["line"] <= last and first <= shown["range"]["end"]["line"]:
             found.append(action(source, shown, *edit))
     return found
 
@@ -79,8 +80,8 @@ def action(source: Source, shown: Json, title: str, span: Span, new: str) -> Jso
     }
 
 
-def mending(data: bytes, hint: Hint) -> "Optional[tuple[str, Span, str]]":
-    """The change that a hint tells: what it is called, what it replaces, and by what."""
+def mending(data: bytes, hint: Hint) -> Optional[Mending]:
+    """The change that a hint tells, if it tells one."""
     place, said = hint
     found = IN_PLACE.fullmatch(said)
     if found:
@@ -101,7 +102,7 @@ def mending(data: bytes, hint: Hint) -> "Optional[tuple[str, Span, str]]":
     return None
 
 
-def replaced(data: bytes, place: int, old: str, new: str) -> "Optional[tuple[str, Span, str]]":
+def replaced(data: bytes, place: int, old: str, new: str) -> Optional[Mending]:
     """A word in place of another."""
     end = place + len(old.encode())
     if data[place:end] != old.encode():
@@ -116,14 +117,14 @@ def inserted(data: bytes, place: int, new: str) -> str:
     return f"\n{new}" if CLOSING.fullmatch(new) and is_line_end and is_below else new
 
 
-def removed(data: bytes, place: int, old: str) -> "Optional[tuple[str, Span, str]]":
+def removed(data: bytes, place: int, old: str) -> Optional[Mending]:
     """A sign that is too many."""
     end = place + len(old.encode())
     title = "remove the byte order mark" if old == "\ufeff" else f"remove `{old}`"
     return (title, Span(place, end), "") if data[place:end] == old.encode() else None
 
 
-def moved(data: bytes, place: int, old: str, new: str) -> "Optional[tuple[str, Span, str]]":
+def moved(data: bytes, place: int, old: str, new: str) -> Optional[Mending]:
     """A word that stands behind another, in front of it."""
     words = re.compile(rb"%b(\s+)%b" % (re.escape(old.encode()), re.escape(new.encode())))
     found = words.match(data, place)
@@ -132,7 +133,7 @@ def moved(data: bytes, place: int, old: str, new: str) -> "Optional[tuple[str, S
     return f"put `{new}` in front of `{old}`", Span(*found.span()), new + found[1].decode() + old
 
 
-def commented(data: bytes, place: int) -> "Optional[tuple[str, Span, str]]":
+def commented(data: bytes, place: int) -> Optional[Mending]:
     """A docstring where none may stand, as comments."""
     found = DOC_LINES.match(data, place)
     if not found:

@@ -23,7 +23,7 @@ def capabilities(session: Session) -> Json:
     return {
         "capabilities": {
             "positionEncoding": session.workspace.encoding,
-            "textDocumentSync": {"openClose": True, "change": INCREMENTAL},
+            "textDocumentSync": {"openClose": True, "change": INCREMENTAL, "save": True},
             "codeActionProvider": {"codeActionKinds": ["quickfix"]},
             "completionProvider": {"triggerCharacters": ["[", "(", "<", "="]},
             "definitionProvider": True, "documentHighlightProvider": True,

@@ -18,7 +18,7 @@ BLANKS, WORDS = re.compile(rb"[ \t\r\n]*"), re.compile(rb"[^ \t\r\n]+")
 
 def layout(source: Source) -> List[Json]:
     """The changes that lay out a text: of one with an error, the definitions that are read."""
-    if source.reading.is_whole():
+    if source.reading.is_whole:
         return edits(source, Span(0, len(source.data)))
     if not source.definitions:
         raise Fault("the text isn't read, so it can't be laid out")
@@ -55,7 +55,7 @@ def edits(source: Source, span: Span) -> List[Json]:
     before = source.data[span.start:span.end]
     after = laid_out(before)
     if span.end < len(source.data):
-        after = after.rstrip(b"\n")
+        after = after.rstrip(b"\r\n")
     return [
         {
             "range": source.range(Span(span.start + start, span.start + end)),

@@ -52,7 +52,7 @@ def target(source: Source, place: int) -> Optional[Target]:
     if name:
         return Target(name.text, name.span, name)
     span = source.word_at(place)
-    if span.start >= source.tree.ends[0] and span.end > span.start:
+    if span.end > span.start and source.is_unread(span.start):
         return Target(source.text(span).lstrip("_"), span, None)
     return None
 

@@ -45,8 +45,11 @@ class Reading(NamedTuple):
     """A text as far as it is read."""
 
     definitions: Definitions
+    #: The nodes of the parts that are read, in the order of the text; each is a definition.
+    roots: List[int]
     problems: List[Problem]
 
+    @property
     def is_whole(self) -> bool:
         """Whether all of it is read."""
         return not self.problems
@@ -57,11 +60,13 @@ def read(data: bytes) -> Reading:
 
     A text of whitespace and comments alone has no definitions, and is no error.
     """
+    problems = []
     try:
-        return Reading(parse(data), [])
+        definitions = parse(data)
     except Refused as refused:
-        problems = [] if is_blank(data) else [problem_of(data, refused)]
-    return Reading(front_of(data), problems)
+        problems += [] if is_blank(data) else [problem_of(data, refused)]
+        definitions = front_of(data)
+    return Reading(definitions, definitions._tree.children(0), problems)
 
 
 def front_of(data: bytes) -> Definitions:

@@ -7,15 +7,16 @@ else, as `attribute long a;` with `long` in place of `a`.
 from __future__ import annotations
 
 import re
-from typing import Any, Dict, List, Optional, Set, Tuple
+from typing import Any, Dict, List, Optional, Tuple
 
 from weedle._text import Span
 from weedle.definitions import Definitions
-from weedle.edits import DEFINING, RENAMED, Edits, kinds
+from weedle.edits import DEFINING, RENAMED, kinds
 from weedle.grammar import KEYWORDS
 from weedle.index import name_of
 from weedle.lsp.navigation import MEMBERS, Target, names
 from weedle.lsp.protocol import Code, Fault, Json
+from weedle.lsp.reading import read
 from weedle.lsp.sources import Source
 from weedle.lsp.workspace import Workspace
 from weedle.names import Role, names_in
@@ -87,23 +88,26 @@ def said_place(source: Source, span: Span) -> str:
 
 def renamed(source: Source, spans: List[Span], new: str, written: str) -> List[Json]:
     """The changes of a text, once it was read with them."""
-    wanted = wanted_names(source.definitions, set(spans), new)
-    edits = Edits(source.data[:source.tree.ends[0]])
-    for span in spans:
-        edits.replace(span, written)
-    try:
-        after = Edits(edits.apply()).definitions
-    except ValueError:
-        after = None
-    is_same = after is not None and (
-        [(it.role, it.text) for it in after.names()] == wanted
-        and kinds(source.definitions) == kinds(after)
+    after, places = read(changed(source.data, spans, written.encode())), set(spans)
+    is_same = (
+        said(after.definitions) == [
+            (it.role, new if it.span in places else it.text) for it in source.definitions.names()
+        ]
+        and kinds(after.definitions) == kinds(source.definitions)
+        and len(after.problems) == len(source.reading.problems)
     )
     if not is_same:
         raise Fault(f"{new} would be read as something else than a name")
     return [{"range": source.range(span), "newText": written} for span in spans]
 
 
-def wanted_names(definitions: Definitions, spans: Set[Span], new: str) -> List[Tuple[Role, str]]:
-    """The names of a text, those at some places with other letters."""
-    return [(it.role, new if it.span in spans else it.text) for it in definitions.names()]
+def changed(data: bytes, spans: List[Span], written: bytes) -> bytes:
+    """A text with other words at some places, which stand one behind another."""
+    ends = [0, *(it.end for it in spans)]
+    pieces = [data[end:span.start] for end, span in zip(ends, spans)]
+    return written.join([*pieces, data[ends[-1]:]])
+
+
+def said(definitions: Definitions) -> List[Tuple[Role, str]]:
+    """The names of a text, with what they stand for."""
+    return [(it.role, it.text) for it in definitions.names()]

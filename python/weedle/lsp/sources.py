@@ -5,7 +5,7 @@ from __future__ import annotations
 import re
 from bisect import bisect_right
 from functools import cached_property
-from typing import Any, Dict, Iterator, List, Optional, Set
+from typing import Any, Dict, List, Optional, Set
 
 from weedle._text import Span
 from weedle._tree import Tree
@@ -56,8 +56,8 @@ class Source:
 
     @cached_property
     def starts(self) -> List[int]:
-        """Where its definitions begin, with the comments in front of them."""
-        return [self.tree.starts[it._node] for it in self.definitions]
+        """Where the parts begin that are read."""
+        return [self.tree.starts[it] for it in self.reading.roots]
 
     @cached_property
     def names(self) -> Dict[str, List[Name]]:
@@ -106,26 +106,50 @@ class Source:
         """The definitions of a name, its parts and its statements."""
         return self.by_name.get(text, []) if text.encode() in self.data else []
 
-    def definition_at(self, place: int) -> Optional[Definition.Variants]:
-        """The definition that a place stands in, or in the comments in front of it."""
+    def root_at(self, place: int) -> Optional[int]:
+        """The node of the part that a place stands in, or right behind; None where it isn't read."""
         at = bisect_right(self.starts, place) - 1
         if at < 0:
             return None
-        found: Any = self.definitions[at]
-        return found if place <= self.tree.ends[found._node] else None
+        found = self.reading.roots[at]
+        return found if place <= self.tree.ends[found] else None
+
+    def read_before(self, place: int) -> int:
+        """Where the part begins that a place stands in, or ends that stands in front of it."""
+        root, at = self.root_at(place), bisect_right(self.starts, place) - 1
+        if root is not None:
+            return self.tree.starts[root]
+        return self.tree.ends[self.reading.roots[at]] if at >= 0 else 0
+
+    def is_unread(self, place: int) -> bool:
+        """Whether a place stands in what isn't read."""
+        problems = self.reading.problems
+        at = bisect_right(self._unread, place) - 1
+        return at >= 0 and place < problems[at].unread.end
+
+    @cached_property
+    def _unread(self) -> List[int]:
+        return [it.unread.start for it in self.reading.problems]
+
+    def definition_at(self, place: int) -> Optional[Definition.Variants]:
+        """The definition that a place stands in, or in the comments in front of it."""
+        root = self.root_at(place)
+        for it in self.definitions:
+            if it._node == root:
+                return it
+        return None
 
     def name_at(self, place: int) -> Optional[Name]:
         """The name that a place stands in, or right behind."""
-        definition = self.definition_at(place)
-        return next(self.names_around(definition, place), None) if definition else None
-
-    def names_around(self, definition: Any, place: int) -> Iterator[Name]:
-        """The names of a definition that a place stands in, or right behind."""
+        root = self.root_at(place)
+        if root is None:
+            return None
         starts, ends = self.tree.starts, self.tree.ends
-        for it in names_in(self.tree, definition._node):
+        for it in names_in(self.tree, root):
             node = it.value._node
             if starts[node] <= place <= ends[node] and it.span.start <= place <= it.span.end:
-                yield it
+                return it
+        return None
 
     def word_at(self, place: int) -> Span:
         """The letters of a name around a place, which may be none."""

@@ -6,6 +6,7 @@ import re
 from typing import Dict, Iterator, List, Set, Tuple
 
 from weedle._text import Span
+from weedle._tree import Tree
 from weedle.lsp.protocol import Json
 from weedle.lsp.sources import Source
 
@@ -87,16 +88,20 @@ def selection(source: Source, place: int) -> Json:
 def around(source: Source, place: int) -> Iterator[Span]:
     """The parts of the text around a place, each within the one before."""
     seen: Set[Span] = {Span(0, len(source.data))}
-    tree, node = source.tree, 0
-    while node >= 0:
+    tree, node = source.tree, source.root_at(place)
+    while node is not None:
         span = tree.span(node)
         if span not in seen and span.start <= place <= span.end and span.end > span.start:
             seen.add(span)
             yield span
-        node = next((
-            it for it in tree.children(node)
-            if tree.starts[it] <= place < tree.ends[it] or place == tree.span(it).end > tree.starts[it]
-        ), -1)
+        node = next((it for it in tree.children(node) if is_in(tree, it, place)), None)
     word = source.word_at(place)
     if len(seen) == 1 and word.end > word.start:
         yield word
+
+
+def is_in(tree: Tree, node: int, place: int) -> bool:
+    """Whether a place stands in a node, or right behind its last word."""
+    if tree.starts[node] <= place < tree.ends[node]:
+        return True
+    return tree.starts[node] < place == tree.span(node).end

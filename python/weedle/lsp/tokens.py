@@ -129,12 +129,12 @@ def tokens(source: Source, span: Optional[Span] = None) -> Json:
     data, lines, tree = source.data, source.lines, source.tree
     start, end = span or Span(0, len(data))
     start, end = lines.starts[lines.line_of(start)], lines.end_of(lines.line_of(end))
-    names, unread = roles(tree, start, end), tree.ends[0]
+    names = roles(tree, start, end)
     encoder = Encoder(lines, start)
     for it in TOKEN.finditer(data, start, end):
         kind = it.lastgroup or ""
         place, behind = it.span()
         found = KINDS.get(kind) or names.get(place) or WORDS.get(it[0])
-        if found or place >= unread:
+        if found or source.is_unread(place):
             encoder.put(place, behind, found or UNREAD_NAME)
     return {"data": encoder.data}

@@ -6,17 +6,15 @@ then those count behind which something else is expected than behind a name.
 
 from __future__ import annotations
 
-import re
 from functools import lru_cache
 from typing import FrozenSet, List, NamedTuple, Optional, Tuple
 
-from weedle import _library
+from weedle import Refused, parse
 from weedle.grammar import KEYWORDS
 from weedle.lsp.scanning import COMMENTS, Token, scan
 
 # A word that is no keyword.
 ANY = b"zz"
-EXPECTED = re.compile(r"\d+:\d+: ([^\n]*)")
 # Words that begin a definition on a line of its own, whatever is open in front.
 BEGINNINGS = frozenset([
     b"interface", b"dictionary", b"enum", b"namespace", b"typedef", b"callback", b"partial",
@@ -93,9 +91,11 @@ def is_open(text: bytes, kind: str) -> bool:
 
 def answer(text: bytes) -> Tuple[int, str]:
     """How far the reading of a text comes, and what would be read there."""
-    found = _library.explain(text)
-    said = EXPECTED.match(found.message)
-    return found.place, said[1] if said else ""
+    try:
+        parse(text)
+    except Refused as refused:
+        return refused.place, refused.expected
+    return len(text), ""
 
 
 @lru_cache(maxsize=256)
