@@ -87,8 +87,8 @@ class Built(InRoom):
             self.assertIn(f"Tag: {name.split('-', 2)[2][:-4]}\n", wheel.read(f"{info}/WHEEL").decode())
             listed = {row.split(",")[0] for row in wheel.read(f"{info}/RECORD").decode().splitlines()}
             self.assertEqual(listed, set(wheel.namelist()))
-            modules = {f"weedle/{it.name}" for it in (HOME / "weedle").glob("*.py")}
-            self.assertLessEqual({*modules, "weedle/py.typed"}, listed)
+            modules = {it.relative_to(HOME).as_posix() for it in (HOME / "weedle").rglob("*.py")}
+            self.assertLessEqual({*modules, "weedle/py.typed", "weedle/lsp/server.py"}, listed)
 
     def test_sources(self):
         name = build_backend.build_sdist(self.room)
@@ -192,6 +192,11 @@ class Installed(InRoom):
 
     def assert_works(self):
         """What is installed reads a text, and its program too."""
+        served = subprocess.run(
+            [self.room / "bin/weedle", "lsp"], stdin=subprocess.DEVNULL, capture_output=True, check=False, env=others(),
+            cwd=self.room,
+        )
+        self.assertEqual((served.returncode, served.stderr), (1, b""))
         done = [
             subprocess.run(
                 words, input="A includes B;", capture_output=True, text=True, check=False, env=others(), cwd=self.room,
