@@ -89,6 +89,8 @@ class Built(InRoom):
             self.assertEqual(listed, set(wheel.namelist()))
             modules = {it.relative_to(HOME).as_posix() for it in (HOME / "weedle").rglob("*.py")}
             self.assertLessEqual({*modules, "weedle/py.typed", "weedle/lsp/server.py"}, listed)
+            pages = {f"weedle-{VERSION}.data/data/share/man/man1/{it}.1" for it in ("weedle", "weedle-lint")}
+            self.assertEqual({it for it in listed if "/man/" in it}, pages)
 
     def test_sources(self):
         name = build_backend.build_sdist(self.room)
@@ -99,6 +101,7 @@ class Built(InRoom):
         self.assert_is_about((top / "PKG-INFO").read_text(encoding="utf-8"))
         self.assert_has_owners((top / "LICENSE").read_text(encoding="utf-8"))
         self.assertFalse((top / "build.sh").exists())
+        self.assertEqual(sorted(it.name for it in (top / "man").iterdir()), ["weedle-lint.1", "weedle.1"])
         done = subprocess.run(
             [sys.executable, "-m", "unittest", "discover", "-s", "tests"], cwd=top, env=others(), capture_output=True,
             text=True, check=False,
@@ -110,6 +113,14 @@ class Built(InRoom):
             env=others(), capture_output=True, text=True, check=True,
         )
         self.assertTrue((self.room / done.stdout.strip()).exists())
+
+    def test_the_same_files_give_the_same_bytes(self):
+        for build in (build_backend.build_wheel, build_backend.build_sdist):
+            made = []
+            for moment in (1e9, 2e9):
+                with mock.patch("time.time", lambda: moment):
+                    made.append((self.room / build(self.room)).read_bytes())
+            self.assertEqual(*made)
 
     def test_where_there_is_no_shared_object(self):
         with mock.patch.dict(os.environ, {VARIABLE: ""}), mock.patch.object(build_backend, "HOME", self.room / "here"):
@@ -170,6 +181,12 @@ class Installed(InRoom):
 
     def test_the_folder_is_installed(self):
         self.pip("install", HOME)
+        self.assert_works()
+
+    def test_the_top_of_the_repository_is_installed(self):
+        if not (HOME.parent / "pyproject.toml").exists():
+            self.skipTest("this is no repository")
+        self.pip("install", HOME.parent)
         self.assert_works()
 
     def test_the_folder_is_installed_without_isolation(self):
