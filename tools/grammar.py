@@ -24,7 +24,6 @@ from pathlib import Path
 
 from command_line import refuse_writer
 from description.docs import comment
-from description.names import upper
 from description.webidl import (
     CAPITALIZED, KEYWORDS, NUMBER, RULES, SCANNED, SECTIONS, SYMBOLS, parts_of,
 )
