@@ -29,7 +29,8 @@ PREBUILT = "prebuilt/x86_64-linux/libweedle.so"
 SOURCES = ("pyproject.toml", "README.md", "build_backend.py", "shared_object.py")
 # Those of its tests that want nothing of the repository.
 TESTS = (
-    "support.py", "test_library.py", "test_package.py", "test_program.py", "test_worked_nodes.py",
+    "lsp_client.py", "support.py", "test_library.py", "test_lsp_session.py", "test_package.py",
+    "test_program.py", "test_worked_nodes.py",
 )
 # The oldest glibc that a tag can name.
 OLDEST = (2, 5)
@@ -139,9 +140,9 @@ def information(for_: str) -> Dict[str, bytes]:
 
 def modules() -> Iterator[Tuple[str, bytes]]:
     """The modules, and what lies beside them."""
-    for path in sorted(PACKAGE.iterdir()):
+    for path in sorted(PACKAGE.rglob("*")):
         if path.suffix in (".py", ".typed"):
-            yield f"weedle/{path.name}", path.read_bytes()
+            yield f"weedle/{path.relative_to(PACKAGE).as_posix()}", path.read_bytes()
 
 
 def record_line(name: str, data: bytes) -> str:

@@ -1,7 +1,11 @@
-"""Texts of the tests of the crates and of the programs, beside those of weedle2_texts.py, for tools/make_cases.py.
+"""Texts of tests/ that stand here by hand, for tools/make_cases.py.
 
 Each stands on a line, as a string of Rust says it.
 """
+
+# Texts of rules that weedle2 lacks, wanted by the rows alone: the folder `added` of tests/, which is there once this
+# has a line.
+ADDED = ""
 
 # Texts with what is said of them where they are refused, by hand and by a reader of the rows that is older than
 # row_words.py: the byte where the rest begins, the furthest byte, its line and column, and the words.
@@ -86,115 +90,4 @@ interface A {};}
     15 15 1:16: expected `[`, `callback`, `dictionary`, `enum`, `interface`, `namespace` or 4 more
 partial\u{20}
     0 8 1:9: expected `dictionary`, `includes`, `interface`, `namespace` or `implements`
-"""
-
-# Texts of tests that read them in other ways.
-OTHERS = r"""
-/*\n * Sounds, and players of them.\n */\n\ntypedef (DOMString or sequence<DOMString>) Names;\n\nenum RepeatMode {\n    "none",\n    "one",\n    "all", // the last comma may stay\n};\n\n/// How a player begins.\n/// Each member may be left out but the first.\ndictionary PlayerOptions {\n    required DOMString title;\n    /// From nothing to everything.\n    unrestricted double volume = 1.0;\n    RepeatMode repeat = "none";\n    sequence<Track>? tracks = [];\n};\n\n/// A player of sounds.\n[Exposed=(Window, Worker), SecureContext]\ninterface Player : EventTarget {\n    constructor(optional PlayerOptions options = {});\n\n    const unsigned short STOPPED = 0;\n    const unsigned short PLAYING = 0x1;\n\n    readonly attribute DOMString title;\n    [CEReactions] attribute (Names or Track)? current;\n    static readonly attribute long count; // of all players\n    attribute EventHandler onended;\n\n    /// Begins to play.\n    [NewObject] Promise<undefined> play(optional (DOMString or unsigned long) track);\n    undefined stop();\n    getter Track? (unsigned long index);\n    undefined add([Clamp] octet volume, Track... tracks);\n\n    iterable<DOMString, Track>;\n    stringifier;\n};\n\npartial interface Player {\n    [SameObject] readonly attribute FrozenArray<Track> tracks;\n    [Reflect="loud"] attribute (Names or [Clamp] octet)? level;\n};\n\ninterface mixin Playable {\n    readonly attribute unsigned long long length;\n    Promise<any> load(ArrayBuffer data, optional record<DOMString, any> details);\n};\n\nPlayer includes Playable;\n\ncallback PlayCallback = any (Track track, record<ByteString, double?> details);\n\n[Exposed=Window]\nnamespace Sounds {\n    readonly attribute float loudest;\n    boolean canPlay(DOMString type);\n};\n\npartial dictionary PlayerOptions {\n    object? extra = null;\n};\n
-[X] typedef long T;\n/// doc\n[Y] interface A {\n/// one\n[Z] undefined f(); };
-/// doc\n[Y] interface A {\n/// one\n[Z] undefined f(); };
-interface A : B { const long C = 1;attribute long x; constructor(); undefined f(long y); iterable<long>; /* e */ stringifier;};partial interface A {setlike<long>;};callback interface D {long g();};
-callback C = undefined ();
-[Exposed=Window] interface Window : EventTarget { readonly attribute Storage sessionStorage; };
-///a\r\ndictionary D { ///d\n long x; };
-[]
-/*\u{20}
-/*
-///d\n
-(
-enum E {
-"a",
-};
-interface A {\n  readonly attribute long x\n};
-// a\n\nA includes B; /* é */ C\nimplements D;\n
-\n A includes B;
-sequence<
-interface mixin Body { Promise<any> json(); }; Request includes Body;\n
-interface Window
-[A(optional long a = "]",\u{20}
-[A(/*]*/
-[A(//]\n
-[A(/*"*/optional long a = "/*]//", /*//"]*/
-[A(//"/*]\n
-[A([A([A(
-(a or b)... c,\u{20}
-[
-][
-[]][[
-"["[
-"[[
-// [\n[
-/// [\n[
-// [[
-/* [ */[
-/*/ [ */[
-/**/[[
-/***/[
-/* [ * / */[
-/* [
-/[
-/ /[
-"//"[
-/*"*/[
-//"\n[
-(<>)<(
->)(
-[(])
-a, b ,
-,
-\ninterface A
-enum E { "a" };
-typedef long T;
-A includes M;
-interface I { const long c = 1; };
-interface I { attribute long a; };
-interface I { constructor(); };
-interface I { long o(); };
-interface I { iterable<long>; };
-interface I { async iterable<long>; };
-interface I { maplike<long, long>; };
-interface I { setlike<long>; };
-interface I { stringifier; };
-a\n b
-[Exposed=Window] interface A : B { const long x = 5; void f(); };
-enum Kind { "a", "b" };
-enum Kind { "a" };
-?
-;
-}
-"
-*/
-enum E { "a", "b" };typedef long T; A includes B;\nA implements C;callback F = long ();
-enum E { "a", "b" };
-typedef long T;\u{20}
-A includes B;\n
-A implements C;
-callback F = long ();
- // a\ninterface A {/* none */}; /* b */ // c\ninterface B { /* d */ };\n
- // a\ninterface A {/* none */}; /* b */ // c\n
-interface B { /* d */ };\n
-[X] typedef long T;\n
-const long C = 1;
-attribute long x;\u{20}
-constructor();\u{20}
-iterable<long>; /* e */\u{20}
-stringifier;
-partial interface A {setlike<long>;};
-setlike<long>;
-callback interface D {long g();};
-long g();
-dictionary D { required long x; long y = 1; };
-required long x;\u{20}
-long y = 1;\u{20}
-interface mixin M { const long C = 1; };
-const long C = 1;\u{20}
-namespace N { readonly attribute long x; long f(); };
-readonly attribute long x;\u{20}
-long f();\u{20}
-partial dictionary D {long z;};
-long z;
-partial interface mixin M {long g();};
-interface A { long f() };
-dictionary D {long x;long y;};
-interface _Window {};
 """

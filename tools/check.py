@@ -5,21 +5,19 @@
 
 In a copy of the repository all that scripts write is written anew, and each crate is laid out, as
 tools/write.py does it. Then the copy has to hold the very files of the repository.
-Beside that it is looked whether each public field and each variant has a doc line
-(tools/undocumented.py), whether the types are declared as the grammar has them
-(tools/unmatched.py), whether the `Drop` behind each declaration is what follows from it
-(tools/drops.py --check), whether docs/CALLING.md is as the crates are (tools/calling.py --check),
-whether the numbers in pages that follow from the grammar still do (tools/grammar_numbers.py),
+Beside that it is looked whether the types are declared as the grammar has them (tools/unmatched.py), whether anything that no proof would miss was forgotten of a new type or file
+(tools/forgotten.py), what still has the old name of what was renamed since the last commit
+(tools/renamed.py), whether docs/CALLING.md is as the crates are (tools/calling.py --check),
 whether each wrong body that is tried by hand, or that tests have to find, still applies
-(tools/try_edits.py --check, tools/try_wrong_programs.py --check), whether
-each link of the pages leads somewhere (tools/links.py), whether what they name of the repository is
-there (tools/pages.py), whether the cases of tests/ are those that are listed, of the texts that are
+(tools/try_edits.py --check, and with --programs), whether
+each link of the pages leads somewhere, what they name of the repository is there and what they count is
+so, and each public field and variant has a doc line (tools/pages.py), whether the cases of tests/ are those that are listed, of the texts that are
 made now (tools/make_cases.py --check), whether the table of docs/GATE.md is that of the times that
 were measured last (tools/gate_page.py --check), whether docs/SLIPS.md says what the rows say of the
 slips of tests/ (tools/run_slips.py --page --check), whether the pieces of Rust in README.md and
-docs/USING.md stand where the gate proves and runs them (tools/try_readme.py --no-run), whether
-what the programs of the worked pages name is there (tools/try_pages.py --no-run), whether the built
-library in prebuilt/ is the one of its sums and of this version (tools/prebuilt.py --check), and
+docs/USING.md stand where the gate proves and runs them and what the programs of README and of the
+worked pages name is there (tools/try_pages.py --no-run), whether the
+built library in prebuilt/ is the one of its sums and of this version (tools/prebuilt.py --check), and
 whether the man pages are what the commands say with --help (tools/man_pages.py --check).
 
 It prints a line for each file that is stale, for each that no script writes though it says so, and
@@ -39,19 +37,16 @@ from write import TOP, sources, write_anew, writer_in, writers
 
 # What is looked at where it stands.
 LOOKS = (
-    ["undocumented.py"],
     ["unmatched.py"],
-    ["drops.py", "--check"],
+    ["forgotten.py"],
+    ["renamed.py"],
     ["calling.py", "--check"],
-    ["grammar_numbers.py"],
     ["try_edits.py", "--check"],
-    ["try_wrong_programs.py", "--check"],
-    ["links.py"],
+    ["try_edits.py", "--programs", "--check"],
     ["pages.py"],
     ["make_cases.py", "--check"],
     ["gate_page.py", "--check"],
     ["run_slips.py", "--page", "--check"],
-    ["try_readme.py", "--no-run"],
     ["try_pages.py", "--no-run"],
     ["prebuilt.py", "--check"],
     ["man_pages.py", "--check"],

@@ -34,13 +34,13 @@ import tempfile
 from collections import Counter
 from pathlib import Path
 
+from case_files import cases_of
 from command_line import parser_of
 from crates import read_lines
 from random_texts import Maker
 from table_reader import CHANGED, Table
 from toml_files import loads
 from tree_json import Held, Struct, definition_of, read
-from weedle2_texts import LEFT, WHOLE
 
 TOP = Path(__file__).resolve().parent.parent
 PORT = TOP / "crates/weedle_check/out/weedle_check"
@@ -187,13 +187,12 @@ def explanation(text, port, weedle2):
 
 # The texts.
 def worked_texts():
-    """Each string of the tests, and each text of weedle2_texts.py and of the worked texts in tests/."""
+    """Each string of the tests of crates, and each text that stands in tests/ by hand."""
     tests = [name for name in read_lines(TOP) if name.endswith("_rows") or name == "weedle_testing"]
     for crate in tests:
         for file in sorted((TOP / "crates" / crate / "src").rglob("*.rt")):
             yield from map(unescaped, STRING.findall(file.read_text(encoding="utf-8")))
-    for lines in [*(lines for _, lines in WHOLE.values()), LEFT[2]]:
-        yield from map(unescaped, lines.strip().split("\n"))
+    yield from (case.text for case in cases_of("tests"))
     for name in ("layouts", "table"):
         for rows in loads((TOP / f"tests/{name}.toml").read_text(encoding="utf-8")).values():
             yield from (row[key] for row in rows for key in ("text", "laid_out") if key in row)

@@ -1,33 +1,22 @@
 #!/usr/bin/env python3
 """Says how long a gate from nothing would take, and what a change would cost, from measured times.
 
-    python3 tools/gate_plan.py TIMES [--processors N].. [--memory GB] [--slower F] [--older | --own] [--show]
+    python3 tools/gate_plan.py TIMES [--processors N].. [--memory GB] [--slower F] [--show]
     python3 tools/gate_plan.py TIMES --costs CRATE..
 
 TIMES is a file of JSON that tools/gate_times.py wrote. The layout of the crates is read from
 crates.txt, so one that is only thought of can be tried in a copy.
 
-The gate is simulated in the order in which `rt ci` works: a task for each proof, for each crate's
-tests and for each wrong body; a proof is ready when those of the crates below are done; the longest
-chain behind a task, in lines, goes first; wrong bodies are tried where nothing else is ready. A ready
-proof gets the idle processors by the number of proofs and tests that are ready, four at most, and the
-tests of a crate that has none count as one. Times are those of one job; by two, three or four jobs a
-proof takes SPEED of them. With --memory so many GB are free when it begins. It uses 85 hundredths of them,
-and no task begins beside others for which less is left of these than it is expected to take: by `rt ci` what
-follows from its lines and those below it. With --slower the machine takes F times as long. It prints, for each
-N (4 and 2 where none is given), the minutes by the clock and of processor time; with --show when each task that
-takes a minute or more begins and ends.
+The gate is simulated in the order of tools/gate.py, by the times and the memory that it knows: a task for each proof,
+for each crate's tests, for each wrong body and for the static library (`library`). Times are those of one job; by
+two, three or four jobs a proof takes SPEED of them, and where more jobs run than there are processors, they share
+them. With --memory so many GB are free when it begins, of which gate.py uses 85 hundredths. With --slower the machine
+takes F times as long. It prints, for each N (4 and 2 where none is given), the minutes by the clock and of processor
+time; with --show when each task that takes a minute or more begins and ends.
 
 Where a crate has several wrong bodies, what they begin with is a task (`seed`), each is one, and the check at
 their end is one (`sound`); one alone is tried from nothing. Where each names the function that it turns, `seed`
 is a check of these functions, as long as a try, and there is no `sound`.
-
-With --older the order is that of rattle-kit-13b: a crate's wrong bodies are one task, also where it
-has none, which is ready like any other; so where `weedle_types` begins it is never alone. Before and after a
-library's proof that kit sums up what it is made from, once for each way down the lists, which takes
-SECONDS_OF_A_WAY for each of them on top; rattle-kit-13f sums each crate up once. With --own it
-is that of tools/gate.py over the tasks of rattle-kit-13f, by the times and the memory that it knows, and the
-static library is a task (`library`). Where more jobs run than there are processors, they share them.
 
 With --costs it prints a row for each CRATE: how many crates stand above it, the minutes of processor
 time of all of these and its own, and those of the longest chain among them.
@@ -57,31 +46,18 @@ OVER = 0.7
 KNOWN = ("proof", "tests", "edits", "seed", "library")
 # What the static library takes beside the proof of its crate, where it wasn't measured: 110 s where that proof took 90.
 SECONDS_OF_A_LIBRARY = 60.0
-# What it takes rattle-kit-13b to sum up what a library is made from, once before and once after its proof, for
-# each way down the lists of crates.txt.
-SECONDS_OF_A_WAY = 2 * 0.0025
 # How many GB `rt ci` expects a check to take: of itself, with what the kit's libraries take, and for each
-# line of the crate's sources, of its definitions and proofs, and of the sources below it; and what part
-# of that each further job takes.
+# line of the crate's sources, of its definitions and proofs, and of the sources below it.
 OF_ITSELF, OF_A_SOURCE, OF_A_PROOF, OF_A_LINE_BELOW = 1.2, 1e-3, 2e-4, 8e-5
-MEMORY_OF_A_JOB = 0.6
+# Of which tasks it is shown when they run, in seconds.
 SHOWN = 60.0
 
 
 class Task:
     """A part of the gate: what it waits for, how many lines it has, its seconds by one job, and its GB."""
 
-    def __init__(self, waits, lines, seconds, needs, fills=False):
-        self.waits, self.lines, self.seconds = waits, lines, seconds
-        self.needs, self.fills = needs, fills
-
-
-class Run:
-    """A task that runs: when it ends, by how many jobs, and in how much memory."""
-
-    def __init__(self, task, now, jobs):
-        self.end, self.jobs = now + task.seconds / SPEED[jobs], jobs
-        self.needs = task.needs * (1 + MEMORY_OF_A_JOB * (jobs - 1))
+    def __init__(self, waits, lines, seconds, needs):
+        self.waits, self.lines, self.seconds, self.needs = waits, lines, seconds, needs
 
 
 class Gate:
@@ -105,16 +81,6 @@ class Gate:
         files = [it for it in files_of(self.root, name) if it.endswith(ending)]
         return sum((self.root / it).read_bytes().count(b"\n") for it in files)
 
-    def ways(self, name, known):
-        """How many ways there are down the lists from a crate, its own of no step among them."""
-        if name not in known:
-            uses = [it for it in self.rows[name].uses if it in self.rows]
-            known[name] = 1 + sum(self.ways(it, known) for it in uses)
-        return known[name]
-
-    def is_library(self, name):
-        return (self.root / "crates" / name / "src/lib.rt").is_file()
-
     def needs(self, name):
         """How many GB `rt ci` expects a check of the crate to take."""
         own = OF_A_SOURCE * self.lines(name) + OF_A_PROOF * self.lines(name, ".antt")
@@ -124,25 +90,16 @@ class Gate:
         """All that a crate takes."""
         return self.proof.get(name, 0) + self.tests.get(name, 0) + self.edits.get(name, (0, 0))[1]
 
-    def tasks(self, older=False):
+    def tasks(self):
         """The tasks by their keys, those of lower crates first."""
-        found, ways = {}, {}
+        found = {}
         for name in sorted(self.rows, key=lambda it: len(self.below(it))):
             waits, lines = [(it, "proof") for it in self.below(name)], self.lines(name)
-            proof, tests, needs = self.proof.get(name, 0), self.tests.get(name, 0), self.needs(name)
-            if older and self.is_library(name):
-                proof += SECONDS_OF_A_WAY * self.ways(name, ways)
-            found[name, "proof"] = Task(waits, lines, proof, needs)
+            tests, needs = self.tests.get(name, 0), self.needs(name)
+            found[name, "proof"] = Task(waits, lines, self.proof.get(name, 0), needs)
             found[name, "tests"] = Task(waits, lines * (tests > 0), tests, needs)
-            if older:
-                found[name, "wrong bodies"] = self.all_wrong_bodies(name, lines, needs)
-            else:
-                found.update(self.wrong_bodies(name, waits, lines, needs))
-        return found
-
-    def all_wrong_bodies(self, name, lines, needs):
-        count, whole = self.edits.get(name, (0, 0))
-        return Task([(name, "proof"), (name, "tests")], lines * bool(count), whole, needs)
+            found.update(self.wrong_bodies(name, waits, lines, needs))
+        return self.with_library(found)
 
     def with_library(self, tasks):
         """The tasks, with that of the static library."""
@@ -165,15 +122,15 @@ class Gate:
         well = [(name, "proof"), (name, "tests")]
         if self.by_functions(name):
             seed, needs, each = (name, "seed"), OVER * needs, whole / (count + 1)
-            one = Task([*well, seed], lines, each, needs, True)
-            return {seed: Task(waits, 0, each, needs, True), **{(name, "edits", at): one for at in range(count)}}
+            one = Task([*well, seed], lines, each, needs)
+            return {seed: Task(waits, 0, each, needs), **{(name, "edits", at): one for at in range(count)}}
         if count == 1:
-            return {(name, "edits", 0): Task(well, lines, whole, needs, True)}
+            return {(name, "edits", 0): Task(well, lines, whole, needs)}
         first, last, seed = min(self.proof[name], FIRST * whole), LAST * whole, (name, "seed")
-        one = Task([*well, seed], lines, (whole - first - last) / count, OVER * needs, True)
+        one = Task([*well, seed], lines, (whole - first - last) / count, OVER * needs)
         each = {(name, "edits", at): one for at in range(count)}
         sound = Task([*each, seed], 0, last, OVER * needs)
-        return {seed: Task(waits, 0, first, needs, True), **each, (name, "sound"): sound}
+        return {seed: Task(waits, 0, first, needs), **each, (name, "sound"): sound}
 
     def longest_chain(self, name):
         """The seconds of the longest chain of proofs from a crate up, with what ends it."""
@@ -184,54 +141,8 @@ class Gate:
         return max(chain[it] + self.tests.get(it, 0) for it in chain)
 
 
-def in_order(tasks):
-    """The keys in the order in which they are begun where all are ready."""
-    behind = dict.fromkeys(tasks, 0)
-    for key in reversed([*tasks]):
-        behind[key] += tasks[key].lines
-        for it in tasks[key].waits:
-            behind[it] = max(behind[it], behind[key])
-    return sorted(tasks, key=lambda it: (tasks[it].fills, -behind[it]))
-
-
-def jobs_of(key, at, ready, proofs, idle, fitting):
-    """How many jobs a ready task gets, by the idle processors and by how many the memory fits."""
-    if key[1] == "wrong bodies" or key not in proofs and key[1] != "seed":
-        return 1
-    others = len(proofs) - proofs.index(key) if key in proofs else len(ready) - at
-    return max(1, min(4, idle // others, fitting))
-
-
-def begun(tasks, left, ended, running, now, processors, memory):
-    """The ready tasks that begin now, as they run."""
-    ready = [key for key in left if all(it in ended for it in tasks[key].waits)]
-    proofs, found = [key for key in ready if not tasks[key].fills], {}
-    for at, key in enumerate(ready):
-        beside, needs = [*running.values(), *found.values()], tasks[key].needs
-        idle, room = processors - sum(it.jobs for it in beside), memory - sum(it.needs for it in beside)
-        if idle > 0 and (not beside or needs <= room):
-            fitting = 1 + int(min(4, (room / needs - 1) / MEMORY_OF_A_JOB))
-            found[key] = Run(tasks[key], now, jobs_of(key, at, ready, proofs, idle, fitting))
-    return found
-
-
-def simulated(tasks, processors, memory=math.inf, slower=1):
+def simulated(tasks, processors, memory=math.inf, peaks=None, slower=1):
     """When each task begins and ends, in seconds, and by how many jobs, where each takes SLOWER times as long."""
-    left, running, log, now = in_order(tasks), {}, {}, 0.0
-    while left or running:
-        ended = {key for key in log if key not in running}
-        new = begun(tasks, left, ended, running, now, processors, memory)
-        left, running = [key for key in left if key not in new], {**running, **new}
-        for it in new.values():
-            it.end = now + slower * (it.end - now)
-        log.update({key: (now, it.end, it.jobs) for key, it in new.items()})
-        now = min(it.end for it in running.values())
-        running = {key: it for key, it in running.items() if it.end > now}
-    return log
-
-
-def in_own_order(tasks, processors, memory=math.inf, peaks=None, slower=1):
-    """The same by the order of tools/gate.py, which knows the times of a machine that takes one SLOWER'th of them."""
     rows = {key: (it.waits, it.lines, 1e9 * it.needs, None) for key, it in tasks.items()}
     own = gate.known(rows, {key[:2]: it.seconds for key, it in tasks.items() if key[1] in KNOWN}, peaks)
     order = gate.Order(own, processors, 1e9 * memory)
@@ -270,12 +181,8 @@ def costs(crates, names):
 
 def plan(crates, processors, said):
     """What is printed for a number of processors, by what was said on the command line."""
-    tasks, room = crates.tasks(said.older), gate.ROOM * said.memory
-    if said.own:
-        tasks = crates.with_library(tasks)
-        log = in_own_order(tasks, processors, room, crates.peaks, said.slower)
-    else:
-        log = simulated(tasks, processors, room, said.slower)
+    tasks = crates.tasks()
+    log = simulated(tasks, processors, gate.ROOM * said.memory, crates.peaks, said.slower)
     end, work = max(it[1] for it in log.values()), said.slower * sum(it.seconds for it in tasks.values())
     yield f"{processors} processors: {minutes(end)} minutes, {minutes(work)} of processor time"
     for key, (begin, end, jobs) in log.items() if said.show else ():
@@ -303,9 +210,6 @@ def main():
     parser.add_argument("--processors", type=int, action="append")
     parser.add_argument("--memory", type=float, default=math.inf, metavar="GB")
     parser.add_argument("--slower", type=float, default=1, metavar="F")
-    order = parser.add_mutually_exclusive_group()
-    order.add_argument("--older", action="store_true")
-    order.add_argument("--own", action="store_true")
     parser.add_argument("--show", action="store_true")
     parser.add_argument("--costs", nargs="+", metavar="CRATE")
     said = parser.parse_args()

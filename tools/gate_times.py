@@ -1,8 +1,7 @@
 #!/usr/bin/env python3
 """Says what the gate's time goes into, crate by crate.
 
-    python3 tools/gate_times.py [--json FILE] [--log FILE] [--calibrate] [COMMAND..]
-    python3 tools/gate_times.py --read FILE [--json FILE]
+    python3 tools/gate_times.py [--json FILE] [COMMAND..]
 
 It runs the command, or `rt ci` where none is given, and looks twice a second at the processes below
 it: whose crate each works for, how much processor time it has taken, and how much memory. When the
@@ -12,20 +11,16 @@ static library, the most memory that one of these took in GB, when its proof beg
 took by the clock; then the sums. What the command itself takes, and what no crate is named for, stands
 in the row `the rest`.
 
-With --calibrate it runs `rt selftest` before and after, which proves and builds one small crate of the
-toolchain, always the same, and says what that took. So the times of two machines can be compared:
-divide each table by its calibration.
-
 --json writes the times in seconds in the form that tools/gate_plan.py and tools/gate_page.py take:
 `proof`, `tests`, `programs` and `library` by crate, `edits` as how many there are and what they take
 in all, `clock`, what each proof took by the clock; `memory`, by kind and crate the most GB that a task
 took at one time, by one job (of several, what tools/gate.py expects each further one to take is left
-out); the date, the machine, and `calibration`, the seconds before and after, or nothing. --log keeps
-what was seen of each process, a line of JSON each, and --read makes the table of such files again, of
-several runs too: their times are added.
+out); the date and the machine.
+To compare two machines, divide by what `rt selftest` takes on each: it proves and builds one small crate of the
+toolchain, always the same.
 
 It needs Linux, whose /proc it reads. A process that lives for less than half a second may be missed.
-It ends with the command's status, or with 2 where the command can't be run or a FILE not be read.
+It ends with the command's status, or with 2 where the command can't be run.
 """
 
 import argparse
@@ -33,7 +28,6 @@ import datetime
 import json
 import os
 import re
-import resource
 import subprocess
 import sys
 import time
@@ -158,25 +152,6 @@ def run(command):
     return process.returncode, log
 
 
-def seconds_of_children():
-    used = resource.getrusage(resource.RUSAGE_CHILDREN)
-    return used.ru_utime + used.ru_stime
-
-
-def calibrate(command=("rt", "selftest")):
-    """The processor time of the crate that is always the same, or a line on why there is none."""
-    before = seconds_of_children()
-    done = subprocess.run(command, stdout=subprocess.DEVNULL, stderr=subprocess.DEVNULL, check=False)
-    if done.returncode:
-        sys.exit(f"gate_times: `{' '.join(command)}` ended with status {done.returncode}")
-    return seconds_of_children() - before
-
-
-def taken_by(entry):
-    """The processor time of an entry; older files have user and system time apart."""
-    return sum(entry["cpu"][:2]) if isinstance(entry["cpu"], list) else entry["cpu"]
-
-
 def crate_of(entry):
     words = entry["words"]
     if "--crate-name" in words[:-1]:
@@ -217,21 +192,20 @@ def wrong_bodies(crate):
 class Times:
     """Seconds of processor time by kind and crate, and when each proof began and ended."""
 
-    def __init__(self, log, calibration=()):
+    def __init__(self, log):
         self.by = {kind: {} for kind in KINDS}
         self.memory = {kind: {} for kind in KINDS}
         self.spans, self.rest = {}, 0.0
-        self.calibration = [*calibration]
         for entry in log:
             self.add(entry)
 
     def add(self, entry):
         crate, kind = crate_of(entry), kind_of(entry)
         if crate is None:
-            self.rest += taken_by(entry)
+            self.rest += entry["cpu"]
             return
         of_kind = self.by[kind]
-        of_kind[crate] = of_kind.get(crate, 0) + taken_by(entry)
+        of_kind[crate] = of_kind.get(crate, 0) + entry["cpu"]
         most = entry.get("memory", 0) / (1 + OF_A_JOB * (jobs_of(entry) - 1)) / 1e9
         if most:
             self.memory[kind][crate] = max(self.memory[kind].get(crate, 0), most)
@@ -256,7 +230,6 @@ class Times:
         return {
             "date": str(datetime.date.today()),
             "machine": machine(),
-            "calibration": [round(it, 1) for it in self.calibration],
             **said,
             "edits": edits,
             "clock": clock,
@@ -299,9 +272,6 @@ def table(times):
     rows += [f"| all of these | {' | '.join(sums)} | | | |", f"| the rest | {minutes(times.rest)} | | | | | | |"]
     whole = times.rest + sum(times.sum_of(kind) for kind in KINDS)
     rows += ["", f"In all {whole / 60:.0f} minutes of processor time, on {machine()}, {datetime.date.today()}."]
-    if times.calibration:
-        before, after = times.calibration
-        rows.append(f"Calibration: {before:.0f} seconds of processor time before, {after:.0f} after.")
     return "\n".join(rows)
 
 
@@ -310,21 +280,10 @@ def main():
         description=__doc__, formatter_class=argparse.RawDescriptionHelpFormatter
     )
     parser.add_argument("--json", type=Path)
-    parser.add_argument("--log", type=Path)
-    parser.add_argument("--read", type=Path, action="append")
-    parser.add_argument("--calibrate", action="store_true")
     parser.add_argument("command", nargs=argparse.REMAINDER)
     said = parser.parse_args()
-    status, log, calibration = 0, [], []
-    for file in said.read or ():
-        log += map(json.loads, file.read_text().splitlines())
-    if not said.read:
-        before = calibrate() if said.calibrate else None
-        status, log = run(said.command or ["rt", "ci"])
-        calibration = [before, calibrate()] if said.calibrate else []
-    if said.log:
-        said.log.write_text("".join(json.dumps(it) + "\n" for it in log))
-    times = Times(log, calibration)
+    status, log = run(said.command or ["rt", "ci"])
+    times = Times(log)
     if said.json:
         said.json.write_text(json.dumps(times.as_json(), indent=1) + "\n")
     print(table(times))

@@ -24,10 +24,7 @@ from pathlib import Path
 
 from command_line import refuse_writer
 from description.docs import comment
-from description.names import upper
-from description.webidl import (
-    CAPITALIZED, KEYWORDS, NUMBER, RULES, SCANNED, SECTIONS, SYMBOLS, parts_of,
-)
+from description.webidl import NUMBER, RULES, SCANNED, SECTIONS, parts_of
 from written_places import in_logic, put
 
 TOP = Path(__file__).resolve().parent.parent

@@ -16,7 +16,7 @@ from command_line import refuse_writer
 from description.imports import Names, use
 from description.names import snake, upper
 from description.readings import CRATES
-from proofs.idl_parts import DECLARED, TOP, files, tree_name
+from proofs.idl_parts import TOP, files, tree_name
 from written_places import in_logic, put
 
 HEAD = "Written by tools/idl_proofs.py, and not edited by hand."

@@ -1,5 +1,5 @@
 #!/usr/bin/env python3
-"""Writes tests/: texts, and what is wanted of each, from weedle2 and the rows of the grammar.
+"""Writes what is wanted of the texts of tests/ anew, from weedle2 and the rows of the grammar.
 
     python3 tools/make_cases.py [--weedle2 PATH] [--real FOLDER]
     python3 tools/make_cases.py --rows-alone [--real FOLDER]
@@ -8,17 +8,23 @@
 Build the program of compare/ first (its README.md says how); --weedle2 says where it stands, where it isn't
 there. FOLDER has the files of Debian's librust-web-sys-dev; without it tests/real.tar.xz stays as it is.
 
+The texts are those that the archives have: most were made of a seed by the grammar as it was, and all but those of
+`deep` were given to weedle2. Those of case_texts.ADDED are the folder `added`.
+
 What is wanted of a text is weedle2's answer, but where one of the three rules that were changed on purpose
 was tried and read otherwise: then a reader of the grammar's rows gives the answer (table_reader.py), and must
 give weedle2's with those rules as they were. Where a text is refused, the furthest place and the words are
-by the rows alone (row_words.py), and so is what would mend it (row_hints.py). Nothing is taken from the port. tests/README.md says what stands in which file.
+by the rows alone (row_words.py), and so is what would mend it (row_hints.py). Nothing is taken from the port.
+Of `deep`, which weedle2 takes too long for, and of `added`, whose rules it may lack, all is by the rows alone.
+tests/README.md says what stands in which file.
 
-With --rows-alone only what the rows say alone is made again, of the texts that the archives have: of each that is
-refused the place, the words, the excerpt and the hint. It needs no weedle2. Without FOLDER it leaves the real files as
+With --rows-alone only what the rows say alone is made again: of each text that is refused the place, the words, the
+excerpt and the hint; and all of `deep` and `added`. It needs no weedle2. Without FOLDER it leaves the real files as
 they are; each file of FOLDER has to be the one that is known.
 
-With --check nothing is written: it prints a line for each archive that isn't the one that tests/INDEX lists,
-and for each whose texts are others than those that are made now. It needs neither weedle2 nor FOLDER.
+With --check nothing is written: it prints a line for each archive that isn't the one that tests/INDEX lists, where
+`added` has other texts than case_texts.ADDED, and where an archive says otherwise than what is known by hand. It needs
+neither weedle2 nor FOLDER.
 
 The status is 0, 1 where answers disagree or --check finds something, and 2 where a program isn't there or
 doesn't do. Nothing is written then.
@@ -33,21 +39,20 @@ from pathlib import Path
 
 import case_texts
 import row_hints
-import weedle2_texts
 import worked_rows
-from case_files import INDEX, TESTS, Case, archive_of, cases_of, compact, line_of, numbered, packed, wrong_sums
+from case_files import (
+    INDEX, TESTS, Case, archive_of, cases_of, compact, folders, line_of, numbered, packed, wrong_sums,
+)
 from command_line import parser_of
 from compare_with_weedle2 import (
     DEPTH, TOGETHER, WEEDLE2, NoUse, Weedle2, answer_by_rows, explanation, files_of, unescaped,
 )
-from hostile import attributes
-from random_texts import TOKEN, Maker
 from row_ends import NOW, reads_otherwise
 from row_words import position, refusal
 from tree_json import plain
 
-SEED = 7
-RANDOM, PREFIXES, CHANGED, NEAR = 2_000, 5_000, 2_000, 1_000
+# Those that weedle2 isn't asked of: it takes too long, or lacks the rules. And the folder whose texts aren't kept.
+BY_ROWS_ALONE, ADDED, REAL = ("deep", "added"), "added", "real"
 # Who says it.
 BY_WEEDLE2, BY_ROWS = "weedle2", "the grammar's rows"
 # How many characters are shown of a line.
@@ -66,86 +71,16 @@ def lines_in(text):
     return [unescaped(line) for line in text.strip("\n").split("\n")]
 
 
-def texts_of_tests():
-    """The texts of the tests of crates."""
-    tables = [lines for _, lines in weedle2_texts.WHOLE.values()] + [weedle2_texts.LEFT[2]]
-    texts = [text for lines in tables for text in lines_in(lines)]
-    return list(dict.fromkeys([*texts, *said(), *lines_in(case_texts.OTHERS)]))
-
-
 def said():
     """What is said by hand of texts, by the texts."""
     lines = case_texts.SAID.strip("\n").split("\n")
     return {unescaped(text): words.strip() for text, words in zip(lines[::2], lines[1::2])}
 
 
-def worked_texts():
-    rows = [*worked_rows.READ, *worked_rows.LEFT]
-    return list(dict.fromkeys(row[0] for row in rows))
-
-
-def deep_texts():
-    """Texts that weedle2 takes too long for."""
-    return [row[0] for row in [*worked_rows.DEEP_READ, *worked_rows.DEEP_LEFT]]
-
-
-def prefixes(texts):
-    """Each text cut at the end of each of its words, but for the whole of it."""
-    for text in texts:
-        for found in TOKEN.finditer(text):
-            if not found[0].isspace() and found.end() < len(text):
-                yield text[:found.end()]
-
-
-def first_of(texts, count):
-    """So many of the texts, each once."""
-    chosen = {}
-    for text in texts:
-        if len(chosen) == count:
-            break
-        chosen[text] = None
-    return list(chosen)
-
-
-def hostile_texts():
-    """The families of hostile.py, small: each opens what isn't closed, or nests."""
-    fronts = ("[A(", '[A(optional long a = "]", ', "[A(/*]*/", '[A(/*"*/optional long a = "/*]//", /*//"]*/')
-    for count in range(1, 5):
-        yield from (front * count for front in fronts)
-        yield attributes(count)
-        yield "[A(" * count + "(a or b)... c, " * 20
-    for count in (1, 2, 3, 10, 100):
-        for piece in ("(", "sequence<", "record<DOMString, ", "Promise<"):
-            yield "typedef " + piece * count
-        yield "typedef " + "sequence<" * count + "any" + ">" * count + " A;"
-        yield "typedef " + "sequence<" * count + "any" + ">" * (count - 1) + " A;"
-        yield "/* " * count
-        yield "/* */" * count
-        yield "// c\n" * count
-        yield "///d\n" * count
-        yield attributes(2) + "interface A {};\n" * count
-        yield "interface A {};\n" * count + "interface B {"
-        yield "\n" * count + "interface A {" + " " * count + "long };"
-        yield "\u65e5" * count + '"' + "\t" * count
-        yield "interface A {" + "\t\x01\x7f\x85" * count + "?"
-        yield "enum E {" + '"a",' * count + "};"
-        yield "enum E {" + '"a",' * count
-
-
-def made_texts():
-    """The folders that need nothing from outside, with their texts."""
-    maker = Maker(SEED)
-    texts = [maker.text() for _ in range(RANDOM)]
-    return {
-        "tests": texts_of_tests(),
-        "worked": worked_texts(),
-        "deep": deep_texts(),
-        "hostile": list(dict.fromkeys(hostile_texts())),
-        "random": texts,
-        "near": [maker.near(texts[number]) for number in range(NEAR)],
-        "prefixes": first_of(prefixes(texts), PREFIXES),
-        "changed": [maker.with_a_byte_changed(texts[number % RANDOM]) for number in range(CHANGED)],
-    }
+def texts_of_folders(tests=TESTS):
+    """The folders whose texts are kept, with these."""
+    found = {it: [case.text for case in cases_of(it, tests)] for it in folders(tests) if it not in (ADDED, REAL)}
+    return found | ({ADDED: lines_in(case_texts.ADDED)} if case_texts.ADDED else {})
 
 
 # What is wanted.
@@ -243,7 +178,7 @@ def answers_of(weedle2, texts):
 
 def cases_of_texts(weedle2, folder, texts):
     """The cases of a folder's texts."""
-    answers = [None] * len(texts) if folder == "deep" else answers_of(weedle2, texts)
+    answers = [None] * len(texts) if folder in BY_ROWS_ALONE else answers_of(weedle2, texts)
     return numbered((text, wanted_of(text, answer)) for text, answer in zip(texts, answers, strict=True))
 
 
@@ -268,6 +203,12 @@ def hold_to_words(cases):
         wanted = by_text.get(text)
         if wanted and f"{wanted.get('rest')} {wanted.get('place')} {wanted['at']}: {wanted.get('says')}" != words:
             raise Disagree(f"by hand it is said of {text!r}: {words}")
+
+
+def hold(cases):
+    """Raises where cases say otherwise than what is known by hand."""
+    hold_to_rows(cases)
+    hold_to_words(cases)
 
 
 # Real files, of which only sums are kept.
@@ -317,7 +258,7 @@ def write(tests, made):
     index = {}
     for path in tests.glob("*.tar.xz"):
         folder = path.name.removesuffix(".tar.xz")
-        if folder not in made and folder != "real":
+        if folder not in made and folder != REAL:
             path.unlink()
         elif folder not in made:
             index[folder] = line_of(folder, path.read_bytes(), cases_of(folder, tests))
@@ -330,19 +271,24 @@ def write(tests, made):
 
 
 def stale(tests=TESTS):
-    """A line for each archive that isn't what is listed, or whose texts are made otherwise now."""
+    """A line for each archive that isn't what is listed, or that has other texts or answers than it has to."""
     yield from wrong_sums(tests)
-    for folder, texts in made_texts().items():
-        if (Path(tests) / archive_of(folder)).is_file() and [case.text for case in cases_of(folder, tests)] != texts:
-            yield f"tests/{archive_of(folder)}: stale, tools/make_cases.py makes other texts"
+    is_there = (Path(tests) / archive_of(ADDED)).is_file()
+    texts = [case.text for case in cases_of(ADDED, tests)] if is_there else []
+    if texts != (lines_in(case_texts.ADDED) if case_texts.ADDED else []):
+        yield f"tests/{archive_of(ADDED)}: stale, `tools/make_cases.py --rows-alone` makes other texts"
+    for folder in sorted({"tests", "worked"} & {*folders(tests)}):
+        try:
+            hold(cases_of(folder, tests))
+        except Disagree as why:
+            yield f"tests/{archive_of(folder)}: {why}"
 
 
 def make(weedle2, real):
     made = {}
-    for folder, texts in made_texts().items():
+    for folder, texts in texts_of_folders().items():
         made[folder] = cases_of_texts(weedle2, folder, texts)
-        hold_to_rows(made[folder])
-        hold_to_words(made[folder])
+        hold(made[folder])
         print(f"{folder}: {len(texts)} texts", file=sys.stderr)
     if real:
         made["real"] = real_cases(weedle2, real)
@@ -350,10 +296,13 @@ def make(weedle2, real):
 
 
 def make_with_rows_again(real):
-    made = {folder: [with_rows_again(case) for case in cases_of(folder, TESTS)] for folder in made_texts()}
-    for cases in made.values():
-        hold_to_rows(cases)
-        hold_to_words(cases)
+    made = {}
+    for folder, texts in texts_of_folders().items():
+        if folder in BY_ROWS_ALONE:
+            made[folder] = cases_of_texts(None, folder, texts)
+        else:
+            made[folder] = [with_rows_again(case) for case in cases_of(folder, TESTS)]
+        hold(made[folder])
     if real:
         texts = texts_of_real(real)
         made["real"] = [real_with_rows_again(case, texts.get(case.name, "")) for case in cases_of("real", TESTS)]

@@ -1,39 +1,27 @@
-#!/usr/bin/env python3
-"""Makes the text of mixed definitions that the port is timed with.
+"""The text of mixed definitions that the port is timed with, by tools/measure.py.
 
-    python3 tools/mixed_text.py SEED SIZE > FILE
-
-Of a seed and a size it makes the same text each time: of seed 7 and size 1000000 one of 1,000,072 bytes and 3,916
-definitions. It goes to standard output. The status is 0, or 2 where the arguments are no two numbers.
+Of a seed and a size it is the same each time: of seed 7 and size 1000000 one of 1,000,072 bytes and 3,916 definitions.
 """
 
-from command_line import parser_of
-
-# Names of definitions.
 NAMES = (
-    "Node", "Element", "Window", "EventTarget", "StyleSheet", "MediaTrack", "AudioBuffer", "RenderContext",
-    "MessagePort", "StorageManager", "CacheEntry", "Request", "Response", "Document", "Range", "Observer",
-)
-# Names of members and arguments.
+    "Node Element Window EventTarget StyleSheet MediaTrack AudioBuffer RenderContext MessagePort StorageManager "
+    "CacheEntry Request Response Document Range Observer"
+).split()
+# Names of members and arguments, and their types.
 WORDS = (
-    "name", "value", "kind", "length", "parentNode", "childCount", "startTime", "endTime", "currentState",
-    "origin", "index", "source", "credentials", "mode", "bodyUsed", "timeStamp",
-)
-# Types of members and arguments.
+    "name value kind length parentNode childCount startTime endTime currentState origin index source credentials "
+    "mode bodyUsed timeStamp"
+).split()
 TYPES = (
     "long", "unsigned long", "boolean", "double", "DOMString", "USVString", "short", "any", "object",
     "sequence<long>", "DOMString?", "(long or Node)", "Promise<undefined>", "record<DOMString, long>",
     "FrozenArray<Element>", "Uint8Array",
 )
-# What may stand before a definition.
 COMMENTS = (
     "// What a page may call here.\n",
     "/* The origin of this part is\n * https://example.org/standard/#part\n */\n", "// Note\n", "\n",
 )
-# Defaults of the members of a dictionary.
-VALUES = (
-    "0", "false", "\"auto\"", "null",
-)
+VALUES = ("0", "false", '"auto"', "null")
 WORD = 1 << 64
 LEADS = ("[Exposed=Window]\ninterface ", "[Exposed=(Window, Worker)]\ninterface ", "partial interface ", "interface mixin ")
 ATTRIBUTES = ("  readonly attribute ", "  attribute ", "  [SameObject] readonly attribute ", "  stringifier attribute ")
@@ -52,7 +40,6 @@ class Mixed:
         return self.state
 
     def pick(self, words):
-        """One of these words."""
         return words[self.next() % len(words)]
 
     def in_ten(self, chances):
@@ -68,22 +55,25 @@ class Mixed:
     def definition(self):
         kind = self.next() % 16
         if kind < 8:
-            return self.interface()
+            head = f"{self.pick(LEADS)}{self.pick(NAMES)} {{\n"
+            return head + "".join(self.member() for _ in range(self.next() % 16)) + "};\n\n"
         if kind < 10:
-            return self.dictionary()
+            head = f"dictionary {self.pick(NAMES)}Init : EventInit {{\n"
+            return self.body(head, 8, lambda: f"  {self.pick(TYPES)} {self.pick(WORDS)} = {self.pick(VALUES)};\n")
         if kind < 12:
-            return self.enum()
+            head = f'enum {self.pick(NAMES)}Kind {{\n  "{self.pick(WORDS)}"'
+            return self.body(head, 8, lambda: f',\n  "{self.pick(WORDS)}-{self.pick(WORDS)}"', "\n")
         if kind == 12:
-            return self.namespace()
+            head = f"namespace {self.pick(NAMES)}Tools {{\n"
+            return self.body(head, 4, lambda: f"  /// What it gives.\n  {self.pick(TYPES)} {self.pick(WORDS)}();\n")
         if kind == 13:
             return f"callback {self.pick(NAMES)}Callback = undefined ({self.pick(TYPES)} x);\n"
         if kind == 14:
             return f"typedef {self.pick(TYPES)} {self.pick(NAMES)}Type;\n"
         return f"{self.pick(NAMES)} includes {self.pick(NAMES)}Mixin;\n"
 
-    def interface(self):
-        head = f"{self.pick(LEADS)}{self.pick(NAMES)} {{\n"
-        return head + "".join(self.member() for _ in range(self.next() % 16)) + "};\n\n"
+    def body(self, head, most, part, end=""):
+        return head + "".join(part() for _ in range(self.next() % most)) + end + "};\n\n"
 
     def member(self):
         if self.in_ten(5):
@@ -94,26 +84,3 @@ class Mixed:
         if self.in_ten(7):
             head += f"{self.pick(('optional ', '[Clamp] ', ''))}{self.pick(TYPES)} {self.pick(WORDS)}"
         return head + ");\n"
-
-    def dictionary(self):
-        head = f"dictionary {self.pick(NAMES)}Init : EventInit {{\n"
-        members = (f"  {self.pick(TYPES)} {self.pick(WORDS)} = {self.pick(VALUES)};\n" for _ in range(self.next() % 8))
-        return head + "".join(members) + "};\n\n"
-
-    def enum(self):
-        head = f'enum {self.pick(NAMES)}Kind {{\n  "{self.pick(WORDS)}"'
-        values = (f',\n  "{self.pick(WORDS)}-{self.pick(WORDS)}"' for _ in range(self.next() % 8))
-        return head + "".join(values) + "\n};\n\n"
-
-    def namespace(self):
-        head = f"namespace {self.pick(NAMES)}Tools {{\n"
-        members = (f"  /// What it gives.\n  {self.pick(TYPES)} {self.pick(WORDS)}();\n" for _ in range(self.next() % 4))
-        return head + "".join(members) + "};\n\n"
-
-
-if __name__ == "__main__":
-    PARSER = parser_of(__doc__)
-    PARSER.add_argument("seed", type=int)
-    PARSER.add_argument("size", type=int)
-    SAID = PARSER.parse_args()
-    print(Mixed(SAID.seed).text(SAID.size), end="")

@@ -26,7 +26,6 @@ from declared import FORMED, modules_of, quoted
 from description.docs import law as law_doc
 from description.flat import flat_variants
 from description.layout import COLUMNS, use_line
-from description.names import snake
 from description.readings import IDL, LEAVES, TYPES, Declared, lacking
 from terminals import label
 from written_places import in_logic, place, put

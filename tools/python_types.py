@@ -20,11 +20,11 @@ from textwrap import wrap
 from c_header import VERSION, found_in
 from command_line import refuse_writer
 from description.declarations import Type
+from description.following import NAME_BEFORE, read_behind, texts_of
 from description.names import upper
 from description.readings import Declared
 from description.webidl import BY_NAME, RULES
 from python_text import annotation_of, comment, docstring, field, method, module_text, split, words_of
-from reserved_words import NAME_BEFORE, read_behind, texts_of
 
 TOP = Path(__file__).resolve().parent.parent
 PACKAGE = TOP / "python/weedle"

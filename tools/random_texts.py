@@ -7,7 +7,7 @@ so a text that is made along one row may be read along another, or not at all.
 import random
 import re
 
-import grammar
+from description import webidl as grammar
 
 ROWS = {rule.name: rule.row for rule in grammar.RULES}
 # How many choices of more than the least a definition may take.

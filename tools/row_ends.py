@@ -6,7 +6,7 @@ it, as docs/GRAMMAR.md has that.
 """
 
 from table_reader import ADDED, CHANGED, CLASSES
-import grammar
+from description import webidl as grammar
 
 # What is known of a rule that fails.
 FAILS = -1

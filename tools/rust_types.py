@@ -21,7 +21,6 @@ from textwrap import wrap
 from c_header import VERSION, found_in
 from command_line import refuse_writer
 from description.declarations import Type
-from description.names import upper
 from description.readings import Declared
 from description.webidl import BY_NAME, CAPITALIZED, KEYWORDS, SYMBOLS
 from python_text import first_sentence

@@ -10,7 +10,8 @@ that it tries.
 import re
 from pathlib import Path
 
-import grammar
+from description import webidl as grammar
+from description.names import upper
 from description.readings import IDL, LEAVES, TYPES
 from tree_json import Held, Struct, Unit
 
@@ -57,14 +58,14 @@ def declarations():
         for file in sorted((TOP / "crates" / crate / "src").rglob("*.rt")):
             for kind, name, brace, body, _ in ITEM.findall(file.read_text(encoding="utf-8")):
                 parts = (VARIANT if kind == "enum" else FIELD).findall(body) if brace else None
-                found[grammar.upper(name)] = (kind, name, parts)
+                found[upper(name)] = (kind, name, parts)
     return found
 
 
 def marks():
     """The names of terminals, by their rules."""
     names = [name for name, _ in grammar.SYMBOLS] + [*grammar.KEYWORDS, *grammar.CAPITALIZED, "NegInfinity"]
-    return {grammar.upper(name): name for name in names}
+    return {upper(name): name for name in names}
 
 
 class Table:

@@ -18,8 +18,7 @@ from pathlib import Path
 from unittest import mock
 
 from command_line import runnable
-from run_writers import WRITERS
-from write import TOP, sources
+from write import TOP, WRITERS, sources
 
 TOOLS = Path(__file__).resolve().parent
 SCRIPTS = sorted(
@@ -65,15 +64,15 @@ class Scripts(unittest.TestCase):
         self.assertTrue(ran.stdout.endswith("could not be run.\n"), ran.stdout)
 
     def test_a_writer_by_hand_says_how_it_is_run(self):
-        for name in sorted({*WRITERS, "run_writers"}):
+        for name in WRITERS:
             status, out, err = run_script(name)
             self.assertEqual((status, out), (2, ""), name)
             self.assertTrue(err.startswith(f"{name}.py: nothing is written. `python3 tools/write.py` runs "), err)
 
     def test_a_program_that_is_not_there(self):
-        for name in ("depth", "hostile"):
-            status, out, err = run_script(name, "./no-such-program")
-            self.assertEqual((status, out), (2, ""), name)
+        for words in (("measure", "depth"), ("run_layouts",)):
+            status, out, err = run_script(*words, "./no-such-program")
+            self.assertEqual((status, out), (2, ""), words)
             self.assertIn("./no-such-program is no program that can be run", err)
 
 

@@ -10,8 +10,7 @@ from pathlib import Path
 
 from description.declarations import declared_in, type_of
 from description.docs import about, with_example
-from description.functions import functions_of
-from description.imports import Names, uses_of
+from description.imports import Names
 from description.layout import clauses_in_lines
 from description.names import snake, upper
 from description.productions import forms, productions, unlike
@@ -135,32 +134,6 @@ class Readings(unittest.TestCase):
             self.assertRaises(Unread, self.rule, text)
 
 
-READING = """
-/// Reads a pair.
-#[cycle(group)]
-pub(crate) fn pair<'a>(
-    alloc: Global,
-    input: &'a str,
-) -> IResult<&'a str, Generics<Box<Pair<'a>>>>
-    ensures reads { Answers (own PAIR (generics_tree pair_tree) (Unit {0})) input.now result }
-    ensures shorter { IfOk result (λ x. length x.0.now < length input.now) }
-{
-    part(alloc, input)
-}
-
-fn words<'a>(alloc: Global, input: &'a str) -> IResult<&'a str, Either<'a>>
-    ensures reads { Answers (members words_rules 3 either_tree ⊥) input.now result }
-{
-}
-
-fn built<'a>(alloc: Global, table: &Ends<'a>, at: At) -> BuildResult<Pair<'a>>
-    requires { Due table.now.text PAIR at.place }
-    ensures { Answers table.now.text PAIR pair_tree at.place at.visits result }
-{
-}
-"""
-
-
 class Written(unittest.TestCase):
     """What is read of a made-up crate, and of what its files state."""
 
@@ -168,7 +141,6 @@ class Written(unittest.TestCase):
         folder = tempfile.TemporaryDirectory()
         self.addCleanup(folder.cleanup)
         self.root = Path(folder.name)
-        self.write("src/reading.rt", READING)
         self.write("src/pair.rt", "pub struct Type;\npub struct Pair {\n    pub name: Or,\n}\n")
         self.write("specs/Trees.antt", "abbrev pub pair_tree : Tree\npub record Kept\nown : Tree\n")
         self.write("proofs/Facts.antt", "-- Facts. Written by tools/x.py.\npub fact : Tree\n")
@@ -178,13 +150,6 @@ class Written(unittest.TestCase):
         to.parent.mkdir(parents=True, exist_ok=True)
         to.write_text(text)
 
-    def test_functions_and_their_contracts(self):
-        found = list(functions_of(self.root / "crates/low/src", ["reading"]))
-        told = [(it.name, repr(it.type), it.rule, it.tree, it.first) for it in found]
-        pair = ("pair", "Generics<Box<Pair>>", "PAIR", "(generics_tree pair_tree)", None)
-        words = ("words", "Either", None, None, 3)
-        self.assertEqual(told, [pair, words, ("built", "Pair", "PAIR", "pair_tree", None)])
-
     def test_each_name_is_brought_in_from_where_it_is_stated(self):
         names = Names(self.root, ["low"], {"Rattle.std.X": ["refl", "◌×◌"]}, ["Kept"])
         lines = names.uses("pair_tree : «Type» × Pair\npair_tree x = refl Kept fact")
@@ -193,10 +158,6 @@ class Written(unittest.TestCase):
         type_ = "use Rattle.low.specs.declared.pair.«Type».{«Type»}"
         self.assertEqual(names.uses("fact = pair_tree"), [stated])
         self.assertEqual(lines, [pair, type_, "use Rattle.std.X.{refl, ◌×◌}"])
-
-    def test_names_of_some_modules(self):
-        lines = list(uses_of(self.root, "x = Kept pair_tree", ["Rattle.low.specs.Trees"]))
-        self.assertEqual(lines, ["use Rattle.low.specs.Trees.{Kept, pair_tree}"])
 
 
 class Clauses(unittest.TestCase):

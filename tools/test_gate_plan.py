@@ -12,9 +12,7 @@ from pathlib import Path
 from unittest.mock import patch
 
 import gate_plan
-from gate_plan import Gate, costs, in_own_order, plan, simulated
-
-gate_plan.SECONDS_OF_A_WAY = 0
+from gate_plan import Gate, costs, plan, simulated
 
 LIST = """low:
 wide: low
@@ -30,7 +28,7 @@ TIMES = {
 }
 
 
-SAID = argparse.Namespace(show=False, older=False, own=False, memory=math.inf, slower=1)
+SAID = argparse.Namespace(show=False, memory=math.inf, slower=1)
 
 
 def gate_of(room, times=TIMES, rows=LIST):
@@ -58,30 +56,19 @@ class Planned(unittest.TestCase):
             file.write_text('{"proof": {}, "tests": {}, "edits": {}}')
             self.assertEqual(gate_plan.times_in(file), {"proof": {}, "tests": {}, "edits": {}})
 
-    def test_a_proof_alone_gets_the_idle_processors_but_those_of_its_empty_tests(self):
+    def test_the_longest_proof_gets_three_jobs_and_shares_the_processors(self):
         log = simulated(self.gate.tasks(), 4)
-        begin, end, jobs = log["wide", "proof"]
-        self.assertEqual((begin, jobs), (60 / 1.8, 2))
-        self.assertAlmostEqual(end - begin, 1800 / 1.8)
-
-    def test_by_the_older_order_what_is_empty_counts_too(self):
-        log = simulated(self.gate.tasks(older=True), 4)
-        self.assertEqual(log["wide", "proof"][2], 1)
-        self.assertEqual(log["low", "wrong bodies"][1] - log["low", "wrong bodies"][0], 100)
-
-    def test_by_the_own_order_the_longest_proof_gets_three_jobs_and_shares_the_processors(self):
-        log = in_own_order(self.gate.tasks(), 4)
         begin, end, jobs = log["wide", "proof"]
         self.assertEqual((begin, jobs), (60, 3))
         # Beside it the wrong bodies of `low` are tried by one job, and nothing lacks a processor.
         self.assertAlmostEqual(end - begin, 1800 / 2.4)
 
-    def test_by_the_own_order_each_task_ends_behind_those_that_it_waits_for(self):
-        for tasks in (self.gate.tasks(), self.gate.tasks(older=True)):
-            for processors in (1, 2, 4):
-                log = in_own_order(tasks, processors)
-                for key, task in tasks.items():
-                    self.assertTrue(all(log[it][1] <= log[key][0] for it in task.waits), (processors, key))
+    def test_each_task_ends_behind_those_that_it_waits_for(self):
+        tasks = self.gate.tasks()
+        for processors in (1, 2, 4):
+            log = simulated(tasks, processors)
+            for key, task in tasks.items():
+                self.assertTrue(all(log[it][1] <= log[key][0] for it in task.waits), (processors, key))
 
     def test_several_wrong_bodies_have_a_beginning_and_an_end(self):
         tasks = self.gate.tasks()
@@ -100,22 +87,21 @@ class Planned(unittest.TestCase):
         seconds = {key[1:]: it.seconds for key, it in self.gate.tasks().items() if key[0] == "low"}
         self.assertEqual(seconds, {("proof",): 60, ("tests",): 0, ("seed",): 30, ("edits", 0): 30, ("edits", 1): 30})
 
-    def test_by_the_own_order_the_static_library_is_built_behind_its_proof(self):
+    def test_the_static_library_is_built_behind_its_proof(self):
         with patch.object(gate_plan.gate, "LIBRARY", "top"):
             self.gate.library = {"top": 90}
-            log = in_own_order(self.gate.with_library(self.gate.tasks()), 4)
+            log = simulated(self.gate.tasks(), 4)
         begin, end, _ = log["top", "library"]
         self.assertEqual((begin, end - begin), (log["top", "proof"][1], 90))
 
     def test_a_slower_machine_takes_longer_in_the_same_order(self):
-        for simulate in (simulated, in_own_order):
-            quick, slow = (simulate(self.gate.tasks(), 2, slower=it) for it in (1, 3))
-            self.assertEqual([*quick], [*slow])
-            self.assertAlmostEqual(3 * max(it[1] for it in quick.values()), max(it[1] for it in slow.values()))
+        quick, slow = (simulated(self.gate.tasks(), 2, slower=it) for it in (1, 3))
+        self.assertEqual([*quick], [*slow])
+        self.assertAlmostEqual(3 * max(it[1] for it in quick.values()), max(it[1] for it in slow.values()))
 
     def test_85_hundredths_of_the_memory_are_used(self):
-        # Each task takes 1.2 GB by rt's figure.
-        for free, minutes in ((3.0, 44), (2.7, 49)):
+        # Each task takes half of 1.2 GB, of which rt says that it takes them.
+        for free, minutes in ((1.5, 44), (1.35, 49)):
             said = argparse.Namespace(**{**vars(SAID), "memory": free})
             self.gate.edits, self.gate.tests = {}, {}
             self.assertIn(f" {minutes} minutes", [*plan(self.gate, 2, said)][0])
@@ -130,16 +116,6 @@ class Planned(unittest.TestCase):
         self.assertEqual([log[it, "proof"][2] for it in ("one", "other")], [1, 1])
         self.assertEqual(log["one", "proof"][0], log["other", "proof"][0])
         self.assertEqual(log["top", "proof"][0], log["one", "proof"][1])
-
-    def test_a_proof_waits_for_memory_unless_it_is_alone(self):
-        log = simulated(self.gate.tasks(), 2, memory=1.0)
-        self.assertEqual(log["other", "proof"][0], log["one", "proof"][1])
-
-    def test_each_way_down_from_a_crate_counts_by_the_older_order(self):
-        self.assertEqual([self.gate.ways(it, {}) for it in ("low", "one", "top")], [1, 4, 9])
-        with patch.object(gate_plan, "SECONDS_OF_A_WAY", 2):
-            older, newer = (self.gate.tasks(older)["one", "proof"].seconds for older in (True, False))
-        self.assertEqual((older, newer), (608, 600))
 
     def test_a_plan_says_the_clock_and_the_work(self):
         said = [*plan(self.gate, 1, SAID)]

@@ -1,6 +1,5 @@
 """Tests of tools/gate_times.py."""
 
-import sys
 import unittest
 from unittest import mock
 
@@ -32,7 +31,6 @@ class TestTimes(unittest.TestCase):
         table = gate_times.table(gate_times.Times(self.LOG))
         self.assertIn("| `weedle_base` | 1.0 |  | 0.5 |  | 0.0 |", table)
         self.assertIn("In all 5 minutes of processor time", table)
-        self.assertNotIn("Calibration", table)
 
     def test_the_static_library_is_a_kind_of_its_own_and_stands_with_programs_in_the_table(self):
         words = ["rattle", "build", "--crate-name", "weedle_c", "--crate-type", "staticlib"]
@@ -47,11 +45,6 @@ class TestTimes(unittest.TestCase):
         log = [{**entry([*words, jobs], "", 1.0), "memory": 1e9 * most} for jobs, most in (("1", 2), ("3", 4))]
         times = gate_times.Times([*log, entry(words[:4], "", 1.0)])
         self.assertEqual(times.as_json()["memory"]["proof"], {"weedle_base": 2.5})
-
-    def test_the_calibration_stands_below_the_table_and_in_the_json(self):
-        times = gate_times.Times(self.LOG, (70.04, 80.0))
-        self.assertTrue(gate_times.table(times).endswith("Calibration: 70 seconds of processor time before, 80 after."))
-        self.assertEqual(times.as_json()["calibration"], [70.0, 80.0])
 
 
 class TestMemory(unittest.TestCase):
@@ -82,19 +75,6 @@ class TestMachine(unittest.TestCase):
         self.assertRegex(gate_times.machine(named), r"^\d+ processors, A B @ 2\.70GHz$")
         self.assertRegex(gate_times.machine(named.replace("A B", "A @ 2.50GHz")), r"^\d+ processors, A @ 2\.50GHz$")
         self.assertRegex(gate_times.machine(""), r"^\d+ processors, of no name$")
-
-
-class TestCalibrate(unittest.TestCase):
-    def test_it_is_the_processor_time_of_the_command(self):
-        self.assertLess(gate_times.calibrate((sys.executable, "-c", "")), 60)
-        busy = "import time\nwhile time.process_time() < 0.2: pass"
-        self.assertGreater(gate_times.calibrate((sys.executable, "-c", busy)), 0.1)
-
-    def test_a_command_that_fails_is_told(self):
-        with mock.patch.object(sys, "exit", side_effect=SystemExit) as told:
-            with self.assertRaises(SystemExit):
-                gate_times.calibrate((sys.executable, "-c", "raise SystemExit(3)"))
-        self.assertIn("status 3", told.call_args[0][0])
 
 
 if __name__ == "__main__":

@@ -11,12 +11,13 @@ import unittest
 from pathlib import Path
 from unittest import mock
 
+import case_texts
 import make_cases
 from case_files import INDEX, Case, archive_of, cases_of, compact, folders, numbered, packed, unpacked, wrong_sums
 from compare_with_weedle2 import answer_by_rows
 from make_cases import (
-    BY_WEEDLE2, Disagree, cases_of_texts, excerpt, hold_to_rows, hold_to_words, prefixes, real_with_rows_again,
-    with_rows_again, without_text,
+    BY_WEEDLE2, Disagree, cases_of_texts, excerpt, hold_to_rows, hold_to_words, real_with_rows_again, with_rows_again,
+    without_text,
 )
 from random_texts import Maker
 from row_ends import NOW, PLAIN, reads_otherwise
@@ -168,14 +169,23 @@ class Wanted(unittest.TestCase):
 
 
 class Texts(unittest.TestCase):
-    def test_prefixes_end_with_a_word(self):
-        self.assertEqual(list(prefixes(['enum E { "a b" };'])), ["enum", "enum E", "enum E {", 'enum E { "a b"', 'enum E { "a b" }'])
+    def test_those_of_the_archives_stay(self):
+        with tempfile.TemporaryDirectory() as room, mock.patch("builtins.print"):
+            make_cases.write(room, {it: numbered([("an older text", {"by": "weedle2"})]) for it in ("near", "real")})
+            self.assertEqual(make_cases.texts_of_folders(room), {"near": ["an older text"]})
+            self.assertEqual(list(make_cases.stale(room)), [])
 
-    def test_how_many_there_are(self):
-        with mock.patch.multiple(make_cases, RANDOM=20, NEAR=5, PREFIXES=30, CHANGED=20):
-            counts = {folder: len(texts) for folder, texts in make_cases.made_texts().items()}
-        self.assertEqual([counts[it] for it in ("random", "near", "prefixes", "changed")], [20, 5, 30, 20])
-        self.assertGreater(counts["tests"], 300)
+    def test_those_of_new_rules_are_wanted_by_the_rows_alone(self):
+        with tempfile.TemporaryDirectory() as room, mock.patch("builtins.print"), \
+                mock.patch.object(case_texts, "ADDED", "A includes B;\n\\n A includes B;"):
+            make_cases.write(room, {})
+            texts = make_cases.texts_of_folders(room)["added"]
+            self.assertEqual(texts, ["A includes B;", "\n A includes B;"])
+            self.assertEqual(len(list(make_cases.stale(room))), 1)
+            cases = cases_of_texts(None, "added", texts)
+            self.assertEqual(cases[1].wanted["at"], ["2:2"])
+            make_cases.write(room, {"added": cases})
+            self.assertEqual(list(make_cases.stale(room)), [])
 
 
 class Archives(unittest.TestCase):
@@ -194,10 +204,12 @@ class Archives(unittest.TestCase):
 
     def test_what_is_stale(self):
         with tempfile.TemporaryDirectory() as room, mock.patch("builtins.print"):
+            make_cases.write(room, {"a": self.CASES, "b": self.CASES, "worked": cases_of_texts(ByRows(), "worked", ["A includes B;"])})
+            self.assertEqual(list(make_cases.stale(room)), [])
+            wrong = numbered([(make_cases.worked_rows.LEFT[0][0], {"by": "weedle2", "rest": 99})])
+            make_cases.write(room, {"a": self.CASES, "b": self.CASES, "worked": wrong})
+            self.assertIn("tests/worked.tar.xz: a worked row says otherwise of ", [*make_cases.stale(room)][0])
             make_cases.write(room, {"a": self.CASES, "b": self.CASES})
-            self.assertEqual(list(wrong_sums(room)), [])
-            with mock.patch.object(make_cases, "made_texts", lambda: {"a": ["é\n", ""], "b": ["other"]}):
-                self.assertEqual(list(make_cases.stale(room)), ["tests/b.tar.xz: stale, tools/make_cases.py makes other texts"])
             (Path(room) / archive_of("a")).write_bytes(packed(self.CASES[:1]))
             (Path(room) / archive_of("b")).unlink()
             (Path(room) / archive_of("c")).write_bytes(b"")

@@ -11,13 +11,47 @@ from pathlib import Path
 import pages
 
 TABLE = "# The map\n\n## The crates\n\n| Crate | Holds |\n|---|---|\n{}\n## More\n\n| `weedle_other` | |\n"
+STRUCT = """/// A struct.
+#[derive(Debug)]
+pub struct Pair<'a, T: Parse<'a>> {
+    /// The first.
+    pub first: Vec<(T, u8)>,
+    pub second: Result<T, &'a str>,
+    hidden: [u8; 3],
+    /// With an attribute.
+    #[allow(
+        unused
+    )]
+    pub third: T,
+    // No doc line.
+    pub fourth: T,
+}
+"""
+ENUM = """pub enum Row {
+    /// A text, as `{ a, b (`.
+    Text(&'static str),
+    Bytes(&'static [u8], u8),
+    Many {
+        text: &'static str,
+    },
+    Pair(
+        First,
+    ),
+}
+
+pub struct Text<'a>(pub &'a str);
+
+enum Hidden {
+    A,
+}
+"""
 
 
 class Repository(unittest.TestCase):
     def setUp(self):
         folder = tempfile.TemporaryDirectory()
         self.addCleanup(folder.cleanup)
-        self.root = Path(folder.name)
+        self.root = Path(folder.name).resolve()
         self.write("crates.txt", "# NAME: what it stands on\nweedle_base:\nweedle: weedle_base\n")
         self.write("crates/weedle_base/src/parse.rt", "")
         self.write("tools/check.py", "")
@@ -30,47 +64,59 @@ class Repository(unittest.TestCase):
         path.parent.mkdir(parents=True, exist_ok=True)
         path.write_text(text, encoding="utf-8")
 
+    def found(self, look, name, text):
+        """What a look finds where a file has this text."""
+        self.write(name, text)
+        return list(look(self.root))
+
+
+class Links(Repository):
+    def links(self, text):
+        self.write("docs/USING.md", "# Using\n## Faults\n## The table: `a_b`, why [so](A.md)\n## Faults ##\n```sh\n# none\n```\n[a](#using)\n")
+        return self.found(pages.of_links, "README.md", text)
+
+    def test_those_that_lead_somewhere(self):
+        self.assertEqual(self.links(
+            "# A\n[a](docs/USING.md), [b](docs/USING.md#faults), [c](#a), [d](docs), [e](https://a.b)\n"
+            "[f](docs/USING.md#faults-1), [g](docs/USING.md#the-table-a_b-why-so), `[h](no)`\n```\n[i](no)\n```\n"
+        ), ["docs/USING.md:3: A.md: no such file"])
+
+    def test_those_that_lead_nowhere(self):
+        self.assertEqual(self.links("\n[tried by\nhand](docs/USED.md) [`a`](docs/USING.md#none) [b](#fault) [c](../out.md)\n"), [
+            "README.md:3: docs/USED.md: no such file", "README.md:3: docs/USING.md#none: no such heading",
+            "README.md:3: #fault: no such heading", "README.md:3: ../out.md: no such file",
+            "docs/USING.md:3: A.md: no such file",
+        ])
+
+    def test_what_is_built_is_no_page(self):
+        self.assertEqual(self.found(pages.of_links, "compare/target/doc/README.md", "[a](nowhere.md)\n"), [])
+
 
 class Crates(Repository):
     def rows(self, table):
-        self.write("docs/ARCHITECTURE.md", TABLE.format(table))
-        return list(pages.of_crates(self.root))
+        return self.found(pages.of_crates, "docs/ARCHITECTURE.md", TABLE.format(table))
 
-    def test_each_stands_once(self):
+    def test_each_stands_once_and_several_may_share_a_row(self):
         self.assertEqual(self.rows("| `weedle_base` | for `weedle_other` |\n| `weedle` | |\n"), [])
-
-    def test_several_may_share_a_row(self):
         self.assertEqual(self.rows("| `weedle_base`, `weedle` | |\n"), [])
 
-    def test_one_that_lacks(self):
-        self.assertEqual(self.rows("| `weedle` | |\n"), [
-            "docs/ARCHITECTURE.md: the table of crates lacks weedle_base",
-        ])
-
-    def test_one_that_is_no_more(self):
-        self.assertEqual(self.rows("| `weedle_base`, `weedle_gone`, `weedle` | |\n"), [
-            "docs/ARCHITECTURE.md: the table of crates has weedle_gone, which crates.txt lacks",
-        ])
-
-    def test_one_that_stands_twice(self):
-        self.assertEqual(self.rows("| `weedle_base`, `weedle` | |\n| `weedle` | |\n"), [
-            "docs/ARCHITECTURE.md: the table of crates has weedle 2 times",
+    def test_those_that_lack_are_no_more_or_stand_twice(self):
+        self.assertEqual(self.rows("| `weedle`, `weedle_gone`, `weedle` | |\n"), [
+            "docs/ARCHITECTURE.md: the table of crates has weedle_base 0 times, and crates.txt 1",
+            "docs/ARCHITECTURE.md: the table of crates has weedle 2 times, and crates.txt 1",
+            "docs/ARCHITECTURE.md: the table of crates has weedle_gone 1 times, and crates.txt 0",
         ])
 
 
 class Scripts(Repository):
-    def test_each_is_named(self):
-        self.assertEqual(list(pages.of_scripts(self.root)), [])
+    def test_each_but_tests_and_other_files_is_named(self):
+        self.write("tools/test_check.py", "")
+        self.assertEqual(self.found(pages.of_scripts, "tools/notes.txt", ""), [])
 
     def test_one_that_lacks(self):
         self.write("tools/recheck.py", "")
-        self.write("docs/TOOLS.md", "`recheck.py`\n")
-        self.assertEqual(list(pages.of_scripts(self.root)), ["docs/TOOLS.md: nothing is said of check.py"])
-
-    def test_tests_and_other_files_are_left_out(self):
-        self.write("tools/test_check.py", "")
-        self.write("tools/notes.txt", "")
-        self.assertEqual(list(pages.of_scripts(self.root)), [])
+        found = self.found(pages.of_scripts, "docs/TOOLS.md", "`recheck.py`\n")
+        self.assertEqual(found, ["docs/TOOLS.md: nothing is said of check.py"])
 
 
 class Kits(Repository):
@@ -82,13 +128,11 @@ class Kits(Repository):
     def test_all_name_one(self):
         self.assertEqual(self.rows("2a", "2a", "2a"), [])
 
-    def test_one_names_another(self):
-        self.assertEqual(self.rows("2a", "1c", "2a"), [
+    def test_one_names_another_and_one_none(self):
+        self.assertEqual(self.rows("2a", "1c", ""), [
             "docs/PROVED.md: the kit is rattle-kit-1c logic 0a1b, and rattle-kit-2a logic 0a1b in README.md",
+            "CHANGELOG.md: no kit is named",
         ])
-
-    def test_one_names_none(self):
-        self.assertEqual(self.rows("2a", "2a", ""), ["CHANGELOG.md: no kit is named"])
 
 
 class Versions(Repository):
@@ -114,35 +158,40 @@ class Versions(Repository):
 
 class Paths(Repository):
     def rows(self, text):
-        self.write("docs/USING.md", text)
-        return list(pages.of_paths(self.root))
+        return self.found(pages.of_paths, "docs/USING.md", text)
 
-    def test_from_the_top_and_from_crates(self):
+    def test_those_that_are_there_or_stand_for_any(self):
         self.assertEqual(self.rows("`weedle_base/src/parse.rt`, `crates/weedle_base`, `tools/`\n"), [])
-
-    def test_in_a_command(self):
-        self.assertEqual(self.rows("\n`python3 tools/gone.py FILE`\n"), [
-            "docs/USING.md:2: there is no tools/gone.py",
-        ])
-
-    def test_braces_stand_for_several(self):
-        self.assertEqual(self.rows("`weedle_base/src/{parse,gone}.rt`\n"), [
-            "docs/USING.md:1: there is no weedle_base/src/gone.rt",
-        ])
-
-    def test_a_star_stands_for_any_name(self):
-        self.assertEqual(self.rows("`weedle_base/src/*.rt` and `weedle_base/specs/*.antt`\n"), [
-            "docs/USING.md:1: there is no weedle_base/specs/*.antt",
-        ])
-
-    def test_a_crate_of_the_list_whose_folder_lacks(self):
-        self.assertEqual(self.rows("`weedle/src/lib.rt`\n"), ["docs/USING.md:1: there is no weedle/src/lib.rt"])
-
-    def test_what_is_built_and_what_stands_for_any_is_left_out(self):
         self.assertEqual(self.rows("`crates/weedle_base/out/a`, `crates/NAME/src`, `specs/Trees.antt`\n"), [])
-
-    def test_blocks_are_left_out(self):
         self.assertEqual(self.rows("```sh\n`tools/gone.py`\n```\n"), [])
+
+    def test_those_that_are_not(self):
+        text = "`python3 tools/gone.py FILE`\n`weedle_base/src/{parse,gone}.rt` `weedle_base/specs/*.antt` `weedle/src/lib.rt`\n"
+        gone = ["1: there is no tools/gone.py"] + [f"2: there is no {it}" for it in (
+            "weedle_base/src/gone.rt", "weedle_base/specs/*.antt", "weedle/src/lib.rt",
+        )]
+        self.assertEqual(self.rows(text), [f"docs/USING.md:{it}" for it in gone])
+
+
+class Counts(Repository):
+    def test_what_is_so_what_would_do_and_the_few_of_a_section(self):
+        text = f"{len(pages.RULES)} rules; up to 400 rules; 12 rules, {pages.KEYWORD_COUNT} keywords; fourteen kinds\nof definitions\n"
+        self.assertEqual(self.found(pages.of_counts, "README.md", text), [])
+        self.assertEqual(self.found(pages.of_counts, "CHANGELOG.md", "1 keywords\n"), [])
+
+    def test_what_is_not_in_pages_and_docs(self):
+        self.write("crates/weedle_base/src/parse.rt", "// 3 keywords\nfn a() {} // 4 keywords\n/// Any of the 5\n/// keywords.\n")
+        self.assertEqual(self.found(pages.of_counts, "README.md", "\nthirteen kinds of definition\n"), [
+            f"README.md:2: `thirteen kinds of definition`, by the grammar {len(pages.BY_NAME['DEFINITION'].row[1])}",
+            f"crates/weedle_base/src/parse.rt:3: `5 keywords`, by the grammar {pages.KEYWORD_COUNT}",
+        ])
+
+
+class Docs(Repository):
+    def test_fields_and_variants(self):
+        found = self.found(pages.of_docs, "crates/weedle_base/src/parse.rt", STRUCT + ENUM)
+        told = [it.removeprefix("crates/weedle_base/src/parse.rt:").removesuffix(" has no doc line") for it in found]
+        self.assertEqual(told, ["6: Pair.second", "14: Pair.fourth", "19: Row.Bytes", "20: Row.Many", "23: Row.Pair"])
 
 
 if __name__ == "__main__":

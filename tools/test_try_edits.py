@@ -1,17 +1,20 @@
 #!/usr/bin/env python3
-"""Tests try_edits.py over a small made-up repository, without the toolchain, in a second.
+"""Tests try_edits.py and wrong_programs.py over a small made-up repository, with no toolchain, in seconds.
 
     python3 tools/test_try_edits.py
 """
 
 import contextlib
 import io
+import os
+import subprocess
 import tempfile
 import unittest
 from pathlib import Path
 from unittest import mock
 
 import try_edits
+import wrong_programs
 
 ONE = "# A note.\nfile: src/lib.rt\nold: a < b\nnew: a <= b\n"
 FILES = {
@@ -143,7 +146,7 @@ class Functions(TryEditsTest):
         write(self.root, {f"crates/low/{path}": self.SOURCE})
         self.add(f"{head}file: {path}\nold: {old}\nnew: 0\n")
         edits = {it.name: it for it in try_edits.find_edits(self.root, ["low"])}
-        return edits["low/new"].functions()
+        return edits["low/new"].functions(self.root)
 
     def test_a_line_names_them(self):
         self.assertEqual(self.functions("src/lib.rt", "1", "# only: Low::second\n# A note.\n"), ["Low::second"])
@@ -243,6 +246,88 @@ class Tries(TryEditsTest):
         self.assertIn("high/above: NOT TRIED: the crate isn't proved as it stands", said)
         self.assertEqual(said[-1], "0 refused, 0 let through, 1 not tried")
         self.assertEqual(len(self.checks), 1)
+
+
+WRONG = "# A note.\ncrate: low\nprogram: weedle_list\nfile: src/lib.rt\nold: right\nnew: wrong\n"
+OF_PROGRAMS = {
+    "crates.txt": "low:\nweedle_list: low\n",
+    "crates/low/src/lib.rt": "right\n",
+    "crates/low/out/kept": "made by rt\n",
+    "crates/weedle_list/src/main.rt": "main\n",
+    "tests/wrong_programs/turned.edit": WRONG,
+    "tests/wrong_programs/proved.edit": WRONG.replace("file:", "build: run\nfile:"),
+}
+# In the place of rt: it builds a program that prints what the library says, and whether there was something kept.
+RT = """#!/bin/sh
+said="$(cat ../low/src/lib.rt)$(test -f ../low/out/kept && echo ", kept")"
+build() { printf '#!/bin/sh\\necho "%s"\\n' "$said" > "$1"; chmod +x "$1"; }
+case $1 in
+try) [ "$said" = broken ] && exit 1
+     mkdir -p "$TMPDIR/a/b"; build "$TMPDIR/a/b/program"; sleep 0.3; rm -r "$TMPDIR/a"; echo "cases=$(ls "$3" | wc -l) ended" >&2 ;;
+run) mkdir -p out; build out/weedle_list ;;
+esac
+"""
+
+
+class Programs(TryEditsTest):
+    def setUp(self):
+        super().setUp()
+        self.root, self.seen = self.root.parent / "programs", []
+        write(self.root, {**OF_PROGRAMS, "../bin/rt": RT})
+        (self.root / "../bin/rt").chmod(0o755)
+
+    def tried(self, *words, found=(0, 3)):
+        """The status, and the lines that are printed, where the runs come to this."""
+        def failures_in(program, name, _):
+            self.seen.append((name, subprocess.check_output([program], text=True).strip()))
+            return found
+        path = mock.patch.dict(os.environ, {"PATH": f"{self.root.parent}/bin:{os.environ['PATH']}"})
+        library = mock.patch.object(wrong_programs.asked_memory, "built_library", lambda room: "")
+        with path, library, mock.patch.object(wrong_programs, "failures_in", failures_in):
+            return self.run_main("--programs", *words)
+
+    def test_one_that_is_found(self):
+        said = ["turned: found by 2 of 3", "1 found, 0 let through"]
+        self.assertEqual(self.tried("turned", found=(2, 3)), (0, said))
+        self.assertEqual(self.seen, [("weedle_list", "wrong")])
+
+    def test_one_that_is_proved_keeps_what_was(self):
+        said = ["proved: LET THROUGH: by all 3", "0 found, 1 let through"]
+        self.assertEqual(self.tried("proved"), (1, said))
+        self.assertEqual(self.seen, [("weedle_list", "wrong, kept")])
+
+    def test_all_and_the_repository_stays(self):
+        self.assertEqual(self.tried(found=(1, 3))[1][-1], "2 found, 0 let through")
+        self.assertEqual((self.root / "crates/low/src/lib.rt").read_text(), "right\n")
+        self.assertFalse((self.root / "crates/weedle_list/out").exists())
+
+    def test_one_that_is_not_built(self):
+        write(self.root, {"tests/wrong_programs/broken.edit": WRONG.replace("new: wrong", "new: broken")})
+        status, lines = self.tried("broken")
+        self.assertEqual((status, lines[-1]), (1, "0 found, 0 let through, 1 not tried"))
+        self.assertIn("broken: NOT TRIED: rt try gave no program", lines[0])
+
+    def test_one_that_does_not_apply(self):
+        self.assertEqual(self.tried("--check"), (0, ["2 apply, 0 don't"]))
+        write(self.root, {"tests/wrong_programs/stale.edit": WRONG.replace("old: right", "old: left")})
+        said = ["stale: doesn't apply: src/lib.rt has 0 times: left", "0 found, 0 let through, 1 not tried"]
+        self.assertEqual(self.tried("stale"), (1, said))
+        self.assertEqual(self.tried("--check"), (1, [said[0], "2 apply, 1 don't"]))
+        write(self.root, {"tests/wrong_programs/stale.edit": WRONG.replace("crate: low", "crate: no")})
+        self.assertIn("isn't in crates.txt", self.tried("--check")[1][0])
+        self.assertEqual(self.tried("no"), (2, ["try_edits: there is no tests/wrong_programs/no.edit"]))
+
+    def found(self, *stages):
+        with contextlib.ExitStack() as stack:
+            for name, found in zip(("failing_runs", "failing_memory", "failing_texts"), stages):
+                stack.enter_context(mock.patch.object(wrong_programs, name, lambda *_, found=found: found))
+            return wrong_programs.failures_in("p", "p", "")
+
+    def test_the_first_runs_that_find_it_count(self):
+        self.assertEqual(self.found([False, True], [True], [True]), (1, 2))
+        self.assertEqual(self.found([False, False], [True], [True]), (1, 1))
+        self.assertEqual(self.found([False, False], [False], [True, True]), (2, 2))
+        self.assertEqual(self.found([False, False], [False], []), (0, 3))
 
 
 if __name__ == "__main__":

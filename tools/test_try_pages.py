@@ -1,41 +1,98 @@
 #!/usr/bin/env python3
-"""Tests try_pages.py over a made-up repository, with a script in the place of `rt`, in a second.
+"""Tests try_pages.py and doc_examples.py over a made-up repository, with a script in the place of `rt`, in a second.
 
     python3 tools/test_try_pages.py
 """
 
-import argparse
 import os
+import subprocess
 import tempfile
 import unittest
 from pathlib import Path
 from unittest import mock
 
+import doc_examples
 import try_pages
 from crates import Unfit
 
-# A page whose program takes a file by name, in two blocks.
-VALIDATOR = """# A validator
+README = """# A parser
 
-    validator: weedle_places
+```rust
+use weedle::term::Comma;
+use weedle::{common::Names, parse};
 
-and in `crates/validator`
+let (rest, names) = Names::parse(alloc, "a, b ,")?;
 
-    rt try -- a.webidl
+// rest is ",": it is given back
+```
 
-of
+    app: weedle
+
+```rust
+//! Lists names.
+#![tactic(auto)]
+
+use weedle::{
+    name_of, parse,
+};
+
+const MOST: usize = 3;
+
+/// The names of a text.
+fn list(
+    text: &str,
+) -> Status {
+    Status::Read
+}
+
+fn main(rt: HostRuntime) -> ExitCode {
+    list("")
+}
+```
 
 ```webidl
 interface A {};
 ```
 
-prints
+```text
+a.webidl:1:1: nothing defines the type A
+```
+"""
+PROVED = """use weedle::{
+    common::{Name, Names},
+    name_of, parse,
+    term::Comma,
+};
+
+/// The names of a text.
+fn list(
+    text: &str,
+) -> Status {
+    Status::Read
+}
+
+const MOST: usize = 3;
+
+#[test]
+fn names_are_read(rt: HostRuntime) {
+    let (rest, names) = Names::parse(alloc, "a, b ,")?;
+    // rest is ",": it is given back
+}
+"""
+# A page whose program takes a file by name, in two blocks, and one whose program reads standard input.
+VALIDATOR = """# A validator
+
+    validator: weedle_places
+
+    rt try -- a.webidl
+
+```webidl
+interface A {};
+```
 
 ```text
 a.webidl:1:1: nothing defines the type A
 ```
-
-## The program
 
 ```rust
 use weedle_places::{Name, names};
@@ -58,22 +115,22 @@ fn main(rt: HostRuntime) {}
 0 mixins that nothing defines
 ```
 """
-# One whose program reads standard input.
 DOCUMENTATION = VALIDATOR.replace("validator", "documentation").replace("-- a.webidl", "< a.webidl")
 FILES = {
     "LICENSE": "MIT\n",
     "CHANGELOG.md": "## 1.0.0\n",
-    "crates.txt": "weedle_places:\nweedle: weedle_places\n",
+    "crates.txt": "weedle_places:\nweedle: weedle_places\nweedle_rows: weedle\n",
     "crates/weedle_places/src/lib.rt": "pub use name::{Name, names};\n",
-    "crates/weedle/src/lib.rt": "//! All.\n",
+    "crates/weedle/src/lib.rt": "//! All: common term name_of parse.\n",
     "docs/VALIDATOR.md": VALIDATOR,
     "docs/DOCUMENTATION.md": DOCUMENTATION,
+    "README.md": README,
+    try_pages.PROVED: PROVED,
 }
 # What stands for the toolchain: it has the program and a copy of the library, and prints a line for each file
 # that it is given, and one line more.
 RT = """#!/bin/sh
-[ "$(grep -c . src/main.rt)" = 2 ] && [ -f ../weedle/src/lib.rt ] || exit 9
-echo "$@" >> ../../said
+grep -q 'fn main' src/main.rt && [ -f ../weedle/src/lib.rt ] || exit 9
 while [ $# -gt 0 ] && [ "$1" != -- ]; do shift; done
 [ $# -gt 0 ] && shift
 for file in "$@"; do [ -f "$file" ] && echo "$file:1:1: nothing defines the type A"; done
@@ -81,98 +138,230 @@ for file in "$@"; do [ -f "$file" ] && echo "$file:1:1: nothing defines the type
 [ $# -gt 0 ] || sed 's/.*/a.webidl:1:1: nothing defines the type A/'
 exit 0
 """
+LOW = """//! Low.
+//!
+//! ```rust
+//! use low::one;
+//!
+//! // Of one.
+//! assert_eq!(rt; one(), 1);
+//! ```
+//!
+//! ```text
+//! no example
+//! ```
+
+/// One.
+///
+/// ```rust
+/// let it = made();
+/// ```
+pub fn one() -> u8 {
+    1
+}
+"""
+HIGH = "//! High.\n//!\n//! ```rust\n//! fn main(rt: HostRuntime) -> u8 {\n//!     weedle_low::one()\n//! }\n//! ```\n"
+FIRST = """//! crates/weedle_low/src/lib.rt:4
+
+use std::test::Fail;
+use low::one;
+
+#[test]
+fn holds(rt: HostRuntime) -> Result<(), Fail> {
+    let rt = &rt;
+    // Of one.
+    assert_eq!(rt; one(), 1);
+    Ok(())
+}
+"""
+SECOND = """//! crates/weedle_low/src/lib.rt:17
+
+use std::test::Fail;
+fn made() {}
+
+#[test]
+fn holds(rt: HostRuntime) -> Result<(), Fail> {
+    let rt = &rt;
+    let it = made();
+    it
+}
+"""
+THIRD = "//! crates/high/src/lib.rt:4\n\n\nfn main(rt: HostRuntime) -> u8 {\n    weedle_low::one()\n}\n"
+AROUND = doc_examples.AROUND
+NOWHERE = "README.md:4: no file with tests and no doc comment has this block"
 
 
-class Pages(unittest.TestCase):
-    """A repository with two pages."""
+class Repository(unittest.TestCase):
+    FILES = FILES
 
-    def setUp(self) -> None:
-        folder = tempfile.TemporaryDirectory()
-        self.addCleanup(folder.cleanup)
-        self.root = Path(folder.name) / "mine"
-        for path, text in FILES.items():
+    def setUp(self):
+        self.root = Path(self.enterContext(tempfile.TemporaryDirectory())) / "mine"
+        for path, text in self.FILES.items():
             self.write(path, text)
-        commands = Path(folder.name) / "commands"
+        commands = self.root.parent / "commands"
         commands.mkdir()
-        (commands / "rt").write_text(RT)
+        self.write("../commands/rt", RT)
         (commands / "rt").chmod(0o755)
-        path = mock.patch.dict(os.environ, PATH=f"{commands}:{os.environ['PATH']}")
-        path.start()
-        self.addCleanup(path.stop)
+        self.enterContext(mock.patch.dict(os.environ, PATH=f"{commands}:{os.environ['PATH']}"))
+        self.enterContext(mock.patch.object(try_pages, "MEGABYTES", 1))
 
-    def write(self, path: str, text: str) -> None:
-        """Writes a file of the repository."""
+    def write(self, path, text):
         file = self.root / path
         file.parent.mkdir(parents=True, exist_ok=True)
         file.write_text(text)
 
-    def tried(self, *names: str, **more) -> tuple[list[str], list[str]]:
-        """What is found on these pages."""
-        words = {"no_run": False, "prove": False, "files": None, **more}
-        return try_pages.try_pages(self.root, list(names), argparse.Namespace(**words))
+    def changed(self, path, old, new):
+        self.assertEqual(self.FILES[path].count(old), 1)
+        self.write(path, self.FILES[path].replace(old, new))
 
-    def test_the_blocks_of_a_page_are_a_program(self) -> None:
+    def tried(self, *names, is_run=False, **more):
+        """What is found on these pages."""
+        return try_pages.try_pages(self.root, list(names), is_run, **more)[0]
+
+
+class Readme(Repository):
+    def test_all_holds(self):
+        wrong, said = try_pages.try_pages(self.root, ["README"], True)
+        self.assertEqual(wrong, [])
+        self.assertEqual(said, ["README.md: 19 lines, and 1 other blocks of Rust stand in crates/, prints what the page says"])
+
+    def test_a_piece_of_the_program_that_is_not_proved(self):
+        self.changed(try_pages.PROVED, "/// The names of a text.", "/// The names.")
+        [wrong] = self.tried("README")
+        self.assertIn(f"README.md: this piece of the program doesn't stand in {try_pages.PROVED}:\n/// The names of a text.", wrong)
+
+    def test_another_block_has_to_stand_somewhere(self):
+        self.changed("README.md", '// rest is ",": it is', "// rest is")
+        self.assertEqual(self.tried("README"), [NOWHERE])
+
+    def test_another_block_brings_in_what_its_file_does(self):
+        self.changed("README.md", "use weedle::term::Comma;", "use weedle::Comma;")
+        self.assertEqual(self.tried("README"), [NOWHERE])
+
+    def test_a_page_of_blocks_alone(self):
+        self.write("docs/USING.md", "```rust\nlet x = gone;\n```\n")
+        self.assertEqual(self.tried("README"), [NOWHERE.replace("README.md:4", "docs/USING.md:2")])
+
+    def test_the_status_has_to_be_0(self):
+        self.write("../commands/rt", "#!/bin/sh\necho 'a.webidl:1:1: nothing defines the type A'\nexit 3\n")
+        self.assertIn("ends with status 3", self.tried("README", is_run=True)[0])
+
+    def test_one_without_a_program_or_its_line_is_refused(self):
+        for old, new in (("fn main(rt: HostRuntime)", "fn start(rt: HostRuntime)"), ("    app: weedle", "app: weedle")):
+            self.changed("README.md", old, new)
+            with self.assertRaisesRegex(Unfit, "lacks a program"):
+                self.tried("README")
+
+    def test_without_the_toolchain_it_is_said_in_a_line(self):
+        with mock.patch.dict(os.environ, PATH=""), self.assertRaisesRegex(Unfit, "rt isn't on PATH"):
+            self.tried("README", is_run=True)
+
+
+class Pages(Repository):
+    def test_the_blocks_of_a_page_are_a_program(self):
         page = try_pages.page_of("VALIDATOR", VALIDATOR)
-        self.assertEqual(
-            page.program,
-            ["use weedle_places::{Name, names};", "", "fn main(rt: HostRuntime) {}"],
-        )
+        self.assertEqual(page.program, ["use weedle_places::{Name, names};", "", "fn main(rt: HostRuntime) {}"])
         self.assertEqual((page.line.name, page.file, page.is_argument), ("validator", "a.webidl", True))
         self.assertEqual(page.input, "interface A {};\n")
         self.assertEqual(page.output, "a.webidl:1:1: nothing defines the type A\n")
         self.assertEqual(page.counts[0], "2 files")
 
-    def test_a_page_without_a_part_is_unfit(self) -> None:
+    def test_a_page_without_a_part_is_unfit(self):
         for part in ("    validator: weedle_places\n", "    rt try -- a.webidl\n", "```webidl\n"):
             with self.subTest(part), self.assertRaises(Unfit):
                 try_pages.page_of("VALIDATOR", VALIDATOR.replace(part, "```sh\n" if "`" in part else ""))
 
-    def test_both_pages_run(self) -> None:
-        self.assertEqual(self.tried("VALIDATOR", "DOCUMENTATION"), ([], [
-            "docs/VALIDATOR.md: 3 lines, prints what the page says",
-            "docs/DOCUMENTATION.md: 3 lines, prints what the page says",
-        ]))
+    def test_both_run(self):
+        self.assertEqual(self.tried("VALIDATOR", "DOCUMENTATION", is_run=True), [])
 
-    def test_what_is_printed_otherwise_is_said(self) -> None:
+    def test_what_is_printed_otherwise_is_said(self):
         self.write("docs/VALIDATOR.md", VALIDATOR.replace("the type A\n", "the type B\n"))
-        wrong, _ = self.tried("VALIDATOR")
-        self.assertEqual(wrong[:4], [
+        self.assertEqual(self.tried("VALIDATOR", is_run=True)[:4], [
             "docs/VALIDATOR.md: the program ends with status 0, and prints",
             "  a.webidl:1:1: nothing defines the type A",
             "where the page has",
             "  a.webidl:1:1: nothing defines the type B",
         ])
 
-    def test_names_that_are_gone_are_said_without_a_run(self) -> None:
+    def test_names_that_are_gone_are_said_without_a_run(self):
         text = VALIDATOR.replace("{Name, names}", "{Name, gone}")
-        text = text.replace("fn main", "use weedle_gone::it;\nuse weedle::parse;\nfn main")
-        self.write("docs/VALIDATOR.md", text)
-        self.assertEqual(self.tried("VALIDATOR", no_run=True)[0], [
+        self.write("docs/VALIDATOR.md", text.replace("fn main", "use weedle_gone::it;\nuse weedle::parse;\nfn main"))
+        self.assertEqual(self.tried("VALIDATOR"), [
             "docs/VALIDATOR.md: the program's line of crates.txt lacks weedle",
             "docs/VALIDATOR.md: weedle_gone is no crate of crates.txt",
             "docs/VALIDATOR.md: weedle_places gives no gone",
         ])
 
-    def test_a_program_that_is_too_long_is_said(self) -> None:
+    def test_a_program_that_is_too_long_is_said(self):
         with mock.patch.dict(try_pages.MOST_LINES, VALIDATOR=2):
-            self.assertEqual(self.tried("VALIDATOR", no_run=True)[0], [
-                "docs/VALIDATOR.md: the program has 3 lines, and may have 2",
-            ])
+            self.assertEqual(self.tried("VALIDATOR"), ["docs/VALIDATOR.md: the program has 3 lines, and may have 2"])
 
-    def test_real_files_are_counted(self) -> None:
+    def test_real_files_are_counted(self):
         for name in ("a.webidl", "below/b.idl", "c.txt"):
             self.write(f"../real/{name}", "interface A {};\n")
         files = self.root.parent / "real"
-        self.assertEqual(self.tried("VALIDATOR", files=files)[0], [])
+        self.assertEqual(self.tried("VALIDATOR", is_run=True, files=files), [])
         self.write("../real/d.widl", "interface D {};\n")
-        wrong, _ = self.tried("VALIDATOR", files=files)
+        wrong = self.tried("VALIDATOR", is_run=True, files=files)
         self.assertEqual(wrong[1], "  3 files")
         self.assertIn("  3 types that nothing defines", wrong)
 
-    def test_a_program_may_be_proved(self) -> None:
+    def test_a_program_may_be_proved(self):
         with mock.patch.object(try_pages, "run", side_effect=try_pages.run) as ran:
-            self.tried("VALIDATOR", prove=True)
+            self.tried("VALIDATOR", is_run=True, is_proved=True)
         self.assertEqual(ran.call_args.args[1], ["run", "--", "a.webidl"])
+
+
+class Examples(Repository):
+    FILES = {
+        "crates.txt": "weedle_low:\nhigh: weedle_low\nother:\n",
+        "crates/weedle_low/src/lib.rt": LOW,
+        "crates/high/src/lib.rt": HIGH,
+        "crates/other/src/lib.rt": "//! Other.\n\n/// ```rust\n\nuse y;\n",
+    }
+
+    def setUp(self):
+        super().setUp()
+        around = {("crates/weedle_low/src/lib.rt", 2): ("fn made() {}\n", "", "    it\n")}
+        self.enterContext(mock.patch.object(doc_examples, "AROUND", around))
+
+    def found(self, *crates):
+        return doc_examples.examples_of(self.root, crates)
+
+    def test_each_block_of_rust_in_a_doc_comment(self):
+        found = [(name, it.file, it.number) for name, (it, _) in self.found("high", "weedle_low").items()]
+        self.assertEqual(found, [
+            ("high_lib_1", "crates/high/src/lib.rt", 4), ("weedle_low_lib_1", "crates/weedle_low/src/lib.rt", 4),
+            ("weedle_low_lib_2", "crates/weedle_low/src/lib.rt", 17),
+        ])
+        self.assertEqual(self.found()["other_lib_1"][0].text, "")
+
+    def test_those_of_some_crates_alone(self):
+        self.assertEqual(list(self.found("high")), ["high_lib_1"])
+        self.write("crates/other/src/lib.rt", "//! Other.\n")
+        with self.assertRaisesRegex(Unfit, "other has no example"):
+            self.found("high", "other")
+
+    def test_the_modules_and_the_repository_in_which_they_are_tried(self):
+        seen = {}
+
+        def run(words, cwd, **_):
+            room = cwd.parent.parent
+            seen.update({it.relative_to(room).as_posix(): it.read_text() for it in room.rglob("*") if it.is_file()})
+            return subprocess.CompletedProcess(words, 1)
+
+        with mock.patch("subprocess.run", run):
+            self.assertEqual(try_pages.try_examples(self.root, self.found("high", "weedle_low")), 1)
+        self.assertEqual(seen["crates.txt"], "weedle_low:\nhigh: weedle_low\nexamples: high weedle_low\n")
+        self.assertIn("mod high_lib_1;\nmod weedle_low_lib_1;\nmod weedle_low_lib_2;\n", seen["crates/examples/src/lib.rt"])
+        code = [seen[f"crates/examples/src/{it}.rt"] for it in ("weedle_low_lib_1", "weedle_low_lib_2", "high_lib_1")]
+        self.assertEqual(code, [FIRST, SECOND, THIRD])
+        self.assertNotIn("crates/other/src/lib.rt", seen)
+
+    def test_what_stands_around_is_that_of_examples(self):
+        found = doc_examples.examples_of(try_pages.TOP, ())
+        there = {(it.file, int(name.rpartition("_")[2])) for name, (it, _) in found.items()}
+        self.assertLessEqual(set(AROUND), there)
 
 
 if __name__ == "__main__":

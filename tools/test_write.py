@@ -5,6 +5,7 @@
 """
 
 import os
+import sys
 import tempfile
 import unittest
 from contextlib import redirect_stderr, redirect_stdout
@@ -140,6 +141,27 @@ class Layouts(unittest.TestCase):
         found = write.shares({"a": 1, "b": 5, "c": 3, "d": 2}, 2)
         self.assertEqual(found, [["b", "a"], ["c", "d"]])
         self.assertEqual(write.shares({"a": 0}, 4), [["a"]])
+
+
+class Writers(unittest.TestCase):
+    def said(self, text):
+        """What is said of a script with this `main`."""
+        with tempfile.TemporaryDirectory() as room:
+            put(room, {"tools/x.py": text.encode(), "tools/y.py": b"WORD = 'why'\n"})
+            return write.call([sys.executable, "-c", write.RUN, "x"], room)
+
+    def test_each_is_a_script(self):
+        for script in write.WRITERS:
+            self.assertTrue((write.TOP / f"tools/{script}.py").is_file(), script)
+
+    def test_main_is_run_and_not_what_stands_behind_it(self):
+        text = "import y\ndef main():\n    print(y.WORD, __name__)\nif __name__ == '__main__':\n    1 / 0\n"
+        self.assertEqual(self.said(text), "why x\n")
+
+    def test_what_fails_is_told(self):
+        for text in ("def main():\n    raise SystemExit('why')\n", "def main():\n    print('why')\n    return 1\n", "why\n"):
+            with self.assertRaisesRegex(Unfit, "(?s)failed:.*why"):
+                self.said(text)
 
 
 class Whole(unittest.TestCase):

@@ -9,10 +9,10 @@ import unittest
 from pathlib import Path
 
 from write import HEAD, sources, writers
-from written_places import FOLDER, apart, files_in, in_crate, in_logic, module_in, place, put
+from written_places import apart, files_in, in_crate, in_logic, module_in, place, put
 
 TOP = Path(__file__).resolve().parent.parent
-TREES, TYPES = "weedle_members/specs/Trees.antt", "weedle_types/src/clones/types.rt"
+TREES, ORDERS = "weedle_members/specs/Trees.antt", "weedle_comparisons/src/orders/types.rt"
 
 
 class Places(unittest.TestCase):
@@ -21,14 +21,14 @@ class Places(unittest.TestCase):
         self.assertEqual(apart("low/src/grammar/keywords.rt"), "low/src/written/grammar/keywords.rt")
 
     def test_a_module_by_hand_may_stand_above_it(self):
-        self.assertEqual(apart(TYPES), "weedle_types/src/clones/written/types.rt")
+        self.assertEqual(apart(ORDERS), "weedle_comparisons/src/orders/written/types.rt")
         self.assertEqual(apart("low/src/member/from_member.rt"), "low/src/member/written/from_member.rt")
 
     def test_what_says_so_already_stays(self):
         self.assertEqual(apart("low/src/member/written.rt"), "low/src/member/written.rt")
 
     def test_a_proof_of_a_function_by_hand_stays(self):
-        path = "weedle_types/proofs/reading/+group/Answers.antt"
+        path = "weedle_interfaces/proofs/member/Answers.antt"
         self.assertEqual(apart(path), path)
 
     def test_a_module_is_named_by_its_place(self):
@@ -55,8 +55,6 @@ class Heads(unittest.TestCase):
     def test_each_written_file_names_its_script_and_is_not_edited_by_hand(self):
         files = sources(TOP)
         named = writers(files)
-        stand_apart = {it for it in files if FOLDER in (*Path(it).parts, Path(it).stem)}
-        self.assertEqual(stand_apart - named.keys(), set())
         for path, script in named.items():
             with self.subTest(path):
                 head = HEAD.match(files[path].decode())[0]

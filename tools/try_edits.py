@@ -1,14 +1,21 @@
 #!/usr/bin/env python3
-"""Tries the wrong bodies that the gate doesn't try: the prover has to refuse each.
+"""Tries wrong bodies that the gate doesn't try: the prover has to refuse each, or a run of tests/ to find it.
 
     python3 tools/try_edits.py [--check] [CRATE..]
+    python3 tools/try_edits.py --programs [--check] [NAME..]
 
-They are the edits must-fail/by-hand/CRATE/*.edit, of all crates or of those that are named. An edit
+Those for the prover are must-fail/by-hand/CRATE/*.edit, of all crates or of those that are named. An edit
 has a line `file: src/lib.rt`, and then pairs of lines `old: TEXT` and `new: TEXT`, each TEXT one
 line; further pairs apply to what the earlier ones made. A line that begins with `#` says something
 to the reader, and `# only: PATH` names the function that the edit turns, as `rt check --only` takes it.
 Of an edit without such a line that changes nothing but `src/`, it is the function in which the first text
 stands, or the module, where that is a method.
+
+Those that no contract refuses are tests/wrong_programs/*.edit, with two lines more, and a third where it is to be proved:
+
+    crate: NAME      whose files it changes
+    program: NAME    which program is built with it (tools/wrong_programs.py says how, and what it is run by)
+    build: run       that is proved and built by `rt run`, which takes minutes; else `rt try` builds it with checks
 
 First it looks whether each edit applies: whether each old text stands in its file exactly once.
 With --check that is all. Else it copies the repository to a temporary folder, without .git but
@@ -17,24 +24,24 @@ crate's edits as they stand, and then those of each edit in turn, by `rt check -
 minute, or some minutes where it touches the types that hold one another. Where an edit isn't refused
 so, or has no function, the whole crate is checked as it stands and with the edit. Over all definitions
 each check begins with minutes of sums over the crates below. What isn't proved yet is proved first: an
-hour and more over the types.
+hour and more over the types. A program takes a minute or two, and minutes where it is proved.
 
 It prints a line for each edit:
 
-    CRATE/NAME: refused
-    CRATE/NAME: LET THROUGH         the crate is still proved with it
+    CRATE/NAME: refused             or of a program, NAME: found by N of M
+    CRATE/NAME: LET THROUGH         the crate is still proved with it, or all runs passed
     CRATE/NAME: doesn't apply       with the reason
     CRATE/NAME: NOT TRIED           with the reason
 
 Behind `refused` stands in brackets where that says little of a contract: where a proof only misses
-a name that the edit took away. The last line is `N refused, M let through`, and behind it how many
+a name that the edit took away. The last line is `N refused, M let through`, or `N found, ..`, and behind it how many
 weren't tried, where there are such; with --check it is `N apply, M don't`.
 
-The status is 0 where each edit was refused, or applies; 1 where one wasn't or doesn't; 2 where the
+The status is 0 where each edit was refused or found, or applies; 1 where one wasn't or doesn't; 2 where the
 arguments are wrong.
 """
 
-import argparse
+import contextlib
 import re
 import shutil
 import subprocess
@@ -43,11 +50,14 @@ import tempfile
 from pathlib import Path
 
 import gate_edits
+from command_line import parser_of
 from crates import PARTS, Unfit, closure, read_lines
 
 TOP = Path(__file__).resolve().parent.parent
-BY_HAND = Path("must-fail", "by-hand")
-REFUSED, LET_THROUGH, UNFIT, UNTRIED = "refused", "LET THROUGH", "doesn't apply", "NOT TRIED"
+BY_HAND, PROGRAMS = Path("must-fail", "by-hand"), Path("tests", "wrong_programs")
+# What says of a program's edit what is built.
+HEADS = ("crate", "program", "build")
+REFUSED, FOUND, LET_THROUGH, UNFIT, UNTRIED = "refused", "found", "LET THROUGH", "doesn't apply", "NOT TRIED"
 # How the last line of a check begins that the prover refused.
 NOT_PROVED = "logic=not-proved"
 COMPLAINT = re.compile(r"(note: |(\./)?\S+:\d+:\d+: error)")
@@ -67,24 +77,29 @@ class Misfit(Exception):
 
 
 class Edit:
-    """An edit by hand: its file, its crate's folder and name, its own name, as `low/no-end`."""
+    """A wrong body: its file and text, its crate, its own name, as `low/no-end`, and which program is built with it."""
 
-    def __init__(self, root, file):
-        self.file, self.crate = file, file.parent.name
-        self.folder = Path(root, "crates", self.crate)
-        self.name = f"{self.crate}/{file.stem}"
+    def __init__(self, file):
+        rows = file.read_text(encoding="utf-8").splitlines()
+        heads = dict(row.split(": ", 1) for row in rows if row.partition(":")[0] in HEADS)
+        self.file, self.crate = file, heads.get("crate", file.parent.name)
+        self.text = "\n".join(row for row in rows if row.partition(":")[0] not in HEADS)
+        self.program, self.is_proved = heads.get("program"), heads.get("build") == "run"
+        self.name = file.stem if self.program else f"{self.crate}/{file.stem}"
 
-    def misfit(self):
+    def misfit(self, root):
         """Why it doesn't apply to its crate as it stands, or nothing."""
-        return misfit_of(self.file.read_text(encoding="utf-8"), self.folder)
+        if not {self.crate, self.program or self.crate} <= read_lines(root).keys():
+            return "its crate or its program isn't in crates.txt"
+        return misfit_of(self.text, Path(root, "crates", self.crate))
 
-    def functions(self):
+    def functions(self, root):
         """The functions that it turns, as `rt check --only` takes them; none where that isn't known."""
-        text = self.file.read_text(encoding="utf-8")
         found = gate_edits.functions_of(self.file)
-        if found or any(part in text for part in ("file: specs/", "file: proofs/")):
+        if found or any(part in self.text for part in ("file: specs/", "file: proofs/")):
             return found
-        path = function_at(self.folder, *(re.search(rf"^{it}: (.*)$", text, re.MULTILINE)[1] for it in ("file", "old")))
+        first = (re.search(rf"^{it}: (.*)$", self.text, re.MULTILINE)[1] for it in ("file", "old"))
+        path = function_at(Path(root, "crates", self.crate), *first)
         return [path] if path else []
 
 
@@ -97,7 +112,9 @@ class Outcome:
     def __str__(self):
         if not self.why:
             return self.kind
-        return f"{self.kind} ({self.why})" if self.kind == REFUSED else f"{self.kind}: {self.why}"
+        return {REFUSED: f"{self.kind} ({self.why})", FOUND: f"{self.kind} by {self.why}"}.get(
+            self.kind, f"{self.kind}: {self.why}"
+        )
 
 
 def edited(text, crate):
@@ -147,15 +164,34 @@ def function_at(crate, path, old):
     return f"{module}::{heads[-1][2]}" if module else heads[-1][2]
 
 
-def find_edits(root, names):
-    """The edits by hand of these crates, or of all, in the order of crates.txt and their names."""
-    lines = read_lines(root)
+def find_edits(root, names, is_programs=False):
+    """The edits of these crates, in the order of crates.txt and their names, or the programs' of these names; or all."""
+    if is_programs:
+        found = {file.stem: Edit(file) for file in sorted((root / PROGRAMS).glob("*.edit"))}
+    else:
+        found = {
+            name: [Edit(file) for file in sorted((root / BY_HAND / name).glob("*.edit"))] for name in read_lines(root)
+        }
     for name in names:
-        if name not in lines:
-            raise Unfit(f"there is no crate {name}")
-    wanted = [name for name in lines if not names or name in names]
-    folders = [root / BY_HAND / name for name in wanted]
-    return [Edit(root, file) for folder in folders for file in sorted(folder.glob("*.edit"))]
+        if name not in found:
+            raise Unfit(f"there is no {PROGRAMS}/{name}.edit" if is_programs else f"there is no crate {name}")
+    wanted = [it for name, it in found.items() if not names or name in names]
+    return wanted if is_programs else [edit for edits in wanted for edit in edits]
+
+
+@contextlib.contextmanager
+def applied(edit, root):
+    """The repository with an edit, and afterwards as it was."""
+    folder = Path(root, "crates", edit.crate)
+    texts = edited(edit.text, folder)
+    before = {path: (folder / path).read_text(encoding="utf-8") for path in texts}
+    try:
+        for path, text in texts.items():
+            (folder / path).write_text(text, encoding="utf-8")
+        yield folder
+    finally:
+        for path, text in before.items():
+            (folder / path).write_text(text, encoding="utf-8")
 
 
 def copy_repository(root, to, names):
@@ -193,17 +229,10 @@ def outcome_of(status, said):
     return Outcome(REFUSED)
 
 
-def try_one(crate, edit, functions=()):
-    """What came of one edit in the folder of its crate, which is left as it was."""
-    texts = edited(edit.file.read_text(encoding="utf-8"), crate)
-    before = {path: (crate / path).read_text(encoding="utf-8") for path in texts}
-    try:
-        for path, text in texts.items():
-            (crate / path).write_text(text, encoding="utf-8")
-        return outcome_of(*run_rt(crate, functions))
-    finally:
-        for path, text in before.items():
-            (crate / path).write_text(text, encoding="utf-8")
+def try_one(copy, edit, functions=()):
+    """What came of one edit, by these functions or by the whole crate."""
+    with applied(edit, copy) as folder:
+        return outcome_of(*run_rt(folder, functions))
 
 
 def is_proved(crate, functions=()):
@@ -214,89 +243,96 @@ def is_proved(crate, functions=()):
     return not status
 
 
-def by_functions(crate, edits):
+def by_functions(copy, folder, edits):
     """Of each edit that its functions alone refuse, what came of it."""
-    functions = {edit: names for edit in edits if (names := edit.functions())}
+    functions = {edit: names for edit in edits if (names := edit.functions(copy))}
     every = list(dict.fromkeys(it for names in functions.values() for it in names))
-    if not every or not is_proved(crate, every):
+    if not every or not is_proved(folder, every):
         return
     for edit, names in functions.items():
-        outcome = try_one(crate, edit, names)
+        outcome = try_one(copy, edit, names)
         if outcome.kind == REFUSED:
             yield edit, outcome
 
 
-def try_crate(copy, crate, edits):
-    """Each edit of one crate with what came of it: those that no function refused come last."""
-    folder, refused = copy / "crates" / crate, set()
-    for edit, outcome in by_functions(folder, edits):
-        refused.add(edit)
-        yield edit, outcome
-    left = [edit for edit in edits if edit not in refused]
-    proved = not left or is_proved(folder)
-    for edit in left:
-        yield edit, try_one(folder, edit) if proved else Outcome(UNTRIED, "the crate isn't proved as it stands")
+def by_prover(copy, edits):
+    """Each edit with what came of it, crate by crate: those that no function refused come last."""
+    for crate in dict.fromkeys(edit.crate for edit in edits):
+        own, folder, refused = [edit for edit in edits if edit.crate == crate], copy / "crates" / crate, set()
+        for edit, outcome in by_functions(copy, folder, own):
+            refused.add(edit)
+            yield edit, outcome
+        left = [edit for edit in own if edit not in refused]
+        proved = not left or is_proved(folder)
+        for edit in left:
+            yield edit, try_one(copy, edit) if proved else Outcome(UNTRIED, "the crate isn't proved as it stands")
+
+
+def by_runs(copy, edits):
+    """Each edit of a program with what came of it."""
+    # It brings in what runs programs, which --check doesn't want.
+    from wrong_programs import NotBuilt, Runs
+    runs = Runs(copy.parent)
+    for edit in edits:
+        try:
+            with applied(edit, copy):
+                failed, count = runs.failures_of(copy / "crates" / edit.program, edit.is_proved)
+        except (NotBuilt, subprocess.TimeoutExpired) as why:
+            yield edit, Outcome(UNTRIED, str(why))
+        else:
+            yield edit, Outcome(FOUND, f"{failed} of {count}") if failed else Outcome(LET_THROUGH, f"by all {count}")
 
 
 def try_edits(root, edits):
-    """Tries the edits and prints a line for each. Returns how many came to each kind."""
-    counts = dict.fromkeys((REFUSED, LET_THROUGH, UNFIT, UNTRIED), 0)
+    """Tries the edits, all of the prover or all of programs, and prints a line for each. Returns how many came to each kind."""
+    counts = dict.fromkeys((REFUSED, FOUND, LET_THROUGH, UNFIT, UNTRIED), 0)
 
     def tell(edit, outcome):
         print(f"{edit.name}: {outcome}", flush=True)
         counts[outcome.kind] += 1
 
-    misfits = {edit: edit.misfit() for edit in edits}
+    misfits = {edit: edit.misfit(root) for edit in edits}
     for edit in edits:
         if misfits[edit]:
             tell(edit, Outcome(UNFIT, misfits[edit]))
     fit = [edit for edit in edits if not misfits[edit]]
-    crates = list(dict.fromkeys(edit.crate for edit in fit))
     with tempfile.TemporaryDirectory(prefix="try-edits-") as room:
         copy = Path(room, "repository")
         if fit:
-            copy_repository(root, copy, crates)
-        for crate in crates:
-            own = [edit for edit in fit if edit.crate == crate]
-            for edit, outcome in try_crate(copy, crate, own):
+            copy_repository(root, copy, [edit.program or edit.crate for edit in fit if edit.is_proved or not edit.program])
+            for edit, outcome in by_runs(copy, fit) if fit[0].program else by_prover(copy, fit):
                 tell(edit, outcome)
     return counts
 
 
-def check(edits):
+def check(root, edits):
     """Says which edits don't apply, and how many do. Returns whether all do."""
-    misfits = {edit: why for edit in edits if (why := edit.misfit())}
+    misfits = {edit: why for edit in edits if (why := edit.misfit(root))}
     for edit, why in misfits.items():
         print(f"{edit.name}: {Outcome(UNFIT, why)}")
     print(f"{len(edits) - len(misfits)} apply, {len(misfits)} don't")
     return not misfits
 
 
-def summary(counts):
-    untried = counts[UNFIT] + counts[UNTRIED]
-    last = f"{counts[REFUSED]} refused, {counts[LET_THROUGH]} let through"
-    return f"{last}, {untried} not tried" if untried else last
-
-
 def main(words=None, root=TOP):
-    parser = argparse.ArgumentParser(
-        description=__doc__, formatter_class=argparse.RawDescriptionHelpFormatter
-    )
+    parser = parser_of(__doc__)
     parser.add_argument("--check", action="store_true", help="only look whether each applies")
-    parser.add_argument("crates", metavar="CRATE", nargs="*", help="whose edits; else all")
-    arguments = parser.parse_args(words)
+    parser.add_argument("--programs", action="store_true", help="those that no contract refuses")
+    parser.add_argument("names", metavar="NAME", nargs="*", help="a crate, or of programs an edit; else all")
+    given = parser.parse_args(words)
     try:
-        edits = find_edits(root, arguments.crates)
-        if arguments.check:
-            return 0 if check(edits) else 1
+        edits = find_edits(root, given.names, given.programs)
+        if given.check:
+            return 0 if check(root, edits) else 1
         if not shutil.which("rt"):
             raise Unfit("the toolchain's command rt isn't on PATH")
         counts = try_edits(root, edits)
     except Unfit as error:
         print(f"try_edits: {error}", file=sys.stderr)
         return 2
-    print(summary(counts))
-    return 0 if counts[REFUSED] == len(edits) else 1
+    kind, untried = FOUND if given.programs else REFUSED, counts[UNFIT] + counts[UNTRIED]
+    print(f"{counts[kind]} {kind}, {counts[LET_THROUGH]} let through" + f", {untried} not tried" * bool(untried))
+    return 0 if counts[kind] == len(edits) else 1
 
 
 if __name__ == "__main__":

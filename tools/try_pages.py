@@ -1,54 +1,66 @@
 #!/usr/bin/env python3
-"""Builds and runs the programs of docs/VALIDATOR.md and docs/DOCUMENTATION.md, and compares what they print.
+"""Holds the programs and pieces of Rust in pages and doc lines to what is there, what is proved and what they print.
 
     python3 tools/try_pages.py [--no-run] [--prove] [--files FOLDER] [PAGE..]
+    python3 tools/try_pages.py --examples [--no-run] [CRATE..]
 
-The ```rust blocks of such a page, one behind another, are a program. The page has its line of crates.txt,
-indented, as `    app: weedle`; the command that runs it, indented, as `    rt try -- shop.webidl` or
-`    rt try < shop.webidl`; behind that a ```webidl block, what stands in that file; and behind that a ```text or
-```markdown block, what the program prints of it.
+README has a program: its ```rust block with a `fn main(rt: HostRuntime)`. The ```rust blocks of docs/VALIDATOR.md,
+one behind another, are one too, and so are those of docs/DOCUMENTATION.md. Such a page has the program's line of
+crates.txt, indented, as `    app: weedle`; a ```webidl block, what the program is given; behind that a ```text or
+```markdown block, what it prints of that. A command in front of the first, as `    rt try -- shop.webidl`, says
+that it is given as a file of this name, and else it is its standard input.
 
-Of each page it is looked at:
-
-- The line names crates of crates.txt or of the toolchain. What the program's `use` lines bring in of a crate of
-  this repository stands in that crate's src/lib.rt. The program has no more lines than MOST_LINES says.
+- The line names crates of crates.txt. What the program's `use` lines bring in of a crate of this repository stands
+  in that crate's src/lib.rt. The program has no more lines than MOST_LINES says.
+- Of README each piece of the program that has no blank line, but for `use` lines and `main`, stands in
+  crates/weedle_rows/src/readme.rt, which the gate proves and whose tests run it. Each other ```rust block, of
+  docs/USING.md too, stands, indentation and blank lines aside, in a file with tests below crates/*/src, or in a doc
+  comment there; what its `use` lines bring in, that file's do too.
 - The program runs: in a repository of its own with a copy of the library, as tools/vendor.py makes it, it prints
   what the page says. With --prove it is proved and built first, by `rt run`; else `rt try` runs it with checks.
-- With --files it runs over each *.webidl, *.idl and *.widl file of that folder, and what its lines say is
-  counted. Where the page has a heading `## Over real files`, the ```text block behind it has these counts.
-  docs/COMPARED.md says of which package these files are.
+- With --files those of VALIDATOR and DOCUMENTATION run over each *.webidl, *.idl and *.widl file of that folder,
+  and what they print is counted. The ```text block behind `## Over real files` has these counts. docs/COMPARED.md
+  says of which package these files are.
 
---no-run leaves out the last two. PAGE is VALIDATOR or DOCUMENTATION; without it all pages are looked at. It needs
-Python 3.11, and without --no-run the toolchain's command `rt` on PATH, 2,000 MB of memory and some two minutes a
-page; over real files some minutes more, and with --prove what the proofs of the library below the program take.
+With --examples the ```rust blocks in the doc comments of crates/*/src are tried instead, or those of each CRATE: in a
+repository with the crates that they name and those below, each becomes a test of the crate `examples`, with its
+`use` lines at the top and all else in a function that has `rt`. AROUND has what stands round some of them.
 
-It prints how many lines each program has and what was looked at, or a line for whatever doesn't hold, with both
-texts where texts differ. The status is 0 where all holds, 1 where something doesn't, 2 where it could not be
-looked at.
+--no-run compares texts alone; of examples it prints the modules. PAGE is README, VALIDATOR or DOCUMENTATION; without it
+all are looked at. It needs Python 3.11, and without --no-run the toolchain's command `rt` on PATH, 3,000 MB of memory
+and some two minutes a page; so the gate runs nothing.
+
+It prints what was looked at, or a line for whatever doesn't hold, with both texts where texts differ. The status
+is 0 where all holds, 1 where something doesn't, 2 where it could not be looked at.
 """
 
-import argparse
 import re
 import shutil
 import subprocess
 import sys
 import tempfile
 from collections import Counter
-from collections.abc import Iterator
 from dataclasses import dataclass
 from pathlib import Path
 
 from command_line import parser_of
 from crates import LIST, Line, Unfit, line_of, read_lines
-from try_readme import LIST_LINE, SECONDS, Piece, blocks_of, imported, want_what_a_run_needs
+from doc_examples import USE, Piece, build_examples, code_of, examples_of
 from vendor import vendor
 
 TOP = Path(__file__).resolve().parent.parent
-# How many lines the program of each page may have.
-MOST_LINES = {"VALIDATOR": 370, "DOCUMENTATION": 410}
+# The pages with a program, with how many lines it may have; a page with blocks of Rust and no program; and the
+# file that has the pieces of README's.
+README, USING, PROVED = "README", "docs/USING.md", "crates/weedle_rows/src/readme.rt"
+MOST_LINES = {README: 100, "VALIDATOR": 370, "DOCUMENTATION": 410}
+FENCE = re.compile(r"```(.*)")
+LIST_LINE = re.compile(r" {4}[a-z0-9_]+:( [a-z0-9_]+)+")
 COMMAND = re.compile(r" {4}rt try (?P<how>--|<) (?P<file>[\w.]+)")
+MAIN = "fn main(rt: HostRuntime)"
 HEADING = "## Over real files"
 SUFFIXES = (".webidl", ".idl", ".widl")
+# The innermost group of the paths of a `use`.
+GROUP = re.compile(r"([\w:]*)\{([^{}]*)\}")
 # What is counted of the lines that a program prints: a word for it, and what such a line has.
 COUNTED = {
     "VALIDATOR": (
@@ -63,8 +75,8 @@ COUNTED = {
         ("members and values", re.compile(r"^- `")),
     ),
 }
-# Where the files of a folder lie below the program's own.
-FILES = "files"
+# Where the files of a folder lie below the program's own; what a run needs, and the time that it has.
+FILES, MEGABYTES, SECONDS = "files", 3000, "1200"
 
 
 @dataclass
@@ -73,6 +85,7 @@ class Page:
 
     name: str
     program: list[str]
+    others: list[Piece]
     line: Line
     file: str
     is_argument: bool
@@ -81,52 +94,81 @@ class Page:
     counts: list[str]
 
     @property
-    def path(self) -> str:
-        """Where the page stands, from the top on."""
-        return f"docs/{self.name}.md"
+    def path(self):
+        return path_of(self.name)
 
 
-def page_of(name: str, text: str) -> Page:
+def path_of(name):
+    """Where a page stands, from the top on."""
+    return f"{name}.md" if name == README else f"docs/{name}.md"
+
+
+def blocks_of(rows, file):
+    """The blocks of code of a page."""
+    blocks, open_block = [], None
+    for number, row in enumerate(rows, 1):
+        fence = FENCE.match(row)
+        if open_block and row == "```":
+            blocks.append(open_block)
+            open_block = None
+        elif open_block:
+            open_block.lines.append(row)
+        elif fence:
+            open_block = Piece(file, number + 1, [], fence[1])
+    return blocks
+
+
+def page_of(name, text):
     """The page of a text. It is Unfit where a part of it is missing."""
-    rows = text.splitlines()
-    blocks = blocks_of(rows)
+    rows, path = text.splitlines(), path_of(name)
+    blocks = blocks_of(rows, path)
     fenced = {block.number + at for block in blocks for at in range(len(block.lines))}
     plain = [(number, row) for number, row in enumerate(rows, 1) if number not in fenced]
-    lines = [row for _, row in plain if LIST_LINE.fullmatch(row)]
-    commands = [(number, found) for number, row in plain if (found := COMMAND.fullmatch(row))]
-    program = [row for block in blocks if block.language == "rust" for row in [*block.lines, ""]]
-    if not (lines and commands and program):
-        raise Unfit(f"docs/{name}.md lacks a line of crates.txt, a command or a program")
-    number, command = commands[0]
-    given = block_behind(name, blocks, number, ("webidl",))
-    printed = block_behind(name, blocks, given.number, ("text", "markdown"))
+    rust = [block for block in blocks if block.language == "rust"]
+    parts = [it for it in rust if name != README or any(row.startswith(MAIN) for row in it.lines)]
+    lines = [row for number, row in plain if LIST_LINE.fullmatch(row)]
+    if not parts or name == README and len(parts) != 1 or not lines:
+        raise Unfit(f"{path} lacks a program or its line of {LIST}, or has several programs")
+    commands = [(number, found) for number, row in plain if (found := COMMAND.fullmatch(row))] if name != README else []
+    if name != README and not commands:
+        raise Unfit(f"{path} lacks a command")
+    number, command = commands[0] if commands else (parts[0].number, None)
+    given = block_behind(path, blocks, number, ("webidl",))
+    printed = block_behind(path, blocks, given.number, ("text", "markdown"))
     over = [number for number, row in plain if row == HEADING]
-    counts = block_behind(name, blocks, over[0], ("text",)).lines if over else []
-    return Page(
-        name, program[:-1], line_of(lines[0]), command["file"], command["how"] == "--",
-        text_of(given), text_of(printed), counts,
-    )
+    counts = block_behind(path, blocks, over[0], ("text",)).lines if over else []
+    program = [row for block in parts for row in [*block.lines, ""]][:-1]
+    others = [it for it in rust if it not in parts]
+    file, is_argument = (command["file"], command["how"] == "--") if command else ("given.webidl", False)
+    return Page(name, program, others, line_of(lines[0]), file, is_argument, given.text, printed.text, counts)
 
 
-def block_behind(name: str, blocks: list[Piece], number: int, languages: tuple[str, ...]) -> Piece:
+def block_behind(path, blocks, number, languages):
     """The first block of one of these languages behind a line."""
     for block in blocks:
         if block.number > number and block.language in languages:
             return block
-    raise Unfit(f"docs/{name}.md has no ```{languages[0]} block behind its line {number}")
+    raise Unfit(f"{path} has no ```{languages[0]} block behind its line {number}")
 
 
-def text_of(block: Piece) -> str:
-    """What stands in a block."""
-    return "".join(f"{row}\n" for row in block.lines)
+def imported(text):
+    """The paths that the `use` lines of a text bring in, as `a::b` and `a::c` of `a::{b, c}`."""
+    def each(group):
+        return ", ".join(group[1] + name.strip() for name in group[2].split(",") if name.strip())
+
+    paths = set()
+    for path in USE.findall(text):
+        while GROUP.search(path):
+            path = GROUP.sub(each, path)
+        paths |= {"".join(it.split()) for it in path.split(",")}
+    return paths
 
 
-def unknown(root: Path, page: Page) -> Iterator[str]:
+def unknown(root, page):
     """What the program names of this repository and isn't there, and whether it is too long."""
-    most = MOST_LINES[page.name]
+    most, lines = MOST_LINES[page.name], read_lines(root)
     if len(page.program) > most:
         yield f"{page.path}: the program has {len(page.program)} lines, and may have {most}"
-    lines = read_lines(root)
     for path in sorted(imported("\n".join(page.program))):
         crate, *names = path.split("::")
         if not crate.startswith("weedle"):
@@ -135,71 +177,96 @@ def unknown(root: Path, page: Page) -> Iterator[str]:
             yield f"{page.path}: {crate} is no crate of {LIST}"
         elif crate not in page.line.uses:
             yield f"{page.path}: the program's line of {LIST} lacks {crate}"
-        elif names and not has_word(root / "crates" / crate / "src/lib.rt", names[0]):
+        elif names and not re.search(rf"\b{names[0]}\b", (root / f"crates/{crate}/src/lib.rt").read_text(encoding="utf-8")):
             yield f"{page.path}: {crate} gives no {names[0]}"
 
 
-def has_word(file: Path, word: str) -> bool:
-    """Whether a word stands in a file."""
-    return bool(re.search(rf"\b{re.escape(word)}\b", file.read_text(encoding="utf-8")))
+def unproved(root, page):
+    """The pieces of README's program that don't stand in the file that is proved."""
+    proved = "\n" + (root / PROVED).read_text(encoding="utf-8")
+    text = re.sub(r"^//!.*\n|^#!.*\n", "", "\n".join(page.program) + "\n", flags=re.M)
+    for piece in re.sub(rf"^{re.escape(MAIN)}.*?^\}}\n", "", USE.sub("", text), flags=re.M | re.S).split("\n\n"):
+        if piece.strip() and f"\n{piece.strip(chr(10))}\n" not in proved:
+            yield f"{page.path}: this piece of the program doesn't stand in {PROVED}:\n{piece.strip(chr(10))}"
 
 
-def build_repository(root: Path, pages: list[Page], room: Path) -> None:
+def compared(rows):
+    """Lines as they are compared, without indentation and blanks, and what `use` lines bring."""
+    text = "".join(f"{row.strip()}\n" for row in rows)
+    left = [row for row in USE.sub("", text).splitlines() if row]
+    return "".join(f"\n{row}" for row in left) + "\n", imported(text)
+
+
+def places_of_rust(root):
+    """What a block may stand in: each file with tests, and the doc comments of each file."""
+    for file in sorted(root.glob("crates/*/src/**/*.rt")):
+        rows = [row.strip() for row in file.read_text(encoding="utf-8").splitlines()]
+        if "#[test]" in rows:
+            yield compared(rows)
+        yield compared(row[3:] if row.startswith(("//!", "///")) else "(code)" for row in rows)
+
+
+def unfound(root, blocks):
+    """Those of the blocks of Rust that stand nowhere."""
+    places = list(places_of_rust(root))
+    for block in blocks:
+        text, names = compared(block.lines)
+        if not any(text in there and names <= brought for there, brought in places):
+            yield f"{block.file}:{block.number}: no file with tests and no doc comment has this block"
+
+
+def want_what_a_run_needs():
+    if not shutil.which("rt"):
+        raise Unfit("the toolchain's command rt isn't on PATH")
+    said = Path("/proc/meminfo").read_text(encoding="utf-8")
+    free = int(re.search(r"^MemAvailable: +(\d+)", said, re.M)[1]) // 1024
+    if free < MEGABYTES:
+        raise Unfit(f"{free} MB of memory are free, and a run needs {MEGABYTES}")
+
+
+def build_repository(root, pages, room):
     """Makes a repository of the programs, and of a copy of the library."""
-    words = [page.line.words for page in pages]
-    (room / LIST).write_text("".join(f"{it}\n" for it in words), encoding="utf-8")
+    (room / LIST).write_text("".join(f"{page.line.words}\n" for page in pages), encoding="utf-8")
     for page in pages:
         source = room / "crates" / page.line.name / "src"
         source.mkdir(parents=True)
-        text = "".join(f"{row}\n" for row in page.program)
-        (source / "main.rt").write_text(text, encoding="utf-8")
+        (source / "main.rt").write_text("".join(f"{row}\n" for row in page.program), encoding="utf-8")
         (source.parent / page.file).write_text(page.input, encoding="utf-8")
     vendor(root, room, False)
 
 
-def run(folder: Path, words: list[str], **more) -> subprocess.CompletedProcess:
+def run(folder, words, **more):
     """Runs `rt` in a program's folder."""
     return subprocess.run(["rt", *words], cwd=folder, capture_output=True, text=True, **more)
 
 
-def misprints(page: Page, folder: Path, is_proved: bool) -> Iterator[str]:
+def words_of(is_proved):
+    return ["run"] if is_proved else ["try", "--seconds", SECONDS]
+
+
+def misprints(page, folder, is_proved):
     """What the program does otherwise than its page says."""
-    words = ["run"] if is_proved else ["try", "--seconds", str(SECONDS)]
-    if page.is_argument:
-        ran = run(folder, [*words, "--", page.file])
-    else:
-        ran = run(folder, words, input=page.input)
-    if ran.stdout != page.output:
+    given = ["--", page.file] if page.is_argument else []
+    ran = run(folder, [*words_of(is_proved), *given], input="" if given else page.input)
+    if ran.stdout != page.output or page.name == README and ran.returncode:
         yield f"{page.path}: the program ends with status {ran.returncode}, and prints"
         yield from (f"  {row}" for row in ran.stdout.splitlines())
         yield from ("where the page has", *(f"  {row}" for row in page.output.splitlines()))
         yield from ran.stderr.splitlines()
 
 
-def printed_of(page: Page, folder: Path, names: list[str], is_proved: bool) -> str:
-    """What the program prints of these files, which lie below its folder: of all of them in one run, or else in
-    a run for each."""
+def printed_of(page, folder, names, is_proved):
+    """What the program prints of these files, which lie below its folder: in one run, or in one for each."""
     if page.is_argument:
-        words = ["run"] if is_proved else ["try", "--seconds", str(SECONDS)]
-        return run(folder, [*words, "--", *names]).stdout
+        return run(folder, [*words_of(is_proved), "--", *names]).stdout
     if is_proved:
-        program = [f"out/{page.line.name}"]
         texts = ((folder / name).read_bytes() for name in names)
-        runs = (subprocess.run(program, cwd=folder, input=it, capture_output=True) for it in texts)
+        runs = (subprocess.run([f"out/{page.line.name}"], cwd=folder, input=it, capture_output=True) for it in texts)
         return "".join(ran.stdout.decode() for ran in runs)
-    return run(folder, ["try", "--seconds", str(SECONDS), "--cases", FILES]).stdout
+    return run(folder, [*words_of(is_proved), "--cases", FILES]).stdout
 
 
-def counts_of(page: Page, printed: str) -> list[str]:
-    """How many lines are printed of each kind."""
-    kinds = COUNTED[page.name]
-    found = Counter(
-        kind for row in printed.splitlines() for kind, pattern in kinds if pattern.search(row)
-    )
-    return [f"{found[kind]} {kind}" for kind, _ in kinds]
-
-
-def miscounts(page: Page, folder: Path, files: Path, is_proved: bool) -> Iterator[str]:
+def miscounts(page, folder, files, is_proved):
     """What is counted of a folder of real files, where the page says otherwise."""
     there = sorted(file for file in files.rglob("*") if file.suffix in SUFFIXES)
     if not there:
@@ -208,48 +275,70 @@ def miscounts(page: Page, folder: Path, files: Path, is_proved: bool) -> Iterato
     names = [f"{FILES}/{number}-{file.name}" for number, file in enumerate(there)]
     for file, name in zip(there, names):
         shutil.copyfile(file, folder / name)
-    printed = printed_of(page, folder, names, is_proved)
-    counts = [f"{len(there)} files", *counts_of(page, printed)]
+    rows, kinds = printed_of(page, folder, names, is_proved).splitlines(), COUNTED[page.name]
+    found = Counter(kind for row in rows for kind, pattern in kinds if pattern.search(row))
+    counts = [f"{len(there)} files", *(f"{found[kind]} {kind}" for kind, _ in kinds)]
     if counts != page.counts:
         yield f"{page.path}: of the files of {files} there are"
         yield from (f"  {row}" for row in counts)
         yield from ("where the page has", *(f"  {row}" for row in page.counts))
 
 
-def try_pages(root: Path, names: list[str], arguments: argparse.Namespace) -> tuple[list[str], list[str]]:
+def try_pages(root, names, is_run, is_proved=False, files=None):
     """What doesn't hold, and a line for each page of what was looked at."""
-    files = (root / f"docs/{name}.md" for name in names)
-    pages = [page_of(file.stem, file.read_text(encoding="utf-8")) for file in files]
+    pages = [page_of(name, (root / path_of(name)).read_text(encoding="utf-8")) for name in names]
     wrong = [row for page in pages for row in unknown(root, page)]
     said = [f"{page.path}: {len(page.program)} lines" for page in pages]
-    if wrong or arguments.no_run:
+    for page in pages:
+        if page.name == README:
+            rows = (root / USING).read_text(encoding="utf-8").splitlines() if (root / USING).is_file() else []
+            others = page.others + [it for it in blocks_of(rows, USING) if it.language == "rust"]
+            wrong += [*unproved(root, page), *unfound(root, others)]
+            said[pages.index(page)] += f", and {len(others)} other blocks of Rust stand in crates/"
+    if wrong or not is_run:
         return wrong, said
     want_what_a_run_needs()
     with tempfile.TemporaryDirectory() as room:
         build_repository(root, pages, Path(room))
         for page in pages:
             folder = Path(room) / "crates" / page.line.name
-            wrong += misprints(page, folder, arguments.prove)
-            if arguments.files:
-                wrong += miscounts(page, folder, arguments.files, arguments.prove)
+            wrong += misprints(page, folder, is_proved)
+            if files and page.name in COUNTED:
+                wrong += miscounts(page, folder, files, is_proved)
     return wrong, [f"{row}, prints what the page says" for row in said]
 
 
-def main() -> int:
-    """Reads the arguments and prints what was found. The status."""
+def try_examples(root, examples):
+    """The status of a run of examples; what it says is printed."""
+    want_what_a_run_needs()
+    with tempfile.TemporaryDirectory() as room:
+        folder = build_examples(root, examples, Path(room))
+        words = ["rt", "try", "--test", "--seconds", SECONDS]
+        return subprocess.run(words, cwd=folder, stdin=subprocess.DEVNULL).returncode
+
+
+def main():
     parser = parser_of(__doc__)
-    parser.add_argument("pages", nargs="*", metavar="PAGE", help="VALIDATOR or DOCUMENTATION")
+    parser.add_argument("names", nargs="*", metavar="PAGE", help=f"{', '.join(MOST_LINES)}; of examples a crate")
     parser.add_argument("--no-run", action="store_true", help="look at the texts alone")
     parser.add_argument("--prove", action="store_true", help="prove and build the programs")
     parser.add_argument("--files", type=Path, metavar="FOLDER", help="run them over these files too")
-    arguments = parser.parse_args()
-    names = arguments.pages or list(MOST_LINES)
-    if not set(names) <= set(MOST_LINES):
-        parser.error(f"the pages are {' and '.join(MOST_LINES)}")
+    parser.add_argument("--examples", action="store_true", help="try the examples in doc comments instead")
+    given = parser.parse_args()
+    if not given.examples and not set(given.names) <= set(MOST_LINES):
+        parser.error(f"the pages are {', '.join(MOST_LINES)}")
     try:
-        wrong, said = try_pages(TOP, names, arguments)
-    except (Unfit, OSError) as error:
-        print(f"try_pages: {error}", file=sys.stderr)
+        if given.examples:
+            examples = examples_of(TOP, given.names)
+            if given.no_run:
+                print("\n".join(code_of(*it) for it in examples.values()), end="")
+                return 0
+            status = try_examples(TOP, examples)
+            wrong, said = [f"{len(examples)} examples, not all hold"] * bool(status), [f"{len(examples)} examples, all hold"]
+        else:
+            wrong, said = try_pages(TOP, given.names or list(MOST_LINES), not given.no_run, given.prove, given.files)
+    except (Unfit, OSError) as why:
+        print(f"try_pages: {why}", file=sys.stderr)
         return 2
     print("\n".join(wrong or said))
     return 1 if wrong else 0

@@ -4,12 +4,12 @@
     python3 tools/write.py
 
 Files of crates and of the packages in C, Python, Rust and JavaScript that a script writes name it at their heads, as
-`Written by tools/grammar.py`. In a copy of the repository without them tools/run_writers.py runs the scripts, and each crate in
-which something differs is laid out by `rt fmt`. What differs then is brought back: so where a
+`Written by tools/grammar.py`. In a copy of the repository without them it runs the scripts of WRITERS, and each crate in which
+something differs is laid out by `rt fmt`. What differs then is brought back: so where a
 script fails, nothing is changed. Behind that it writes the pages of docs/ that follow from the crates, and those of man/.
 
 It prints a line for each file that it changed, removed or wrote for the first time. It needs the
-toolchain's command `rt` on PATH, and about two seconds where four processors are idle.
+toolchain's command `rt` on PATH, and about four seconds where four processors are idle.
 tools/check.py says in the same way what is stale.
 
 The status is 0 where all is written, also where nothing was to change, and 2 where a script failed.
@@ -33,6 +33,11 @@ WRITTEN = re.compile(r"[Ww]ritten by (tools/\w+\.py)")
 HEAD = re.compile(r'/\*(?:.|\n)*?\*/|"""(?:.|\n)*?"""|(?:(?://!|--).*\n)*')
 # The files beside those of crates that scripts write, or may write.
 BESIDE = ("include/*.h", "python/weedle/*.py", "rust/src/*.rs", "js/lib/written/*.js", "js/lib/written/*.ts")
+# The scripts that write, each behind those whose files it reads; and how one is run, which refuses it by hand.
+WRITERS = (
+    "grammar terminals idl_proofs builds spellings prints impls orders c_header python_types rust_types javascript_types"
+).split()
+RUN = "import runpy, sys; sys.path.insert(0, 'tools'); sys.exit(runpy.run_path(f'tools/{sys.argv[1]}.py', run_name=sys.argv[1])['main']())"
 # The scripts that write pages of docs/ and of man/ from the sources, and print what they changed.
 PAGES = ("calling.py", "man_pages.py")
 # Where files are made in memory, on systems that have it: a disk takes long to make a thousand.
@@ -136,7 +141,8 @@ def write_anew(root, files):
         raise Unfit("the toolchain's command rt isn't on PATH")
     with new_room() as room:
         copy(root, files, room)
-        call([sys.executable, "tools/run_writers.py", "--here"], room)
+        for script in WRITERS:
+            call([sys.executable, "-c", RUN, script], room)
         lay_out(room, files)
         return sources(room)
 

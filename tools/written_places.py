@@ -1,6 +1,7 @@
 """Where the files stand that scripts write, and the names by which other files know them.
 
-A written file stands in a folder `written`, in which no file is by hand. A script calls it by its path below
+A written file stands in a folder `written`, beside others that were written once and are by hand now: a head
+says of a file which script writes it. A script calls it by its path below
 crates/ without this folder, as weedle_members/specs/Trees.antt, and its module as weedle_members.specs.Trees.
 `place` gives where it stands: crates/weedle_members/specs/written/Trees.antt. `in_logic` gives its name in the
 logic: Rattle.weedle_members.specs.written.Trees.
@@ -24,15 +25,11 @@ FOLDER = "written"
 # Folders further down. Each has a module by hand above it, and others by hand may stand in it.
 FOLDERS = """
     weedle_base/src/term
-    weedle_build_types/proofs/types
-    weedle_build_types/src/types
     weedle_comparisons/proofs/orders
     weedle_comparisons/src/orders
     weedle_rules/src/fill
     weedle_spell/src/laws
     weedle_spell_idl/src/laws
-    weedle_types/proofs/clones
-    weedle_types/src/clones
 """.split()
 # How the names of files begin that stand below the module whose types they are of, whatever it is.
 BELOW = "from_"
@@ -43,7 +40,6 @@ FIXED = """
     weedle_grammar/proofs/Takes
     weedle_idl/proofs/definition
     weedle_interfaces/proofs/member
-    weedle_types/proofs/reading
 """.split()
 
 

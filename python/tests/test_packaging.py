@@ -87,8 +87,8 @@ class Built(InRoom):
             self.assertIn(f"Tag: {name.split('-', 2)[2][:-4]}\n", wheel.read(f"{info}/WHEEL").decode())
             listed = {row.split(",")[0] for row in wheel.read(f"{info}/RECORD").decode().splitlines()}
             self.assertEqual(listed, set(wheel.namelist()))
-            modules = {f"weedle/{it.name}" for it in (HOME / "weedle").glob("*.py")}
-            self.assertLessEqual({*modules, "weedle/py.typed"}, listed)
+            modules = {it.relative_to(HOME).as_posix() for it in (HOME / "weedle").rglob("*.py")}
+            self.assertLessEqual({*modules, "weedle/py.typed", "weedle/lsp/server.py"}, listed)
             pages = {f"weedle-{VERSION}.data/data/share/man/man1/{it}.1" for it in ("weedle", "weedle-lint")}
             self.assertEqual({it for it in listed if "/man/" in it}, pages)
 
@@ -209,6 +209,11 @@ class Installed(InRoom):
 
     def assert_works(self):
         """What is installed reads a text, and its program too."""
+        served = subprocess.run(
+            [self.room / "bin/weedle", "lsp"], stdin=subprocess.DEVNULL, capture_output=True, check=False, env=others(),
+            cwd=self.room,
+        )
+        self.assertEqual((served.returncode, served.stderr), (1, b""))
         done = [
             subprocess.run(
                 words, input="A includes B;", capture_output=True, text=True, check=False, env=others(), cwd=self.room,

@@ -2,9 +2,11 @@
 
     weedle [--json | --syntax | --format [--check | --write]] [FILE..]
     weedle lint [--json] [--ignore CODE].. [--known FILE].. FILE..
+    weedle lsp
 
 `python3 -m weedle` is the same. The second checks files by rules that the grammar doesn't have:
-weedle/lint.py says what it writes, and its statuses. The first reads: without a file it reads
+weedle/lint.py says what it writes, and its statuses. The third is a language server, of
+weedle/lsp. The first reads: without a file it reads
 standard input, which `-` names too. With
 `--json` it writes each definition as JSON on a line; of several files each line is an object with
 the `file` and the `definition`. With `--syntax` it writes each node on a line, indented by its
@@ -264,6 +266,10 @@ def arguments(words: Optional[Sequence[str]]) -> argparse.Namespace:
 def main(words: Optional[Sequence[str]] = None) -> int:
     """Does what the arguments ask for."""
     words = sys.argv[1:] if words is None else list(words)
+    if words[:1] == ["lsp"]:
+        from weedle.lsp import main as serve  # no other run waits for it
+
+        return serve(words[1:])
     is_lint = words[:1] == ["lint"]
     wanted = arguments([] if is_lint else words)
     files = wanted.files or [DASH]

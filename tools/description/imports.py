@@ -1,7 +1,7 @@
 """The lines `use` of a file that is written: what it names is looked up where it is stated.
 
 Stated are the public names of the files of specs/ and proofs/ that are written by hand, or by
-tools/grammar.py or tools/trees.py, and the declared types.
+tools/grammar.py, and the declared types.
 """
 
 import re
@@ -15,7 +15,7 @@ STATED = re.compile(r"^ *(?:abbrev |unfoldable )?pub (?:ruleset |record )?([\w-]
 # What a file that is written states itself.
 OWN = re.compile(r"^(?:abbrev )?pub (?:ruleset )?([\w-]+)|^(?:abbrev )?([\w-]+) :", re.M)
 WORD = re.compile(r"(?<![.\w-])[\w«»'-]+")
-WRITTEN = re.compile(r"[Ww]ritten by tools/(?!(?:grammar|trees)\.py)")
+WRITTEN = re.compile(r"[Ww]ritten by tools/(?!grammar\.py)")
 HEAD_LINES = 3
 # What a name of a module stands for where another has it too: the keyword `Error`, beside that of a fault.
 KEYWORDS = {("term", "Error"): "ErrorKeyword"}
@@ -47,15 +47,6 @@ def stated_in(root, crate, folders):
 
 def use(module, names):
     return f"use {module}.{{{', '.join(names)}}}"
-
-
-def uses_of(root, text, modules):
-    """The lines for what a text names of these modules, in their order."""
-    words = set(WORD.findall(text))
-    for module in modules:
-        path = Path(root, "crates", *module.split(".")[1:]).with_suffix(".antt")
-        if found := words & set(STATED.findall(path.read_text(encoding="utf-8"))):
-            yield use(module, sorted(found))
 
 
 class Names:

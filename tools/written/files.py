@@ -79,10 +79,10 @@ def paths_for(name, items, stated):
     return paths | paths_in(stated.text_of(items[0]), above)
 
 
-def file_text(about, pieces, paths):
+def file_text(about, mods, pieces, paths):
     texts = [piece.text for piece in pieces]
     ghost = ghost_lines({it for piece in pieces for it in piece.ghost})
-    parts = [HEAD.format(about), ghost, use_lines("".join(texts), paths), *texts]
+    parts = [HEAD.format(about), ghost, mods, use_lines("".join(texts), paths), *texts]
     return "\n".join(part for part in parts if part)
 
 
@@ -91,6 +91,9 @@ def files_of(root, crate):
     declared, stated = list(declared_by(root, crate)), Stated(root, crate)
     for module in dict.fromkeys(it.module for it in declared):
         items = list(items_of(module, declared))
-        for (name, about), pieces in pieces_of(items, stated).items():
-            text = file_text(about, pieces, paths_for(name, items, stated))
+        found = pieces_of(items, stated)
+        apart = "".join(f"mod {name};\n" for name, _ in found if name != OUT)
+        for (name, about), pieces in found.items():
+            mods = apart if name == OUT else ""
+            text = file_text(about, mods, pieces, paths_for(name, items, stated))
             yield f"{crate}/src/{module.replace('.', '/')}/{name}.rt", text

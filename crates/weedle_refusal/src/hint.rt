@@ -117,7 +117,8 @@ pub enum Hint {
 }
 
 impl Hint {
-    /// Where it is, in bytes from the front of the text. It takes no memory.
+    /// Where it is, in bytes from the front of the text. It takes no memory. It has no contract: it
+    /// gives the field `place` of whichever variant it is, and 0 where there is none.
     pub fn place(&self) -> usize {
         match *self {
             Hint::Keyword { place, .. }

@@ -1,5 +1,5 @@
 -- The parts of asynchronous iterations: their words, by one name, and the trees of these and of their
--- arguments. Written by tools/trees.py, and not edited by hand.
+-- arguments.
 use Rattle.std.specs.Prelude.{Option, [], ◌∷◌}
 use Rattle.weedle_base.specs.Rules.{option_tree}
 use Rattle.weedle_base.specs.declared.term.written.definition_keywords.Async.{Async}

@@ -1,4 +1,4 @@
--- The trees of asynchronous iterations. Written by tools/trees.py, and not edited by hand.
+-- The trees of asynchronous iterations.
 use Rattle.std.specs.Prelude.{[], ◌∷◌}
 use Rattle.weedle_async_iterables.specs.declared.async_iterable.AsyncIterableInterfaceMember.TheVariants.{Single as AsyncIterableInterfaceMember-Single, Double as AsyncIterableInterfaceMember-Double}
 use Rattle.weedle_async_iterables.specs.declared.async_iterable.AsyncIterableInterfaceMember.{AsyncIterableInterfaceMember}

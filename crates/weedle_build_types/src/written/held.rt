@@ -1,6 +1,4 @@
 //! How the types that lead back to themselves are built as parts of others.
-//!
-//! Written by tools/build_types.py, and not edited by hand.
 #![tactic(auto, using(weedle_build_base::proofs::Finding::own_steps))]
 
 ghost use Rattle.std.specs.Prelude.{◌≡◌};

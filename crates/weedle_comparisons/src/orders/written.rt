@@ -1,6 +1,4 @@
-//! What scripts write.
-//!
-//! Written by tools/modules.py, and not edited by hand.
+//! What follows from the grammar and the declarations.
 
 pub mod attributes;
 pub mod definitions;

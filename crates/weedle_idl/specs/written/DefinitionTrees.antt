@@ -1,4 +1,4 @@
--- The tree of any definition, and of a list of them. Written by tools/trees.py, and not edited by hand.
+-- The tree of any definition, and of a list of them.
 use Rattle.std.specs.Prelude.{List}
 use Rattle.weedle_base.specs.Rules.{items_tree}
 use Rattle.weedle_grammar.specs.Trees.{Alt, Tree}

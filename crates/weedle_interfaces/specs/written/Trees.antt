@@ -1,5 +1,4 @@
 -- The trees of a member of an interface, of its members, and of interfaces.
--- Written by tools/trees.py, and not edited by hand.
 use Rattle.std.specs.Prelude.{[], ◌∷◌}
 use Rattle.weedle_async_iterables.specs.written.Trees.{async_iterable_interface_member_tree}
 use Rattle.weedle_base.specs.Rules.{option_tree}

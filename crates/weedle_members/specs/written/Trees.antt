@@ -1,4 +1,4 @@
--- The trees of the members that interfaces have. Written by tools/trees.py, and not edited by hand.
+-- The trees of the members that interfaces have.
 use Rattle.std.specs.Prelude.{[], ◌∷◌}
 use Rattle.weedle_base.specs.Rules.{mark_tree, option_tree}
 use Rattle.weedle_grammar.specs.Trees.{Mark, Node, Tree, trees}

@@ -1,4 +1,4 @@
--- The trees of mixins and of their members. Written by tools/trees.py, and not edited by hand.
+-- The trees of mixins and of their members.
 use Rattle.std.specs.Prelude.{[], ◌∷◌}
 use Rattle.weedle_base.specs.Rules.{mark_tree, option_tree}
 use Rattle.weedle_grammar.specs.Trees.{Alt, Mark, Node, Tree, trees}

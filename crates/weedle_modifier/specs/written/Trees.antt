@@ -1,5 +1,4 @@
 -- The trees of what is inherited from, and of the words before a member.
--- Written by tools/trees.py, and not edited by hand.
 use Rattle.std.specs.Prelude.{[], ◌∷◌}
 use Rattle.weedle_grammar.specs.Trees.{Alt, Mark, Node, Tree, trees}
 use Rattle.weedle_modifier.specs.declared.inheritance.Inheritance.{Inheritance}

@@ -1,5 +1,4 @@
 -- The trees of namespaces and dictionaries, and of their members.
--- Written by tools/trees.py, and not edited by hand.
 use Rattle.std.specs.Prelude.{[], ◌∷◌}
 use Rattle.weedle_base.specs.Rules.{mark_tree, option_tree}
 use Rattle.weedle_grammar.specs.Trees.{Alt, Mark, Node, Tree, trees}

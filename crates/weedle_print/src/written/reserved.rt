@@ -1,6 +1,4 @@
 //! Which names are read as words of the grammar, by the word before them.
-//!
-//! Written by tools/reserved_words.py, and not edited by hand.
 
 use crate::reserved::is_word;
 

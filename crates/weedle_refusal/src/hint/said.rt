@@ -10,7 +10,8 @@ use std::io::{self, Write};
 /// 1:15: `attribute` in place of `atribute`?
 /// ```
 ///
-/// The text is that of the hint. It takes no memory.
+/// The text is that of the hint. It takes no memory. It has no contract: what it writes is for
+/// people, and tests compare it.
 pub fn write_hint<W: Write>(text: &str, hint: &Hint, out: &mut W) -> io::Result<()> {
     let place = hint.place().min(text.len());
     let position = position_of(text, place);

@@ -1,4 +1,4 @@
--- The trees of definitions without members. Written by tools/trees.py, and not edited by hand.
+-- The trees of definitions without members.
 use Rattle.std.specs.Prelude.{[], ◌∷◌}
 use Rattle.weedle_base.specs.Rules.{option_tree}
 use Rattle.weedle_base.specs.declared.term.written.symbols.Comma.{Comma}

@@ -1,6 +1,4 @@
 -- Arguments, and what follows from the answers of their parts.
---
--- Written by tools/types_proofs.py, and not edited by hand.
 use Rattle.std.proofs.Common.{inl, inr, refl, sym}
 use Rattle.std.specs.Borrow.{Bor}
 use Rattle.std.specs.Global.{Vec}

@@ -1,6 +1,4 @@
 -- Types over types in angle brackets, and what follows from the answers of their parts.
---
--- Written by tools/types_proofs.py, and not edited by hand.
 use Rattle.std.proofs.Common.{refl}
 use Rattle.std.specs.Borrow.{Bor}
 use Rattle.std.specs.Global.{Box}

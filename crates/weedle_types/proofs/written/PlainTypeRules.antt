@@ -1,6 +1,4 @@
 -- Types that hold no other types, a few at a time.
---
--- Written by tools/types_proofs.py, and not edited by hand.
 use Rattle.std.proofs.Common.{inl, inr, refl}
 use Rattle.std.specs.Borrow.{Bor}
 use Rattle.std.specs.Prelude.{List, ℕ, ◌⊎◌}

@@ -1,6 +1,4 @@
 //! `Parse` for the types of the recursive group: each has the reading of its rule.
-//!
-//! Written by tools/types_impls.py, and not edited by hand.
 
 ghost use Rattle.weedle_base.specs.Own.{own};
 ghost use Rattle.weedle_base.specs.OwnLaws.{own_lawful};

@@ -1,6 +1,4 @@
 //! `TryClone` for the types that hold boxes and lists: a clone has the tree of the original.
-//!
-//! Written by tools/types_impls.py, and not edited by hand.
 
 ghost use Rattle.std.specs.Prelude.{◌≡◌};
 ghost use Rattle.weedle_base.specs.AlikeLaws.{equal_equivalence, seen_equivalence};

@@ -1,6 +1,4 @@
 //! Extended attributes.
-//!
-//! Written by tools/build_types.py, and not edited by hand.
 
 ghost use Rattle.weedle_grammar.specs.written.Table.Types.{
   EXTENDED_ATTRIBUTE,

@@ -1,6 +1,4 @@
 //! Types over types in angle brackets.
-//!
-//! Written by tools/build_types.py, and not edited by hand.
 
 ghost use Rattle.weedle_parts.specs.ValueTrees.{generics_tree, may_be_null_tree};
 ghost use Rattle.weedle_grammar.specs.written.Table.Types.{

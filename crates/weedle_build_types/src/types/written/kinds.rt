@@ -1,6 +1,4 @@
 //! Types.
-//!
-//! Written by tools/build_types.py, and not edited by hand.
 
 ghost use Rattle.weedle_grammar.specs.written.Table.Types.{
   ATTRIBUTED_NON_ANY_TYPE,

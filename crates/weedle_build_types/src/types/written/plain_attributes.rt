@@ -1,6 +1,4 @@
 //! Extended attributes that hold no arguments.
-//!
-//! Written by tools/build_types.py, and not edited by hand.
 #![tactic(auto, using(weedle_build_base::proofs::Finding::own_steps))]
 
 ghost use Rattle.std.specs.Prelude.{◌≡◌};

@@ -1,7 +1,5 @@
 //! The types that hold no other type, four at a time, in the order of the variants of
 //! [`NonAnyType`].
-//!
-//! Written by tools/build_types.py, and not edited by hand.
 
 ghost use Rattle.std.specs.Prelude.{◌≢◌, ◌≤◌};
 ghost use Rattle.weedle_grammar.specs.written.Table.Types.{NON_ANY_TYPE};

@@ -1,6 +1,4 @@
 //! Unions.
-//!
-//! Written by tools/build_types.py, and not edited by hand.
 
 ghost use Rattle.std.specs.Prelude.{IfOk};
 ghost use Rattle.weedle_parts.specs.ValueTrees.{may_be_null_tree};

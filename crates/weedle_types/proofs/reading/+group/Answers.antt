@@ -1,6 +1,4 @@
 -- Alternatives, each where those before it were a mismatch; lists, and arguments with a default.
---
--- tools/types_proofs.py writes this down to the line `By hand`, and keeps what stands behind it.
 use Rattle.std.proofs.Common.{Global, Vec, ap, arith, inl, refl, rules, ◌∙◌}
 use Rattle.std.specs.Prelude.{List, [], ◌++◌, ◌+◌, ◌∷◌, ◌≡◌}
 use Rattle.weedle_base.proofs.Direct.{stop_first, stop_next, take_first, take_next}
@@ -299,7 +297,7 @@ arguments::argument_list-returns-in-Err-Error-clause-reads t c = argument_list_n
 pub arguments::argument_list-returns-in-Err-Failure-clause-reads : goal.arguments::argument_list-returns-in-Err-Failure-clause-reads
 arguments::argument_list-returns-in-Err-Failure-clause-reads t c = argument_list_fault c.in-Err-Failure.ensures.reads c.in-Err-Failure.field-0-is
 
--- By hand: attributes that may be left out, and an argument with or without a default.
+-- Attributes that may be left out, and an argument with or without a default.
 
 pub attributes::attributes-returns-in-Ok-clause-reads : goal.attributes::attributes-returns-in-Ok-clause-reads
 attributes::attributes-returns-in-Ok-clause-reads t c = attributes_some c.in-Ok.ensures.reads

@@ -1,6 +1,4 @@
 -- Each call reads a shorter text, or the same text by a rule of a smaller number.
---
--- Written by tools/types_proofs.py, and not edited by hand.
 use Rattle.std.specs.Prelude.{List, length, ◌*◌, ◌+◌, ◌∷◌, ◌≡◌, ◌≤◌}
 use Rattle.weedle_base.proofs.Reached.{Reached}
 use Rattle.weedle_base.proofs.RuleFacts.{mark}

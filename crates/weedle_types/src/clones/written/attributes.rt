@@ -1,6 +1,4 @@
 //! Clones of extended attributes.
-//!
-//! Written by tools/types_impls.py, and not edited by hand.
 #![tactic(auto, using(crate::proofs::TreeLaws::clone_steps))]
 
 ghost use Rattle.std.specs.Prelude.{◌≡◌, IfOk, map};

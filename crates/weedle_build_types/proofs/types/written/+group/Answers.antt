@@ -1,6 +1,4 @@
 -- Each part is due where the ones before it were built, and the whole is built of its parts.
---
--- Written by tools/build_types_proofs.py, and not edited by hand.
 use Rattle.std.proofs.Common.{refl, arith, ap}
 use Rattle.weedle_grammar.specs.written.Table.SimpleTypes.{OPT_Q_MARK}
 use Rattle.weedle_grammar.specs.written.Table.Types.{OPT_DEFAULT, OPT_OPTIONAL}

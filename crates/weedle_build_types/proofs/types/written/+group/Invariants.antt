@@ -1,6 +1,4 @@
 -- Each call builds from a later place, or from the same place by a rule of a smaller number.
---
--- Written by tools/build_types_proofs.py, and not edited by hand.
 use Rattle.std.proofs.Common.{ℕ, ◌+◌, ◌-◌, ◌*◌, length, map}
 use Rattle.weedle_grammar.specs.written.Bound.{rule_count}
 use Rattle.weedle_grammar.specs.written.Table.Keywords.{OR}

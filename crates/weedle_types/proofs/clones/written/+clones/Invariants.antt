@@ -1,5 +1,4 @@
 -- What is cloned falls from call to call by the size of its tree, and each loop has cloned the items before.
--- Written by tools/types_impls.py, and not edited by hand.
 use Rattle.std.proofs.Common.{◌≡◌, map, take}
 use Rattle.std.specs.Prelude.{suc}
 use Rattle.weedle_grammar.specs.Trees.{trees}

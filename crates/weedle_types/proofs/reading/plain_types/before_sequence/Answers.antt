@@ -1,6 +1,4 @@
 -- Alternatives, each where those before it were a mismatch.
---
--- Written by tools/types_proofs.py, and not edited by hand.
 use Rattle.weedle_base.proofs.Direct.{hand_on, stop_first, stop_next, take_first, take_next}
 use Rattle.weedle_types.proofs.reading.plain_types.before_sequence.Goals as goal
 use Rattle.weedle_types.proofs.written.PlainTypeRules.{before_sequence_fault, before_sequence_got_0, before_sequence_got_1}

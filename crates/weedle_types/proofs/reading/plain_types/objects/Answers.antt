@@ -1,6 +1,4 @@
 -- Alternatives, each where those before it were a mismatch.
---
--- Written by tools/types_proofs.py, and not edited by hand.
 use Rattle.weedle_base.proofs.Direct.{stop_first, stop_next, take_first, take_next}
 use Rattle.weedle_base.proofs.Steps.{exit_answers}
 use Rattle.weedle_types.proofs.reading.plain_types.objects.Goals as goal

@@ -1,4 +1,3 @@
--- Written by tools/build_types_proofs.py, and not edited by hand.
 use Rattle.weedle_types.proofs.TreeLaws.{member_single_of}
 use Rattle.weedle_build_types.proofs.types.written.unions.keep_single.Goals as goal
 

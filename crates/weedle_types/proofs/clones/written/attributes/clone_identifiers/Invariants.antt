@@ -1,4 +1,3 @@
--- Written by tools/types_impls.py, and not edited by hand.
 use Rattle.std.proofs.Common.{◌≡◌, map, take}
 use Rattle.weedle_parts.specs.ValueTrees.{identifier_tree}
 use Rattle.weedle_types.proofs.clones.written.attributes.clone_identifiers.Given as goal
