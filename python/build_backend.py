@@ -3,12 +3,13 @@
 pip calls `build_wheel`, and for `pip install -e` `build_editable`. A wheel holds a shared object,
 so it is for Linux on x86-64: the one that the variable WEEDLE_SO names, or else that beside the
 package, or else the one in prebuilt/ of the repository, as `import weedle` takes them. Its tag has
-the oldest glibc that serves.
+the oldest glibc that serves. The same files give the same bytes, whenever they are packed.
 """
 
 from __future__ import annotations
 
 import base64
+import gzip
 import hashlib
 import io
 import os
@@ -28,10 +29,13 @@ PREBUILT = "prebuilt/x86_64-linux/libweedle.so"
 SOURCES = ("pyproject.toml", "README.md", "build_backend.py", "shared_object.py")
 # Those of its tests that want nothing of the repository.
 TESTS = (
-    "support.py", "test_library.py", "test_package.py", "test_program.py", "test_worked_nodes.py",
+    "lsp_client.py", "support.py", "test_library.py", "test_lsp_session.py", "test_package.py",
+    "test_program.py", "test_worked_nodes.py",
 )
 # The oldest glibc that a tag can name.
 OLDEST = (2, 5)
+# The time of each file in a wheel, the first that a zip file can name; and who may read it.
+TIME, MODE = (1980, 1, 1, 0, 0, 0), 0o100644
 
 
 def project() -> str:
@@ -68,6 +72,13 @@ def license_() -> bytes:
     """The LICENSE, which stands at the top of the repository, and beside this in its sources."""
     beside, above = HOME / "LICENSE", HOME.parent / "LICENSE"
     return (beside if beside.exists() else above).read_bytes()
+
+
+def man_pages() -> Iterator[Tuple[str, bytes]]:
+    """The man pages of the commands, which stand where the LICENSE stands."""
+    beside, above = HOME / "man", HOME.parent / "man"
+    for path in sorted((beside if beside.exists() else above).glob("weedle[.-]*1")):
+        yield path.name, path.read_bytes()
 
 
 def library() -> bytes:
@@ -129,9 +140,9 @@ def information(for_: str) -> Dict[str, bytes]:
 
 def modules() -> Iterator[Tuple[str, bytes]]:
     """The modules, and what lies beside them."""
-    for path in sorted(PACKAGE.iterdir()):
+    for path in sorted(PACKAGE.rglob("*")):
         if path.suffix in (".py", ".typed"):
-            yield f"weedle/{path.name}", path.read_bytes()
+            yield f"weedle/{path.relative_to(PACKAGE).as_posix()}", path.read_bytes()
 
 
 def record_line(name: str, data: bytes) -> str:
@@ -145,9 +156,11 @@ def write_wheel(folder: str, files: Dict[str, bytes], for_: str) -> str:
     info, name = f"{stem()}.dist-info", f"{stem()}-{for_}.whl"
     files = {**files, **{f"{info}/{it}": data for it, data in information(for_).items()}}
     record = "".join(record_line(it, data) for it, data in files.items()) + f"{info}/RECORD,,\n"
-    with zipfile.ZipFile(Path(folder) / name, "w", zipfile.ZIP_DEFLATED) as wheel:
+    with zipfile.ZipFile(Path(folder) / name, "w") as wheel:
         for it, data in {**files, f"{info}/RECORD": record.encode()}.items():
-            wheel.writestr(it, data)
+            member = zipfile.ZipInfo(it, TIME)
+            member.external_attr = MODE << 16
+            wheel.writestr(member, data, zipfile.ZIP_DEFLATED)
     return name
 
 
@@ -156,8 +169,10 @@ def build_wheel(
     metadata_directory: Optional[str] = None,
 ) -> str:
     """Writes the wheel of the package."""
-    shared = library()
-    return write_wheel(wheel_directory, {**dict(modules()), LIBRARY: shared}, tag(shared))
+    shared, manual = library(), f"{stem()}.data/data/share/man/man1"
+    files = {**dict(modules()), LIBRARY: shared}
+    files.update({f"{manual}/{name}": data for name, data in man_pages()})
+    return write_wheel(wheel_directory, files, tag(shared))
 
 
 def build_editable(
@@ -174,9 +189,13 @@ def build_sdist(sdist_directory: str, config_settings: Optional[dict] = None) ->
     files = {name: (HOME / name).read_bytes() for name in names}
     files.update(modules())
     files.update({LIBRARY: library(), "LICENSE": license_(), "PKG-INFO": about()})
-    with tarfile.open(Path(sdist_directory) / f"{stem()}.tar.gz", "w:gz") as sources:
+    files.update({f"man/{name}": data for name, data in man_pages()})
+    packed = io.BytesIO()
+    with tarfile.open(fileobj=packed, mode="w") as sources:
         for name, data in files.items():
             member = tarfile.TarInfo(f"{stem()}/{name}")
             member.size = len(data)
             sources.addfile(member, io.BytesIO(data))
+    whole = gzip.compress(packed.getvalue(), mtime=0)
+    (Path(sdist_directory) / f"{stem()}.tar.gz").write_bytes(whole)
     return f"{stem()}.tar.gz"

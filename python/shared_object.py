@@ -1,4 +1,4 @@
-"""What a shared object says of itself: what it exports, and what it wants of other libraries.
+"""What a shared object says of itself: its name, what it exports, and what it wants of others.
 
 It reads the tables of an ELF file for 64 bits whose numbers begin with their least byte, as on
 x86-64.
@@ -7,14 +7,16 @@ x86-64.
 from __future__ import annotations
 
 import struct
-from typing import Dict, Iterator, NamedTuple, Set, Tuple
+from typing import Dict, Iterator, NamedTuple, Optional, Set, Tuple
 
 MAGIC = b"\x7fELF\x02\x01"
-# The kinds of sections that are read.
-DYNAMIC_SYMBOLS, NEEDED_VERSIONS = 11, 0x6FFFFFFE
+# The kinds of sections that are read, and the tag of the row that has the name.
+DYNAMIC, DYNAMIC_SYMBOLS, NEEDED_VERSIONS = 6, 11, 0x6FFFFFFE
+SONAME = 14
 # A symbol is a row of 24 bytes; one that isn't defined has the section 0.
 SYMBOL, UNDEFINED = struct.Struct("<IBBHQQ"), 0
 VERSION, NAME = struct.Struct("<HHIII"), struct.Struct("<IHHII")
+ROW = struct.Struct("<QQ")
 
 
 class Section(NamedTuple):
@@ -48,6 +50,15 @@ class SharedObject:
     def _text(self, section: Section, place: int) -> str:
         start = self.sections[section.texts].start + place
         return self.data[start:self.data.index(b"\0", start)].decode()
+
+    def soname(self) -> Optional[str]:
+        """The name by which the programs that are linked with it load it, where it has one."""
+        for section in self._of_kind(DYNAMIC):
+            rows = self.data[section.start:section.start + section.size]
+            for tag, place in ROW.iter_unpack(rows):
+                if tag == SONAME:
+                    return self._text(section, place)
+        return None
 
     def exports(self) -> Set[str]:
         """The names of what it defines for others."""

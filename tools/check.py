@@ -16,8 +16,9 @@ made now (tools/make_cases.py --check), whether the table of docs/GATE.md is tha
 were measured last (tools/gate_page.py --check), whether docs/SLIPS.md says what the rows say of the
 slips of tests/ (tools/run_slips.py --page --check), whether the pieces of Rust in README.md and
 docs/USING.md stand where the gate proves and runs them and what the programs of README and of the
-worked pages name is there (tools/try_pages.py --no-run), and whether the
-built library in prebuilt/ is the one of its sums and of this version (tools/prebuilt.py --check).
+worked pages name is there (tools/try_pages.py --no-run), whether the
+built library in prebuilt/ is the one of its sums and of this version (tools/prebuilt.py --check), and
+whether the man pages are what the commands say with --help (tools/man_pages.py --check).
 
 It prints a line for each file that is stale, for each that no script writes though it says so, and
 for whatever else was found. It changes nothing. It needs the toolchain's command `rt` on PATH, and
@@ -48,6 +49,7 @@ LOOKS = (
     ["run_slips.py", "--page", "--check"],
     ["try_pages.py", "--no-run"],
     ["prebuilt.py", "--check"],
+    ["man_pages.py", "--check"],
 )
 
 

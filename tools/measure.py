@@ -5,10 +5,12 @@
     python3 tools/measure.py refusals [--size BYTES] [--rounds N]
     python3 tools/measure.py depth [--direct] PROGRAM [-- ARGUMENT..]
     python3 tools/measure.py text [--seed N] [--size BYTES]
+    python3 tools/measure.py machine
 
-`readers` wants weedle_check and weedle_list (`rt run` in their crates) and the program of compare/ (its README.md says
-how), `bindings` that program and python/weedle/libweedle.so, `refusals` the latter. Texts are one of mixed
-definitions (mixed_text.py), and of each FOLDER its files that weedle2 reads whole, joined.
+`readers` wants weedle_check and weedle_list (`rt run` in their crates), `bindings` and `refusals` want
+python/weedle/libweedle.so. weedle2's lines want the program of compare/ (its README.md says how), and are left out where it
+isn't built. Texts are one of mixed definitions (mixed_text.py), and of each FOLDER, which wants that program too, its files
+that weedle2 reads whole, joined.
 
 - `readers`: nanoseconds a byte of weedle2 and of each of the port's readers; instructions a byte, by callgrind where it
   is on PATH, with the freeing of the list, of the port's of a tenth of the text, and of weedle_list with the writing of
@@ -21,6 +23,7 @@ definitions (mixed_text.py), and of each FOLDER its files that weedle2 reads who
   8 MB of stack or refuses. One that reads by descent, with --direct, isn't given extended attributes: each level of them
   takes such a reader up to three times as long.
 - `text`: writes the mixed text.
+- `machine`: the processor time of `rt selftest`, by which machines are compared.
 
 Other work on the machine makes times longer, and leaves instructions and memory as they are. The status is 0, or 2
 where something that is wanted isn't there.
@@ -93,15 +96,27 @@ def calls_of(text):
     return found
 
 
+def of_weedle2(wanted, file):
+    """What weedle2 takes for a file, as its program says it, or that it is left out."""
+    if not shutil.which(wanted.weedle2):
+        return "left out, since its program isn't built"
+    return output_of([wanted.weedle2, "--time", str(wanted.rounds), str(file)]).rpartition(f"{file}: ")[2].strip()
+
+
+def instructions_of_weedle2(wanted, file, length):
+    """Prints how many instructions a byte weedle2 takes, where its program is built."""
+    if shutil.which(wanted.weedle2):
+        one, more = (instructions([wanted.weedle2, "--time", str(count), str(file)])[0] for count in (1, 1 + MORE))
+        print(f"  weedle2: {(more - one) / MORE / length:.0f} instructions a byte")
+
+
 def of_readers(name, text, short, wanted):
     """Prints what weedle2 and the port's readers take."""
     data, room = text.encode(), wanted.room
     file, part = room / "text.webidl", room / "part.webidl"
     file.write_bytes(data)
     part.write_text(short)
-    said = output_of([wanted.weedle2, "--time", str(wanted.rounds), str(file)]).rpartition(f"{file}: ")[2].strip()
-    print(f"{name}, {len(data)} bytes:\n  weedle2: {said}")
-    one, more = (instructions([wanted.weedle2, "--time", str(count), str(file)])[0] for count in (1, 1 + MORE))
+    print(f"{name}, {len(data)} bytes:\n  weedle2: {of_weedle2(wanted, file)}")
     for line in output_of([PORT, "--time", str(file)]).splitlines():
         print(f"  port: {line.replace(str(file), 'the text')}")
     if shutil.which("time"):
@@ -109,15 +124,15 @@ def of_readers(name, text, short, wanted):
         for how, (words, given) in runs.items():
             held = subprocess.run(["time", "-f", "%M", *words], input=given, capture_output=True, check=False).stderr
             print(f"  port: {held.split()[-1].decode()} kB held{how}")
-    if one is None:
+    if not shutil.which("valgrind"):
         return
+    instructions_of_weedle2(wanted, file, len(data))
     listed = (instructions([LIST], text)[0] - instructions([LIST])[0]) / len(data)
     calls = calls_of(instructions([PORT, "--time", part])[1])
     taken = {it: calls.get((TIMED, it), (1, 0)) for it in (DESCENT, LOOK, TABLE, LETTING_GO)}
     descent, look, table = (taken[it][1] / taken[it][0] for it in (DESCENT, LOOK, TABLE))
     going = taken[LETTING_GO][1] / (taken[DESCENT][0] + taken[TABLE][0])
     readers = {"parse_by_descent": descent, "parse_quick": look + descent, "parse": table}
-    print(f"  weedle2: {(more - one) / MORE / len(data):.0f} instructions a byte")
     print("".join(f"  port: {it} {(count + going) / len(short.encode()):.1f} instructions a byte\n" for it, count in readers.items())
           + f"  port: {listed:.0f} instructions a byte, with the list written")
 
@@ -176,7 +191,7 @@ def of_bindings(name, text, _, wanted):
     """Prints what each way takes, and what a process of its own holds."""
     file = wanted.room / "text.webidl"
     file.write_bytes(data := text.encode())
-    print(f"{name}, {len(data)} bytes:\n  weedle2: {output_of([wanted.weedle2, '--time', str(wanted.rounds), str(file)]).strip()}")
+    print(f"{name}, {len(data)} bytes:\n  weedle2: {of_weedle2(wanted, file)}")
     held = [sys.executable, __file__, "bindings", "--held", str(file)]
     empty = int(output_of([*held, "nothing"]))
     for way, read in ways()[1].items():
@@ -238,6 +253,13 @@ def of_depth(wanted):
         print(f"{name}: {read}{' and more' if end == 'read' else f', a deeper one: {end}'}", flush=True)
 
 
+def of_machine():
+    before = resource.getrusage(resource.RUSAGE_CHILDREN)
+    output_of(["rt", "selftest"])
+    after = resource.getrusage(resource.RUSAGE_CHILDREN)
+    print(f"rt selftest: {after.ru_utime + after.ru_stime - before.ru_utime - before.ru_stime:.0f} s of processor time")
+
+
 def of_texts(wanted, measured):
     """Measures the mixed text and the files of each folder."""
     def whole(folder):
@@ -255,7 +277,7 @@ def of_texts(wanted, measured):
 
 def main():
     parser = parser_of(__doc__)
-    parser.add_argument("what", choices=("readers", "bindings", "refusals", "depth", "text"))
+    parser.add_argument("what", choices=("readers", "bindings", "refusals", "depth", "text", "machine"))
     parser.add_argument("words", nargs="*", metavar="PROGRAM", help="a program, and behind -- what it is given")
     parser.add_argument("--direct", action="store_true", help="the program reads by descent")
     for name, number in (("seed", 7), ("size", None), ("rounds", None)):
@@ -272,6 +294,8 @@ def main():
         tell_held(*wanted.held)
     elif wanted.what == "text":
         print(Mixed(wanted.seed).text(wanted.size), end="")
+    elif wanted.what == "machine":
+        of_machine()
     elif wanted.what in ("readers", "bindings"):
         of_texts(wanted, of_readers if wanted.what == "readers" else of_bindings)
     else:

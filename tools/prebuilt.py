@@ -12,8 +12,9 @@ the library and takes it over.
 
 With --make ARCHIVE is taken over: it is copied, the shared object and Node's addon are linked from it by a C compiler
 (cc, or what CC names; the addon by js/build.sh, which wants Node), and SUMS is written. With --check the files are looked
-at alone, without the toolchain: whether all are those of SUMS, of the version of include/weedle.h, and whether the shared
-object exports the header's calls and no others, and the addon what Node asks for. Both other runs look at that too.
+at alone, without the toolchain: whether all are those of SUMS, of the version of include/weedle.h, whether the shared
+object has that version's soname and exports the header's calls and no others, and the addon what Node asks for. Both other
+runs look at that too.
 
 It prints a line for each thing that isn't so. The status is 0 where there is none, and else 1.
 """
@@ -81,6 +82,11 @@ def version_in(header: str) -> str:
     return f"{number >> 16}.{number >> 8 & 255}.{number & 255}"
 
 
+def soname_of(version: str) -> str:
+    """The soname of a version's shared object: of 0.11.2 libweedle.so.0.11."""
+    return f"{SHARED}.{version.rpartition('.')[0]}"
+
+
 def calls_in(header: str) -> set[str]:
     """The calls that a header declares, but for those that it defines, which are static."""
     return set(re.findall(r"^(?!static )[a-z][\w ]*[ *](weedle_\w+)\(", header, re.MULTILINE))
@@ -106,7 +112,16 @@ def faults(top: Path) -> Iterator[str]:
             yield f"{FOLDER}/{name} isn't what {SUMS} has: {ANEW}"
     for name, calls in ((SHARED, calls_in(header)), (ADDON, ASKED)):
         if (folder / name).exists():
-            yield from export_faults(name, SharedObject((folder / name).read_bytes()).exports(), calls)
+            file = SharedObject((folder / name).read_bytes())
+            yield from export_faults(name, file.exports(), calls)
+            if name == SHARED:
+                yield from name_faults(file.soname(), soname_of(version_in(header)))
+
+
+def name_faults(found: str | None, wanted: str) -> Iterator[str]:
+    """A line where the shared object's soname isn't the one of the version."""
+    if found != wanted:
+        yield f"{FOLDER}/{SHARED} has {f'the soname {found}' if found else 'no soname'}, and not {wanted}: {ANEW}"
 
 
 def export_faults(file: str, exports: set[str], calls: set[str]) -> Iterator[str]:

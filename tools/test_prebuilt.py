@@ -96,6 +96,16 @@ class Made(PrebuiltTest):
         shared = prebuilt.SharedObject((self.made() / SHARED).read_bytes())
         self.assertEqual(shared.exports(), {"weedle_syntax", "weedle_rule_name"})
 
+    def test_the_soname_has_the_first_two_numbers(self):
+        shared = prebuilt.SharedObject((self.made() / SHARED).read_bytes())
+        self.assertEqual(shared.soname(), "libweedle.so.0.10")
+        self.assertEqual(prebuilt.soname_of("1.12.3"), "libweedle.so.1.12")
+
+    def test_a_header_without_a_version(self):
+        (self.top / HEADER).write_text("#define WEEDLE_VERSION 11\n")
+        with self.assertRaises(subprocess.CalledProcessError):
+            prebuilt.make(self.top, self.archive, KIT)
+
     def test_what_is_missing(self):
         with self.assertRaises(Unfit):
             prebuilt.make(self.top, self.top / "none.a", KIT)
@@ -126,6 +136,13 @@ class Looked(PrebuiltTest):
         for name in (SHARED, ADDON):
             (folder / name).unlink()
             self.assertIn(f"there is no {FOLDER}/{name}", self.found())
+
+    def test_a_soname_of_another_version_or_none(self):
+        folder = self.made()
+        self.declare("0x000b00")
+        self.assertIn(f"{FOLDER}/{SHARED} has the soname libweedle.so.0.10, and not libweedle.so.0.11", self.found())
+        shutil.copy(folder / ADDON, folder / SHARED)
+        self.assertIn(f"{FOLDER}/{SHARED} has no soname, and not libweedle.so.0.11", self.found())
 
     def test_an_addon_that_node_does_not_load(self):
         folder = self.made()

@@ -6,7 +6,7 @@
 Files of crates and of the packages in C, Python, Rust and JavaScript that a script writes name it at their heads, as
 `Written by tools/grammar.py`. In a copy of the repository without them it runs the scripts of WRITERS, and each crate in which
 something differs is laid out by `rt fmt`. What differs then is brought back: so where a
-script fails, nothing is changed. Behind that it writes the pages of docs/ that follow from the crates.
+script fails, nothing is changed. Behind that it writes the pages of docs/ that follow from the crates, and those of man/.
 
 It prints a line for each file that it changed, removed or wrote for the first time. It needs the
 toolchain's command `rt` on PATH, and about four seconds where four processors are idle.
@@ -38,8 +38,8 @@ WRITERS = (
     "grammar terminals idl_proofs builds spellings prints impls orders c_header python_types rust_types javascript_types"
 ).split()
 RUN = "import runpy, sys; sys.path.insert(0, 'tools'); sys.exit(runpy.run_path(f'tools/{sys.argv[1]}.py', run_name=sys.argv[1])['main']())"
-# The scripts that write pages of docs/ from the crates, and print what they changed.
-PAGES = ("calling.py",)
+# The scripts that write pages of docs/ and of man/ from the sources, and print what they changed.
+PAGES = ("calling.py", "man_pages.py")
 # Where files are made in memory, on systems that have it: a disk takes long to make a thousand.
 MEMORY = "/dev/shm"
 

@@ -1,4 +1,4 @@
-// The programs of docs/JAVASCRIPT.md and README.md: each prints what its page says, and tsc passes over those in TypeScript.
+// The programs of docs/JAVASCRIPT.md, docs/COMING.md and README.md: each prints what its page says, and tsc passes over those in TypeScript.
 
 import assert from "node:assert/strict";
 import fs from "node:fs";
@@ -7,7 +7,9 @@ import test from "node:test";
 
 import { HOME, TOP, inRoom, run, wanting } from "./support.mjs";
 
-const PAGES = [path.join(TOP, "docs/JAVASCRIPT.md"), path.join(HOME, "README.md")].filter((it) => fs.existsSync(it));
+const PAGES = ["docs/JAVASCRIPT.md", "docs/COMING.md", "js/README.md"]
+  .map((it) => path.join(TOP, it))
+  .filter((it) => fs.existsSync(it));
 /** A program, and what it prints: on the next line in code, or in a piece of its own. */
 const PROGRAM = /```js\n(.*?)```\n\nprints(?: `(.*?)`|\n\n```text\n(.*?)```)/gs;
 const TYPED = /```ts\n(.*?)```/gs;

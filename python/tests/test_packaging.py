@@ -87,8 +87,10 @@ class Built(InRoom):
             self.assertIn(f"Tag: {name.split('-', 2)[2][:-4]}\n", wheel.read(f"{info}/WHEEL").decode())
             listed = {row.split(",")[0] for row in wheel.read(f"{info}/RECORD").decode().splitlines()}
             self.assertEqual(listed, set(wheel.namelist()))
-            modules = {f"weedle/{it.name}" for it in (HOME / "weedle").glob("*.py")}
-            self.assertLessEqual({*modules, "weedle/py.typed"}, listed)
+            modules = {it.relative_to(HOME).as_posix() for it in (HOME / "weedle").rglob("*.py")}
+            self.assertLessEqual({*modules, "weedle/py.typed", "weedle/lsp/server.py"}, listed)
+            pages = {f"weedle-{VERSION}.data/data/share/man/man1/{it}.1" for it in ("weedle", "weedle-lint")}
+            self.assertEqual({it for it in listed if "/man/" in it}, pages)
 
     def test_sources(self):
         name = build_backend.build_sdist(self.room)
@@ -99,6 +101,7 @@ class Built(InRoom):
         self.assert_is_about((top / "PKG-INFO").read_text(encoding="utf-8"))
         self.assert_has_owners((top / "LICENSE").read_text(encoding="utf-8"))
         self.assertFalse((top / "build.sh").exists())
+        self.assertEqual(sorted(it.name for it in (top / "man").iterdir()), ["weedle-lint.1", "weedle.1"])
         done = subprocess.run(
             [sys.executable, "-m", "unittest", "discover", "-s", "tests"], cwd=top, env=others(), capture_output=True,
             text=True, check=False,
@@ -110,6 +113,14 @@ class Built(InRoom):
             env=others(), capture_output=True, text=True, check=True,
         )
         self.assertTrue((self.room / done.stdout.strip()).exists())
+
+    def test_the_same_files_give_the_same_bytes(self):
+        for build in (build_backend.build_wheel, build_backend.build_sdist):
+            made = []
+            for moment in (1e9, 2e9):
+                with mock.patch("time.time", lambda: moment):
+                    made.append((self.room / build(self.room)).read_bytes())
+            self.assertEqual(*made)
 
     def test_where_there_is_no_shared_object(self):
         with mock.patch.dict(os.environ, {VARIABLE: ""}), mock.patch.object(build_backend, "HOME", self.room / "here"):
@@ -172,6 +183,12 @@ class Installed(InRoom):
         self.pip("install", HOME)
         self.assert_works()
 
+    def test_the_top_of_the_repository_is_installed(self):
+        if not (HOME.parent / "pyproject.toml").exists():
+            self.skipTest("this is no repository")
+        self.pip("install", HOME.parent)
+        self.assert_works()
+
     def test_the_folder_is_installed_without_isolation(self):
         self.pip("install", "--no-build-isolation", HOME)
         self.assert_works()
@@ -192,6 +209,11 @@ class Installed(InRoom):
 
     def assert_works(self):
         """What is installed reads a text, and its program too."""
+        served = subprocess.run(
+            [self.room / "bin/weedle", "lsp"], stdin=subprocess.DEVNULL, capture_output=True, check=False, env=others(),
+            cwd=self.room,
+        )
+        self.assertEqual((served.returncode, served.stderr), (1, b""))
         done = [
             subprocess.run(
                 words, input="A includes B;", capture_output=True, text=True, check=False, env=others(), cwd=self.room,

@@ -122,6 +122,62 @@ class Program(unittest.TestCase):
         self.assertTrue(err.startswith("<stdin>:1:"), err)
         self.assertEqual(run("--format", given=b" // A\n")[:2], (0, " // A\n"))
 
+    def test_files_that_would_change(self):
+        with tempfile.TemporaryDirectory() as room:
+            names = loose, good, bad, other = [os.path.join(room, it) for it in ("loose", "good", "bad", "other")]
+            for name, text in zip(names, ("A  includes B;", "A includes B;\n", "interface", "\xff")):
+                Path(name).write_text(text, encoding="latin-1")
+            self.assertEqual(run("--format", "--check", good), (0, "1 file, 0 to be laid out, 0 refused\n", ""))
+            status, out, err = run("--format", "--check", *names)
+            self.assertEqual((status, err), (2, f"{other}: input is not UTF-8\n"))
+            self.assertTrue(out.startswith(f"{loose}\n{bad}:1:10: expected "), out)
+            self.assertTrue(out.endswith("\n3 files, 1 to be laid out, 1 refused, 1 failed\n"), out)
+            self.assertEqual(run("--format", "--check", loose)[0], 1)
+            said = "<stdin>\n1 file, 1 to be laid out, 0 refused\n"
+            self.assertEqual(run("--format", "--check", given=b"A includes  B;")[:2], (1, said))
+
+    def test_files_that_are_replaced(self):
+        with tempfile.TemporaryDirectory() as room:
+            loose, link = Path(room, "loose"), Path(room, "link")
+            loose.write_bytes(b"A  includes B;")
+            loose.chmod(0o640)
+            link.symlink_to("loose")
+            self.assertEqual(run("--format", "--write", link), (0, f"{link}\n1 file, 1 laid out, 0 refused\n", ""))
+            self.assertEqual((loose.read_bytes(), loose.stat().st_mode & 0o777), (b"A includes B;\n", 0o640))
+            self.assertTrue(link.is_symlink())
+            before = loose.stat().st_ino
+            self.assertEqual(run("--format", "--write", loose), (0, "1 file, 0 laid out, 0 refused\n", ""))
+            self.assertEqual(loose.stat().st_ino, before)
+            self.assertEqual(sorted(os.listdir(room)), ["link", "loose"])
+
+    def test_a_file_that_cannot_be_replaced(self):
+        with tempfile.TemporaryDirectory() as room, tempfile.TemporaryDirectory() as other:
+            file = Path(room, "a")
+            file.write_bytes(b"A  includes B;")
+            # Python imports this as it begins, so that no file can be replaced
+            Path(other, "sitecustomize.py").write_text(
+                "import os\ndef replace(*_):\n    raise OSError(30, 'Read-only file system')\nos.replace = replace\n"
+            )
+            done = subprocess.run(
+                [sys.executable, "-m", "weedle", "--format", "--write", file], capture_output=True, check=False,
+                env={**os.environ, "PYTHONPATH": f"{other}{os.pathsep}{HOME}"},
+            )
+            said = f"{file}: cannot write file: Read-only file system (os error 30)\n"
+            self.assertEqual((done.returncode, done.stderr.decode()), (4, said))
+            self.assertEqual(done.stdout, b"0 files, 0 laid out, 0 refused, 1 failed\n")
+            self.assertEqual((file.read_bytes(), os.listdir(room)), (b"A  includes B;", ["a"]))
+
+    def test_what_goes_with_a_layout(self):
+        for words in (["--check"], ["--json", "--write", "a"], ["--format", "--write"], ["--format", "--write", "-"]):
+            self.assertEqual(run(*words)[:2], (5, ""), words)
+        self.assertEqual(run("--format", "--write", "--check", "a")[0], 5)
+
+    def test_help_says_what_a_status_means(self):
+        for words in ([], ["lint"]):
+            status, out, _ = run(*words, "--help")
+            self.assertEqual(status, 0)
+            self.assertRegex(out, r"(?i)status(:| is) 0 ")
+
     def test_the_version(self):
         self.assertEqual(run("--version"), (0, f"weedle {weedle.__version__}\n", ""))
 

@@ -1,18 +1,22 @@
 """Reads files of WebIDL, and writes what stands in them.
 
-    weedle [--json | --syntax | --format] [FILE..]
+    weedle [--json | --syntax | --format [--check | --write]] [FILE..]
     weedle lint [--json] [--ignore CODE].. [--known FILE].. FILE..
+    weedle lsp
 
 `python3 -m weedle` is the same. The second checks files by rules that the grammar doesn't have:
-weedle/lint.py says what it writes, and its statuses. The first reads: without a file it reads
+weedle/lint.py says what it writes, and its statuses. The third is a language server, of
+weedle/lsp. The first reads: without a file it reads
 standard input, which `-` names too. With
 `--json` it writes each definition as JSON on a line; of several files each line is an object with
 the `file` and the `definition`. With `--syntax` it writes each node on a line, indented by its
 depth, with `--format` the text laid out; what is refused, and why, it then says on standard error.
 With none of them it says that on standard output, and last how many files were read and refused, as
-weedle_check does. The status is 0 where all is read, 1 where something is refused, 2 where a file
-can't be read or isn't UTF-8, 3 where memory ran out, 4 where the output can't be written, and 5
-where the arguments are others; of several the greatest.
+weedle_check does. With `--format --check` it names the files whose layout would change, and with
+`--format --write` it replaces each of them at once; both say on standard output what is refused and
+how many there were, as weedle_format does. The status is 0 where all is read, 1 where something is
+refused or would change, 2 where a file can't be read or isn't UTF-8, 3 where memory ran out, 4 where
+a file or the output can't be written, and 5 where the arguments are others; of several the greatest.
 """
 
 from __future__ import annotations
@@ -21,17 +25,28 @@ import argparse
 import errno
 import json
 import os
+import shutil
 import sys
+import tempfile
 from contextlib import suppress
 from enum import IntEnum
-from typing import BinaryIO, Callable, NoReturn, Optional, Sequence
+from typing import BinaryIO, Callable, Dict, NoReturn, Optional, Sequence, Tuple
 
 from weedle import Refused, __version__, format, lint, parse, syntax
 
-# What writes the text of a file, whose name it is told where there are several.
-Write = Callable[[bytes, BinaryIO, Optional[str]], None]
+# What writes the text of a file, whose name it is told where there are several, and where it is laid
+# out. It gives whether the layout would change.
+Write = Callable[[bytes, BinaryIO, Optional[str]], Optional[bool]]
 # How a message calls standard input, and what names it.
 STANDARD_INPUT, DASH = "<stdin>", "-"
+EPILOG = """\
+Without an option it says which files are refused, and why, and how many there were.
+
+Status: 0 all is read, 1 something is refused or would change, 2 a file can't be read or isn't
+UTF-8, 3 out of memory, 4 a file or the output can't be written, 5 other arguments than these; of
+several the greatest.
+
+weedle lint checks files by the rules of Web IDL that the grammar doesn't have: weedle lint --help."""
 
 
 class Status(IntEnum):
@@ -43,6 +58,10 @@ class Status(IntEnum):
     NO_MEMORY = 3
     UNWRITTEN = 4
     MISUSED = 5
+
+
+class Unwritten(Exception):
+    """Why a file can't be replaced."""
 
 
 class Parser(argparse.ArgumentParser):
@@ -80,9 +99,50 @@ def write_format(data: bytes, out: BinaryIO, name: Optional[str]) -> None:
     out.write(format(data))
 
 
+def write_name(data: bytes, out: BinaryIO, name: Optional[str]) -> bool:
+    """Writes the file's name where its layout would change."""
+    changes = format(data) != data
+    if changes:
+        out.write(os.fsencode(f"{name}\n"))
+    return changes
+
+
+def write_file(data: bytes, out: BinaryIO, name: Optional[str]) -> bool:
+    """Replaces the file by what was laid out, and writes its name, where that changes it."""
+    laid_out = format(data)
+    changes = laid_out != data
+    if changes:
+        replace(os.path.realpath(name or ""), laid_out)
+        out.write(os.fsencode(f"{name}\n"))
+    return changes
+
+
+def replace(path: str, data: bytes) -> None:
+    """Gives a file other bytes at once: its mode stays, and nobody sees a half of it."""
+    beside = None
+    try:
+        with tempfile.NamedTemporaryFile(dir=os.path.dirname(path), delete=False) as file:
+            beside = file.name
+            file.write(data)
+        shutil.copymode(path, beside)
+        os.replace(beside, path)
+    except OSError as fault:
+        if beside:
+            with suppress(OSError):
+                os.remove(beside)
+        raise Unwritten(f"{fault.strerror} (os error {fault.errno})") from fault
+
+
 def write_nothing(data: bytes, out: BinaryIO, name: Optional[str]) -> None:
     """Only reads the text."""
     parse(data)
+
+
+# What says on standard output what is refused, and how many files there were: what it did to those
+# that change.
+COUNTS: Dict[Write, str] = {
+    write_nothing: "", write_name: "to be laid out", write_file: "laid out",
+}
 
 
 def bytes_of(word: str) -> bytes:
@@ -98,12 +158,12 @@ def bytes_of(word: str) -> bytes:
 class Run:
     """A run of the program over some files, each written by the same function.
 
-    The function is told the name of the file where there are several.
+    The function is told the name of the file where there are several, or where it is laid out.
     """
 
     def __init__(self, write: Write, out: BinaryIO, is_named: bool) -> None:
-        self.write, self.out, self.is_named = write, out, is_named
-        self.files = self.refused = self.unread = 0
+        self.write, self.out, self.is_named = write, out, is_named or bool(COUNTS.get(write))
+        self.files = self.refused = self.unread = self.changed = 0
 
     def read(self, word: str) -> Status:
         """Reads the file that an argument names, and writes what stands in it."""
@@ -114,7 +174,7 @@ class Run:
             why = f"{fault.strerror} (os error {fault.errno})"
             return self.complain(name, f"cannot read input: {why}", Status.UNREADABLE)
         try:
-            self.write(data, self.out, name if self.is_named else None)
+            changes = bool(self.write(data, self.out, name if self.is_named else None))
         except Refused as refused:
             self.tell(f"{name}:{refused}")
             self.files, self.refused = self.files + 1, self.refused + 1
@@ -123,12 +183,14 @@ class Run:
             return self.complain(name, "input is not UTF-8", Status.UNREADABLE)
         except MemoryError:
             return self.complain(name, "out of memory", Status.NO_MEMORY)
-        self.files += 1
-        return Status.READ
+        except Unwritten as why:
+            return self.complain(name, f"cannot write file: {why}", Status.UNWRITTEN)
+        self.files, self.changed = self.files + 1, self.changed + changes
+        return Status.REFUSED if changes and self.write is write_name else Status.READ
 
     def tell(self, line: str) -> None:
-        """Says why a file is refused: where nothing else is written, there."""
-        if self.write is write_nothing:
+        """Says why a file is refused: where files are counted, there."""
+        if self.write in COUNTS:
             # a file's name may have bytes that are no UTF-8
             self.out.write(line.encode(errors="surrogateescape") + b"\n")
         else:
@@ -143,41 +205,71 @@ class Run:
 
     def summary(self) -> str:
         """How many files there were."""
-        files = f"{self.files} file{'s' * (self.files != 1)}, {self.refused} refused"
-        return f"{files}, {self.unread} not read" if self.unread else files
+        did = COUNTS[self.write]
+        words = [f"{self.files} file{'s' * (self.files != 1)}"]
+        words += [f"{self.changed} {did}"] if did else []
+        words.append(f"{self.refused} refused")
+        words += [f"{self.unread} {'failed' if did else 'not read'}"] if self.unread else []
+        return ", ".join(words)
 
     def read_all(self, words: Sequence[str]) -> Status:
-        """Reads all files, and says how many there were where nothing else is written."""
+        """Reads all files, and says how many there were where they are counted."""
         status = max(map(self.read, words))
-        if self.write is write_nothing:
+        if self.write in COUNTS:
             self.out.write(f"{self.summary()}\n".encode())
         self.out.flush()
         return status
 
 
-def arguments(words: Optional[Sequence[str]]) -> argparse.Namespace:
-    """The arguments of a run."""
-    parser = Parser(prog="weedle", description="Reads files of WebIDL.")
-    ways = parser.add_mutually_exclusive_group()
-    for option, write, words_ in (
-        ("--json", write_json, "write each definition as JSON"),
-        ("--syntax", write_syntax, "write each node, indented by its depth"),
-        ("--format", write_format, "write the text laid out"),
-    ):
-        ways.add_argument(
-            option, dest="write", action="store_const", const=write, default=write_nothing,
-            help=words_,
-        )
+# An option: its name, what it does with a text, and its help. Of those of a tuple one may be given.
+Option = Tuple[str, Write, str]
+WAYS: Tuple[Option, ...] = (
+    ("--json", write_json, "write each definition as JSON"),
+    ("--syntax", write_syntax, "write each node, indented by its depth"),
+    ("--format", write_format, "write the text laid out"),
+)
+LAYOUTS: Tuple[Option, ...] = (
+    ("--check", write_name, "with --format: only name the files that would change"),
+    ("--write", write_file, "with --format: replace the files that change"),
+)
+
+
+def parser_of_words() -> Parser:
+    """The parser of the arguments."""
+    parser = Parser(
+        prog="weedle", description="Reads files of WebIDL.", epilog=EPILOG,
+        formatter_class=argparse.RawDescriptionHelpFormatter,
+    )
+    for place, options in (("write", WAYS), ("changes", LAYOUTS)):
+        group = parser.add_mutually_exclusive_group()
+        for option, write, words in options:
+            group.add_argument(option, dest=place, action="store_const", const=write, help=words)
     parser.add_argument("--version", action="version", version=f"%(prog)s {__version__}")
     parser.add_argument(
         "files", metavar="FILE", nargs="*", help="else standard input is read, as by -",
     )
-    return parser.parse_intermixed_args(words)
+    return parser
+
+
+def arguments(words: Optional[Sequence[str]]) -> argparse.Namespace:
+    """The arguments of a run."""
+    parser = parser_of_words()
+    wanted = parser.parse_intermixed_args(words)
+    if wanted.changes and wanted.write is not write_format:
+        parser.error("--check and --write go with --format")
+    if wanted.changes is write_file and (not wanted.files or DASH in wanted.files):
+        parser.error("--write replaces files, and no standard input")
+    wanted.write = wanted.changes or wanted.write or write_nothing
+    return wanted
 
 
 def main(words: Optional[Sequence[str]] = None) -> int:
     """Does what the arguments ask for."""
     words = sys.argv[1:] if words is None else list(words)
+    if words[:1] == ["lsp"]:
+        from weedle.lsp import main as serve  # no other run waits for it
+
+        return serve(words[1:])
     is_lint = words[:1] == ["lint"]
     wanted = arguments([] if is_lint else words)
     files = wanted.files or [DASH]

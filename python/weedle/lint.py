@@ -372,14 +372,18 @@ def read(name: str) -> bytes:
 
 def main(words: Sequence[str], out: BinaryIO) -> int:
     """Checks the files that the arguments name, and writes their problems."""
-    parser = argparse.ArgumentParser("weedle lint", description="Checks WebIDL files together.")
+    parser = argparse.ArgumentParser(
+        "weedle lint", description="Checks WebIDL files together.",
+        epilog=(__doc__ or "").rpartition("\n\n")[2],
+        formatter_class=argparse.RawDescriptionHelpFormatter,
+    )
     parser.add_argument("--json", action="store_true", help="write each problem as JSON")
     for option, name, what in (
         ("--ignore", "CODE", "leave these problems out"),
         ("--known", "FILE", "names of extended attributes that are known too"),
     ):
         parser.add_argument(option, metavar=name, action="append", default=[], help=what)
-    parser.add_argument("files", metavar="FILE", nargs="+")
+    parser.add_argument("files", metavar="FILE", nargs="+", help="files that are checked together")
     wanted = parser.parse_args(words)
     try:
         known = KNOWN.union(*(read(name).decode().split() for name in wanted.known))

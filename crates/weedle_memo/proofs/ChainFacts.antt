@@ -9,7 +9,7 @@ use Rattle.weedle_memo.specs.Tables.{IsPassed}
 use Rattle.weedle_memo.specs.declared.frame.Look.TheVariants.{Known, Unknown}
 use Rattle.std.proofs.Common.{Some, None}
 use Rattle.weedle_memo.specs.ReaderView.{entry_of, AreLinked}
-use Rattle.weedle_memo.specs.declared.reader.Entry.{Entry}
+use Rattle.weedle_memo.specs.declared.entries.Entry.{Entry}
 
 -- the note of an entry
 pub its_entry : (entries : List Entry) (i : ℕ) (e : Entry) (d : MemoEntry) → i < length entries → get_or (map entry_of entries) i d ≡ entry_of (get_or entries i e)

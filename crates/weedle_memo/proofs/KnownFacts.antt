@@ -20,7 +20,7 @@ use Rattle.weedle_rules.proofs.CountFacts.{one_more}
 use Rattle.std.proofs.Common.{max, All}
 use Rattle.std.specs.Prelude.{fold}
 use Rattle.std.proofs.lemmas.List.Elements.{All-head, All-tail}
-use Rattle.weedle_memo.specs.declared.reader.Entry.{Entry}
+use Rattle.weedle_memo.specs.declared.entries.Entry.{Entry}
 
 -- the cell of a note
 abbrev pub cell_at : List ℕ → MemoEntry → ℕ

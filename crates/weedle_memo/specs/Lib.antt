@@ -4,3 +4,4 @@ pub mod Wanted
 pub mod Closure
 pub mod Frames
 pub mod ReaderView
+pub mod EntriesView

@@ -4,7 +4,7 @@ use Rattle.std.proofs.Common.{get_or}
 use Rattle.weedle_rules.specs.written.Bound.{most_reads}
 use Rattle.weedle_rules.specs.TableOfEnds.{AreCounts}
 use Rattle.weedle_memo.specs.Entries.{MemoEntry, AreRight, AreDistinct}
-use Rattle.weedle_memo.specs.declared.reader.Entry.{Entry}
+use Rattle.weedle_memo.specs.declared.entries.Entry.{Entry}
 
 -- what an entry says
 abbrev pub entry_of : Entry → MemoEntry

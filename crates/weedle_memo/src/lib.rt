@@ -15,6 +15,7 @@
 //! read, and of what that tries.
 #![tactic(auto)]
 
+mod entries;
 mod frame;
 mod leaves;
 mod machine;

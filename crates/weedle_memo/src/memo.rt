@@ -40,9 +40,10 @@ impl<'a> Memo<'a> {
     /// each place at most once, and only where it is tried.
     ///
     /// There is no recursion, so however deep a text nests, it takes little of the stack. It asks
-    /// for a number of 8 bytes for each place of the text, for entries of 40 bytes, of real files
-    /// one to two a byte, and for frames of 24 bytes of the rules that are open. Where memory is
-    /// refused, the answer is an error.
+    /// for a number of 8 bytes for each place of the text, for entries of 16 bytes, of real files
+    /// one to two a byte, and for frames of 24 bytes of the rules that are open. Where 32 bits don't
+    /// hold a place or the number of an entry, entries have 40 bytes. Where memory is refused, the
+    /// answer is an error.
     pub fn new(alloc: Global, text: &'a str, tables: &'a Tables) -> Result<Memo<'a>, AllocError>
         ensures { IfOk result (λ memo. memo.text ≡ text.entry.now) }
     {

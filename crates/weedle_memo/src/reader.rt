@@ -13,20 +13,12 @@ ghost use Rattle.weedle_memo.specs.Entries.{IsUnread, AreRight, AreDistinct, Abs
 ghost use Rattle.weedle_memo.specs.Closure.{MetLook, memory_of, SameText};
 
 use crate::READS;
+use crate::entries::{Entries, Entry};
 use crate::frame::{Frame, Look};
 use crate::tables::{Tables, Way, Word};
 use std::alloc::{AllocError, Global};
 use std::marker::Model;
 use weedle_grammar::{Class, Parts, Rule, leaf_ends};
-
-/// A rule that was worked out at a place, its end there, and one more than the entry before it of that place, or 0.
-#[derive(Clone, Copy)]
-struct Entry {
-    rule: Rule,
-    place: usize,
-    end: Option<usize>,
-    next: usize,
-}
 
 /// A text that is being read.
 #[derive(Drop)]
@@ -34,7 +26,7 @@ pub(crate) struct Reader<'a> {
     text: &'a [u8],
     tables: &'a Tables,
     heads: Vec<usize>,
-    entries: Vec<Entry>,
+    entries: Entries,
     reads: u128,
     most: usize,
 }
@@ -50,12 +42,12 @@ impl<'a> Model for Reader<'a> {
     ghost view = { λ r. record {
       text = r.text.now;
       words = r.tables.now;
-      known = map entry_of r.entries.items;
+      known = map entry_of r.entries;
       reads = r.reads;
       most = r.most;
     } };
 
-    ghost invariant = { λ r. IsReader r.text.now r.heads.items r.entries.items r.reads r.most };
+    ghost invariant = { λ r. IsReader r.text.now r.heads.items r.entries r.reads r.most };
 }
 
 impl<'a> Reader<'a> {
@@ -73,7 +65,7 @@ impl<'a> Reader<'a> {
             text,
             tables,
             heads,
-            entries: Vec::new(alloc),
+            entries: Entries::new(alloc),
             reads: 0,
             most: 0,
         })
@@ -111,7 +103,7 @@ impl<'a> Reader<'a> {
         let mut at = self.heads[place];
         while at > 0 {
             at -= 1;
-            let entry = self.entries[at];
+            let entry = self.entries.get(at);
             if entry.place == place {
                 if entry.rule.number() == rule.number() {
                     return Look::Known(entry.end);

@@ -1,5 +1,5 @@
--- How often recursive descent may look at the bytes of a text: what stands in the arguments of an extended attribute
--- is read up to three times.
+-- What recursive descent reads again since extended attributes nest: what stands in the arguments of one is read up to
+-- three times.
 use Rattle.std.specs.Prelude.{ℕ, ◌+◌, ◌*◌, ◌^◌, ◌<◌, ◌≤◌, List, [], ◌∷◌, length, ◌&&◌, if◌then◌else◌}
 use Rattle.weedle_nesting.specs.Bare.{Inside, Words, bare, behind, is_among_words}
 use Rattle.weedle_nesting.specs.Nesting.{attributes_behind, most_brackets}
@@ -20,7 +20,7 @@ weights_from inside depth (b ∷ text) =
 abbrev pub weights : List ℕ → ℕ
 weights text = weights_from Words 0 text
 
--- descent takes less than four looks a byte on the average, of one byte more than there are, and at most 1,000 of `(`
--- and `<` are open at once
+-- the weights are less than four for each byte and one more, and at most 1,000 of `(` and `<` are open at once. That is
+-- no bound on what descent reads: of some texts that suit it a byte was read 8 to 21 times
 abbrev pub SuitsDescent : List ℕ → Type 0
 SuitsDescent text = (weights text < 4 * (length text + 1)) × (most_brackets (bare text) ≤ 1000)

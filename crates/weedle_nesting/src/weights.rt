@@ -1,4 +1,4 @@
-//! How often recursive descent may look at a byte.
+//! What recursive descent reads again where extended attributes nest.
 
 ghost use Rattle.std.specs.Prelude.{◌≡◌, ◌↔◌, ◌+◌, ◌-◌, ◌*◌, ◌^◌, ◌<◌, ◌≤◌, true, min, max};
 ghost use Rattle.weedle_nesting.specs.Nesting.{attributes_behind, brackets_behind};
@@ -7,29 +7,30 @@ ghost use Rattle.weedle_nesting.specs.Weights.{SuitsDescent};
 use crate::look::Level;
 use crate::marks::{next_mark, past_mark};
 
-/// How often descent may look at a byte, on the average, where extended attributes nest.
-const MOST_LOOKS: u128 = 4;
+/// How great the weight of a byte may be on the average: 3 to the power of the `[` that are open in
+/// front of it.
+const MOST_WEIGHT: u128 = 4;
 
 /// How many of `(` and `<` may be open at once where descent reads.
 const MOST_BRACKETS: usize = 1_000;
 
 /// Whether recursive descent reads a text in little time and on little stack.
 ///
-/// Descent reads what stands in the arguments of an extended attribute up to three times. So it
-/// looks at a byte up to 3 to the power of the `[` that are open there. This says whether the sum
-/// of that over all bytes is less than 4 times one more than the bytes are, and at most 1,000 of
-/// `(` and `<` are open at once.
+/// Descent reads what stands in the arguments of an extended attribute up to three times. So a byte
+/// has a weight: 3 to the power of the `[` that are open in front of it. This says whether the sum
+/// of the weights is less than 4 times one more than the bytes are, and at most 1,000 of `(` and
+/// `<` are open at once.
 ///
-/// That isn't all: each of the fourteen kinds of definitions that is tried reads anew what stands
-/// in front of a definition. With extended attributes of 3 to 12 kB there, `callback` was read in 8
-/// to 21 times the time of `interface`. No bound on the steps of descent is proved.
+/// That is no bound on what descent reads: each of the fourteen kinds of definitions that is tried
+/// reads anew what stands in front of a definition. With extended attributes of 3 to 12 kB there,
+/// `callback` was read in 8 to 21 times the time of `interface`.
 ///
 /// It looks at most once at each byte, and takes no memory.
 pub fn suits_descent(raw: &str) -> bool
     ensures exact { (result ≡ true) ↔ SuitsDescent raw.now }
 {
     let text = raw.as_bytes();
-    let most = MOST_LOOKS * (text.len() as u128 + 1);
+    let most = MOST_WEIGHT * (text.len() as u128 + 1);
     let mut seen = Weights {
         depth: 0,
         weight: 1,

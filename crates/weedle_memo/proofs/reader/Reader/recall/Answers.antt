@@ -9,4 +9,4 @@ pub returns-clause-few : goal.returns-clause-few
 returns-clause-few c = rw (← c.self.view_is) (few_known c.self.inside.text.now _ c.self.invariant.right c.self.invariant.apart)
 
 pub returns-clause-bounded : goal.returns-clause-bounded
-returns-clause-bounded c = let b = bounded c.self.invariant.counted in let l = length-map c.self.inside.entries.items entry_of in rw (← c.self.view_is) (omega (arith, b, l))
+returns-clause-bounded c = let b = bounded c.self.invariant.counted in let l = length-map c.self.inside.entries entry_of in rw (← c.self.view_is) (omega (arith, b, l))

@@ -1,0 +1,186 @@
+"""The definitions of a text with their members: its outline, and the symbols of all texts."""
+
+from __future__ import annotations
+
+from typing import Dict, Iterator, List, NamedTuple, Optional, Tuple
+
+from weedle._text import Span
+from weedle._tree import Tree
+from weedle.grammar import NUMBERS
+from weedle.lsp.protocol import Json, SymbolKind as Kind
+from weedle.lsp.sources import Source
+from weedle.lsp.workspace import Workspace
+
+# What each rule reads: its kind, and how it is called.
+DEFINITIONS: Dict[str, Tuple[Kind, str]] = {
+    "callback_definition": (Kind.FUNCTION, "callback"),
+    "callback_interface_definition": (Kind.INTERFACE, "callback interface"),
+    "interface_definition": (Kind.INTERFACE, "interface"),
+    "interface_mixin_definition": (Kind.CLASS, "interface mixin"),
+    "namespace_definition": (Kind.NAMESPACE, "namespace"),
+    "dictionary_definition": (Kind.STRUCT, "dictionary"),
+    "partial_interface_definition": (Kind.INTERFACE, "partial interface"),
+    "partial_interface_mixin_definition": (Kind.CLASS, "partial interface mixin"),
+    "partial_dictionary_definition": (Kind.STRUCT, "partial dictionary"),
+    "partial_namespace_definition": (Kind.NAMESPACE, "partial namespace"),
+    "enum_definition": (Kind.ENUM, "enum"),
+    "typedef_definition": (Kind.TYPE_PARAMETER, "typedef"),
+    "includes_statement_definition": (Kind.INTERFACE, "includes"),
+    "implements_definition": (Kind.INTERFACE, "implements"),
+}
+MEMBERS: Dict[str, Kind] = {
+    "const_member": Kind.CONSTANT, "dictionary_member": Kind.FIELD,
+    "attribute_interface_member": Kind.PROPERTY, "attribute_mixin_member": Kind.PROPERTY,
+    "attribute_namespace_member": Kind.PROPERTY, "operation_interface_member": Kind.METHOD,
+    "operation_mixin_member": Kind.METHOD, "operation_namespace_member": Kind.METHOD,
+    "constructor_interface_member": Kind.CONSTRUCTOR, "iterable_interface_member": Kind.METHOD,
+    "async_iterable_interface_member": Kind.METHOD, "maplike_interface_member": Kind.METHOD,
+    "setlike_interface_member": Kind.METHOD, "stringifier_member": Kind.METHOD,
+    "enum_variant": Kind.ENUM_MEMBER,
+}
+KINDS: Dict[int, Tuple[Kind, str]] = {
+    **{NUMBERS[name]: it for name, it in DEFINITIONS.items()},
+    **{NUMBERS[name]: (kind, "") for name, kind in MEMBERS.items()},
+}
+# What stands in front of the words of a definition or a member.
+FRONTS = frozenset(NUMBERS[it] for it in (
+    "opt_docstring", "opt_extended_attribute_list", "trivia",
+))
+IDENTIFIER, NAME, WHOLE = NUMBERS["identifier"], NUMBERS["opt_identifier"], NUMBERS["definition"]
+STATEMENTS = frozenset(["includes", "implements"])
+# A symbol's name that has more characters is cut, and of a folder no more are told at once.
+LONGEST, MOST = 80, 1000
+
+
+class Symbol(NamedTuple):
+    """A definition or a member."""
+
+    name: str
+    detail: str
+    kind: Kind
+    #: All of it, and its name alone; of what has no name its words.
+    span: Span
+    name_span: Span
+    #: Of a member the number of its definition among the symbols; -1 of a definition.
+    above: int
+
+
+def symbols(source: Source) -> List[Symbol]:
+    """The definitions of a text, each in front of its members."""
+    found: List[Symbol] = []
+    tree, above = source.tree, -1
+    for node, rule in enumerate(tree.rules.tolist()):
+        if rule in KINDS:
+            kind, word = KINDS[rule]
+            if word:
+                above = len(found)
+            found.append(symbol(tree, node, kind, word, -1 if word else above))
+    return found
+
+
+def symbol(tree: Tree, node: int, kind: Kind, word: str, above: int) -> Symbol:
+    """The definition or the member of a node."""
+    span, children = tree.span(node), tree.children(node)
+    words, name = Span(start_of(tree, children), span.end), name_among(tree, children)
+    if name is None or word in STATEMENTS:
+        said = one_line(tree, words).rstrip(";").rstrip()
+        return Symbol(said[:LONGEST].strip('"') or '""', word, kind, span, words, above)
+    detail = word
+    if not word:
+        front, back = Span(words.start, name.start), Span(name.end, words.end)
+        detail = f"{one_line(tree, front).rstrip('_').rstrip()} {one_line(tree, back)}".strip(" ;")
+    return Symbol(tree.text.slice(name), detail[:LONGEST], kind, span, name, above)
+
+
+def words_start(tree: Tree, node: int) -> int:
+    """Where the words begin, behind a docstring, extended attributes and comments."""
+    return start_of(tree, tree.children(node))
+
+
+def start_of(tree: Tree, children: List[int]) -> int:
+    """The same of the nodes below."""
+    for child in children:
+        if tree.rules[child] not in FRONTS and tree.ends[child] > tree.starts[child]:
+            break
+    return tree.span(child).start
+
+
+def name_among(tree: Tree, children: List[int]) -> Optional[Span]:
+    """The name of a definition or a member, without an underscore in front."""
+    for child in children:
+        if tree.rules[child] == IDENTIFIER:
+            return letters_of(tree, child)
+        if tree.rules[child] == NAME and tree.ends[child] > tree.starts[child]:
+            return letters_of(tree, child + 1)
+    return None
+
+
+def letters_of(tree: Tree, identifier: int) -> Span:
+    """The letters of a name."""
+    below = tree.child(identifier, 2)
+    return Span(tree.starts[below], tree.ends[below])
+
+
+def one_line(tree: Tree, span: Span) -> str:
+    """A part of the text on a line."""
+    return " ".join(tree.text.slice(span).split())
+
+
+def outline(source: Source) -> List[Json]:
+    """The definitions of a text, each with its members."""
+    all_: List[Json] = []
+    for it in symbols(source):
+        all_.append({
+            "name": it.name, "detail": it.detail, "kind": it.kind, "children": [],
+            "range": source.range(it.span), "selectionRange": source.range(it.name_span),
+            "_above": it.above,
+        })
+    found: List[Json] = []
+    for shown in all_:
+        above = shown.pop("_above")
+        (found if above < 0 else all_[above]["children"]).append(shown)
+    return found
+
+
+def flat_outline(source: Source) -> List[Json]:
+    """The same for an editor that knows no tree of symbols."""
+    return list(told(source, symbols(source)))
+
+
+def told(source: Source, all_: List[Symbol]) -> Iterator[Json]:
+    """Symbols with their places, and the names of their definitions."""
+    names = [it.name for it in all_]
+    for it in all_:
+        shown: Json = {"name": it.name, "kind": it.kind, "location": source.location(it.name_span)}
+        if it.above >= 0:
+            shown["containerName"] = names[it.above]
+        yield shown
+
+
+class Symbols:
+    """The symbols of all texts, each text's worked out once."""
+
+    def __init__(self) -> None:
+        self._known: Dict[int, Tuple[Source, List[Json]]] = {}
+
+    def matching(self, workspace: Workspace, query: str) -> List[Json]:
+        """The symbols whose names have the letters of a query in their order."""
+        found: List[Json] = []
+        known: Dict[int, Tuple[Source, List[Json]]] = {}
+        for source in workspace.sources():
+            known[id(source)] = self._known.get(id(source)) or (source, flat_outline(source))
+            found += (it for it in known[id(source)][1] if has_letters(it["name"], query))
+        self._known = known
+        return sorted(found, key=lambda it: rank(it, query))[:MOST]
+
+
+def has_letters(name: str, query: str) -> bool:
+    """Whether a name has the letters of a query in their order, whatever their case."""
+    letters = iter(name.lower())
+    return all(it in letters for it in query.lower())
+
+
+def rank(shown: Json, query: str) -> Tuple[bool, bool, bool, str]:
+    """Names that are the query come first, then those that begin with it, then definitions."""
+    name, wanted = shown["name"].lower(), query.lower()
+    return name != wanted, not name.startswith(wanted), "containerName" in shown, name

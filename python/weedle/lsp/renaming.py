@@ -1,0 +1,113 @@
+"""Renames of a definition, of a member or of an argument, over all texts.
+
+A text is read again with the new name, and its tree is compared: else a rename might say something
+else, as `attribute long a;` with `long` in place of `a`.
+"""
+
+from __future__ import annotations
+
+import re
+from typing import Any, Dict, List, Optional, Tuple
+
+from weedle._text import Span
+from weedle.definitions import Definitions
+from weedle.edits import DEFINING, RENAMED, kinds
+from weedle.grammar import KEYWORDS
+from weedle.index import name_of
+from weedle.lsp.navigation import MEMBERS, Target, names
+from weedle.lsp.protocol import Code, Fault, Json
+from weedle.lsp.reading import read
+from weedle.lsp.sources import Source
+from weedle.lsp.workspace import Workspace
+from weedle.names import Role, names_in
+
+NAME = re.compile(r"_?[A-Za-z][A-Za-z0-9_-]*")
+CAN_BE_RENAMED = RENAMED | MEMBERS | {Role.ARGUMENT}
+
+
+def prepare(source: Source, place: int) -> Optional[Json]:
+    """The name at a place, if it can be renamed."""
+    name = source.name_at(place)
+    if name is None or name.role not in CAN_BE_RENAMED:
+        return None
+    return {"range": source.range(name.span), "placeholder": name.text}
+
+
+def rename(workspace: Workspace, source: Source, place: int, given: str) -> Json:
+    """The changes of all texts that give what stands at a place a new name."""
+    name = source.name_at(place)
+    if name is None or name.role not in CAN_BE_RENAMED:
+        raise Fault("nothing here can be renamed")
+    if not NAME.fullmatch(given):
+        raise Fault(f"{given!r} is no name", Code.INVALID_PARAMS)
+    new = given.lstrip("_")
+    it = Target(name.text, name.span, name)
+    if new != it.text:
+        refuse_taken(workspace, source, it, new)
+    spans: Dict[str, Tuple[Source, List[Span]]] = {}
+    for other, found in names(workspace, source, it):
+        spans.setdefault(other.uri, (other, []))[1].append(found.span)
+    if it.is_global:
+        for other in workspace.sources():
+            refuse_unread(other, it.text)
+    written = f"_{new}" if new in KEYWORDS else given
+    return {"changes": {
+        uri: renamed(other, all_, new, written) for uri, (other, all_) in spans.items()
+    }}
+
+
+def refuse_taken(workspace: Workspace, source: Source, it: Target, new: str) -> None:
+    """Refuses a name that something else has already."""
+    if it.is_global:
+        for other in workspace.sources():
+            for name in other.names_of(new):
+                if name.role in DEFINING:
+                    raise Fault(f"{new} is defined already, {said_place(other, name.span)}")
+    elif it.name and it.name.role in MEMBERS:
+        definition: Any = source.definition_at(it.span.start)
+        for other in workspace.sources():
+            for part in other.defined(name_of(definition).value):
+                for name in names_in(other.tree, part._node):
+                    if name.role in MEMBERS and name.text == new:
+                        raise Fault(f"there is a member {new} already, {said_place(other, name.span)}")
+
+
+def refuse_unread(source: Source, old: str) -> None:
+    """Refuses where the name stands in a part of a text that isn't read."""
+    word = re.compile(rb"(?<![A-Za-z0-9_-])_?%b(?![A-Za-z0-9_-])" % re.escape(old.encode()))
+    for problem in source.reading.problems:
+        found = word.search(source.data, *problem.unread)
+        if found:
+            raise Fault(f"{old} stands in what isn't read, {said_place(source, Span(*found.span()))}")
+
+
+def said_place(source: Source, span: Span) -> str:
+    """A file and a line, as a person reads it."""
+    return f"in {source.uri.rpartition('/')[2]}, line {source.lines.line_of(span.start) + 1}"
+
+
+def renamed(source: Source, spans: List[Span], new: str, written: str) -> List[Json]:
+    """The changes of a text, once it was read with them."""
+    after, places = read(changed(source.data, spans, written.encode())), set(spans)
+    is_same = (
+        said(after.definitions) == [
+            (it.role, new if it.span in places else it.text) for it in source.definitions.names()
+        ]
+        and kinds(after.definitions) == kinds(source.definitions)
+        and len(after.problems) == len(source.reading.problems)
+    )
+    if not is_same:
+        raise Fault(f"{new} would be read as something else than a name")
+    return [{"range": source.range(span), "newText": written} for span in spans]
+
+
+def changed(data: bytes, spans: List[Span], written: bytes) -> bytes:
+    """A text with other words at some places, which stand one behind another."""
+    ends = [0, *(it.end for it in spans)]
+    pieces = [data[end:span.start] for end, span in zip(ends, spans)]
+    return written.join([*pieces, data[ends[-1]:]])
+
+
+def said(definitions: Definitions) -> List[Tuple[Role, str]]:
+    """The names of a text, with what they stand for."""
+    return [(it.role, it.text) for it in definitions.names()]

@@ -1,0 +1,186 @@
+"""A text of a file, with what the features of the server ask of it."""
+
+from __future__ import annotations
+
+import re
+from bisect import bisect_right
+from functools import cached_property
+from typing import Any, Dict, List, Optional, Set
+
+from weedle._text import Span
+from weedle._tree import Tree
+from weedle.definitions import Definition, Definitions
+from weedle.edits import RENAMED
+from weedle.index import name_of
+from weedle.lsp.positions import USUAL, Lines, Place
+from weedle.lsp.protocol import Json
+from weedle.lsp.reading import Reading, read
+from weedle.names import Name, Role, names_in
+
+# A half of a pair of UTF-16 that stands alone has no UTF-8.
+LONE = re.compile("[\ud800-\udfff]")
+WORD = re.compile(rb"[A-Za-z0-9_-]*")
+WORD_BEFORE = re.compile(rb"[A-Za-z0-9_-]*\Z")
+
+
+def bytes_of(text: str) -> bytes:
+    """The bytes of a text of a message; what has none is replaced, and takes one unit as before."""
+    return LONE.sub("\ufffd", text).encode()
+
+
+class Source:
+    """A text, and what is read of it. It never changes: what is worked out is kept."""
+
+    def __init__(self, uri: str, data: bytes, encoding: str = USUAL) -> None:
+        self.uri, self.data, self.encoding = uri, data, encoding
+
+    @cached_property
+    def lines(self) -> Lines:
+        """Where its lines begin."""
+        return Lines(self.data, self.encoding)
+
+    @cached_property
+    def reading(self) -> Reading:
+        """What is read of it, and its syntax errors."""
+        return read(self.data)
+
+    @property
+    def definitions(self) -> Definitions:
+        """The definitions that are read."""
+        return self.reading.definitions
+
+    @property
+    def tree(self) -> Tree:
+        """The nodes of what is read."""
+        return self.definitions._tree
+
+    @cached_property
+    def starts(self) -> List[int]:
+        """Where the parts begin that are read."""
+        return [self.tree.starts[it] for it in self.reading.roots]
+
+    @cached_property
+    def names(self) -> Dict[str, List[Name]]:
+        """Its names that speak of definitions, by their letters."""
+        found: Dict[str, List[Name]] = {}
+        for it in self.definitions.names():
+            if it.role in RENAMED:
+                found.setdefault(it.text, []).append(it)
+        return found
+
+    @cached_property
+    def by_name(self) -> Dict[str, List[Any]]:
+        """Its definitions, by their names: parts and statements too."""
+        found: Dict[str, List[Any]] = {}
+        for it in self.definitions:
+            found.setdefault(name_of(it).value, []).append(it)
+        return found
+
+    @cached_property
+    def attributes(self) -> Dict[str, Set[str]]:
+        """Its extended attributes, each with what stands behind their `=`."""
+        found: Dict[str, Set[str]] = {}
+        last: Set[str] = set()
+        if b"[" not in self.data:
+            return found
+        for it in self.definitions.names():
+            if it.role is Role.EXTENDED_ATTRIBUTE:
+                last = found.setdefault(it.text, set())
+            elif it.role is Role.EXTENDED_ATTRIBUTE_VALUE:
+                last.add(it.text)
+        return found
+
+    def attribute_names(self, text: str) -> List[Name]:
+        """Where an extended attribute of this name stands."""
+        return [
+            it for it in (self.definitions.names() if text in self.attributes else ())
+            if it.role is Role.EXTENDED_ATTRIBUTE and it.text == text
+        ]
+
+    def names_of(self, text: str) -> List[Name]:
+        """Where a definition of this name is defined or spoken of."""
+        # most files of a folder don't have the word at all
+        return self.names.get(text, []) if text.encode() in self.data else []
+
+    def defined(self, text: str) -> List[Any]:
+        """The definitions of a name, its parts and its statements."""
+        return self.by_name.get(text, []) if text.encode() in self.data else []
+
+    def root_at(self, place: int) -> Optional[int]:
+        """The node of the part that a place stands in, or right behind; None where it isn't read."""
+        at = bisect_right(self.starts, place) - 1
+        if at < 0:
+            return None
+        found = self.reading.roots[at]
+        return found if place <= self.tree.ends[found] else None
+
+    def read_before(self, place: int) -> int:
+        """Where the part begins that a place stands in, or ends that stands in front of it."""
+        root, at = self.root_at(place), bisect_right(self.starts, place) - 1
+        if root is not None:
+            return self.tree.starts[root]
+        return self.tree.ends[self.reading.roots[at]] if at >= 0 else 0
+
+    def is_unread(self, place: int) -> bool:
+        """Whether a place stands in what isn't read."""
+        problems = self.reading.problems
+        at = bisect_right(self._unread, place) - 1
+        return at >= 0 and place < problems[at].unread.end
+
+    @cached_property
+    def _unread(self) -> List[int]:
+        return [it.unread.start for it in self.reading.problems]
+
+    def definition_at(self, place: int) -> Optional[Definition.Variants]:
+        """The definition that a place stands in, or in the comments in front of it."""
+        root = self.root_at(place)
+        for it in self.definitions:
+            if it._node == root:
+                return it
+        return None
+
+    def name_at(self, place: int) -> Optional[Name]:
+        """The name that a place stands in, or right behind."""
+        root = self.root_at(place)
+        if root is None:
+            return None
+        starts, ends = self.tree.starts, self.tree.ends
+        for it in names_in(self.tree, root):
+            node = it.value._node
+            if starts[node] <= place <= ends[node] and it.span.start <= place <= it.span.end:
+                return it
+        return None
+
+    def word_at(self, place: int) -> Span:
+        """The letters of a name around a place, which may be none."""
+        line = self.data.rfind(b"\n", 0, place) + 1
+        before, behind = WORD_BEFORE.search(self.data[line:place]), WORD.match(self.data, place)
+        assert before and behind  # both may be empty
+        return Span(line + before.start(), behind.end())
+
+    def text(self, span: Span) -> str:
+        """A part of the text."""
+        return self.data[span[0]:span[1]].decode()
+
+    def range(self, span: Span) -> Json:
+        """A part of the text, as messages have it."""
+        return self.lines.range(span)
+
+    def location(self, span: Span) -> Json:
+        """The same with the file."""
+        return {"uri": self.uri, "range": self.range(span)}
+
+    def place(self, given: Json) -> int:
+        """The place in bytes of a position of a message."""
+        return self.lines.place(Place(int(given["line"]), int(given["character"])))
+
+    def changed(self, changes: List[Json]) -> Source:
+        """The text with changes of a message, one behind another."""
+        source = self
+        for it in changes:
+            data = bytes_of(it["text"])
+            if it.get("range"):
+                start, end = source.lines.span(it["range"])
+                data = b"%b%b%b" % (source.data[:start], data, source.data[end:])
+            source = Source(self.uri, data, self.encoding)
+        return source

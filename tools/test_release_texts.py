@@ -1,0 +1,99 @@
+#!/usr/bin/env python3
+"""Tests release_texts.py, and of release.sh and try_release.sh what takes no time.
+
+    python3 tools/test_release_texts.py
+"""
+
+import hashlib
+import shutil
+import subprocess
+import tempfile
+import unittest
+from pathlib import Path
+from unittest import mock
+
+import release_texts
+from crates import Unfit
+from prebuilt import FOLDER, SHARED, TOP, SharedObject
+
+CHANGELOG = """\
+# What is new
+
+## 0.11.0 (2026-11-30)
+
+Commit `0123456789ab`.
+
+- A [page](docs/PAGE.md), and [another](https://example.org/a).
+
+## 0.1.1 (2026-11-26)
+
+- `## 0.11.0` isn't it.
+"""
+
+
+class Texts(unittest.TestCase):
+    def test_the_section_of_a_version(self):
+        text = release_texts.section_of(CHANGELOG, "0.11.0")
+        self.assertTrue(text.startswith("## 0.11.0 (2026-11-30)\n"))
+        self.assertTrue(text.endswith("[another](https://example.org/a).\n"))
+        self.assertTrue(release_texts.section_of(CHANGELOG, "0.1.1").endswith("isn't it.\n"))
+        self.assertRaises(Unfit, release_texts.section_of, CHANGELOG, "0.1.0")
+
+    def test_links_that_lead_nowhere(self):
+        text = release_texts.without_links(release_texts.section_of(CHANGELOG, "0.11.0"))
+        self.assertIn("- A page, and [another](https://example.org/a).", text)
+
+    def test_which_glibc_is_wanted(self):
+        for names, wanted in (
+            (("GLIBC_2.2.5", "GLIBC_2.14", "GLIBC_2.4"), "2.14"), (("GCC_3.0",), None), ((), None),
+        ):
+            with mock.patch.object(SharedObject, "wants", lambda _, it=names: {"libc.so.6": set(it)}):
+                file = SharedObject((TOP / FOLDER / SHARED).read_bytes())
+                self.assertEqual(release_texts.glibc_of(file), wanted)
+
+    def test_the_sums(self):
+        with tempfile.TemporaryDirectory() as room:
+            folder = Path(room)
+            (folder / "b").write_bytes(b"b")
+            (folder / "a").write_bytes(b"a")
+            release_texts.write(folder, TOP, [TOP / FOLDER / SHARED])
+            rows = (folder / "SUMS").read_text().splitlines()
+        heads = [row for row in rows if row.startswith("# ")]
+        self.assertRegex(heads[0], r"^# weedle \d+\.\d+\.\d+$")
+        self.assertRegex(heads[2], r"^# libweedle\.so: Linux, x86-64, glibc 2\.\d+ or later$")
+        self.assertEqual([row.split("  ")[1] for row in rows[len(heads) :]], ["CHANGES.md", "a", "b"])
+        self.assertEqual(rows[-1].split()[0], hashlib.sha256(b"b").hexdigest())
+
+
+@unittest.skipUnless(shutil.which("sh"), "there is no sh")
+class Scripts(unittest.TestCase):
+    def ran(self, script, *words):
+        """The status and what is said on standard error."""
+        done = subprocess.run([TOP / "tools" / script, *words], capture_output=True, text=True, check=False)
+        return done.returncode, done.stderr
+
+    def test_a_folder_with_other_things_stays(self):
+        with tempfile.TemporaryDirectory() as room:
+            Path(room, "mine").write_text("mine")
+            status, said = self.ran("release.sh", "--draft", room)
+            self.assertEqual(status, 1)
+            self.assertIn(f"{room} holds other things than a release", said)
+            self.assertTrue(Path(room, "mine").exists())
+
+    def test_what_is_no_release(self):
+        with tempfile.TemporaryDirectory() as room:
+            status, said = self.ran("try_release.sh", room)
+        self.assertEqual((status, said), (1, "try_release.sh: usage: tools/try_release.sh FOLDER, and FOLDER has SUMS\n"))
+
+    @unittest.skipUnless(shutil.which("sha256sum"), "there is no sha256sum")
+    def test_a_file_that_is_another(self):
+        with tempfile.TemporaryDirectory() as room:
+            Path(room, "a").write_text("a")
+            Path(room, "SUMS").write_text(f"{hashlib.sha256(b'b').hexdigest()}  a\n")
+            status, said = self.ran("try_release.sh", room)
+        self.assertEqual(status, 1)
+        self.assertTrue(said.endswith("the files aren't those of SUMS\n"), said)
+
+
+if __name__ == "__main__":
+    unittest.main()
