@@ -19,6 +19,11 @@
  * malloc and realloc, and given back before a call returns. A thread with 256 kB of stack is enough for any text, which
  * is measured, and tested; no proof speaks of a stack.
  *
+ * With the second number of the version `struct weedle_answer`, `struct weedle_refusal` and `struct weedle_formatted` may
+ * get a field at their end, `enum weedle_status` a status, and rules other numbers; sources stay as they are, and are
+ * compiled anew. The soname of the shared object has the first two numbers. Who loads it by name compares
+ * `weedle_version() >> 8` with `WEEDLE_VERSION >> 8` first.
+ *
  * Link it with prebuilt/x86_64-linux/libweedle.a, or with c/out/libweedle.a, which c/build.sh builds anew.
  */
 #ifndef WEEDLE_H

@@ -103,8 +103,10 @@ class Made(PrebuiltTest):
 
     def test_a_header_without_a_version(self):
         (self.top / HEADER).write_text("#define WEEDLE_VERSION 11\n")
-        with self.assertRaises(subprocess.CalledProcessError):
-            prebuilt.make(self.top, self.archive, KIT)
+        words = [self.top / "c/link_shared.sh", self.archive, self.top / "other.so"]
+        done = subprocess.run(words, capture_output=True, text=True, check=False)
+        self.assertEqual((done.returncode, done.stderr), (1, f"link_shared.sh: {self.top / HEADER} has no version\n"))
+        self.assertFalse((self.top / "other.so").exists())
 
     def test_what_is_missing(self):
         with self.assertRaises(Unfit):
