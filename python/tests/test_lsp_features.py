@@ -194,7 +194,8 @@ class Names(Features):
     def test_definitions(self):
         for line, character, wanted in (
             (6, 18, [(3, 10, 3, 14)]), (6, 40, [(11, 11, 11, 16)]), (13, 0, [(3, 10, 3, 14)]), (13, 16, [(14, 16, 14, 21)]),
-            (3, 18, [(15, 10, 15, 14)]), (5, 28, [(5, 26, 5, 31)]), (6, 21, [(3, 10, 3, 14)]), (11, 28, []), (2, 3, []), (0, 4, []),
+            (3, 18, [(15, 10, 15, 14)]), (5, 28, [(5, 26, 5, 31)]), (6, 21, [(3, 10, 3, 14)]), (11, 28, []),
+            (2, 3, []), (0, 4, []),
         ):
             self.assertEqual(places(self.page.at("textDocument/definition", line, character)), wanted, (line, character))
 
@@ -273,7 +274,7 @@ class Renames(Features):
     def test_what_is_refused(self):
         self.assertEqual(self.refused(3, 12, "Store"), (REQUEST_FAILED, "Store is defined already, in page.webidl, line 12"))
         self.assertEqual(
-            self.refused(5, 28, "turn"), (REQUEST_FAILED, "there is a member turn already, in page.webidl, line 7"))
+            self.refused(5, 28, "turn"), (REQUEST_FAILED, "turn is a member already, in page.webidl, line 7"))
         self.assertEqual(self.refused(3, 12, "a b")[0], INVALID_PARAMS)
         self.assertEqual(self.refused(3, 12, "")[0], INVALID_PARAMS)
         for line, character in ((0, 0), (2, 3), (2, 11), (12, 14)):
@@ -338,7 +339,8 @@ class Layouts(Features):
     def test_lines_that_end_with_a_cr_too(self):
         source = Source(PAGE, b"interface  A{\r\n};\r\n\r\ninterface  B{};\r\n")
         found = [(it["newText"], *places([it])[0]) for it in layout.layout(source)]
-        self.assertEqual(found, [("", 0, 10, 0, 11), (" ", 0, 12, 0, 12), ("", 0, 13, 1, 0), ("", 3, 10, 3, 11), (" ", 3, 12, 3, 12)])
+        self.assertEqual(found, [
+            ("", 0, 10, 0, 11), (" ", 0, 12, 0, 12), ("", 0, 13, 1, 0), ("", 3, 10, 3, 11), (" ", 3, 12, 3, 12)])
         found = [places([it])[0] for it in layout.layout_of(source, Span(0, 3))]
         self.assertEqual(found, [(0, 10, 0, 11), (0, 12, 0, 12), (0, 13, 1, 0)])
 
@@ -365,7 +367,10 @@ class Tokens(Features):
         cls.legend = cls.page.initialize()["capabilities"]["semanticTokensProvider"]["legend"]
 
     def test_a_text(self):
-        text = '/// d\n[A=B] interface _C : D { const long X = -1; attribute any interface; }; /* a\nb */\nenum E { "\u00e9\U0001f600" };'
+        text = (
+            "/// d\n[A=B] interface _C : D { const long X = -1; attribute any interface; }; /* a\nb */\n"
+            'enum E { "\u00e9\U0001f600" };'
+        )
         self.page.open(text)
         self.assertEqual(self.tokens(text), [
             ("/// d", "comment", "documentation"), ("A", "decorator"), ("B", "type"), ("interface", "keyword"),
@@ -380,7 +385,8 @@ class Tokens(Features):
         self.page.open(text)
         found = self.tokens(text, "range", range=range_(1, 14, 1, 16))
         self.assertEqual([it[:2] for it in found], [
-            ("interface", "keyword"), ("B", "interface"), ("undefined", "type"), ("f", "method"), ("long", "type"), ("x", "parameter"),
+            ("interface", "keyword"), ("B", "interface"), ("undefined", "type"), ("f", "method"), ("long", "type"),
+            ("x", "parameter"),
         ])
 
     def test_behind_an_error(self):

@@ -26,8 +26,8 @@ partial dictionary Store : Other { required DOMString name = "x"; };
 enum Kind { "left", "\u00e9" }; Page includes Shown; typedef sequence<Page> Pages; callback F = any (Page p);
 """
 PIECES = [
-    *"{}()[]<>;,:=?\"/* \n\r", "//", "/*", "*/", "///", "\r\n", "interface ", "Page", "attribute ", "long", "\U0001f600", "\u00e9", "x",
-    "partial ", "};", "[A=", "(", "typedef long T;\n", "dictionary D {};\n", " = {}", "_", "-1", "\ufeff", "\u2028",
+    *"{}()[]<>;,:=?\"/* \n\r", "//", "/*", "*/", "///", "\r\n", "interface ", "Page", "attribute ", "long",
+    "\U0001f600", "\u00e9", "x", "partial ", "};", "[A=", "(", "typedef long T;\n", "dictionary D {};\n", " = {}", "_", "-1", "\ufeff", "\u2028",
 ]
 LINE_END = re.compile("\r\n?|\n")
 STEPS = 300

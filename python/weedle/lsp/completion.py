@@ -28,7 +28,7 @@ NAMED = frozenset("""
     DataView Int8Array Int16Array Int32Array Uint8Array Uint16Array Uint32Array Uint8ClampedArray
     Float32Array Float64Array
 """.split())
-# The words that begin a type: any of them is read where one is, and `sequence` where one of any kind is.
+# Words that begin a type: the one is read where any type is, the other where one of any kind is.
 BEGINS_TYPE, BEGINS_ANY_TYPE = "unsigned", "sequence"
 # What a name in the head of a definition speaks of, by the words in front of it.
 HEADS: Dict[Tuple[bytes, ...], FrozenSet[str]] = {
@@ -65,16 +65,20 @@ def items(workspace: Workspace, front: Front) -> Iterator[Json]:
     if found is None:
         return
     # `enum includes A;` is read, and isn't what one writes
-    words = found.words - STATEMENTS if front.words[-1:] and front.words[-1] in BEGINNINGS else found.words
-    yield from ({"label": it, "kind": ItemKind.KEYWORD, "sortText": f"1{it}"} for it in sorted(words))
+    is_beginning = BEGINNINGS.issuperset(front.words[-1:])
+    yield from words_shown(found.words - (STATEMENTS if is_beginning else NONE), "1")
     if BEGINS_TYPE in found.words:
         is_any = BEGINS_ANY_TYPE in found.words
         names = PLAIN | NAMED | BUILTIN if is_any else PLAIN
-        yield from (
-            {"label": it, "kind": ItemKind.KEYWORD, "sortText": f"2{it}"} for it in sorted(names - found.words)
-        )
+        yield from words_shown(names - found.words, "2")
     kinds = kinds_at(front, found)
     yield from (definition_item(*it) for it in definitions(workspace, kinds))
+
+
+def words_shown(words: AbstractSet[str], order: str) -> Iterator[Json]:
+    """Words of the grammar as they are shown, behind those of a smaller order."""
+    for it in sorted(words):
+        yield {"label": it, "kind": ItemKind.KEYWORD, "sortText": f"{order}{it}"}
 
 
 def place_in_brackets(words: Tuple[bytes, ...]) -> Optional[bytes]:
@@ -105,7 +109,7 @@ def attribute_items(workspace: Workspace, at: bytes) -> Iterator[Json]:
 
 
 def attribute_names(workspace: Workspace, at: str) -> AbstractSet[str]:
-    """The extended attributes that are known or stand in the files, or the values of one of them."""
+    """The extended attributes that are known or stand in the files, or the values of one."""
     found = set(KNOWN) if at == "[" else set()
     for source in workspace.sources():
         for name, values in source.attributes.items():

@@ -68,7 +68,8 @@ def actions(source: Source, span: Span) -> List[Json]:
         shown = diagnostic(source, problem)
         edit = mending(source.data, problem.hint) if problem.hint else None
         # the line of an error offers what mends it
-        if edit and shown["range"]["start"]["line"] <= last and first <= shown["range"]["end"]["line"]:
+        lines = shown["range"]["start"]["line"], shown["range"]["end"]["line"]
+        if edit and lines[0] <= last and first <= lines[1]:
             found.append(action(source, shown, *edit))
     return found
 

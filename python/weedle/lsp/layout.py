@@ -83,7 +83,7 @@ def changes(before: bytes, after: bytes) -> List[Change]:
 
 
 def least(place: int, old: bytes, new: bytes) -> Change:
-    """The change of some blanks at a place, without what is the same at their front and their end."""
+    """The change of some blanks at a place, without what is the same at both ends of them."""
     front = len(commonprefix([old, new]))
     back = len(commonprefix([old[front:][::-1], new[front:][::-1]]))
     return Span(place + front, place + len(old) - back), new[front:len(new) - back]

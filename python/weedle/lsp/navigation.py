@@ -98,7 +98,9 @@ def definition(workspace: Workspace, source: Source, place: int) -> List[Json]:
     return []
 
 
-def references(workspace: Workspace, source: Source, place: int, with_definition: bool) -> List[Json]:
+def references(
+    workspace: Workspace, source: Source, place: int, with_definition: bool,
+) -> List[Json]:
     """Where what stands at a place is spoken of."""
     it = target(source, place)
     if it is None:
@@ -167,7 +169,9 @@ def head(tree: Tree, node: int) -> str:
     span = Span(words_start(tree, below), tree.span(below).end)
     if tree.rules[below] == ENUM and span.end - span.start <= LONGEST:
         return tree.text.slice(span)
-    end = next((tree.starts[it] for it in tree.children(below) if tree.rules[it] in BODIES), span.end)
+    bodies = (it for it in tree.children(below) if tree.rules[it] in BODIES)
+    body = next(bodies, None)
+    end = span.end if body is None else tree.starts[body]
     return one_line(tree, Span(span.start, end))[:LONGEST]
 
 
@@ -188,7 +192,8 @@ def member_said(tree: Tree, name: Name) -> List[str]:
     """What is said of a member or an argument: its words, its docs and what it stands in."""
     node = name.value._node
     is_argument = name.role is Role.ARGUMENT
-    while node >= 0 and not (tree.rules[node] in ARGUMENTS if is_argument else tree.rules[node] in KINDS):
+    rules = ARGUMENTS if is_argument else frozenset(KINDS)
+    while node >= 0 and tree.rules[node] not in rules:
         node = tree.above(node)
     if node < 0 or name.role is Role.EXTENDED_ATTRIBUTE:
         return []

@@ -71,7 +71,7 @@ class Reading(NamedTuple):
 
 
 def read(data: bytes) -> Reading:
-    """The definitions of a text, and each syntax error; of one that is refused those in front of it.
+    """The definitions of a text, and its syntax error; behind that nothing is read.
 
     A text of whitespace and comments alone has no definitions, and is no error.
     """

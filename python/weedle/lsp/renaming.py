@@ -67,7 +67,7 @@ def refuse_taken(workspace: Workspace, source: Source, it: Target, new: str) -> 
             for part in other.defined(name_of(definition).value):
                 for name in names_in(other.tree, part._node):
                     if name.role in MEMBERS and name.text == new:
-                        raise Fault(f"there is a member {new} already, {said_place(other, name.span)}")
+                        raise Fault(f"{new} is a member already, {said_place(other, name.span)}")
 
 
 def refuse_unread(source: Source, old: str) -> None:
@@ -76,7 +76,8 @@ def refuse_unread(source: Source, old: str) -> None:
     for problem in source.reading.problems:
         found = word.search(source.data, *problem.unread)
         if found:
-            raise Fault(f"{old} stands in what isn't read, {said_place(source, Span(*found.span()))}")
+            place = said_place(source, Span(*found.span()))
+            raise Fault(f"{old} stands in what isn't read, {place}")
 
 
 def said_place(source: Source, span: Span) -> str:

@@ -111,7 +111,7 @@ class Source:
         return self.by_name.get(text, []) if text.encode() in self.data else []
 
     def root_at(self, place: int) -> Optional[int]:
-        """The node of the part that a place stands in, or right behind; None where it isn't read."""
+        """The node of the part that a place is in, or right behind; None where it isn't read."""
         at = bisect_right(self.starts, place) - 1
         if at < 0:
             return None

@@ -13,7 +13,8 @@ from weedle.lsp.sources import Source
 
 # What a fold can begin or end with, and what hides such signs.
 TOKEN = re.compile(
-    rb"""(?P<comment>//[^\n]*|/\*(?s:.*?)(?:\*/|\Z)) | "[^"\n]*"? | (?P<sign>[{}()\[\]])""", re.VERBOSE,
+    rb"""(?P<comment>//[^\n]*|/\*(?s:.*?)(?:\*/|\Z)) | "[^"\n]*"? | (?P<sign>[{}()\[\]])""",
+    re.VERBOSE,
 )
 #: The signs that open something, each with the one that closes it.
 PAIRS = {b"{": b"}", b"(": b")", b"[": b"]"}

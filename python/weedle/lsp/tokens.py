@@ -15,8 +15,8 @@ from weedle.lsp.sources import Source
 from weedle.names import FIRST_ROLES, LATER_ROLES, Role
 
 TYPES = (
-    "namespace", "type", "class", "enum", "interface", "struct", "parameter", "variable", "property",
-    "function", "method", "keyword", "comment", "string", "number", "decorator",
+    "namespace", "type", "class", "enum", "interface", "struct", "parameter", "variable",
+    "property", "function", "method", "keyword", "comment", "string", "number", "decorator",
 )
 MODIFIERS = ("declaration", "readonly", "documentation", "defaultLibrary")
 DECLARATION, READONLY, DOCUMENTATION, LIBRARY = (1 << at for at in range(len(MODIFIERS)))
@@ -125,7 +125,7 @@ def roles(tree: Tree, start: int, end: int) -> Dict[int, Look]:
 
 
 def tokens(source: Source, span: Optional[Span] = None) -> Json:
-    """The tokens of a text, or of the lines that a part of it is in, as the protocol numbers them."""
+    """The tokens of a text, or of the lines that a part of it is in, numbered."""
     data, lines, tree = source.data, source.lines, source.tree
     start, end = span or Span(0, len(data))
     start, end = lines.starts[lines.line_of(start)], lines.end_of(lines.line_of(end))

@@ -1,7 +1,7 @@
 """What would be read at a place: the front of the definition there, and the words that go on.
 
-A word is expected where the parser reads it behind that front. Where a name is read too, any word is:
-then those count behind which something else is expected than behind a name.
+A word is expected where the parser reads it behind that front. Where a name is read too, any word
+is: then those count behind which something else is expected than behind a name.
 """
 
 from __future__ import annotations
@@ -26,7 +26,7 @@ MOST = 2000
 
 
 class Front(NamedTuple):
-    """What stands in front of a place, from where its definition begins; of a body the last member."""
+    """What stands in front of a place: the words of its definition, of a body the last member."""
 
     #: The words of the definition up to its `{`, or empty outside of a body.
     head: Tuple[bytes, ...]

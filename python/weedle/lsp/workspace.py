@@ -30,7 +30,7 @@ class Document(NamedTuple):
 
 
 class File(NamedTuple):
-    """What was read of a file, and when the file was changed last; without a text it isn't UTF-8."""
+    """What was read of a file, and when it was changed last; without a text it isn't UTF-8."""
 
     stamp: Tuple[int, int]
     source: Optional[Source]
@@ -127,8 +127,9 @@ class Workspace:
                 if len(found) == MOST_FILES:
                     break
                 known = self.files.get(path)
-                is_same = known and known.stamp == stamp
-                found[path] = known if known and is_same else File(stamp, source_of(path, self.encoding))
+                if not known or known.stamp != stamp:
+                    known = File(stamp, source_of(path, self.encoding))
+                found[path] = known
         self.files = found
         ended = time.monotonic()
         self._next_look = ended + REST * (ended - began)
