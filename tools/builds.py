@@ -60,7 +60,7 @@ FILES = {
 BASE = "weedle_build_base"
 # The types that lead back to themselves, and the crate that builds them.
 TYPES, TYPES_BUILT = "weedle_types", "weedle_build_types"
-# The types of these are built by what terminals.py and build_types.py write.
+# The types of these are built by what terminals.py writes, and by hand in weedle_build_types.
 BY_OTHERS = (TERMINALS, TYPES)
 # How many fields one call builds, by the word in the name of its function in STRUCTS.
 COUNTS = dict(enumerate("two three four five six seven eight".split(), start=2))

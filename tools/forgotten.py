@@ -169,9 +169,10 @@ def reserved_in(text):
 def of_reserved(root):
     told, wanted = reserved_in(text_in(root, RESERVED)), read_behind(RULES)
     for before in sorted(told.keys() | wanted.keys()):
-        if told.get(before) != wanted.get(before):
-            shown = "a name" if before == NAME_BEFORE else f"`{before}`"
-            yield f"crates/{RESERVED}: behind {shown} may be read: {' '.join(wanted.get(before, ['nothing']))}"
+        here, there = set(told.get(before, ())), set(wanted.get(before, ()))
+        shown = "a name" if before == NAME_BEFORE else f"`{before}`"
+        for words, how in ((there - here, "may be read, and isn't listed"), (here - there, "is listed, and isn't read")):
+            yield from (f"crates/{RESERVED}: behind {shown} `{word}` {how}" for word in sorted(words))
 
 
 def main():

@@ -15,9 +15,9 @@ CRATES that declares some, this writes MODULE/written.rt, with
 
 Of literals and of types only `From` is written, since they are read by hand.
 
-`Drop` stands in MODULE.rt, where tools/drops.py puts it: the language wants it in the module that declares
-the type. The conversions of an enum with many variants stand in a file of their own. tools/modules.py adds
-the lines `mod` for the files, and `rt fmt` lays them out, as tools/write.py has it do.
+`Drop` stands in MODULE.rt by hand, since the language wants it in the module that declares the type; so does the line
+`mod written;`. The conversions of an enum with many variants stand in a file of their own. `rt fmt` lays the files out, as
+tools/write.py has it do.
 """
 
 import sys

@@ -3,7 +3,7 @@
 
     python3 tools/man_pages.py [--check]
 
-Of weedle and `weedle lint` the program of the Python package is asked, and of weedle_check and weedle_format the text is
+Of weedle, `weedle lint` and `weedle lsp` the program of the Python package is asked, and of weedle_check and weedle_format the text is
 taken that their sources print. Version and date are those of the newest version of CHANGELOG.md.
 
 It prints a line for each page that it changed. With --check it changes nothing and prints a line for each page that is stale;
@@ -24,7 +24,7 @@ from crates import Unfit
 TOP = Path(__file__).resolve().parent.parent
 FOLDER = "man"
 # The commands of the Python package, each with its words behind `python3 -m`, and the programs in Rattle.
-PYTHON = {"weedle": ["weedle"], "weedle-lint": ["weedle", "lint"]}
+PYTHON = {"weedle": ["weedle"], "weedle-lint": ["weedle", "lint"], "weedle-lsp": ["weedle", "lsp"]}
 PROGRAMS = ("weedle_check", "weedle_format")
 NEWEST = re.compile(r"^## (\d+\.\d+\.\d+) \((\d+-\d+-\d+)\)", re.M)
 HELP = re.compile(r'^pub const HELP: &str = "\\\n(.*?)";$', re.M | re.S)

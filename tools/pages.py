@@ -31,6 +31,7 @@ from pathlib import Path
 
 from command_line import take_none
 from crates import read_lines
+from description.docs import NUMBERS
 from description.webidl import BY_NAME, CAPITALIZED, KEYWORDS, RULES, SYMBOLS
 
 TOP = Path(__file__).resolve().parent.parent
@@ -75,10 +76,6 @@ COUNTS = {
     r"\b(\d+)\s+terminals": KEYWORD_COUNT + len(SYMBOLS),
     r"\b(\w+)\s+kinds\s+of\s+definitions?": len(BY_NAME["DEFINITION"].row[1]),
 }
-WORDS = (
-    "one two three four five six seven eight nine ten eleven twelve thirteen fourteen fifteen sixteen seventeen "
-    "eighteen nineteen twenty"
-).split()
 TYPE = re.compile(r"^pub (?:struct|enum) (\w+)[^{;(]*\{\n(.*?)^\}", re.M | re.S)
 # A line of a type's body, as `rt fmt` lays it out: a public field of a struct, or a variant.
 PART = re.compile(r"    (?:pub (\w+):|([A-Z]\w*)\b)")
@@ -204,7 +201,7 @@ def of_counts(root):
             text = re.sub(r"^(?!\s*//[/!]).*", "", text, flags=re.M).replace("///", "   ").replace("//!", "   ")
         for pattern, count in COUNTS.items():
             for found in re.finditer(rf"(?<![\d,.]){pattern}\b", text):
-                said = WORDS.index(found[1]) + 1 if found[1] in WORDS else found[1]
+                said = NUMBERS.index(found[1]) + 1 if found[1] in NUMBERS else found[1]
                 if str(said).isdigit() and int(said) != count:
                     line = text.count("\n", 0, found.start()) + 1
                     yield f"{path.relative_to(root).as_posix()}:{line}: `{' '.join(found[0].split())}`, by the grammar {count}"

@@ -54,7 +54,8 @@ class Definitions(unittest.TestCase):
 
     def test_a_word_that_may_be_read(self):
         found = self.found(forgotten.RESERVED, '"mixin"', '"mixer"')
-        self.assertEqual(found, [f"crates/{forgotten.RESERVED}: behind `interface` may be read: mixin"])
+        place = f"crates/{forgotten.RESERVED}: behind `interface`"
+        self.assertEqual(found, [f"{place} `mixin` may be read, and isn't listed", f"{place} `mixer` is listed, and isn't read"])
 
 
 class Types(unittest.TestCase):

@@ -50,6 +50,13 @@ def found(text, exceptions=()):
     return list(unmatched.found_in(Declared([*ALL, *changed]), known))
 
 
+class Kinds(unittest.TestCase):
+    def test_how_many_there_are(self):
+        self.assertEqual(found(ITERABLE.replace("An iteration.", "An iteration: the first of the two kinds that fits.")), [])
+        wrong = found(ITERABLE.replace("An iteration.", "An iteration: the first of the three kinds that fits."))
+        self.assertEqual(wrong, [f"{ITERABLE_AT}: the doc says that it is the first of the three kinds, and there are 2"])
+
+
 class Fields(unittest.TestCase):
     def one(self, old, new):
         self.assertIn(old, CALLBACK)

@@ -177,7 +177,7 @@ class Whole(unittest.TestCase):
 
     def test_the_pages_follow_what_is_brought(self):
         found = self.run_main({}, lambda words, folder: f"changed {words[1]}\n")
-        self.assertEqual(found, (0, "new a\nchanged tools/calling.py\n", ""))
+        self.assertEqual(found, (0, "new a\nchanged tools/calling.py\nchanged tools/man_pages.py\n", ""))
 
     def test_a_page_that_fails(self):
         found = self.run_main({}, mock.Mock(side_effect=Unfit("why")))

@@ -20,11 +20,13 @@ It prints a line `CRATE: TYPE.PART: ..` for each difference that EXCEPTIONS does
 for each exception that there is no more. The status is 0 where it prints nothing, or else 1.
 """
 
+import re
 import sys
 from itertools import zip_longest
 from pathlib import Path
 
 from command_line import take_none
+from description.docs import NUMBERS
 from description.names import upper
 from description.productions import said_of_all, unlike
 from description.readings import Declared, Unread
@@ -41,6 +43,8 @@ EXCEPTIONS = {
 TEXTS = ("String", "&")
 # What a struct's doc says of a part that may be absent.
 SAID = {"OPT_DOCSTRING": "a docstring may stand before it", "OPT_IDENTIFIER": "may lack a name"}
+# What an enum's doc says of how many variants it has.
+KINDS = re.compile(r"\bfirst of the (\w+) kinds\b")
 # The shapes of what is a part of a leaf: no type is read by such a rule.
 PARTIAL = ("Silent", "Line")
 
@@ -106,7 +110,9 @@ def unmatched_names(declaration, part, name):
 
 
 def unmatched_doc(declaration, parts):
-    """What a struct's doc says of its parts that isn't so."""
+    """What a struct's doc says of its parts that isn't so, or an enum's of how many there are."""
+    if (said := KINDS.search(declaration.doc)) and said[1] != NUMBERS[len(parts) - 1]:
+        yield "", f"the doc says that it is the {said[0]}, and there are {len(parts)}"
     for part, said in SAID.items() if not declaration.is_enum else ():
         if (part in parts) != (said in declaration.doc.lower()):
             yield "", f"the doc says otherwise whether it has {part}: {said}"

@@ -78,11 +78,11 @@ def copy(root, files, into):
     shutil.copytree(Path(root, "tools"), Path(into, "tools"))
 
 
-def call(words, folder):
-    """Runs a command, and gives what it says; that is shown where it fails."""
+def call(words, folder, name=None):
+    """Runs a command, and gives what it says; that is shown where it fails, behind the command or this name."""
     ran = subprocess.run(words, cwd=folder, stdout=subprocess.PIPE, stderr=subprocess.STDOUT, text=True)
     if ran.returncode:
-        raise Unfit(f"{' '.join(words)} failed:\n{ran.stdout.strip()}")
+        raise Unfit(f"{name or ' '.join(words)} failed:\n{ran.stdout.strip()}")
     return ran.stdout
 
 
@@ -142,7 +142,7 @@ def write_anew(root, files):
     with new_room() as room:
         copy(root, files, room)
         for script in WRITERS:
-            call([sys.executable, "-c", RUN, script], room)
+            call([sys.executable, "-c", RUN, script], room, f"tools/{script}.py")
         lay_out(room, files)
         return sources(room)
 

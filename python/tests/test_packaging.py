@@ -23,6 +23,8 @@ from shared_object import SharedObject
 from weedle._library import VARIABLE, place
 
 VERSION = "0.11.0"
+# Those that have a man page.
+COMMANDS = ("weedle", "weedle-lint", "weedle-lsp")
 WORDS = "import weedle; print(len(weedle.parse('A includes B;')))"
 # The lines of copyright of LICENSE, as their owners have them.
 OWNERS = (
@@ -89,7 +91,7 @@ class Built(InRoom):
             self.assertEqual(listed, set(wheel.namelist()))
             modules = {it.relative_to(HOME).as_posix() for it in (HOME / "weedle").rglob("*.py")}
             self.assertLessEqual({*modules, "weedle/py.typed", "weedle/lsp/server.py"}, listed)
-            pages = {f"weedle-{VERSION}.data/data/share/man/man1/{it}.1" for it in ("weedle", "weedle-lint")}
+            pages = {f"weedle-{VERSION}.data/data/share/man/man1/{it}.1" for it in COMMANDS}
             self.assertEqual({it for it in listed if "/man/" in it}, pages)
 
     def test_sources(self):
@@ -101,7 +103,7 @@ class Built(InRoom):
         self.assert_is_about((top / "PKG-INFO").read_text(encoding="utf-8"))
         self.assert_has_owners((top / "LICENSE").read_text(encoding="utf-8"))
         self.assertFalse((top / "build.sh").exists())
-        self.assertEqual(sorted(it.name for it in (top / "man").iterdir()), ["weedle-lint.1", "weedle.1"])
+        self.assertEqual({it.name for it in (top / "man").iterdir()}, {f"{it}.1" for it in COMMANDS})
         done = subprocess.run(
             [sys.executable, "-m", "unittest", "discover", "-s", "tests"], cwd=top, env=others(), capture_output=True,
             text=True, check=False,

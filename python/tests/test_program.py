@@ -173,7 +173,7 @@ class Program(unittest.TestCase):
         self.assertEqual(run("--format", "--write", "--check", "a")[0], 5)
 
     def test_help_says_what_a_status_means(self):
-        for words in ([], ["lint"]):
+        for words in ([], ["lint"], ["lsp"]):
             status, out, _ = run(*words, "--help")
             self.assertEqual(status, 0)
             self.assertRegex(out, r"(?i)status(:| is) 0 ")

@@ -46,7 +46,8 @@ Status: 0 all is read, 1 something is refused or would change, 2 a file can't be
 UTF-8, 3 out of memory, 4 a file or the output can't be written, 5 other arguments than these; of
 several the greatest.
 
-weedle lint checks files by the rules of Web IDL that the grammar doesn't have: weedle lint --help."""
+weedle lint checks files by the rules of Web IDL that the grammar doesn't have, and weedle lsp is a
+language server: weedle lint --help and weedle lsp --help say more."""
 
 
 class Status(IntEnum):

@@ -9,6 +9,11 @@ LAW = "A law, which does nothing:"
 # A word, or more that stand in a piece of code.
 WORD = re.compile(r"(?:`[^`]*`|[^`\s])+")
 
+# Numbers as words, from one on.
+NUMBERS = (
+    "one two three four five six seven eight nine ten eleven twelve thirteen fourteen fifteen sixteen seventeen "
+    "eighteen nineteen twenty"
+).split()
 # Up to an example, or to the end of the first sentence.
 FRONT = re.compile(r"(.*?)(?:, as `|[:.;](?: |$))")
 EXAMPLE = re.compile(r"[^.:]*?, as `[^`]*`(?:(?:, or |, | or )`[^`]*`)*")

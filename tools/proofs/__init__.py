@@ -1,1 +1,1 @@
-"""What types_proofs.py and idl_proofs.py write, of parts that declarations and contracts say."""
+"""What idl_proofs.py and spellings.py write, of parts that declarations and contracts say."""

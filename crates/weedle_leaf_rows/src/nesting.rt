@@ -1,6 +1,6 @@
 //! How deep texts nest or seem to, and for which of them descent isn't. A run that took descent for
 //! one that it isn't for would not end: `weedle_list` is run over such texts too, as
-//! tests/runs.toml has them, and `tools/hostile.py` times it with longer ones.
+//! tests/runs.toml has them, and tests/families.txt has longer ones for the library.
 
 use std::process::Abort;
 use std::test::Fail;

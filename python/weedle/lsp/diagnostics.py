@@ -32,17 +32,19 @@ def diagnostics(source: Source) -> List[Json]:
 
 def diagnostic(source: Source, problem: Problem) -> Json:
     """A syntax error. It stands where the hint is, if there is one, and else where reading ends."""
-    line, column = source.lines.position(problem.place)
-    expected = f"expected {problem.expected}" if problem.expected else "unread from here on"
-    hint = problem.hint
+    place, hint = problem.place, problem.hint
     found: Json = {
-        "range": source.range(marked(source, hint.place if hint else problem.place)),
+        "range": source.range(marked(source, hint.place if hint else place)),
         "severity": Severity.ERROR, "source": "weedle", "code": "syntax",
-        "message": f"{hint.message} ({expected} at {line + 1}:{column + 1})" if hint else expected,
     }
-    if hint and hint.place != problem.place:
-        span = marked(source, problem.place)
-        found["relatedInformation"] = [{"location": source.location(span), "message": expected}]
+    expected = f"expected {problem.expected}" if problem.expected else "unread from here on"
+    if not hint or hint.message == problem.expected:
+        return {**found, "message": hint.message if hint else expected}
+    line, column = source.lines.position(place)
+    found["message"] = f"{hint.message} ({expected} at {line + 1}:{column + 1})"
+    if hint.place != place:
+        where = source.location(marked(source, place))
+        found["relatedInformation"] = [{"location": where, "message": expected}]
     return found
 
 

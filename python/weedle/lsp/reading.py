@@ -29,16 +29,31 @@ class Hint(NamedTuple):
     message: str
 
 
-class Problem(NamedTuple):
-    """A syntax error."""
+class Problem:
+    """A syntax error. What is said of it is found when it is asked for."""
 
-    #: The bytes that aren't read because of it.
-    unread: Span
-    #: The furthest byte to which the reading comes.
-    place: int
-    #: What would have been read there, as "`,` or `}`".
-    expected: str
-    hint: Optional[Hint]
+    def __init__(self, unread: Span, refused: Refused) -> None:
+        #: The bytes that aren't read because of it.
+        self.unread = unread
+        self._refused = refused
+
+    @property
+    def place(self) -> int:
+        """The furthest byte to which the reading comes."""
+        return self._refused.place
+
+    @property
+    def expected(self) -> str:
+        """What would have been read there, as "`,` or `}`"; empty where memory ran out for it."""
+        return self._refused.expected
+
+    @property
+    def hint(self) -> Optional[Hint]:
+        """What would mend the text, or what it lacks."""
+        found = HINT.match(self._refused.hint or "")
+        if not found:
+            return None
+        return Hint(byte_at(self._refused._text, int(found[1]), int(found[2])), found[3])
 
 
 class Reading(NamedTuple):
@@ -64,7 +79,7 @@ def read(data: bytes) -> Reading:
     try:
         definitions = parse(data)
     except Refused as refused:
-        problems += [] if is_blank(data) else [problem_of(data, refused)]
+        problems += [] if is_blank(data) else [Problem(Span(refused.start, len(data)), refused)]
         definitions = front_of(data)
     return Reading(definitions, definitions._tree.children(0), problems)
 
@@ -74,13 +89,6 @@ def front_of(data: bytes) -> Definitions:
     tree = tree_of(data, DEFINITIONS)
     found: Definitions = listing(Definitions, tree, [made(tree, it) for it in tree.children(0)])
     return found
-
-
-def problem_of(data: bytes, refused: Refused) -> Problem:
-    """The syntax error of a text that is refused."""
-    found = HINT.match(refused.hint or "")
-    hint = Hint(byte_at(refused._text, int(found[1]), int(found[2])), found[3]) if found else None
-    return Problem(Span(refused.start, len(data)), refused.place, refused.expected, hint)
 
 
 def byte_at(text: Text, line: int, column: int) -> int:

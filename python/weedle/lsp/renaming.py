@@ -10,13 +10,11 @@ import re
 from typing import Any, Dict, List, Optional, Tuple
 
 from weedle._text import Span
-from weedle.definitions import Definitions
 from weedle.edits import DEFINING, RENAMED, kinds
 from weedle.grammar import KEYWORDS
 from weedle.index import name_of
 from weedle.lsp.navigation import MEMBERS, Target, names
 from weedle.lsp.protocol import Code, Fault, Json
-from weedle.lsp.reading import read
 from weedle.lsp.sources import Source
 from weedle.lsp.workspace import Workspace
 from weedle.names import Role, names_in
@@ -88,13 +86,13 @@ def said_place(source: Source, span: Span) -> str:
 
 def renamed(source: Source, spans: List[Span], new: str, written: str) -> List[Json]:
     """The changes of a text, once it was read with them."""
-    after, places = read(changed(source.data, spans, written.encode())), set(spans)
+    after = Source(source.uri, changed(source.data, spans, written.encode()))
+    places = set(spans)
+    wanted = [(it.role, new if it.span in places else it.text) for it in source.all_names()]
     is_same = (
-        said(after.definitions) == [
-            (it.role, new if it.span in places else it.text) for it in source.definitions.names()
-        ]
+        [(it.role, it.text) for it in after.all_names()] == wanted
         and kinds(after.definitions) == kinds(source.definitions)
-        and len(after.problems) == len(source.reading.problems)
+        and len(after.reading.problems) == len(source.reading.problems)
     )
     if not is_same:
         raise Fault(f"{new} would be read as something else than a name")
@@ -106,8 +104,3 @@ def changed(data: bytes, spans: List[Span], written: bytes) -> bytes:
     ends = [0, *(it.end for it in spans)]
     pieces = [data[end:span.start] for end, span in zip(ends, spans)]
     return written.join([*pieces, data[ends[-1]:]])
-
-
-def said(definitions: Definitions) -> List[Tuple[Role, str]]:
-    """The names of a text, with what they stand for."""
-    return [(it.role, it.text) for it in definitions.names()]

@@ -5,7 +5,7 @@ from __future__ import annotations
 import re
 from bisect import bisect_right
 from functools import cached_property
-from typing import Any, Dict, List, Optional, Set
+from typing import Any, Dict, Iterator, List, Optional, Set
 
 from weedle._text import Span
 from weedle._tree import Tree
@@ -63,10 +63,14 @@ class Source:
     def names(self) -> Dict[str, List[Name]]:
         """Its names that speak of definitions, by their letters."""
         found: Dict[str, List[Name]] = {}
-        for it in self.definitions.names():
+        for it in self.all_names():
             if it.role in RENAMED:
                 found.setdefault(it.text, []).append(it)
         return found
+
+    def all_names(self) -> Iterator[Name]:
+        """All names of what is read, in the order of the text."""
+        return (name for root in self.reading.roots for name in names_in(self.tree, root))
 
     @cached_property
     def by_name(self) -> Dict[str, List[Any]]:
@@ -83,7 +87,7 @@ class Source:
         last: Set[str] = set()
         if b"[" not in self.data:
             return found
-        for it in self.definitions.names():
+        for it in self.all_names():
             if it.role is Role.EXTENDED_ATTRIBUTE:
                 last = found.setdefault(it.text, set())
             elif it.role is Role.EXTENDED_ATTRIBUTE_VALUE:
@@ -93,7 +97,7 @@ class Source:
     def attribute_names(self, text: str) -> List[Name]:
         """Where an extended attribute of this name stands."""
         return [
-            it for it in (self.definitions.names() if text in self.attributes else ())
+            it for it in (self.all_names() if text in self.attributes else ())
             if it.role is Role.EXTENDED_ATTRIBUTE and it.text == text
         ]
 
