@@ -4,10 +4,9 @@
     python3 tools/calling.py [--check]
 
 It begins at crates/weedle/src/lib.rt, and follows `pub use` and `pub mod` into the crates below
-(tools/description/public.py). Of each call stands there the signature with its contract, of each type
-the fields or variants and its methods, under the path by which a caller names it. Where a docstring may
-stand says the grammar (tools/description/webidl.py); the program at its head is README's. tools/write.py
-runs it too.
+(tools/description/public.py). A call has its signature with its contract. The types of a module share a
+block of code: each has its fields or variants, its methods and its traits. The grammar says where a
+docstring may stand (tools/description/webidl.py). tools/write.py runs it too.
 
 With --check nothing is written: a line says where the page is stale, and the status is 1 then.
 """
@@ -28,41 +27,32 @@ TOP = Path(__file__).resolve().parent.parent
 PAGE = "docs/CALLING.md"
 CRATE = "weedle"
 COLUMNS = 118
-# README's program: a block that has this line.
-MAIN = "fn main(rt: HostRuntime)"
-BLOCK = re.compile(r"^```rust\n(.*?)^```\n", re.M | re.S)
 INTRO = """# Calling `weedle`
 
-All that a caller of the crate `weedle` can name, by its path, as it stands in the sources. What it is for, with
-examples, says [USING](USING.md); what is proved of it in words, [PROVED](PROVED.md); what each type reads,
-[GRAMMAR](GRAMMAR.md). This page is written by `tools/calling.py`, and `tools/check.py` finds it stale.
+All that a caller of the crate `weedle` can name, by its path. [README](../README.md) has a whole program, which the
+gate proves, and its line of `crates.txt`. [USING](USING.md) says what each part is for, [PROVED](PROVED.md) what is
+proved of it in words, and [GRAMMAR](GRAMMAR.md) what each type reads. `tools/calling.py` writes this page from the
+sources.
 
-{contents}
-## A caller
-
-Its line of `crates.txt` is `app: weedle`. The gate proves it, but for `main`: it is safe, and returns.
-
-```rust
-{caller}```
-"""
+{contents}"""
 CALLS = """## Calls
 
-Each with its contract. `result` is what the call answers, `x.now` what a borrowed argument holds; the other words
-stand in [the last section](#the-words-of-the-contracts). A call that can end for want of memory takes an allocator.
+Each has its contract. `result` is what the call returns, `x.now` what a borrowed argument holds; the other words
+stand in [the last section](#the-words-of-the-contracts). A call that can run out of memory takes an allocator.
 """
 TYPES = """## Types
 
-By the module in which a caller finds them. A struct that has a `Drop` of its own gives its fields by `into_fields`,
-in their order, and an enum what a variant holds by a method of the variant's name, as `into_interface`: both take the
-value, and their contracts are `result ≡ (self.entry.a, ..)` and `result ≡ Some held ↔ self.entry ≡ Enum.Variant held`.
-Traits that are implemented beside the derived ones stand behind the type; `Parse` reads it from the front of a text.
+A heading is the module in which a caller finds the types below it. Above each type stands what it is, and last the
+traits that it has: `Copy` includes `Clone`, and `Ord` includes `PartialOrd`, `Eq` and `PartialEq`. `Parse` reads a
+value from the front of a text. `into_fields` gives the fields of a struct in their order, and a method of a variant's
+name, as `into_interface`, what the variant holds. Both take the value; their contracts are
+`result ≡ (self.entry.a, ..)` and `result ≡ Some held ↔ self.entry ≡ Enum.Variant held`.
 """
 DOCSTRINGS = """## Where a docstring may stand
 
-A docstring is lines that begin with `///`. These members and definitions may begin with one, which is their field
-`docstring`:
+A docstring is lines that begin with `///`. These members and definitions may begin with one, their field `docstring`:
 """
-NO_DOCSTRING = "These may not: where one stands before them, they aren't read."
+NO_DOCSTRING = "These may not: with one in front they aren't read."
 WORDS = """## The words of the contracts
 
 Each is defined in the file that is named, or in the standard library's (`Rattle.std`).
@@ -71,7 +61,11 @@ ITEM_BEGIN = r"^pub {kind} {name}\b"
 METHOD = re.compile(r"^    pub fn (\w+)", re.M)
 GHOST = re.compile(r"^ghost use ([\w.+]+)\.\{([^}]*)\};", re.M)
 CONTRACT = ("requires", "ensures", "decreases")
-ROUND = {"Drop", "Clone", "Copy"}
+# What the page says at once of types that have the first: the others follow from it.
+IMPLIED = {"Copy": {"Clone"}, "Ord": {"PartialOrd", "Eq", "PartialEq"}, "Eq": {"PartialEq"}}
+# The parts of a declaration between braces.
+DECLARED = re.compile(r"^(pub (?:struct|enum) [^{]*\{)\n(.*)\n\}\n", re.S)
+DERIVE = re.compile(r"#\[derive\((.*)\)\]\n")
 # The body of a function that a trait gives.
 BODY = re.compile(r"\n    \{\n(?:     .*\n|\n)*    \}$", re.M)
 
@@ -96,7 +90,7 @@ def code_of(text, begin):
             rows.append(row.removesuffix("{").rstrip())
             break
         rows.append(row)
-    return "\n".join(rows).rstrip() + "\n"
+    return "\n".join(filter(None, rows)) + "\n"
 
 
 def bare(text):
@@ -181,33 +175,61 @@ class Crate:
                     yield method[1], text, method.start() + 4
 
     def traits(self, name):
-        """The traits that are implemented for a type, with the types that it comes from."""
+        """The traits that are implemented for a type, but for what is derived."""
         found = set()
         for text in self.texts:
             found |= set(re.findall(rf"^impl(?:<[^{{]*?>)? ((?:\w+::)*[A-Z]\w*)\b[^{{\n]* for {name}\b", text, re.M))
-        return sorted(found - ROUND)
+        return {it.rpartition("::")[2] for it in found}
 
 
 def call_text(entry):
-    return f"### `{entry.path}`\n\n{shown_doc(entry)}\n```rust\n{entry.code()}```\n"
-
-
-def shown_doc(entry):
-    link = f"([source](../{entry.source}))"
-    return filled([*entry.doc.split(" "), link], "", columns=COLUMNS)
+    doc = filled(entry.doc.split(" "), "", columns=COLUMNS)
+    return f"### [`{entry.path}`](../{entry.source})\n\n{doc}\n```rust\n{entry.code()}```\n"
 
 
 def type_text(entry, crate):
-    """A type with its methods, and the traits that aren't derived."""
-    shown = [f"### `{entry.path}`\n\n{shown_doc(entry)}\n```rust\n{entry.code()}```\n"]
+    """A type with what it is, its methods and its traits."""
+    derived, code = derived_of(entry.code())
     methods = methods_of(entry, crate)
     apart = [name for name, _, _ in methods if is_plain(entry, name)]
     own = [code_of(text, begin) for name, text, begin in methods if not is_plain(entry, name)]
+    shown = filled(entry.doc.split(" "), "", "/// ", COLUMNS) + compact(code)
     if own:
-        shown.append("```rust\nimpl " + entry.name + " {\n" + indented("\n".join(own)) + "}\n```\n")
-    if said := said_of(apart, crate.traits(entry.item.name)):
-        shown.append(filled(said.split(" "), "", columns=COLUMNS))
-    return "\n".join(shown)
+        shown += f"impl {entry.name} {{\n" + "".join(indented(it) for it in own) + "}\n"
+    if said := said_of(apart, entry, crate, derived):
+        shown += filled(said.split(" "), "", "// ", COLUMNS)
+    return shown
+
+
+def derived_of(code):
+    """The traits that a declaration derives, and the declaration without them."""
+    found = DERIVE.match(code)
+    return (set(found[1].split(", ")), code[found.end() :]) if found else (set(), code)
+
+
+def compact(code):
+    """A declaration of a struct or an enum: on one line where it fits, and else with short variants side by side."""
+    found = DECLARED.match(code)
+    if not found:
+        return code
+    parts = parts_of(found[2])
+    one_line = f"{found[1]} {', '.join(parts)} }}\n"
+    if len(one_line) <= COLUMNS + 1:
+        return one_line
+    if found[1].startswith("pub enum"):
+        return f"{found[1]}\n{filled([f'{it},' for it in parts], '    ', columns=COLUMNS)}}}\n"
+    return f"{found[1]}\n" + "".join(f"    {it},\n" for it in parts) + "}\n"
+
+
+def parts_of(body):
+    """The fields or variants of a declaration, each on one line."""
+    parts = []
+    for row in body.split("\n"):
+        if row.startswith("     ") or row.startswith(("    }", "    )")):
+            parts[-1] += " " + row.strip()
+        else:
+            parts.append(row.strip())
+    return [it.removesuffix(",").replace("( ", "(").replace(", )", ")").replace(", }", " }") for it in parts]
 
 
 def methods_of(entry, crate):
@@ -228,13 +250,14 @@ def is_plain(entry, name):
     return name == "into_fields" or entry.item.kind == "enum" and name.startswith("into_")
 
 
-def said_of(apart, traits):
-    parts = []
-    if apart:
-        parts.append(f"Methods: {', '.join(f'`{it}`' for it in apart)}.")
-    if traits:
-        parts.append(f"Traits: {', '.join(f'`{it}`' for it in traits)}.")
-    return " ".join(parts)
+def said_of(apart, entry, crate, derived):
+    """The methods that take a value apart, and all traits but those that follow from others."""
+    traits = derived | crate.traits(entry.item.name)
+    if "Copy" in traits:
+        traits = traits - {"Drop"}
+    traits = traits - {it for name in traits for it in IMPLIED.get(name, ())}
+    parts = [", ".join(f"`{it}`" for it in sorted(names)) for names in (apart, traits) if names]
+    return (f"Methods: {parts.pop(0)}. " if apart else "") + (f"Traits: {parts[0]}." if parts else "")
 
 
 def indented(text):
@@ -242,12 +265,13 @@ def indented(text):
 
 
 def words_text(entries):
-    """The structs with nothing in them, each with the text that it stands for."""
-    found = []
-    for entry in entries:
-        code = re.search(r"`[^`]+`", entry.doc)
-        found.append(f"`{entry.name}` {code[0] if code else ''}".strip())
-    return filled([f"{it}," for it in found[:-1]] + [f"{found[-1]}."], "", columns=COLUMNS)
+    """The structs with nothing in them, by the text that each stands for."""
+    texts = {it.name: found[1] if (found := re.search(r"`([^`]+)`", it.doc)) else "" for it in entries}
+    own = [f"`{name}`" for name, text in texts.items() if text == name]
+    small = [f"`{name}`" for name, text in texts.items() if text == name.lower() != name]
+    others = [f"`{name}` `{text}`" for name, text in texts.items() if text.lower() != name.lower()]
+    lists = (("Words of their own names", own), ("The same in small letters", small), ("Others", others))
+    return "".join(bullet(f"{head}: {', '.join(names)}.") for head, names in lists if names)
 
 
 def docstrings_text(entries):
@@ -269,8 +293,12 @@ def by_module(entries):
 
 
 def bullet(text):
+    return paragraph(f"- {text}", "  ")
+
+
+def paragraph(text, indent=""):
     return textwrap.fill(
-        f"- {text}", COLUMNS, subsequent_indent="  ", break_long_words=False, break_on_hyphens=False
+        text, COLUMNS, subsequent_indent=indent, break_long_words=False, break_on_hyphens=False
     ) + "\n"
 
 
@@ -296,19 +324,27 @@ def contents_of(items, types):
     """The sections of the page, each with its link."""
     homes = {it.path.rpartition("::")[0] for it in types}
     names = ["Calls", "Where a docstring may stand", "Types", *(f"`{path}`" for path in items if path in homes)]
-    links = [f"[{name}](#{anchor_of(name)})" for name in [*names, "The words of the contracts"]]
-    return "Sections: " + ",\n".join(links) + ".\n"
+    names.append("The words of the contracts")
+    links = [f"[{name}](#{anchor_of(name)})" for name in names]
+    return paragraph(f"Sections: {', '.join(links)}.")
+
+
+def module_text(path, entries, crates):
+    """A section of the types of a module: the crates in which they stand, and all of them in one block."""
+    shown = [type_text(it, crates[it.item.module.crate]) for it in entries if not it.is_word()]
+    parts = [f"## `{path}`\n"]
+    if shown:
+        homes = dict.fromkeys(it.item.module.crate for it in entries if not it.is_word())
+        parts.append(paragraph(f"Sources: {', '.join(f'[{it}](../crates/{it}/src)' for it in homes)}."))
+        parts.append("```rust\n" + "\n".join(shown) + "```\n")
+    if words := [it for it in entries if it.is_word()]:
+        parts.append(words_text(words))
+    return "\n".join(parts)
 
 
 def anchor_of(heading):
     """How a link calls a heading."""
     return re.sub(r"[^\w -]", "", heading.lower()).replace(" ", "-")
-
-
-def caller_in(root):
-    """README's program."""
-    text = (root / "README.md").read_text(encoding="utf-8")
-    return next(it for it in BLOCK.findall(text) if MAIN in it)
 
 
 def page(root):
@@ -318,16 +354,11 @@ def page(root):
     crates = {it.item.module.crate: Crate(root, it.item.module.crate) for it in entries}
     calls = [it for it in entries if it.item.kind == "fn"]
     types = [it for it in entries if it.item.kind != "fn"]
-    intro = INTRO.format(caller=caller_in(root), contents=contents_of(items, types))
+    intro = INTRO.format(contents=contents_of(items, types))
     parts = [intro, CALLS, *map(call_text, calls), docstrings_text(types), TYPES]
     for path in items:
-        here = [it for it in types if it.path.rpartition("::")[0] == path]
-        if not here:
-            continue
-        parts.append(f"## `{path}`\n")
-        parts += [type_text(it, crates[it.item.module.crate]) for it in here if not it.is_word()]
-        if words := [it for it in here if it.is_word()]:
-            parts.append(words_text(words))
+        if here := [it for it in types if it.path.rpartition("::")[0] == path]:
+            parts.append(module_text(path, here, crates))
     words = {}
     for entry in entries:
         for code, text in contracts_of(entry, crates[entry.item.module.crate]):

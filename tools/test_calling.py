@@ -163,9 +163,9 @@ class Public(Made):
 
 class Shown(Made):
     def test_a_call_with_its_contract(self):
-        self.assertEqual(calling.call_text(self.entry("top", "place_of")), """### `top::place_of`
+        self.assertEqual(calling.call_text(self.entry("top", "place_of")), """### [`top::place_of`](../crates/low/src/fault.rt)
 
-Where it is. ([source](../crates/low/src/fault.rt))
+Where it is.
 
 ```rust
 pub fn at(text: &str, fault: &Fault) -> usize
@@ -178,26 +178,29 @@ pub fn at(text: &str, fault: &Fault) -> usize
 """)
 
     def test_an_enum_with_its_methods_and_traits(self):
-        self.assertEqual(self.text_of("top", "Fault"), """### `top::Fault`
-
-Why it failed, see `at` and `Fault`. ([source](../crates/low/src/fault.rt))
-
-```rust
-#[derive(Clone, Copy, Debug)]
-pub enum Fault {
-    This(u8),
-    That,
-}
-```
-
-```rust
+        self.assertEqual(self.text_of("top", "Fault"), """/// Why it failed, see `at` and `Fault`.
+pub enum Fault { This(u8), That }
 impl Fault {
     pub fn number(&self) -> u8
 }
-```
-
-Methods: `into_this`. Traits: `Display`, `From`.
+// Methods: `into_this`. Traits: `Copy`, `Debug`, `Display`, `From`.
 """)
+
+    def test_fields_and_variants_side_by_side_where_they_fit(self):
+        self.assertEqual(calling.compact("pub struct A<'a> {\n    pub a: B,\n    pub c: D<'a>,\n}\n"), (
+            "pub struct A<'a> { pub a: B, pub c: D<'a> }\n"
+        ))
+        variants = "".join(f"    Variant{number}{{\n        at: usize,\n    }},\n" for number in range(6))
+        self.assertEqual(calling.compact(f"pub enum A {{\n{variants}}}\n"), "pub enum A {\n    "
+            + " ".join(f"Variant{number}{{ at: usize }}," for number in range(5))
+            + "\n    Variant5{ at: usize },\n}\n")
+        fields = "".join(f"    pub field_of_it_{number}: Type,\n" for number in range(5))
+        self.assertEqual(calling.compact(f"pub struct A {{\n{fields}}}\n"), f"pub struct A {{\n{fields}}}\n")
+
+    def test_types_of_a_module_share_a_block(self):
+        self.assertEqual(calling.module_text("top", [self.entry("top", "Deep")], {"low": calling.Crate(self.root, "low")}), (
+            "## `top`\n\nSources: [low](../crates/low/src).\n\n```rust\n/// Deep down.\npub type Deep = u8;\n```\n"
+        ))
 
     def test_a_trait_with_its_contracts_and_no_bodies(self):
         self.assertIn("""pub trait Reads: Sized {
@@ -210,14 +213,16 @@ Methods: `into_this`. Traits: `Display`, `From`.
 """, self.text_of("top::parts", "Reads"))
 
     def test_a_tuple_struct_and_an_alias(self):
-        self.assertIn("#[derive(Debug)]\npub struct Pair(pub Fault, pub Fault);\n", self.text_of("top::parts", "Pair"))
-        self.assertIn("```rust\npub type Deep = u8;\n```\n", self.text_of("top", "Deep"))
+        self.assertEqual(
+            self.text_of("top::parts", "Pair"), "/// A pair.\npub struct Pair(pub Fault, pub Fault);\n// Traits: `Debug`.\n"
+        )
+        self.assertEqual(self.text_of("top", "Deep"), "/// Deep down.\npub type Deep = u8;\n")
 
     def test_a_word_is_said_with_its_text(self):
         entry = self.entry("top::own", "X")
         self.assertTrue(entry.is_word())
         self.assertFalse(self.entry("top::parts", "Pair").is_word())
-        self.assertEqual(calling.words_text([entry, entry]), "`X` `x`, `X` `x`.\n")
+        self.assertEqual(calling.words_text([entry]), "- The same in small letters: `X`.\n")
 
     def test_the_words_of_contracts_by_the_modules_that_define_them(self):
         found, entry = {}, self.entry("top", "place_of")
@@ -237,11 +242,14 @@ class OfTheRepository(unittest.TestCase):
         cls.text = calling.page(calling.TOP)
 
     def test_paths_that_readme_and_using_name(self):
-        for path in ("weedle::parse_quick", "weedle::interface::InterfaceMember", "weedle::Definition"):
-            self.assertTrue(f"### `{path}`\n" in self.text, path)
+        self.assertIn("### [`weedle::parse_quick`](", self.text)
+        for path in ("weedle::interface::InterfaceMember", "weedle::Definition"):
+            home, _, name = path.rpartition("::")
+            section = self.text.partition(f"\n## `{home}`\n")[2].partition("\n## ")[0]
+            self.assertTrue(f"\npub enum {name}<'a> {{\n" in section, path)
 
     def test_a_former_is_shown_as_the_alias_has_it(self):
-        self.assertTrue("pub enum SingleType<'a> {\n    Any(Any),\n    NonAny(NonAnyType<'a>),\n}\n" in self.text)
+        self.assertTrue("\npub enum SingleType<'a> { Any(Any), NonAny(NonAnyType<'a>) }\n" in self.text)
 
     def test_where_a_docstring_may_stand(self):
         """As docs/GRAMMAR.md has it: before a dictionary's member, and before no typedef."""
@@ -250,9 +258,9 @@ class OfTheRepository(unittest.TestCase):
         self.assertNotIn("`TypedefDefinition`", may)
         self.assertIn("`TypedefDefinition`", may_not)
 
-    def test_a_link_leads_to_a_file(self):
+    def test_links_lead_somewhere(self):
         for path in calling.re.findall(r"\]\(\.\./([^)]+)\)", self.text):
-            self.assertTrue((calling.TOP / path).is_file(), path)
+            self.assertTrue((calling.TOP / path).exists(), path)
 
 
 if __name__ == "__main__":
