@@ -256,8 +256,12 @@ def said_of(apart, entry, crate, derived):
     if "Copy" in traits:
         traits = traits - {"Drop"}
     traits = traits - {it for name in traits for it in IMPLIED.get(name, ())}
-    parts = [", ".join(f"`{it}`" for it in sorted(names)) for names in (apart, traits) if names]
-    return (f"Methods: {parts.pop(0)}. " if apart else "") + (f"Traits: {parts[0]}." if parts else "")
+    parts = []
+    if apart:
+        parts.append(f"Methods: `{apart[0]}`{' and the like' if len(apart) > 1 else ''}.")
+    if traits:
+        parts.append(f"Traits: {', '.join(f'`{it}`' for it in sorted(traits))}.")
+    return " ".join(parts)
 
 
 def indented(text):
@@ -316,7 +320,7 @@ def words_of_contracts(root, found):
     """A line for each module of the logic, with a link to its file where it is the repository's."""
     for module in sorted(found):
         path = f"crates/{'/'.join(module.split('.')[1:])}.antt"
-        shown = f"[`{path}`](../{path})" if (root / path).is_file() else f"`{module}`"
+        shown = f"[{path.removeprefix('crates/')}](../{path})" if (root / path).is_file() else f"`{module}`"
         yield bullet(f"{shown}: {', '.join(f'`{it}`' for it in sorted(found[module]))}")
 
 

@@ -232,7 +232,7 @@ impl Fault {
         (self.root / "crates/low/specs").mkdir()
         (self.root / "crates/low/specs/Words.antt").write_text("")
         self.assertEqual(list(calling.words_of_contracts(self.root, found)), [
-            "- [`crates/low/specs/Words.antt`](../crates/low/specs/Words.antt): `IsAt`, `IsOther`\n"
+            "- [low/specs/Words.antt](../crates/low/specs/Words.antt): `IsAt`, `IsOther`\n"
         ])
 
 
