@@ -27,6 +27,8 @@ TOP = Path(__file__).resolve().parent.parent
 PAGE = "docs/CALLING.md"
 CRATE = "weedle"
 COLUMNS = 118
+# A contract of more lines stands once.
+LONG = 3
 INTRO = """# Calling `weedle`
 
 All that a caller of the crate `weedle` can name, by its path. [README](../README.md) has a whole program, which the
@@ -182,9 +184,14 @@ class Crate:
         return {it.rpartition("::")[2] for it in found}
 
 
-def call_text(entry):
+def call_text(entry, seen):
+    """A call with its contract; one that several have word for word stands at the first of them."""
     doc = filled(entry.doc.split(" "), "", columns=COLUMNS)
-    return f"### [`{entry.path}`](../{entry.source})\n\n{doc}\n```rust\n{entry.code()}```\n"
+    head, line_end, contract = entry.code().partition("\n")
+    first = seen.setdefault(contract, entry.name) if contract.count("\n") > LONG else entry.name
+    if first != entry.name:
+        contract = f"    // The contract of `{first}`.\n"
+    return f"### [`{entry.path}`](../{entry.source})\n\n{doc}\n```rust\n{head}{line_end}{contract}```\n"
 
 
 def type_text(entry, crate):
@@ -256,8 +263,12 @@ def said_of(apart, entry, crate, derived):
     if "Copy" in traits:
         traits = traits - {"Drop"}
     traits = traits - {it for name in traits for it in IMPLIED.get(name, ())}
-    parts = [", ".join(f"`{it}`" for it in sorted(names)) for names in (apart, traits) if names]
-    return (f"Methods: {parts.pop(0)}. " if apart else "") + (f"Traits: {parts[0]}." if parts else "")
+    parts = []
+    if apart:
+        parts.append(f"Methods: `{apart[0]}`{' and the like' if len(apart) > 1 else ''}.")
+    if traits:
+        parts.append(f"Traits: {', '.join(f'`{it}`' for it in sorted(traits))}.")
+    return " ".join(parts)
 
 
 def indented(text):
@@ -316,7 +327,7 @@ def words_of_contracts(root, found):
     """A line for each module of the logic, with a link to its file where it is the repository's."""
     for module in sorted(found):
         path = f"crates/{'/'.join(module.split('.')[1:])}.antt"
-        shown = f"[`{path}`](../{path})" if (root / path).is_file() else f"`{module}`"
+        shown = f"[{path.removeprefix('crates/')}](../{path})" if (root / path).is_file() else f"`{module}`"
         yield bullet(f"{shown}: {', '.join(f'`{it}`' for it in sorted(found[module]))}")
 
 
@@ -355,7 +366,8 @@ def page(root):
     calls = [it for it in entries if it.item.kind == "fn"]
     types = [it for it in entries if it.item.kind != "fn"]
     intro = INTRO.format(contents=contents_of(items, types))
-    parts = [intro, CALLS, *map(call_text, calls), docstrings_text(types), TYPES]
+    seen = {}
+    parts = [intro, CALLS, *(call_text(it, seen) for it in calls), docstrings_text(types), TYPES]
     for path in items:
         if here := [it for it in types if it.path.rpartition("::")[0] == path]:
             parts.append(module_text(path, here, crates))

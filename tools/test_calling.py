@@ -163,7 +163,7 @@ class Public(Made):
 
 class Shown(Made):
     def test_a_call_with_its_contract(self):
-        self.assertEqual(calling.call_text(self.entry("top", "place_of")), """### [`top::place_of`](../crates/low/src/fault.rt)
+        self.assertEqual(calling.call_text(self.entry("top", "place_of"), {}), """### [`top::place_of`](../crates/low/src/fault.rt)
 
 Where it is.
 
@@ -176,6 +176,15 @@ pub fn at(text: &str, fault: &Fault) -> usize
     }
 ```
 """)
+
+    def test_a_long_contract_stands_once(self):
+        entry, seen = self.entry("top", "place_of"), {}
+        shown = calling.call_text(entry, seen)
+        self.assertEqual(calling.call_text(entry, seen), shown)
+        entry.name = "other"
+        self.assertEqual(calling.call_text(entry, seen).partition("```rust\n")[2], (
+            "pub fn at(text: &str, fault: &Fault) -> usize\n    // The contract of `place_of`.\n```\n"
+        ))
 
     def test_an_enum_with_its_methods_and_traits(self):
         self.assertEqual(self.text_of("top", "Fault"), """/// Why it failed, see `at` and `Fault`.
@@ -232,7 +241,7 @@ impl Fault {
         (self.root / "crates/low/specs").mkdir()
         (self.root / "crates/low/specs/Words.antt").write_text("")
         self.assertEqual(list(calling.words_of_contracts(self.root, found)), [
-            "- [`crates/low/specs/Words.antt`](../crates/low/specs/Words.antt): `IsAt`, `IsOther`\n"
+            "- [low/specs/Words.antt](../crates/low/specs/Words.antt): `IsAt`, `IsOther`\n"
         ])
 
 
