@@ -15,7 +15,7 @@ from lsp_client import PAGE, Client, places, range_, where
 from support import HOME
 
 PARSE_ERROR, INVALID_REQUEST, METHOD_NOT_FOUND, INVALID_PARAMS, INTERNAL_ERROR = -32700, -32600, -32601, -32602, -32603
-NOT_INITIALIZED, CANCELLED = -32002, -32800
+NOT_INITIALIZED, CANCELLED, CONTENT_MODIFIED = -32002, -32800, -32801
 # A server with requests that fail, sleep, and run until they are cancelled.
 WITH_FAILURES = """
 import sys, time
@@ -29,7 +29,14 @@ def spin(session, params):
 def broken(session, params):
     raise KeyError("broken")
 
+def read_on(session, params):
+    check = session.check_of(session.source(params))
+    while True:
+        check()
+        time.sleep(0.001)
+
 features.REQUESTS.update({
+    "test/read": read_on,
     "textDocument/hover": lambda *_: 1 // 0, "test/spin": spin, "test/object": lambda *_: object(),
     "test/sleep": lambda *_: time.sleep(0.5), "test/print": lambda *_: print("stray"),
 })
@@ -263,6 +270,15 @@ class Failures(Session):
         self.page.note("$/cancelRequest", id=number)
         self.assertEqual(self.page.answer(number)["error"]["code"], CANCELLED)
         self.assertEqual(len(self.page.ask("workspace/symbol", query="")), 1)
+
+    def test_a_request_about_a_text_that_changes(self):
+        number = self.page.start("test/read", textDocument={"uri": PAGE})
+        other = {"uri": "file:///other.webidl", "version": 1}
+        self.page.note("textDocument/didChange", textDocument=other, contentChanges=[{"text": ""}])
+        with self.page.is_there:
+            self.assertFalse(self.page.is_there.wait_for(lambda: number in self.page.answers, 0.2))
+        self.page.change("typedef long C;")
+        self.assertEqual(self.page.answer(number)["error"]["code"], CONTENT_MODIFIED)
 
     def test_what_is_cancelled_and_was_answered(self):
         self.page.ask("workspace/symbol", query="")

@@ -7,7 +7,7 @@ from typing import Dict, Iterator, List, NamedTuple, Optional, Tuple
 from weedle._text import Span
 from weedle._tree import Tree
 from weedle.grammar import NUMBERS
-from weedle.lsp.protocol import Json, SymbolKind as Kind
+from weedle.lsp.protocol import Check, Json, SymbolKind as Kind, nothing
 from weedle.lsp.sources import Source
 from weedle.lsp.workspace import Workspace
 
@@ -65,14 +65,15 @@ class Symbol(NamedTuple):
     above: int
 
 
-def symbols(source: Source) -> List[Symbol]:
-    """The definitions of a text, each in front of its members."""
+def symbols(source: Source, check: Check = nothing) -> List[Symbol]:
+    """The definitions of a text, each in front of its members. It checks at each definition."""
     found: List[Symbol] = []
     tree, above = source.tree, -1
     for node, rule in enumerate(tree.rules.tolist()):
         if rule in KINDS:
             kind, word = KINDS[rule]
             if word:
+                check()
                 above = len(found)
             found.append(symbol(tree, node, kind, word, -1 if word else above))
     return found
@@ -126,10 +127,10 @@ def one_line(tree: Tree, span: Span) -> str:
     return " ".join(tree.text.slice(span).split())
 
 
-def outline(source: Source) -> List[Json]:
+def outline(source: Source, check: Check = nothing) -> List[Json]:
     """The definitions of a text, each with its members."""
     all_: List[Json] = []
-    for it in symbols(source):
+    for it in symbols(source, check):
         all_.append({
             "name": it.name, "detail": it.detail, "kind": it.kind, "children": [],
             "range": source.range(it.span), "selectionRange": source.range(it.name_span),
@@ -142,9 +143,9 @@ def outline(source: Source) -> List[Json]:
     return found
 
 
-def flat_outline(source: Source) -> List[Json]:
+def flat_outline(source: Source, check: Check = nothing) -> List[Json]:
     """The same for an editor that knows no tree of symbols."""
-    return list(told(source, symbols(source)))
+    return list(told(source, symbols(source, check)))
 
 
 def told(source: Source, all_: List[Symbol]) -> Iterator[Json]:

@@ -5,11 +5,11 @@ from __future__ import annotations
 import os
 import time
 from pathlib import Path
-from typing import Any, Callable, Dict, Iterator, List, NamedTuple, Optional, Tuple
+from typing import Any, Dict, Iterator, List, NamedTuple, Optional, Tuple
 from urllib.parse import unquote, urlsplit
 
 from weedle.lsp.positions import USUAL
-from weedle.lsp.protocol import Code, Fault
+from weedle.lsp.protocol import Check, Code, Fault, nothing
 from weedle.lsp.sources import Source, bytes_of
 
 #: What the names of files of WebIDL end with.
@@ -71,8 +71,7 @@ def files_in(folder: str) -> Iterator[Tuple[str, Tuple[int, int]]]:
 class Workspace:
     """All texts that are known."""
 
-    def __init__(self, check: Callable[[], None] = lambda: None) -> None:
-        # says by an exception that nobody waits for an answer any more
+    def __init__(self, check: Check = nothing) -> None:
         self.check = check
         self.encoding = USUAL
         self.folders: List[str] = []
