@@ -19,7 +19,8 @@ NOT_INITIALIZED, CANCELLED, CONTENT_MODIFIED = -32002, -32800, -32801
 # A server with requests that fail, sleep, and run until they are cancelled.
 WITH_FAILURES = """
 import sys, time
-from weedle.lsp import features, main, reading
+from weedle.lsp import features, main, server
+from weedle.lsp.diagnostics import diagnostics
 
 def spin(session, params):
     while True:
@@ -41,6 +42,7 @@ features.REQUESTS.update({
     "test/sleep": lambda *_: time.sleep(0.5), "test/print": lambda *_: print("stray"),
 })
 features.NOTIFICATIONS["test/broken"] = broken
+server.diagnostics = lambda source: 1 // 0 if b"zero" in source.data else diagnostics(source)
 sys.exit(main())
 """
 
@@ -253,6 +255,11 @@ class Failures(Session):
         self.assertIn("KeyError", self.page.told.get(timeout=60)["params"]["message"])
         self.assertEqual(self.page.end()[0], 0)
 
+    def test_errors_that_are_not_known(self):
+        (error,) = self.page.change("typedef zero A;")
+        self.assertEqual((error["severity"], error["message"].split(":")[:2]), (2, ["not checked", " ZeroDivisionError"]))
+        self.assertEqual(self.page.change("typedef long A;"), [])
+
     def test_what_is_printed_by_mistake(self):
         self.page.ask("test/print")
         status, said = self.page.end()
@@ -284,6 +291,7 @@ class Failures(Session):
         self.page.ask("workspace/symbol", query="")
         self.page.note("$/cancelRequest", id=self.page.count)
         self.page.note("$/cancelRequest", id=99)
+        self.page.note("$/cancelRequest", id=[1])
         self.page.note("$/cancelRequest")
         self.assertEqual(len(self.page.ask("workspace/symbol", query="")), 1)
 

@@ -137,7 +137,7 @@ def document_symbol(session: Session, params: Json) -> List[Json]:
 
 def workspace_symbol(session: Session, params: Json) -> List[Json]:
     """The symbols of all texts that have the letters of a query."""
-    return session.symbols.matching(session.workspace, params.get("query") or "")
+    return outline.matching(session.workspace, params.get("query") or "")
 
 
 def folding_range(session: Session, params: Json) -> List[Json]:

@@ -158,21 +158,18 @@ def told(source: Source, all_: List[Symbol]) -> Iterator[Json]:
         yield shown
 
 
-class Symbols:
-    """The symbols of all texts, each text's worked out once."""
+def matching(workspace: Workspace, query: str) -> List[Json]:
+    """The symbols of all texts whose names have the letters of a query in their order."""
+    found = (it for source in workspace.sources() for it in known(source))
+    chosen = [it for it in found if has_letters(it["name"], query)]
+    return sorted(chosen, key=lambda it: rank(it, query))[:MOST]
 
-    def __init__(self) -> None:
-        self._known: Dict[int, Tuple[Source, List[Json]]] = {}
 
-    def matching(self, workspace: Workspace, query: str) -> List[Json]:
-        """The symbols whose names have the letters of a query in their order."""
-        found: List[Json] = []
-        known: Dict[int, Tuple[Source, List[Json]]] = {}
-        for source in workspace.sources():
-            known[id(source)] = self._known.get(id(source)) or (source, flat_outline(source))
-            found += (it for it in known[id(source)][1] if has_letters(it["name"], query))
-        self._known = known
-        return sorted(found, key=lambda it: rank(it, query))[:MOST]
+def known(source: Source) -> List[Json]:
+    """The symbols of a text, worked out once."""
+    if source.symbols is None:
+        source.symbols = flat_outline(source)
+    return source.symbols
 
 
 def has_letters(name: str, query: str) -> bool:

@@ -12,7 +12,7 @@ import traceback
 from collections import deque
 from typing import Any, BinaryIO, Deque, List, Set
 
-from weedle.lsp.diagnostics import diagnostics
+from weedle.lsp.diagnostics import diagnostics, unchecked
 from weedle.lsp.features import NOTIFICATIONS, REQUESTS, capabilities
 from weedle.lsp.framing import Malformed, Message, packed, read_message
 from weedle.lsp.protocol import Cancelled, Code, Fault, Json, Outdated
@@ -52,7 +52,9 @@ class Inbox:
     def _take(self, message: Message) -> None:
         with self._is_filled:
             if message.get("method") == "$/cancelRequest":
-                self.cancelled |= {within(message, "params", "id")} & self._asked
+                number = within(message, "params", "id")
+                if isinstance(number, (int, str)) and number in self._asked:
+                    self.cancelled.add(number)
                 return
             if "id" in message and "method" in message:
                 self._asked.add(message["id"])
@@ -194,8 +196,9 @@ class Server:
         if document:
             try:
                 params["diagnostics"] = diagnostics(document.source)
-            except Exception:
+            except Exception as fault:
                 traceback.print_exc(file=sys.stderr)
+                params["diagnostics"] = [unchecked(fault)]
             if document.version is not None:
                 params["version"] = document.version
         self.write(packed({"method": "textDocument/publishDiagnostics", "params": params}))

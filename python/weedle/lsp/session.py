@@ -4,7 +4,6 @@ from __future__ import annotations
 
 from typing import Any, Callable, List
 
-from weedle.lsp.outline import Symbols
 from weedle.lsp.positions import UNITS, USUAL
 from weedle.lsp.protocol import Check, Json, nothing
 from weedle.lsp.sources import Source
@@ -27,7 +26,6 @@ class Session:
         self.workspace = Workspace(check)
         # raises where no answer is wanted any more, or a change of the text waits
         self._check_text = check_text
-        self.symbols = Symbols()
         #: Whether symbols are shown as a tree, and whether the client tells which files change.
         self.has_tree = self.watches_files = False
         self._changed: List[str] = []
