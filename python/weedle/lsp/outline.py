@@ -42,6 +42,7 @@ KINDS: Dict[int, Tuple[Kind, str]] = {
     **{NUMBERS[name]: it for name, it in DEFINITIONS.items()},
     **{NUMBERS[name]: (kind, "") for name, kind in MEMBERS.items()},
 }
+NO_KIND: Tuple[Optional[Kind], str] = None, ""
 # What stands in front of the words of a definition or a member.
 FRONTS = frozenset(NUMBERS[it] for it in (
     "opt_docstring", "opt_extended_attribute_list", "trivia",
@@ -68,14 +69,17 @@ class Symbol(NamedTuple):
 def symbols(source: Source, check: Check = nothing) -> List[Symbol]:
     """The definitions of a text, each in front of its members. It checks at each definition."""
     found: List[Symbol] = []
-    tree, above = source.tree, -1
-    for node, rule in enumerate(tree.rules.tolist()):
-        if rule in KINDS:
-            kind, word = KINDS[rule]
-            if word:
-                check()
-                above = len(found)
+    tree, above, node = source.tree, -1, 0
+    rules, behind = tree.rules, tree.behind
+    while node < tree.count:
+        kind, word = KINDS.get(rules[node], NO_KIND)
+        if word:
+            check()
+            above = len(found)
+        if kind:
             found.append(symbol(tree, node, kind, word, -1 if word else above))
+        # nothing within a member is shown
+        node = behind(node) if kind and not word else node + 1
     return found
 
 
