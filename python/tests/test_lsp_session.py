@@ -11,8 +11,8 @@ import tempfile
 import unittest
 from pathlib import Path
 
-from lsp_client import PAGE, Client, places, range_, where
-from support import HOME
+from lsp_client import PAGE, Client, environment, places, range_, where
+import weedle
 
 PARSE_ERROR, INVALID_REQUEST, METHOD_NOT_FOUND, INVALID_PARAMS, INTERNAL_ERROR = -32700, -32600, -32601, -32602, -32603
 NOT_INITIALIZED, CANCELLED, CONTENT_MODIFIED = -32002, -32800, -32801
@@ -58,7 +58,7 @@ class Life(Session):
     def test_it_begins_and_ends(self):
         client = self.client()
         found = client.initialize()
-        self.assertEqual(found["serverInfo"], {"name": "weedle", "version": "0.11.0"})
+        self.assertEqual(found["serverInfo"], {"name": "weedle", "version": weedle.__version__})
         can = found["capabilities"]
         self.assertEqual((can["positionEncoding"], can["textDocumentSync"]["change"]), ("utf-16", 2))
         self.assertTrue(can["renameProvider"]["prepareProvider"])
@@ -99,7 +99,7 @@ class Life(Session):
         for words, status in ((["--stdio"], 1), (["--tcp"], 5)):
             done = subprocess.run(
                 [sys.executable, "-m", "weedle", "lsp", *words], stdin=subprocess.DEVNULL, capture_output=True, check=False,
-                env={"PYTHONPATH": str(HOME)},
+                env=environment(),
             )
             self.assertEqual((done.returncode, done.stdout), (status, b""), done.stderr)
 
@@ -108,7 +108,7 @@ class Life(Session):
             Path(room, "lsp").write_text("A includes B;", encoding="utf-8")
             done = subprocess.run(
                 [sys.executable, "-m", "weedle", "./lsp"], capture_output=True, check=False, cwd=room,
-                env={"PYTHONPATH": str(HOME)},
+                env=environment(),
             )
         self.assertEqual((done.returncode, done.stdout), (0, b"1 file, 0 refused\n"))
 
