@@ -14,6 +14,11 @@ PAGE = "file:///page.webidl"
 PATIENCE = 60
 
 
+def environment():
+    """The variables, with the one that names the package's folder."""
+    return {**os.environ, "PYTHONPATH": str(HOME)}
+
+
 class Client:
     """A server, and what is said to it."""
 
@@ -21,7 +26,7 @@ class Client:
         """Starts it: `python -m weedle lsp`, or Python with other words."""
         self.server = subprocess.Popen(
             [sys.executable, *(words or ("-m", "weedle", "lsp"))], stdin=subprocess.PIPE, stdout=subprocess.PIPE,
-            stderr=subprocess.PIPE, env={**os.environ, "PYTHONPATH": str(HOME)}, **more,
+            stderr=subprocess.PIPE, env=environment(), **more,
         )
         self.count, self.version = 0, 0
         self.answers, self.told, self.asked = {}, queue.Queue(), queue.Queue()

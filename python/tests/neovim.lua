@@ -1,4 +1,5 @@
--- Drives the language server by neovim, by hand: a request of each kind, and the time from a key to its errors.
+-- Drives the language server by neovim, by hand: a request of each kind, and what keys and requests take: milliseconds by
+-- the clock, and of the server's processor time.
 --
 --     cd FOLDER; PYTHONPATH=.../python nvim -n --headless -u NONE -i NONE -c 'luafile .../python/tests/neovim.lua'
 --
@@ -27,7 +28,7 @@ interface Thing%d : Base {
 };
 
 ]]
-local KEYS, PATIENCE = 20, 10000
+local KEYS, REPEATED, PATIENCE = 20, 5, 10000
 
 local function now() return vim.loop.hrtime() / 1e6 end
 local function say(...) io.stdout:write(table.concat(vim.tbl_map(tostring, { ... }), " ") .. "\n") end
@@ -54,6 +55,13 @@ local shown = vim.lsp.handlers["textDocument/publishDiagnostics"]
 vim.lsp.handlers["textDocument/publishDiagnostics"] = function(...)
   told = told + 1
   return shown(...)
+end
+-- The processor time of the server, in milliseconds; Linux counts hundredths of a second.
+local function spent()
+  local file = io.open(("/proc/%d/stat"):format(vim.api.nvim_get_proc_children(vim.fn.getpid())[1]))
+  local fields = vim.split(file:read("*a"):gsub("^.*%) ", ""), " ")
+  file:close()
+  return 10 * (fields[12] + fields[13])
 end
 local function wait_for_errors(count)
   assert(vim.wait(PATIENCE, function() return told >= count end, 1), "no errors were told")
@@ -107,7 +115,7 @@ for _, file in ipairs({ "small.webidl", "large.webidl" }) do
   vim.cmd("edit! " .. file)
   vim.lsp.buf_attach_client(0, id)
   wait_for_errors(before + 1)
-  local lines, times = vim.api.nvim_buf_line_count(0), {}
+  local lines, times, start_of_all = vim.api.nvim_buf_line_count(0), {}, spent()
   for key = 1, KEYS do
     local line = math.floor(lines * key / (KEYS + 2))
     local start = now()
@@ -119,10 +127,15 @@ for _, file in ipairs({ "small.webidl", "large.webidl" }) do
     wait_for_errors(before + 2)
   end
   table.sort(times)
-  say(file, vim.fn.getfsize(file), "bytes, from a key to its errors:", ("%.1f ms, at most %.1f"):format(times[KEYS / 2], times[KEYS]))
+  say(file, vim.fn.getfsize(file), "bytes, from a key to its errors:", ("%.1f, at most %.1f; processor %.1f"):format(
+    times[KEYS / 2], times[KEYS], (spent() - start_of_all) / KEYS / 2))
   for _, method in ipairs({ "documentSymbol", "foldingRange", "formatting", "semanticTokens/full" }) do
-    local _, took = ask(method, { options = { tabSize = 2, insertSpaces = true } })
-    say("", method, ("%.1f ms"):format(took))
+    local first, took = spent(), 0
+    for _ = 1, REPEATED do
+      local _, again = ask(method, { options = { tabSize = 2, insertSpaces = true } })
+      took = took + again
+    end
+    say("", method, ("%.1f; processor %.1f"):format(took / REPEATED, (spent() - first) / REPEATED))
   end
 end
 client.stop()

@@ -11,15 +11,16 @@ import tempfile
 import unittest
 from pathlib import Path
 
-from lsp_client import PAGE, Client, places, range_, where
-from support import HOME
+from lsp_client import PAGE, Client, environment, places, range_, where
+import weedle
 
 PARSE_ERROR, INVALID_REQUEST, METHOD_NOT_FOUND, INVALID_PARAMS, INTERNAL_ERROR = -32700, -32600, -32601, -32602, -32603
-NOT_INITIALIZED, CANCELLED = -32002, -32800
+NOT_INITIALIZED, CANCELLED, CONTENT_MODIFIED = -32002, -32800, -32801
 # A server with requests that fail, sleep, and run until they are cancelled.
 WITH_FAILURES = """
 import sys, time
-from weedle.lsp import features, main, reading
+from weedle.lsp import features, main, server
+from weedle.lsp.diagnostics import diagnostics
 
 def spin(session, params):
     while True:
@@ -29,11 +30,19 @@ def spin(session, params):
 def broken(session, params):
     raise KeyError("broken")
 
+def read_on(session, params):
+    check = session.check_of(session.source(params))
+    while True:
+        check()
+        time.sleep(0.001)
+
 features.REQUESTS.update({
+    "test/read": read_on,
     "textDocument/hover": lambda *_: 1 // 0, "test/spin": spin, "test/object": lambda *_: object(),
     "test/sleep": lambda *_: time.sleep(0.5), "test/print": lambda *_: print("stray"),
 })
 features.NOTIFICATIONS["test/broken"] = broken
+server.diagnostics = lambda source: 1 // 0 if b"zero" in source.data else diagnostics(source)
 sys.exit(main())
 """
 
@@ -49,7 +58,7 @@ class Life(Session):
     def test_it_begins_and_ends(self):
         client = self.client()
         found = client.initialize()
-        self.assertEqual(found["serverInfo"], {"name": "weedle", "version": "0.11.0"})
+        self.assertEqual(found["serverInfo"], {"name": "weedle", "version": weedle.__version__})
         can = found["capabilities"]
         self.assertEqual((can["positionEncoding"], can["textDocumentSync"]["change"]), ("utf-16", 2))
         self.assertTrue(can["renameProvider"]["prepareProvider"])
@@ -90,7 +99,7 @@ class Life(Session):
         for words, status in ((["--stdio"], 1), (["--tcp"], 5)):
             done = subprocess.run(
                 [sys.executable, "-m", "weedle", "lsp", *words], stdin=subprocess.DEVNULL, capture_output=True, check=False,
-                env={"PYTHONPATH": str(HOME)},
+                env=environment(),
             )
             self.assertEqual((done.returncode, done.stdout), (status, b""), done.stderr)
 
@@ -99,7 +108,7 @@ class Life(Session):
             Path(room, "lsp").write_text("A includes B;", encoding="utf-8")
             done = subprocess.run(
                 [sys.executable, "-m", "weedle", "./lsp"], capture_output=True, check=False, cwd=room,
-                env={"PYTHONPATH": str(HOME)},
+                env=environment(),
             )
         self.assertEqual((done.returncode, done.stdout), (0, b"1 file, 0 refused\n"))
 
@@ -246,6 +255,11 @@ class Failures(Session):
         self.assertIn("KeyError", self.page.told.get(timeout=60)["params"]["message"])
         self.assertEqual(self.page.end()[0], 0)
 
+    def test_errors_that_are_not_known(self):
+        (error,) = self.page.change("typedef zero A;")
+        self.assertEqual((error["severity"], error["message"].split(":")[:2]), (2, ["not checked", " ZeroDivisionError"]))
+        self.assertEqual(self.page.change("typedef long A;"), [])
+
     def test_what_is_printed_by_mistake(self):
         self.page.ask("test/print")
         status, said = self.page.end()
@@ -264,10 +278,20 @@ class Failures(Session):
         self.assertEqual(self.page.answer(number)["error"]["code"], CANCELLED)
         self.assertEqual(len(self.page.ask("workspace/symbol", query="")), 1)
 
+    def test_a_request_about_a_text_that_changes(self):
+        number = self.page.start("test/read", textDocument={"uri": PAGE})
+        other = {"uri": "file:///other.webidl", "version": 1}
+        self.page.note("textDocument/didChange", textDocument=other, contentChanges=[{"text": ""}])
+        with self.page.is_there:
+            self.assertFalse(self.page.is_there.wait_for(lambda: number in self.page.answers, 0.2))
+        self.page.change("typedef long C;")
+        self.assertEqual(self.page.answer(number)["error"]["code"], CONTENT_MODIFIED)
+
     def test_what_is_cancelled_and_was_answered(self):
         self.page.ask("workspace/symbol", query="")
         self.page.note("$/cancelRequest", id=self.page.count)
         self.page.note("$/cancelRequest", id=99)
+        self.page.note("$/cancelRequest", id=[1])
         self.page.note("$/cancelRequest")
         self.assertEqual(len(self.page.ask("workspace/symbol", query="")), 1)
 

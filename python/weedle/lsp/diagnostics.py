@@ -30,6 +30,15 @@ def diagnostics(source: Source) -> List[Json]:
     return [diagnostic(source, it) for it in source.reading.problems]
 
 
+def unchecked(fault: Exception) -> Json:
+    """What is told of a text whose errors aren't known, as where memory ran out."""
+    start = {"line": 0, "character": 0}
+    return {
+        "range": {"start": start, "end": start}, "severity": Severity.WARNING, "source": "weedle",
+        "message": f"not checked: {type(fault).__name__}: {fault}",
+    }
+
+
 def diagnostic(source: Source, problem: Problem) -> Json:
     """A syntax error. It stands where the hint is, if there is one, and else where reading ends."""
     place, hint = problem.place, problem.hint

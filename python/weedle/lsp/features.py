@@ -131,12 +131,13 @@ def rename(session: Session, params: Json) -> Json:
 def document_symbol(session: Session, params: Json) -> List[Json]:
     """The outline of a text."""
     shown = outline.outline if session.has_tree else outline.flat_outline
-    return shown(session.source(params))
+    source = session.source(params)
+    return shown(source, session.check_of(source))
 
 
 def workspace_symbol(session: Session, params: Json) -> List[Json]:
     """The symbols of all texts that have the letters of a query."""
-    return session.symbols.matching(session.workspace, params.get("query") or "")
+    return outline.matching(session.workspace, params.get("query") or "")
 
 
 def folding_range(session: Session, params: Json) -> List[Json]:
@@ -163,13 +164,14 @@ def range_formatting(session: Session, params: Json) -> List[Json]:
 
 def semantic_tokens(session: Session, params: Json) -> Json:
     """What the words of a text are."""
-    return tokens.tokens(session.source(params))
+    source = session.source(params)
+    return tokens.tokens(source, None, session.check_of(source))
 
 
 def semantic_tokens_range(session: Session, params: Json) -> Json:
     """What the words of a part of a text are."""
     source = session.source(params)
-    return tokens.tokens(source, source.lines.span(params["range"]))
+    return tokens.tokens(source, source.lines.span(params["range"]), session.check_of(source))
 
 
 REQUESTS: Dict[str, Request] = {

@@ -7,7 +7,7 @@ from typing import Dict, Iterator, List, NamedTuple, Optional, Tuple
 from weedle._text import Span
 from weedle._tree import Tree
 from weedle.grammar import NUMBERS
-from weedle.lsp.protocol import Json, SymbolKind as Kind
+from weedle.lsp.protocol import Check, Json, SymbolKind as Kind, nothing
 from weedle.lsp.sources import Source
 from weedle.lsp.workspace import Workspace
 
@@ -42,6 +42,7 @@ KINDS: Dict[int, Tuple[Kind, str]] = {
     **{NUMBERS[name]: it for name, it in DEFINITIONS.items()},
     **{NUMBERS[name]: (kind, "") for name, kind in MEMBERS.items()},
 }
+NO_KIND: Tuple[Optional[Kind], str] = None, ""
 # What stands in front of the words of a definition or a member.
 FRONTS = frozenset(NUMBERS[it] for it in (
     "opt_docstring", "opt_extended_attribute_list", "trivia",
@@ -65,16 +66,20 @@ class Symbol(NamedTuple):
     above: int
 
 
-def symbols(source: Source) -> List[Symbol]:
-    """The definitions of a text, each in front of its members."""
+def symbols(source: Source, check: Check = nothing) -> List[Symbol]:
+    """The definitions of a text, each in front of its members. It checks at each definition."""
     found: List[Symbol] = []
-    tree, above = source.tree, -1
-    for node, rule in enumerate(tree.rules.tolist()):
-        if rule in KINDS:
-            kind, word = KINDS[rule]
-            if word:
-                above = len(found)
+    tree, above, node = source.tree, -1, 0
+    rules, behind = tree.rules, tree.behind
+    while node < tree.count:
+        kind, word = KINDS.get(rules[node], NO_KIND)
+        if word:
+            check()
+            above = len(found)
+        if kind:
             found.append(symbol(tree, node, kind, word, -1 if word else above))
+        # nothing within a member is shown
+        node = behind(node) if kind and not word else node + 1
     return found
 
 
@@ -126,10 +131,10 @@ def one_line(tree: Tree, span: Span) -> str:
     return " ".join(tree.text.slice(span).split())
 
 
-def outline(source: Source) -> List[Json]:
+def outline(source: Source, check: Check = nothing) -> List[Json]:
     """The definitions of a text, each with its members."""
     all_: List[Json] = []
-    for it in symbols(source):
+    for it in symbols(source, check):
         all_.append({
             "name": it.name, "detail": it.detail, "kind": it.kind, "children": [],
             "range": source.range(it.span), "selectionRange": source.range(it.name_span),
@@ -142,9 +147,9 @@ def outline(source: Source) -> List[Json]:
     return found
 
 
-def flat_outline(source: Source) -> List[Json]:
+def flat_outline(source: Source, check: Check = nothing) -> List[Json]:
     """The same for an editor that knows no tree of symbols."""
-    return list(told(source, symbols(source)))
+    return list(told(source, symbols(source, check)))
 
 
 def told(source: Source, all_: List[Symbol]) -> Iterator[Json]:
@@ -157,21 +162,18 @@ def told(source: Source, all_: List[Symbol]) -> Iterator[Json]:
         yield shown
 
 
-class Symbols:
-    """The symbols of all texts, each text's worked out once."""
+def matching(workspace: Workspace, query: str) -> List[Json]:
+    """The symbols of all texts whose names have the letters of a query in their order."""
+    found = (it for source in workspace.sources() for it in known(source))
+    chosen = [it for it in found if has_letters(it["name"], query)]
+    return sorted(chosen, key=lambda it: rank(it, query))[:MOST]
 
-    def __init__(self) -> None:
-        self._known: Dict[int, Tuple[Source, List[Json]]] = {}
 
-    def matching(self, workspace: Workspace, query: str) -> List[Json]:
-        """The symbols whose names have the letters of a query in their order."""
-        found: List[Json] = []
-        known: Dict[int, Tuple[Source, List[Json]]] = {}
-        for source in workspace.sources():
-            known[id(source)] = self._known.get(id(source)) or (source, flat_outline(source))
-            found += (it for it in known[id(source)][1] if has_letters(it["name"], query))
-        self._known = known
-        return sorted(found, key=lambda it: rank(it, query))[:MOST]
+def known(source: Source) -> List[Json]:
+    """The symbols of a text, worked out once."""
+    if source.symbols is None:
+        source.symbols = flat_outline(source)
+    return source.symbols
 
 
 def has_letters(name: str, query: str) -> bool:

@@ -3,10 +3,16 @@
 from __future__ import annotations
 
 from enum import IntEnum
-from typing import Any, Dict
+from typing import Any, Callable, Dict
 
 #: What a message carries.
 Json = Dict[str, Any]
+#: What is called now and then by what takes long: it raises where no answer is wanted any more.
+Check = Callable[[], None]
+
+
+def nothing() -> None:
+    """A check that finds nothing."""
 
 
 class Code(IntEnum):
@@ -20,6 +26,7 @@ class Code(IntEnum):
     NOT_INITIALIZED = -32002
     REQUEST_FAILED = -32803
     CANCELLED = -32800
+    CONTENT_MODIFIED = -32801
 
 
 class Fault(Exception):
@@ -35,6 +42,13 @@ class Cancelled(Fault):
 
     def __init__(self) -> None:
         super().__init__("cancelled", Code.CANCELLED)
+
+
+class Outdated(Fault):
+    """A request about a text that was changed since: the editor asks again."""
+
+    def __init__(self) -> None:
+        super().__init__("the text was changed", Code.CONTENT_MODIFIED)
 
 
 class Severity(IntEnum):

@@ -12,11 +12,11 @@ import traceback
 from collections import deque
 from typing import Any, BinaryIO, Deque, List, Set
 
-from weedle.lsp.diagnostics import diagnostics
+from weedle.lsp.diagnostics import diagnostics, unchecked
 from weedle.lsp.features import NOTIFICATIONS, REQUESTS, capabilities
 from weedle.lsp.framing import Malformed, Message, packed, read_message
-from weedle.lsp.protocol import Cancelled, Code, Fault, Json
-from weedle.lsp.session import Session
+from weedle.lsp.protocol import Cancelled, Code, Fault, Json, Outdated
+from weedle.lsp.session import Session, within
 from weedle.lsp.workspace import path_of
 
 CHANGES = "textDocument/didChange"
@@ -52,8 +52,9 @@ class Inbox:
     def _take(self, message: Message) -> None:
         with self._is_filled:
             if message.get("method") == "$/cancelRequest":
-                wanted = (message.get("params") or {}).get("id")
-                self.cancelled |= {wanted} & self._asked
+                number = within(message, "params", "id")
+                if isinstance(number, (int, str)) and number in self._asked:
+                    self.cancelled.add(number)
                 return
             if "id" in message and "method" in message:
                 self._asked.add(message["id"])
@@ -66,10 +67,13 @@ class Inbox:
             self._is_filled.wait_for(lambda: self._waiting)
             return self._waiting.popleft()
 
-    def waits(self, method: str) -> bool:
-        """Whether such a message waits."""
+    def waits(self, method: str, uri: str = "") -> bool:
+        """Whether such a message waits, about a text or about any."""
         with self._is_filled:
-            return any(it.get("method") == method for it in self._waiting)
+            return any(
+                it.get("method") == method
+                and uri in ("", within(it, "params", "textDocument", "uri")) for it in self._waiting
+            )
 
     def done(self, number: Any) -> None:
         """A request is answered."""
@@ -83,7 +87,7 @@ class Server:
 
     def __init__(self, given: BinaryIO, taken: BinaryIO) -> None:
         self.inbox, self.taken = Inbox(given), taken
-        self.session = Session(self.check)
+        self.session = Session(self.check, self.check_text)
         self.is_initialized = self.is_shut_down = False
         # the texts whose errors aren't told yet
         self.unsaid: List[str] = []
@@ -93,6 +97,12 @@ class Server:
         """Ends the request that runs where it isn't wanted any more."""
         if self.running is not None and self.running in self.inbox.cancelled:
             raise Cancelled()
+
+    def check_text(self, uri: str) -> None:
+        """The same, and where a change of the text waits: so its errors are told the sooner."""
+        self.check()
+        if self.inbox.waits(CHANGES, uri):
+            raise Outdated()
 
     def run(self) -> int:
         """Answers until the client ends it: the status of the program."""
@@ -186,8 +196,9 @@ class Server:
         if document:
             try:
                 params["diagnostics"] = diagnostics(document.source)
-            except Exception:
+            except Exception as fault:
                 traceback.print_exc(file=sys.stderr)
+                params["diagnostics"] = [unchecked(fault)]
             if document.version is not None:
                 params["version"] = document.version
         self.write(packed({"method": "textDocument/publishDiagnostics", "params": params}))

@@ -4,9 +4,8 @@ from __future__ import annotations
 
 from typing import Any, Callable, List
 
-from weedle.lsp.outline import Symbols
 from weedle.lsp.positions import UNITS, USUAL
-from weedle.lsp.protocol import Json
+from weedle.lsp.protocol import Check, Json, nothing
 from weedle.lsp.sources import Source
 from weedle.lsp.workspace import SUFFIXES, Workspace, path_of
 
@@ -21,9 +20,12 @@ def within(given: Any, *names: str) -> Any:
 class Session:
     """A client, and its texts."""
 
-    def __init__(self, check: Callable[[], None] = lambda: None) -> None:
+    def __init__(
+        self, check: Check = nothing, check_text: Callable[[str], None] = lambda uri: None,
+    ) -> None:
         self.workspace = Workspace(check)
-        self.symbols = Symbols()
+        # raises where no answer is wanted any more, or a change of the text waits
+        self._check_text = check_text
         #: Whether symbols are shown as a tree, and whether the client tells which files change.
         self.has_tree = self.watches_files = False
         self._changed: List[str] = []
@@ -55,6 +57,10 @@ class Session:
     def source(self, params: Json) -> Source:
         """The text that a request is about."""
         return self.workspace.document(params["textDocument"]["uri"]).source
+
+    def check_of(self, source: Source) -> Check:
+        """A check for what is worked out of a text alone."""
+        return lambda: self._check_text(source.uri)
 
     def has_changed(self, uri: str) -> None:
         """Has the errors of a text told."""

@@ -33,6 +33,8 @@ class Source:
 
     def __init__(self, uri: str, data: bytes, encoding: str = USUAL) -> None:
         self.uri, self.data, self.encoding = uri, data, encoding
+        #: Its symbols with their places, where they were asked for.
+        self.symbols: Optional[List[Json]] = None
 
     @cached_property
     def lines(self) -> Lines:

@@ -9,7 +9,7 @@ from weedle._text import Span
 from weedle._tree import Tree
 from weedle.grammar import KEYWORDS, NUMBERS, RULES
 from weedle.lsp.positions import Lines, Place
-from weedle.lsp.protocol import Json
+from weedle.lsp.protocol import Check, Json, nothing
 from weedle.lsp.scanning import PATTERN
 from weedle.lsp.sources import Source
 from weedle.names import FIRST_ROLES, LATER_ROLES, Role
@@ -67,6 +67,8 @@ WORDS: Dict[bytes, Look] = {
     it.encode(): look("type", LIBRARY) if it in TYPE_WORDS else look("keyword") for it in KEYWORDS
 }
 IDENTIFIER = NUMBERS["identifier"]
+# Behind so many tokens it is asked whether the answer is wanted yet.
+OFTEN = 500
 # The low byte of that number, by which a name is searched for: numbers of rules have two.
 LOW = bytes([IDENTIFIER & 0xFF])
 assert len(RULES) < 1 << 16
@@ -124,17 +126,19 @@ def roles(tree: Tree, start: int, end: int) -> Dict[int, Look]:
     return found
 
 
-def tokens(source: Source, span: Optional[Span] = None) -> Json:
+def tokens(source: Source, span: Optional[Span] = None, check: Check = nothing) -> Json:
     """The tokens of a text, or of the lines that a part of it is in, numbered."""
     data, lines, tree = source.data, source.lines, source.tree
     start, end = span or Span(0, len(data))
     start, end = lines.starts[lines.line_of(start)], lines.end_of(lines.line_of(end))
     names = roles(tree, start, end)
     encoder = Encoder(lines, start)
-    for it in TOKEN.finditer(data, start, end):
+    for number, it in enumerate(TOKEN.finditer(data, start, end)):
         kind = it.lastgroup or ""
         place, behind = it.span()
         found = KINDS.get(kind) or names.get(place) or WORDS.get(it[0])
+        if not number % OFTEN:
+            check()
         if found or source.is_unread(place):
             encoder.put(place, behind, found or UNREAD_NAME)
     return {"data": encoder.data}

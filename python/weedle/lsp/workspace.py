@@ -4,12 +4,13 @@ from __future__ import annotations
 
 import os
 import time
+from itertools import islice
 from pathlib import Path
-from typing import Any, Callable, Dict, Iterator, List, NamedTuple, Optional, Tuple
+from typing import Any, Dict, Iterator, List, NamedTuple, Optional, Tuple
 from urllib.parse import unquote, urlsplit
 
 from weedle.lsp.positions import USUAL
-from weedle.lsp.protocol import Code, Fault
+from weedle.lsp.protocol import Check, Code, Fault, nothing
 from weedle.lsp.sources import Source, bytes_of
 
 #: What the names of files of WebIDL end with.
@@ -54,9 +55,10 @@ def source_of(path: str, encoding: str) -> Optional[Source]:
     return Source(Path(path).as_uri(), data, encoding)
 
 
-def files_in(folder: str) -> Iterator[Tuple[str, Tuple[int, int]]]:
+def files_in(folder: str, check: Check) -> Iterator[Tuple[str, Tuple[int, int]]]:
     """The files of WebIDL in a folder and those below it, each with its stamp."""
     for top, folders, names in os.walk(folder):
+        check()
         folders[:] = sorted(it for it in folders if it[0] != "." and it not in LEFT_OUT)
         for name in sorted(it for it in names if it.endswith(SUFFIXES)):
             path = os.path.join(top, name)
@@ -71,8 +73,7 @@ def files_in(folder: str) -> Iterator[Tuple[str, Tuple[int, int]]]:
 class Workspace:
     """All texts that are known."""
 
-    def __init__(self, check: Callable[[], None] = lambda: None) -> None:
-        # says by an exception that nobody waits for an answer any more
+    def __init__(self, check: Check = nothing) -> None:
         self.check = check
         self.encoding = USUAL
         self.folders: List[str] = []
@@ -120,16 +121,18 @@ class Workspace:
         began = time.monotonic()
         if began < self._next_look:
             return
-        found: Dict[str, File] = {}
-        for folder in self.folders:
-            for path, stamp in files_in(folder):
-                self.check()
-                if len(found) == MOST_FILES:
-                    break
-                known = self.files.get(path)
-                if not known or known.stamp != stamp:
-                    known = File(stamp, source_of(path, self.encoding))
-                found[path] = known
-        self.files = found
+        found = set()
+        for path, stamp in self._stamps():
+            found.add(path)
+            known = self.files.get(path)
+            if not known or known.stamp != stamp:
+                self.files[path] = File(stamp, source_of(path, self.encoding))
+        for path in set(self.files) - found:
+            del self.files[path]
         ended = time.monotonic()
         self._next_look = ended + REST * (ended - began)
+
+    def _stamps(self) -> Iterator[Tuple[str, Tuple[int, int]]]:
+        """The files of all folders, each with its stamp."""
+        all_ = (it for folder in self.folders for it in files_in(folder, self.check))
+        return islice(all_, MOST_FILES)
