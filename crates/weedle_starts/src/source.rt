@@ -45,6 +45,13 @@ impl<'t> Source<'t> {
         Source { text, starts }
     }
 
+    /// How many bytes the text has.
+    pub fn len(&self) -> usize
+        ensures { result ≡ length self.now }
+    {
+        self.text.len()
+    }
+
     /// Whether a rule can't be read at a place, by the byte that stands there. It may fail where
     /// this says no.
     #[inline(always)]

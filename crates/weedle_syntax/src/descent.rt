@@ -13,7 +13,7 @@ ghost use Rattle.weedle_syntax.specs.Laid.{LaysNode, LaysParts};
 ghost use Rattle.weedle_syntax.specs.Steps.{RowSteps, Spends, Steps};
 
 use crate::limits::Limits;
-use crate::node::Node;
+use crate::narrow::{Narrow, lay, packed};
 use crate::token::{choose, read_blanks, read_name};
 use std::alloc::AllocError;
 use weedle_grammar::{Parts, Row, Rule, row_of};
@@ -25,7 +25,7 @@ use weedle_starts::source::Source;
 #[cycle(descent)]
 #[inline(always)]
 pub(crate) fn read(
-    nodes: &mut Vec<Node>,
+    nodes: &mut Vec<Narrow>,
     text: &Source<'_>,
     rule: Rule,
     place: usize,
@@ -51,7 +51,7 @@ pub(crate) fn read(
 /// fails. It takes one of the steps.
 #[cycle(descent)]
 fn try_rule(
-    nodes: &mut Vec<Node>,
+    nodes: &mut Vec<Narrow>,
     text: &Source<'_>,
     rule: Rule,
     place: usize,
@@ -73,20 +73,11 @@ fn try_rule(
     }
     limits.steps -= 1;
     let at = nodes.len();
-    nodes.push(Node {
-        rule,
-        start: place,
-        end: place,
-        depth,
-    })?;
+    lay(nodes, rule, place, place, depth)?;
     match read_row(nodes, text, rule, place, depth + 1, limits)? {
         Some(end) => {
-            nodes[at] = Node {
-                rule,
-                start: place,
-                end,
-                depth,
-            };
+            let node = packed(rule, place, end, depth)?;
+            nodes[at] = node;
             Ok(Some(end))
         }
         None => {
@@ -99,7 +90,7 @@ fn try_rule(
 /// Lays down what the rule reads directly and all below it, and says where it ends.
 #[cycle(descent)]
 fn read_row(
-    nodes: &mut Vec<Node>,
+    nodes: &mut Vec<Narrow>,
     text: &Source<'_>,
     rule: Rule,
     place: usize,
@@ -147,7 +138,7 @@ fn read_row(
 /// Lays down the parts of a row `Seq`, one behind another.
 #[cycle(descent)]
 fn read_parts(
-    nodes: &mut Vec<Node>,
+    nodes: &mut Vec<Narrow>,
     text: &Source<'_>,
     rule: Rule,
     place: usize,
@@ -178,7 +169,7 @@ fn read_parts(
 /// Lays down the first part that fits of a row `First`.
 #[cycle(descent)]
 fn read_choice(
-    nodes: &mut Vec<Node>,
+    nodes: &mut Vec<Narrow>,
     text: &Source<'_>,
     rule: Rule,
     place: usize,
@@ -208,7 +199,7 @@ fn read_choice(
 /// Lays down the rule of a row `Opt`, or nothing.
 #[cycle(descent)]
 fn read_optional(
-    nodes: &mut Vec<Node>,
+    nodes: &mut Vec<Narrow>,
     text: &Source<'_>,
     rule: Rule,
     place: usize,
@@ -235,7 +226,7 @@ fn read_optional(
 /// Lays down the rule of a row `Many`, from end to end.
 #[cycle(descent)]
 fn read_items(
-    nodes: &mut Vec<Node>,
+    nodes: &mut Vec<Narrow>,
     text: &Source<'_>,
     rule: Rule,
     place: usize,
@@ -269,7 +260,7 @@ fn read_items(
 /// Lays down an item of a row `List` and what follows it, or nothing.
 #[cycle(descent)]
 fn read_list(
-    nodes: &mut Vec<Node>,
+    nodes: &mut Vec<Narrow>,
     text: &Source<'_>,
     rule: Rule,
     place: usize,
@@ -300,7 +291,7 @@ fn read_list(
 /// Lays down an item of a row `List1` and what follows it.
 #[cycle(descent)]
 fn read_list1(
-    nodes: &mut Vec<Node>,
+    nodes: &mut Vec<Narrow>,
     text: &Source<'_>,
     rule: Rule,
     place: usize,
@@ -331,7 +322,7 @@ fn read_list1(
 /// Lays down the items of a row `Tail`, each behind a separator.
 #[cycle(descent)]
 fn read_tail(
-    nodes: &mut Vec<Node>,
+    nodes: &mut Vec<Narrow>,
     text: &Source<'_>,
     rule: Rule,
     place: usize,
@@ -373,7 +364,7 @@ fn read_tail(
 /// something.
 #[cycle(descent)]
 fn read_conditional(
-    nodes: &mut Vec<Node>,
+    nodes: &mut Vec<Narrow>,
     text: &Source<'_>,
     rule: Rule,
     place: usize,

@@ -1,4 +1,4 @@
-use Rattle.std.proofs.Common.{arith, refl, sym, subst, ap, ◌∙◌, ◌≡◌, ◌+◌, ◌-◌, [], ◌∷◌, Some, take, set, get_or, append-nil, false}
+use Rattle.std.proofs.Common.{arith, length, refl, sym, subst, ap, ◌∙◌, ◌≡◌, ◌+◌, ◌-◌, [], ◌∷◌, Some, take, set, get_or, append-nil, false}
 use Rattle.weedle_grammar.specs.written.Table.{webidl}
 use Rattle.weedle_grammar.specs.Trees.{Gives}
 use Rattle.weedle_grammar.specs.Meaning.{is_present, ReadsBy}
@@ -429,16 +429,16 @@ read_tail-read-requires-in-loop-found t c =
       ),
     )
 
-pub try_rule-returns-in-Some-clause-lays : goal.try_rule-returns-in-Some-clause-lays
-try_rule-returns-in-Some-clause-lays t c =
-    node_laid c.args.text.now c.args.rule c.args.place c.args.depth c.args.nodes.now.items c.push.new.self.items
+pub try_rule-returns-in_ok-node-in-Some-clause-lays : goal.try_rule-returns-in_ok-node-in-Some-clause-lays
+try_rule-returns-in_ok-node-in-Some-clause-lays t c =
+    node_laid c.args.text.now c.args.rule c.args.place c.args.depth c.args.nodes.now.items c.lay.new.nodes.items
     c.read_row.new.nodes.items (node c.args.rule c.args.place c.args.place c.args.depth)
-    c.in_ok-push.ensures.items c.in-Some.end _
+    c.in_ok-lay.ensures.items c.in-Some.end _
     (subst
-    (LaysParts c.args.text.now c.args.rule c.args.place (c.args.depth + 1) c.push.new.self.items
+    (LaysParts c.args.text.now c.args.rule c.args.place (c.args.depth + 1) c.lay.new.nodes.items
     c.read_row.new.nodes.items) c.in-Some.is c.in_ok-end.ensures.lays)
-    (ap (λ z. set c.read_row.new.nodes.items z (node c.args.rule c.args.place c.in-Some.end c.args.depth))
-    (c.len-at.ensures ∙ c.args.nodes.now.ok.0))
+    (ap (λ z. set c.read_row.new.nodes.items z c.in_ok-node-in-Some.node) (c.len-at.ensures ∙ c.args.nodes.now.ok.0)
+    ∙ ap (set c.read_row.new.nodes.items (length c.args.nodes.now.items)) c.in_ok-node-in-Some.ensures)
 
 pub read_row-returns-in-Bytes-clause-end : goal.read_row-returns-in-Bytes-clause-end
 read_row-returns-in-Bytes-clause-end t c =
@@ -723,8 +723,8 @@ read_row-returns-in-Run-clause-steps t c =
 pub read-returns-then-refuses-clause-steps : goal.read-returns-then-refuses-clause-steps
 read-returns-then-refuses-clause-steps t c = count_passed c.args.text.now c.if-refuses.ensures.end c.if-refuses.ensures.here
 
-pub try_rule-returns-in-Some-clause-steps : goal.try_rule-returns-in-Some-clause-steps
-try_rule-returns-in-Some-clause-steps t c =
+pub try_rule-returns-in_ok-node-in-Some-clause-steps : goal.try_rule-returns-in_ok-node-in-Some-clause-steps
+try_rule-returns-in_ok-node-in-Some-clause-steps t c =
     let some = c.if-limits-eq0.false in
     count_tried c.args.text.now (omega (arith, some)) c.in_ok-end.ensures.steps
 
