@@ -12,16 +12,19 @@ ghost use Rattle.weedle_rules.specs.Cells.{HasEnd};
 ghost use Rattle.weedle_syntax.specs.Laid.{LaysNode, LaysParts};
 ghost use Rattle.weedle_syntax.specs.Steps.{RowSteps, Spends, Steps};
 
+use crate::empty::lay_empty;
 use crate::limits::Limits;
 use crate::narrow::{Narrow, lay, packed};
 use crate::token::{choose, read_blanks, read_name};
 use std::alloc::AllocError;
-use weedle_grammar::{Parts, Row, Rule, row_of};
+use weedle_grammar::{Parts, Row, Rule};
+use weedle_starts::ahead::Ahead;
 use weedle_starts::source::Source;
 
 /// Lays down the rule's node and all below it, and says where it ends; nothing where it fails.
 ///
-/// What can't begin with the byte that stands there is passed over, with no call.
+/// What can't begin with the byte that stands there is passed over, and what takes nothing for that
+/// byte is laid at once.
 #[cycle(descent)]
 #[inline(always)]
 pub(crate) fn read(
@@ -41,10 +44,11 @@ pub(crate) fn read(
     ensures steps { OnOk result
         (Spends (Steps text.now rule place) limits.old.steps limits.new.steps) }
 {
-    if text.refuses(rule, place) {
-        return Ok(None);
+    match text.ahead(rule, place) {
+        Ahead::Fails => Ok(None),
+        Ahead::Empty => lay_empty(nodes, text, rule, place, depth, limits),
+        Ahead::Open => try_rule(nodes, text, rule, place, depth, limits),
     }
-    try_rule(nodes, text, rule, place, depth, limits)
 }
 
 /// Tries a rule: lays down its node and all below it, and says where it ends; nothing where it
@@ -106,7 +110,7 @@ fn read_row(
     ensures steps { OnOk result
         (Spends (RowSteps text.now (the_row_of rule) place) limits.old.steps limits.new.steps) }
 {
-    match row_of(rule) {
+    match text.row(rule) {
         Row::Bytes(bytes) => Ok(text.end_of_bytes(bytes, place)),
         Row::OneOf(class) => Ok(text.end_of_one(class, place)),
         Row::NotNext(class) => Ok(text.end_of_not_next(class, place)),

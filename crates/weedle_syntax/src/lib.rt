@@ -20,6 +20,7 @@
 mod below;
 mod compact;
 mod descent;
+mod empty;
 mod iter;
 mod kinds;
 pub mod laws;
