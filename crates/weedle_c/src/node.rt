@@ -1,9 +1,10 @@
 //! Nodes as C has them.
 
-ghost use Rattle.std.specs.Prelude.{◌≡◌, ◌≤◌, ◌↔◌, ◌++◌, All, IsTrue, drop, length, map};
+ghost use Rattle.std.specs.Prelude.{◌≡◌, ◌≤◌, ◌<◌, ◌↔◌, ◌++◌, All, IsTrue, drop, length, map};
 ghost use Rattle.weedle_c.specs.Nodes.{Fits, c_node};
+ghost use Rattle.weedle_syntax.specs.Syntax.{rest_of as the_rest_of};
 
-use weedle_syntax::Node;
+use weedle_syntax::Narrow;
 
 /// A rule that was read, and the bytes that it took.
 #[repr(C)]
@@ -23,21 +24,22 @@ pub struct WeedleNode {
 pub const MOST: usize = u32::MAX as usize;
 
 /// Whether each node fits into the numbers that C has for it.
-pub(crate) fn all_fit(found: &[Node]) -> bool
+pub(crate) fn all_fit(found: &[Narrow]) -> bool
     ensures { IsTrue result ↔ All Fits found.now }
 {
     found.iter().all(fits)
 }
 
 /// Whether the node's places and depth fit.
-fn fits(node: &Node) -> bool
-    ensures { IsTrue result ↔ Fits node.now }
+fn fits(narrow: &Narrow) -> bool
+    ensures { IsTrue result ↔ Fits narrow.now }
 {
+    let node = narrow.node();
     node.depth <= MOST && node.start <= MOST && node.end <= MOST
 }
 
 /// Writes the nodes to the front of the room.
-pub(crate) fn fill(found: &[Node], room: &mut [WeedleNode])
+pub(crate) fn fill(found: &[Narrow], room: &mut [WeedleNode])
     requires room { length found.now ≤ length room.old }
     requires fit { All Fits found.now }
     ensures { room.new ≡ map c_node found.now ++ drop (length found.now) room.old }
@@ -48,14 +50,24 @@ pub(crate) fn fill(found: &[Node], room: &mut [WeedleNode])
 }
 
 /// The node as C has it.
-fn packed(node: &Node) -> WeedleNode
-    requires { Fits node.now }
-    ensures { result ≡ c_node node.now }
+fn packed(narrow: &Narrow) -> WeedleNode
+    requires { Fits narrow.now }
+    ensures { result ≡ c_node narrow.now }
 {
+    let node = narrow.node();
     WeedleNode {
         rule: u32::from(node.rule.number()),
         depth: node.depth as u32,
         start: node.start as u32,
         end: node.end as u32,
     }
+}
+
+/// Where the unread rest begins behind these nodes: there the first of them ends.
+pub(crate) fn rest_of(found: &[Narrow]) -> usize
+    requires { 0 < length found.now }
+    ensures { result ≡ the_rest_of found.now }
+{
+    let first = found[0].node();
+    first.end
 }

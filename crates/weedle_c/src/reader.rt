@@ -5,11 +5,10 @@ ghost use Rattle.std.specs.Str.{IsValidUpTo};
 ghost use Rattle.weedle_c.specs.Answers.{IsCounted, IsTooLong, IsTree, IsUnread};
 ghost use Rattle.weedle_syntax.specs.Syntax.{IsFront, IsSyntax};
 
-use crate::node::{MOST, WeedleNode, all_fit, fill};
+use crate::node::{MOST, WeedleNode, all_fit, fill, rest_of};
 use crate::status::{NO_MEMORY, NO_ROOM, NOT_UTF8, READ, REFUSED, TOO_LONG};
 use std::alloc::Global;
-use weedle_refusal::rest_of;
-use weedle_syntax::{Node, syntax_of_front};
+use weedle_syntax::{Narrow, narrow_of_front};
 
 /// What is said of a reading beside its status.
 #[repr(C)]
@@ -68,14 +67,14 @@ fn read_text(alloc: Global, raw: &str, nodes: &mut [WeedleNode], answer: &mut We
     if raw.len() > MOST {
         return TOO_LONG;
     }
-    match syntax_of_front(alloc, raw) {
+    match narrow_of_front(alloc, raw) {
         Ok(found) => answer_of(raw, &found, nodes, answer),
         Err(_) => NO_MEMORY,
     }
 }
 
 /// What is answered where these nodes were read.
-fn answer_of(raw: &str, found: &[Node], nodes: &mut [WeedleNode], answer: &mut WeedleAnswer) -> u32
+fn answer_of(raw: &str, found: &[Narrow], nodes: &mut [WeedleNode], answer: &mut WeedleAnswer) -> u32
     requires front { IsFront raw.now found.now }
     requires nothing { answer.old ≡ NOTHING }
     ensures known { (result ≤ TOO_LONG) × (result ≢ NOT_UTF8) }

@@ -6,13 +6,12 @@ ghost use Rattle.weedle_c.specs.Answers.{IsTooLong, IsRuleTree, IsRuleCounted};
 ghost use Rattle.weedle_rules.specs.Outcomes.{FailsAt};
 ghost use Rattle.weedle_syntax.specs.Syntax.{IsRuleFront, rest_of as the_rest_of};
 
-use crate::node::{MOST, WeedleNode, all_fit, fill};
+use crate::node::{MOST, WeedleNode, all_fit, fill, rest_of};
 use crate::reader::{NOTHING, WeedleAnswer};
 use crate::status::{NO_MEMORY, NO_ROOM, NO_RULE, NOT_UTF8, READ, REFUSED, TOO_LONG};
 use std::alloc::Global;
 use weedle_grammar::{RULES, Rule, rule_of};
-use weedle_refusal::rest_of;
-use weedle_syntax::{Node, syntax_of_rule};
+use weedle_syntax::{Narrow, narrow_of_rule};
 
 /// Reads a rule at the front of a text, and writes its nodes where there is room for all. The
 /// answer is the status.
@@ -73,7 +72,7 @@ fn read_rule_text(
     if raw.len() > MOST {
         return TOO_LONG;
     }
-    match syntax_of_rule(alloc, raw, rule) {
+    match narrow_of_rule(alloc, raw, rule) {
         Ok(Some(found)) => rule_answer(raw, rule, &found, nodes, answer),
         Ok(None) => REFUSED,
         Err(_) => NO_MEMORY,
@@ -84,7 +83,7 @@ fn read_rule_text(
 fn rule_answer(
     raw: &str,
     rule: Rule,
-    found: &[Node],
+    found: &[Narrow],
     nodes: &mut [WeedleNode],
     answer: &mut WeedleAnswer,
 ) -> u32

@@ -40,6 +40,9 @@ pub(crate) enum Way<W, P> {
 /// The rows of all rules, by number.
 type Ways = [Way<Word, Parts>; RULES];
 
+/// For each rule the ASCII bytes at which it isn't passed over, as the bits of a word.
+type Words = [u128; RULES];
+
 /// What the reading of any text asks of the rules, laid out by their numbers.
 ///
 /// `row_of` compares numbers until it finds a row, which takes longer than what is done with it. So
@@ -47,7 +50,7 @@ type Ways = [Way<Word, Parts>; RULES];
 #[derive(Drop)]
 pub struct Tables {
     ways: Ways,
-    words: Starts,
+    words: Words,
 }
 
 impl Model for Tables {
@@ -89,11 +92,11 @@ fn word_of(starts: &Starts, rule: Rule) -> u128
     ensures { IsWord result rule }
 {
     match row_of(rule) {
-        Row::Opt(item) => starts[item.number() as usize],
-        Row::Many(item) => starts[item.number() as usize],
-        Row::List(item, _) => starts[item.number() as usize],
-        Row::Tail(_, separator) => starts[separator.number() as usize],
-        _ => starts[rule.number() as usize],
+        Row::Opt(item) => starts.word(item),
+        Row::Many(item) => starts.word(item),
+        Row::List(item, _) => starts.word(item),
+        Row::Tail(_, separator) => starts.word(separator),
+        _ => starts.word(rule),
     }
 }
 
@@ -111,7 +114,7 @@ impl Tables {
     pub fn new() -> Tables {
         let starts = starts();
         let mut ways = [Way::NotNext(Class::Any); RULES];
-        let mut words: Starts = [0; RULES];
+        let mut words: Words = [0; RULES];
         for number in 0..RULES {
             let rule = rule_of(number as u16);
             ways[number] = way_of(rule);

@@ -6,3 +6,4 @@ pub mod BeginFacts
 pub mod TriedFacts
 pub mod StartedFacts
 pub mod StartFacts
+pub mod WayFacts

@@ -1,2 +1,3 @@
 pub mod Tries
 pub mod Starts
+pub mod Ways

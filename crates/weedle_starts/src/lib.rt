@@ -14,5 +14,9 @@
 //! Where a rule is refused it fails, and so does all that it tries, at the place itself.
 #![tactic(auto)]
 
+pub mod ahead;
+mod laid;
 pub mod source;
 pub mod starts;
+mod way;
+mod words;

@@ -9,14 +9,18 @@ ghost use Rattle.weedle_grammar.specs.Rows.{
   run_length as the_run_length,
   take_past as the_take_past,
 };
+ghost use Rattle.weedle_grammar.specs.View.{row_view};
 ghost use Rattle.weedle_grammar.specs.written.Bound.{rule_count};
+ghost use Rattle.weedle_grammar.specs.written.Table.{row_of as the_row_of};
 ghost use Rattle.weedle_rules.specs.Cells.{HasEnd};
 ghost use Rattle.weedle_starts.specs.Starts.{AreStarts};
 ghost use Rattle.weedle_starts.specs.Tries.{TriesHere};
+ghost use Rattle.weedle_starts.specs.Ways.{IsAhead};
 
+use crate::ahead::Ahead;
 use crate::starts::Starts;
 use std::marker::Model;
-use weedle_grammar::{Class, Rule, leaf_ends};
+use weedle_grammar::{Class, Row, Rule, leaf_ends};
 
 /// A text, and the bytes that each rule can begin with.
 #[derive(Drop)]
@@ -45,6 +49,13 @@ impl<'t> Source<'t> {
         Source { text, starts }
     }
 
+    /// How many bytes the text has.
+    pub fn len(&self) -> usize
+        ensures { result ≡ length self.now }
+    {
+        self.text.len()
+    }
+
     /// Whether a rule can't be read at a place, by the byte that stands there. It may fail where
     /// this says no.
     #[inline(always)]
@@ -60,10 +71,27 @@ impl<'t> Source<'t> {
         if byte >= 128 {
             return false;
         }
-        if (self.starts[rule.number() as usize] >> byte) & 1 == 0 {
+        if (self.starts.word(rule) >> byte) & 1 == 0 {
             return true;
         }
         false
+    }
+
+    /// What the byte that stands at a place says of a rule.
+    #[inline(always)]
+    pub fn ahead(&self, rule: Rule, place: usize) -> Ahead
+        requires { place ≤ length self.now }
+        ensures { IsAhead self.now rule place result }
+    {
+        self.starts.ahead(self.text, rule, place)
+    }
+
+    /// What the rule reads.
+    #[inline(always)]
+    pub fn row(&self, rule: Rule) -> Row
+        ensures { row_view result ≡ the_row_of rule }
+    {
+        self.starts.row(rule)
     }
 
     /// Where these bytes end, which stand at a place.

@@ -12,20 +12,23 @@ ghost use Rattle.weedle_rules.specs.Cells.{HasEnd};
 ghost use Rattle.weedle_syntax.specs.Laid.{LaysNode, LaysParts};
 ghost use Rattle.weedle_syntax.specs.Steps.{RowSteps, Spends, Steps};
 
+use crate::empty::lay_empty;
 use crate::limits::Limits;
-use crate::node::Node;
+use crate::narrow::{Narrow, lay, packed};
 use crate::token::{choose, read_blanks, read_name};
 use std::alloc::AllocError;
-use weedle_grammar::{Parts, Row, Rule, row_of};
+use weedle_grammar::{Parts, Row, Rule};
+use weedle_starts::ahead::Ahead;
 use weedle_starts::source::Source;
 
 /// Lays down the rule's node and all below it, and says where it ends; nothing where it fails.
 ///
-/// What can't begin with the byte that stands there is passed over, with no call.
+/// What can't begin with the byte that stands there is passed over, and what takes nothing for that
+/// byte is laid at once.
 #[cycle(descent)]
 #[inline(always)]
 pub(crate) fn read(
-    nodes: &mut Vec<Node>,
+    nodes: &mut Vec<Narrow>,
     text: &Source<'_>,
     rule: Rule,
     place: usize,
@@ -41,17 +44,18 @@ pub(crate) fn read(
     ensures steps { OnOk result
         (Spends (Steps text.now rule place) limits.old.steps limits.new.steps) }
 {
-    if text.refuses(rule, place) {
-        return Ok(None);
+    match text.ahead(rule, place) {
+        Ahead::Fails => Ok(None),
+        Ahead::Empty => lay_empty(nodes, text, rule, place, depth, limits),
+        Ahead::Open => try_rule(nodes, text, rule, place, depth, limits),
     }
-    try_rule(nodes, text, rule, place, depth, limits)
 }
 
 /// Tries a rule: lays down its node and all below it, and says where it ends; nothing where it
 /// fails. It takes one of the steps.
 #[cycle(descent)]
 fn try_rule(
-    nodes: &mut Vec<Node>,
+    nodes: &mut Vec<Narrow>,
     text: &Source<'_>,
     rule: Rule,
     place: usize,
@@ -73,20 +77,11 @@ fn try_rule(
     }
     limits.steps -= 1;
     let at = nodes.len();
-    nodes.push(Node {
-        rule,
-        start: place,
-        end: place,
-        depth,
-    })?;
+    lay(nodes, rule, place, place, depth)?;
     match read_row(nodes, text, rule, place, depth + 1, limits)? {
         Some(end) => {
-            nodes[at] = Node {
-                rule,
-                start: place,
-                end,
-                depth,
-            };
+            let node = packed(rule, place, end, depth)?;
+            nodes[at] = node;
             Ok(Some(end))
         }
         None => {
@@ -99,7 +94,7 @@ fn try_rule(
 /// Lays down what the rule reads directly and all below it, and says where it ends.
 #[cycle(descent)]
 fn read_row(
-    nodes: &mut Vec<Node>,
+    nodes: &mut Vec<Narrow>,
     text: &Source<'_>,
     rule: Rule,
     place: usize,
@@ -115,7 +110,7 @@ fn read_row(
     ensures steps { OnOk result
         (Spends (RowSteps text.now (the_row_of rule) place) limits.old.steps limits.new.steps) }
 {
-    match row_of(rule) {
+    match text.row(rule) {
         Row::Bytes(bytes) => Ok(text.end_of_bytes(bytes, place)),
         Row::OneOf(class) => Ok(text.end_of_one(class, place)),
         Row::NotNext(class) => Ok(text.end_of_not_next(class, place)),
@@ -147,7 +142,7 @@ fn read_row(
 /// Lays down the parts of a row `Seq`, one behind another.
 #[cycle(descent)]
 fn read_parts(
-    nodes: &mut Vec<Node>,
+    nodes: &mut Vec<Narrow>,
     text: &Source<'_>,
     rule: Rule,
     place: usize,
@@ -178,7 +173,7 @@ fn read_parts(
 /// Lays down the first part that fits of a row `First`.
 #[cycle(descent)]
 fn read_choice(
-    nodes: &mut Vec<Node>,
+    nodes: &mut Vec<Narrow>,
     text: &Source<'_>,
     rule: Rule,
     place: usize,
@@ -208,7 +203,7 @@ fn read_choice(
 /// Lays down the rule of a row `Opt`, or nothing.
 #[cycle(descent)]
 fn read_optional(
-    nodes: &mut Vec<Node>,
+    nodes: &mut Vec<Narrow>,
     text: &Source<'_>,
     rule: Rule,
     place: usize,
@@ -235,7 +230,7 @@ fn read_optional(
 /// Lays down the rule of a row `Many`, from end to end.
 #[cycle(descent)]
 fn read_items(
-    nodes: &mut Vec<Node>,
+    nodes: &mut Vec<Narrow>,
     text: &Source<'_>,
     rule: Rule,
     place: usize,
@@ -269,7 +264,7 @@ fn read_items(
 /// Lays down an item of a row `List` and what follows it, or nothing.
 #[cycle(descent)]
 fn read_list(
-    nodes: &mut Vec<Node>,
+    nodes: &mut Vec<Narrow>,
     text: &Source<'_>,
     rule: Rule,
     place: usize,
@@ -300,7 +295,7 @@ fn read_list(
 /// Lays down an item of a row `List1` and what follows it.
 #[cycle(descent)]
 fn read_list1(
-    nodes: &mut Vec<Node>,
+    nodes: &mut Vec<Narrow>,
     text: &Source<'_>,
     rule: Rule,
     place: usize,
@@ -331,7 +326,7 @@ fn read_list1(
 /// Lays down the items of a row `Tail`, each behind a separator.
 #[cycle(descent)]
 fn read_tail(
-    nodes: &mut Vec<Node>,
+    nodes: &mut Vec<Narrow>,
     text: &Source<'_>,
     rule: Rule,
     place: usize,
@@ -373,7 +368,7 @@ fn read_tail(
 /// something.
 #[cycle(descent)]
 fn read_conditional(
-    nodes: &mut Vec<Node>,
+    nodes: &mut Vec<Narrow>,
     text: &Source<'_>,
     rule: Rule,
     place: usize,

@@ -10,6 +10,7 @@ ghost use Rattle.weedle_syntax.specs.Syntax.{RestBegins, IsSyntaxTo, IsRuleFront
 
 use crate::descent::read;
 use crate::limits::Limits;
+use crate::narrow::{Narrow, widen};
 use crate::node::Node;
 use std::alloc::{AllocError, Global};
 use weedle_grammar::Rule;
@@ -37,13 +38,16 @@ pub fn lay_by_descent(
     ensures steps { OnOk result
         (Spends (Steps text.now rule place) limits.old.steps limits.new.steps) }
 {
-    let end = read(nodes, text, rule, place, 0, limits)?;
+    limits.allow(text.len())?;
+    let mut more = Vec::new(*nodes.allocator());
+    let end = read(&mut more, text, rule, place, 0, limits)?;
+    widen(nodes, &more)?;
     Ok(end)
 }
 
 /// Lays down the nodes of the definitions at the front of a text, and says where the rest begins.
 pub(crate) fn front_by_descent(
-    nodes: &mut Vec<Node>,
+    nodes: &mut Vec<Narrow>,
     raw: &str,
     limits: &mut Limits,
 ) -> Result<usize, AllocError>
@@ -51,6 +55,7 @@ pub(crate) fn front_by_descent(
     ensures end { IfOk result (λ end. RestBegins raw.now end) }
     ensures are { IfOk result (λ end. IsSyntaxTo raw.now end nodes.new.items) }
 {
+    limits.allow(raw.len())?;
     let starts = starts();
     let text = Source::new(raw.as_bytes(), &starts);
     match read(nodes, &text, Rule::DEFINITIONS, 0, 0, limits)? {
@@ -66,7 +71,7 @@ pub(crate) fn rule_by_descent(
     raw: &str,
     rule: Rule,
     limits: &mut Limits,
-) -> Result<Option<Vec<Node>>, AllocError>
+) -> Result<Option<Vec<Narrow>>, AllocError>
     requires { rule < rule_count }
     ensures fails { IfOk result (λ found. IfNone found (FailsAt raw.now rule 0)) }
     ensures are { IfOk result
@@ -74,6 +79,7 @@ pub(crate) fn rule_by_descent(
     ensures steps { OnOk result
         (Spends (Steps raw.now rule 0) limits.old.steps limits.new.steps) }
 {
+    limits.allow(raw.len())?;
     let starts = starts_for(rule, raw.as_bytes());
     let text = Source::new(raw.as_bytes(), &starts);
     let mut nodes = Vec::new(alloc);

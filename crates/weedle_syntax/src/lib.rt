@@ -18,12 +18,15 @@
 #![tactic(auto)]
 
 mod below;
+mod compact;
 mod descent;
+mod empty;
 mod iter;
 mod kinds;
 pub mod laws;
 mod lay;
 mod limits;
+mod narrow;
 mod node;
 mod quick;
 mod readers;
@@ -31,9 +34,11 @@ mod token;
 mod tree;
 mod walk;
 
+pub use compact::{narrow_of_front, narrow_of_rule};
 pub use iter::{Children, Leaves};
 pub use lay::lay_by_descent;
 pub use limits::Limits;
+pub use narrow::Narrow;
 pub use node::Node;
 pub use quick::{Counted, syntax_counted, syntax_of_front, syntax_of_rule, syntax_quick};
 pub use readers::{front_of, rule_of_table, syntax, syntax_by_descent, syntax_of};

@@ -2,6 +2,9 @@
 
 ghost use Rattle.std.specs.Prelude.{◌≡◌, ◌≤◌, ◌+◌, ◌*◌, ◌↔◌, IsTrue};
 
+use crate::narrow::MOST;
+use std::alloc::AllocError;
+
 /// How much a descent may still do: where it would do more, it gives up with an error.
 ///
 /// A caller then reads over the table of ends, whose time and memory follow from the length of the
@@ -29,6 +32,17 @@ impl Limits {
             steps: length.saturating_mul(16).saturating_add(4_096),
             depth: DEPTH,
         }
+    }
+
+    /// Nothing, where a text of so many bytes may be read; else they are spent.
+    pub(crate) fn allow(&mut self, length: usize) -> Result<(), AllocError>
+        ensures { self.new.steps ≡ self.old.steps }
+    {
+        if length > MOST {
+            self.depth = 0;
+            return Err(AllocError);
+        }
+        Ok(())
     }
 
     /// Whether a descent gave up since one of them was spent, and not for want of memory.

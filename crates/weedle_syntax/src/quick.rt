@@ -3,7 +3,7 @@
 ghost use Rattle.std.specs.Prelude.{◌≡◌, ◌≤◌, ◌+◌, ◌*◌, ◌↔◌, All, length, take, IsSome, IfOk, IfSome, IfNone};
 ghost use Rattle.std.specs.Bool.{OnFalse};
 ghost use Rattle.weedle_rules.specs.Outcomes.{FailsAt};
-ghost use Rattle.weedle_syntax.specs.Steps.{Steps};
+ghost use Rattle.weedle_syntax.specs.Steps.{Spends, Steps};
 ghost use Rattle.weedle_syntax.specs.Syntax.{
   IsWhole,
   IsSyntax,
@@ -14,8 +14,10 @@ ghost use Rattle.weedle_syntax.specs.Syntax.{
   rest_of,
 };
 
-use crate::lay::{front_by_descent, rule_by_descent};
+use crate::compact::narrow_within;
+use crate::lay::rule_by_descent;
 use crate::limits::Limits;
+use crate::narrow::widened;
 use crate::node::Node;
 use crate::readers::{front_of, rule_of_table, syntax, whole_within};
 use std::alloc::{AllocError, Global};
@@ -84,8 +86,8 @@ pub fn syntax_of_front(alloc: Global, raw: &str) -> Result<Vec<Node>, AllocError
 fn front_within(alloc: Global, raw: &str, limits: &mut Limits) -> Result<Vec<Node>, AllocError>
     ensures are { IfOk result (λ nodes. IsFront raw.now nodes.items) }
 {
-    let mut nodes = Vec::new(alloc);
-    front_by_descent(&mut nodes, raw, limits)?;
+    let narrow = narrow_within(alloc, raw, limits)?;
+    let nodes = widened(alloc, &narrow)?;
     Ok(nodes)
 }
 
@@ -131,7 +133,7 @@ pub fn syntax_counted(alloc: Global, raw: &str, rule: Rule) -> Result<Counted, A
 {
     let mut limits = Limits::of_length(raw.len());
     let most = limits.steps;
-    match rule_by_descent(alloc, raw, rule, &mut limits) {
+    match rule_within(alloc, raw, rule, &mut limits) {
         Ok(nodes) => Ok(Counted {
             nodes,
             steps: most - limits.steps,
@@ -149,5 +151,27 @@ pub fn syntax_counted(alloc: Global, raw: &str, rule: Rule) -> Result<Counted, A
                 by_table: true,
             })
         }
+    }
+}
+
+/// Every rule that was read where a rule is read at the front of a text, by descent within limits.
+fn rule_within(
+    alloc: Global,
+    raw: &str,
+    rule: Rule,
+    limits: &mut Limits,
+) -> Result<Option<Vec<Node>>, AllocError>
+    ensures fails { IfOk result (λ found. IfNone found (FailsAt raw.now rule 0)) }
+    ensures are { IfOk result
+        (λ found. IfSome found (λ nodes. IsRuleFront raw.now rule nodes.items)) }
+    ensures steps { IfOk result
+        (λ _. Spends (Steps raw.now rule 0) limits.old.steps limits.new.steps) }
+{
+    match rule_by_descent(alloc, raw, rule, limits)? {
+        Some(narrow) => {
+            let nodes = widened(alloc, &narrow)?;
+            Ok(Some(nodes))
+        }
+        None => Ok(None),
     }
 }

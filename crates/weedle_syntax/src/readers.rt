@@ -13,6 +13,7 @@ ghost use Rattle.weedle_syntax.specs.Syntax.{
 
 use crate::lay::front_by_descent;
 use crate::limits::Limits;
+use crate::narrow::widened;
 use crate::node::Node;
 use crate::walk::{laid_from, nodes_to};
 use std::alloc::{AllocError, Global};
@@ -103,13 +104,13 @@ pub(crate) fn whole_within(
     ensures read { IfOk result
         (λ found. IfSome found (λ nodes. All (IsRead raw.now) nodes.items)) }
 {
-    let mut nodes = Vec::new(alloc);
-    let end = front_by_descent(&mut nodes, raw, limits)?;
+    let mut narrow = Vec::new(alloc);
+    let end = front_by_descent(&mut narrow, raw, limits)?;
     if end == raw.len() {
-        Ok(Some(nodes))
-    } else {
-        Ok(None)
+        let nodes = widened(alloc, &narrow)?;
+        return Ok(Some(nodes));
     }
+    Ok(None)
 }
 
 /// Every rule that was read of the definitions at the front of a text, in preorder, over the table

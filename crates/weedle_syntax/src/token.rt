@@ -10,7 +10,7 @@ ghost use Rattle.weedle_syntax.specs.Laid.{LaysParts};
 ghost use Rattle.weedle_syntax.specs.Steps.{RowSteps, Spends};
 
 use crate::limits::Limits;
-use crate::node::Node;
+use crate::narrow::{Narrow, lay};
 use std::alloc::AllocError;
 use weedle_grammar::{Class, Rule};
 use weedle_starts::source::Source;
@@ -19,7 +19,7 @@ use weedle_starts::source::Source;
 /// class, and a run of another behind it.
 #[inline(always)]
 pub(crate) fn read_token(
-    nodes: &mut Vec<Node>,
+    nodes: &mut Vec<Narrow>,
     text: &Source<'_>,
     rule: Rule,
     place: usize,
@@ -50,25 +50,15 @@ pub(crate) fn read_token(
     };
     limits.steps -= 2;
     let end = text.end_of_run(run_class, at);
-    nodes.push(Node {
-        rule: first,
-        start: place,
-        end: at,
-        depth,
-    })?;
-    nodes.push(Node {
-        rule: run,
-        start: at,
-        end,
-        depth,
-    })?;
+    lay(nodes, first, place, at, depth)?;
+    lay(nodes, run, at, end, depth)?;
     Ok(Some(end))
 }
 
 /// Lays down the parts of blanks.
 #[inline(always)]
 pub(crate) fn read_blanks(
-    nodes: &mut Vec<Node>,
+    nodes: &mut Vec<Narrow>,
     text: &Source<'_>,
     rule: Rule,
     place: usize,
@@ -101,7 +91,7 @@ pub(crate) fn read_blanks(
 /// Lays down the parts of the text of a name.
 #[inline(always)]
 pub(crate) fn read_name(
-    nodes: &mut Vec<Node>,
+    nodes: &mut Vec<Narrow>,
     text: &Source<'_>,
     rule: Rule,
     place: usize,

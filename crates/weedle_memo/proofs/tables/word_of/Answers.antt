@@ -1,32 +1,33 @@
-use Rattle.std.proofs.Common.{ap, sym, subst, ◌∙◌, slice_index_or, ◌<◌}
+use Rattle.std.proofs.Common.{ap, rules, sym, subst, ◌∙◌, ◌<◌}
+use Rattle.weedle_grammar.specs.View.{row_view}
+use Rattle.weedle_grammar.specs.written.Bound.{rule_count}
 use Rattle.weedle_starts.specs.Starts.{CoversStarts}
 use Rattle.weedle_memo.specs.Tables.{option_of}
-use Rattle.weedle_grammar.specs.View.{row_view}
 use Rattle.weedle_memo.proofs.TableFacts.{word_with, word_without, none_of}
 use Rattle.weedle_memo.proofs.tables.word_of.Goals as goal
 
 pub returns-in-Opt : goal.returns-in-Opt
 returns-in-Opt c =
-    let number = c.number.ensures in
-    word_with _ c.args.rule (ap option_of (sym c.row_of.ensures ∙ ap row_view c.in-Opt.is)) (subst (λ z. CoversStarts (slice_index_or c.args.starts.now z 0) c.in-Opt.item) (sym number.0) (c.requires c.in-Opt.item (subst (λ z. z < 386) number.0 number.1)))
+    let low : c.in-Opt.item < rule_count = (search rules) in
+    word_with _ c.args.rule (ap option_of (sym c.row_of.ensures ∙ ap row_view c.in-Opt.is)) (subst (λ z. CoversStarts z c.in-Opt.item) (sym c.word.ensures) (c.requires c.in-Opt.item low))
 
 pub returns-in-Many : goal.returns-in-Many
 returns-in-Many c =
-    let number = c.number-in-Many.ensures in
-    word_with _ c.args.rule (ap option_of (sym c.row_of.ensures ∙ ap row_view c.in-Many.is)) (subst (λ z. CoversStarts (slice_index_or c.args.starts.now z 0) c.in-Many.item) (sym number.0) (c.requires c.in-Many.item (subst (λ z. z < 386) number.0 number.1)))
+    let low : c.in-Many.item < rule_count = (search rules) in
+    word_with _ c.args.rule (ap option_of (sym c.row_of.ensures ∙ ap row_view c.in-Many.is)) (subst (λ z. CoversStarts z c.in-Many.item) (sym c.word-in-Many.ensures) (c.requires c.in-Many.item low))
 
 pub returns-in-List : goal.returns-in-List
 returns-in-List c =
-    let number = c.number-in-List.ensures in
-    word_with _ c.args.rule (ap option_of (sym c.row_of.ensures ∙ ap row_view c.in-List.is)) (subst (λ z. CoversStarts (slice_index_or c.args.starts.now z 0) c.in-List.item) (sym number.0) (c.requires c.in-List.item (subst (λ z. z < 386) number.0 number.1)))
+    let low : c.in-List.item < rule_count = (search rules) in
+    word_with _ c.args.rule (ap option_of (sym c.row_of.ensures ∙ ap row_view c.in-List.is)) (subst (λ z. CoversStarts z c.in-List.item) (sym c.word-in-List.ensures) (c.requires c.in-List.item low))
 
 pub returns-in-Tail : goal.returns-in-Tail
 returns-in-Tail c =
-    let number = c.number-in-Tail.ensures in
-    word_with _ c.args.rule (ap option_of (sym c.row_of.ensures ∙ ap row_view c.in-Tail.is)) (subst (λ z. CoversStarts (slice_index_or c.args.starts.now z 0) c.in-Tail.separator) (sym number.0) (c.requires c.in-Tail.separator (subst (λ z. z < 386) number.0 number.1)))
+    let low : c.in-Tail.separator < rule_count = (search rules) in
+    word_with _ c.args.rule (ap option_of (sym c.row_of.ensures ∙ ap row_view c.in-Tail.is)) (subst (λ z. CoversStarts z c.in-Tail.separator) (sym c.word-in-Tail.ensures) (c.requires c.in-Tail.separator low))
 
 pub returns-in_default : goal.returns-in_default
 returns-in_default c =
-    let number = c.number-in_default.ensures in
+    let low : c.args.rule < rule_count = (search rules) in
     word_without _ c.args.rule (ap option_of (sym c.row_of.ensures) ∙ none_of c.row_of.result c.in_default.not-Opt c.in_default.not-Many c.in_default.not-List c.in_default.not-Tail)
-    (subst (λ z. CoversStarts (slice_index_or c.args.starts.now z 0) c.args.rule) (sym number.0) (c.requires c.args.rule (subst (λ z. z < 386) number.0 number.1)))
+    (subst (λ z. CoversStarts z c.args.rule) (sym c.word-in_default.ensures) (c.requires c.args.rule low))

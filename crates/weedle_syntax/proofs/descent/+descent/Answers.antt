@@ -1,4 +1,4 @@
-use Rattle.std.proofs.Common.{arith, refl, sym, subst, ap, ◌∙◌, ◌≡◌, ◌+◌, ◌-◌, [], ◌∷◌, Some, take, set, get_or, append-nil, false}
+use Rattle.std.proofs.Common.{arith, length, refl, sym, subst, ap, ◌∙◌, ◌≡◌, ◌+◌, ◌-◌, [], ◌∷◌, Some, take, set, get_or, append-nil, false}
 use Rattle.weedle_grammar.specs.written.Table.{webidl}
 use Rattle.weedle_grammar.specs.Trees.{Gives}
 use Rattle.weedle_grammar.specs.Meaning.{is_present, ReadsBy}
@@ -12,6 +12,8 @@ use Rattle.weedle_rules.proofs.ListFrom.{next_part, no_part}
 use Rattle.weedle_syntax.specs.Laid.{node, LaysNode, LaysParts}
 use Rattle.weedle_syntax.proofs.DescentFacts.{has_now, added_length, node_laid, leaf_laid, reading_start, reading_step, reading_fails, reading_end, reading_laid, picking_start, picking_step, picked_end, picked_laid, none_picked}
 use Rattle.weedle_syntax.proofs.RepeatFacts.{opt_there, opt_none, opt_not_laid, opt_before, list_more, list_none, list_laid, list_not_laid, list_before, list_next, list1_more, list1_none, list1_laid, list1_before, list1_next, again_start, again_before, again_step, again_on, again_stuck, again_end, again_laid, behind_start, behind_before, behind_item, behind_step, behind_on, behind_stuck, behind_end, behind_laid, behind_back, back_laid}
+use Rattle.weedle_starts.specs.Ways.{IsAhead}
+use Rattle.weedle_syntax.proofs.EmptyFacts.{failing}
 use Rattle.weedle_syntax.proofs.ConditionFacts.{testing_start, testing_fails, testing_step, testing_next, testing_length, absent_end, absent_laid, present_end, present_laid}
 use Rattle.weedle_syntax.proofs.CountFacts.{count_passed, count_tried, count_leaf, count_parts, count_part, count_part_fails, count_parts_end, count_choices, count_choice, count_choice_fits, count_choices_end, count_optional, count_no_list, count_list, count_no_list1, count_list1, count_items, count_item, count_items_end, count_items_stuck, count_tail, count_tail_end, count_tail_stuck, count_tail_back, count_tail_on, count_conditional, count_no_condition, count_absent, count_present}
 use Rattle.weedle_syntax.proofs.descent.+descent.Goals as goal
@@ -429,16 +431,16 @@ read_tail-read-requires-in-loop-found t c =
       ),
     )
 
-pub try_rule-returns-in-Some-clause-lays : goal.try_rule-returns-in-Some-clause-lays
-try_rule-returns-in-Some-clause-lays t c =
-    node_laid c.args.text.now c.args.rule c.args.place c.args.depth c.args.nodes.now.items c.push.new.self.items
+pub try_rule-returns-in_ok-node-in-Some-clause-lays : goal.try_rule-returns-in_ok-node-in-Some-clause-lays
+try_rule-returns-in_ok-node-in-Some-clause-lays t c =
+    node_laid c.args.text.now c.args.rule c.args.place c.args.depth c.args.nodes.now.items c.lay.new.nodes.items
     c.read_row.new.nodes.items (node c.args.rule c.args.place c.args.place c.args.depth)
-    c.in_ok-push.ensures.items c.in-Some.end _
+    c.in_ok-lay.ensures.items c.in-Some.end _
     (subst
-    (LaysParts c.args.text.now c.args.rule c.args.place (c.args.depth + 1) c.push.new.self.items
+    (LaysParts c.args.text.now c.args.rule c.args.place (c.args.depth + 1) c.lay.new.nodes.items
     c.read_row.new.nodes.items) c.in-Some.is c.in_ok-end.ensures.lays)
-    (ap (λ z. set c.read_row.new.nodes.items z (node c.args.rule c.args.place c.in-Some.end c.args.depth))
-    (c.len-at.ensures ∙ c.args.nodes.now.ok.0))
+    (ap (λ z. set c.read_row.new.nodes.items z c.in_ok-node-in-Some.node) (c.len-at.ensures ∙ c.args.nodes.now.ok.0)
+    ∙ ap (set c.read_row.new.nodes.items (length c.args.nodes.now.items)) c.in_ok-node-in-Some.ensures)
 
 pub read_row-returns-in-Bytes-clause-end : goal.read_row-returns-in-Bytes-clause-end
 read_row-returns-in-Bytes-clause-end t c =
@@ -720,11 +722,18 @@ pub read_row-returns-in-Run-clause-steps : goal.read_row-returns-in-Run-clause-s
 read_row-returns-in-Run-clause-steps t c =
     count_leaf c.args.text.now c.args.rule (sym c.in-Run.ensures) refl
 
-pub read-returns-then-refuses-clause-steps : goal.read-returns-then-refuses-clause-steps
-read-returns-then-refuses-clause-steps t c = count_passed c.args.text.now c.if-refuses.ensures.end c.if-refuses.ensures.here
+pub read-returns-in-Fails-clause-end : goal.read-returns-in-Fails-clause-end
+read-returns-in-Fails-clause-end t c =
+    let fails = subst (IsAhead c.args.text.now c.args.rule c.args.place) c.in-Fails.is c.ahead.ensures in
+    failing c.args.text.now c.args.rule c.args.place fails.0
 
-pub try_rule-returns-in-Some-clause-steps : goal.try_rule-returns-in-Some-clause-steps
-try_rule-returns-in-Some-clause-steps t c =
+pub read-returns-in-Fails-clause-steps : goal.read-returns-in-Fails-clause-steps
+read-returns-in-Fails-clause-steps t c =
+    let fails = subst (IsAhead c.args.text.now c.args.rule c.args.place) c.in-Fails.is c.ahead.ensures in
+    count_passed c.args.text.now (failing c.args.text.now c.args.rule c.args.place fails.0) fails.1
+
+pub try_rule-returns-in_ok-node-in-Some-clause-steps : goal.try_rule-returns-in_ok-node-in-Some-clause-steps
+try_rule-returns-in_ok-node-in-Some-clause-steps t c =
     let some = c.if-limits-eq0.false in
     count_tried c.args.text.now (omega (arith, some)) c.in_ok-end.ensures.steps
 

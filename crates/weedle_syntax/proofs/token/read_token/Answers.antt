@@ -17,13 +17,13 @@ end_of_run-end-requires c =
 
 pub returns-clause-end : goal.returns-clause-end
 returns-clause-end c =
-    token_end c.args.text.now c.args.rule c.args.first c.args.run c.args.place c.args.depth c.args.first_class c.args.run_class c.args.nodes.now.items c.requires.row c.requires.one c.requires.others c.requires.within c.in-Some.at c.end_of_run-end.result c.push.new.self.items c.push-2.new.self.items (sym c.in-Some.is ∙ c.end_of_one.ensures) c.end_of_run-end.ensures c.in_ok-push.ensures.items c.in_ok-push-2.ensures.items
+    token_end c.args.text.now c.args.rule c.args.first c.args.run c.args.place c.args.depth c.args.first_class c.args.run_class c.args.nodes.now.items c.requires.row c.requires.one c.requires.others c.requires.within c.in-Some.at c.end_of_run-end.result c.lay.new.nodes.items c.lay-2.new.nodes.items (sym c.in-Some.is ∙ c.end_of_one.ensures) c.end_of_run-end.ensures c.in_ok-lay.ensures.items c.in_ok-lay-2.ensures.items
 
 pub returns-clause-lays : goal.returns-clause-lays
 returns-clause-lays c =
-    token_laid c.args.text.now c.args.rule c.args.first c.args.run c.args.place c.args.depth c.args.first_class c.args.run_class c.args.nodes.now.items c.requires.row c.requires.one c.requires.others c.requires.within c.in-Some.at c.end_of_run-end.result c.push.new.self.items c.push-2.new.self.items (sym c.in-Some.is ∙ c.end_of_one.ensures) c.end_of_run-end.ensures c.in_ok-push.ensures.items c.in_ok-push-2.ensures.items
+    token_laid c.args.text.now c.args.rule c.args.first c.args.run c.args.place c.args.depth c.args.first_class c.args.run_class c.args.nodes.now.items c.requires.row c.requires.one c.requires.others c.requires.within c.in-Some.at c.end_of_run-end.result c.lay.new.nodes.items c.lay-2.new.nodes.items (sym c.in-Some.is ∙ c.end_of_one.ensures) c.end_of_run-end.ensures c.in_ok-lay.ensures.items c.in_ok-lay-2.ensures.items
 
 pub returns-clause-steps : goal.returns-clause-steps
 returns-clause-steps c =
     let some = c.if-limits-lt2.false in
-    token_steps c.args.text.now c.args.rule c.args.first c.args.run c.args.place c.args.depth c.args.first_class c.args.run_class c.args.nodes.now.items c.requires.row c.requires.one c.requires.others c.requires.within c.in-Some.at c.end_of_run-end.result c.push.new.self.items c.push-2.new.self.items (sym c.in-Some.is ∙ c.end_of_one.ensures) c.end_of_run-end.ensures c.in_ok-push.ensures.items c.in_ok-push-2.ensures.items _ _ (omega (arith, some))
+    token_steps c.args.text.now c.args.rule c.args.first c.args.run c.args.place c.args.depth c.args.first_class c.args.run_class c.args.nodes.now.items c.requires.row c.requires.one c.requires.others c.requires.within c.in-Some.at c.end_of_run-end.result c.lay.new.nodes.items c.lay-2.new.nodes.items (sym c.in-Some.is ∙ c.end_of_one.ensures) c.end_of_run-end.ensures c.in_ok-lay.ensures.items c.in_ok-lay-2.ensures.items _ _ (omega (arith, some))
