@@ -1,6 +1,6 @@
 """Reads files of WebIDL, and writes what stands in them.
 
-    weedle [--json | --syntax | --format] [FILE..]
+    weedle [--json | --syntax | --format] [--errors N] [FILE..]
     weedle lint [--json] [--ignore CODE].. [--known FILE].. FILE..
 
 `python3 -m weedle` is the same. The second checks files by rules that the grammar doesn't have:
@@ -10,7 +10,8 @@ standard input, which `-` names too. With
 the `file` and the `definition`. With `--syntax` it writes each node on a line, indented by its
 depth, with `--format` the text laid out; what is refused, and why, it then says on standard error.
 With none of them it says that on standard output, and last how many files were read and refused, as
-weedle_check does. The status is 0 where all is read, 1 where something is refused, 2 where a file
+weedle_check does. Of each file it says the first N errors, 20 where no number is given, and how many
+more there are; where files have more errors than one, the last line has their number. The status is 0 where all is read, 1 where something is refused, 2 where a file
 can't be read or isn't UTF-8, 3 where memory ran out, 4 where the output can't be written, and 5
 where the arguments are others; of several the greatest.
 """
@@ -26,10 +27,12 @@ from contextlib import suppress
 from enum import IntEnum
 from typing import BinaryIO, Callable, NoReturn, Optional, Sequence
 
-from weedle import Refused, __version__, format, lint, parse, syntax
+from weedle import Refused, __version__, format, lint, parse, recover, syntax
 
 # What writes the text of a file, whose name it is told where there are several.
 Write = Callable[[bytes, BinaryIO, Optional[str]], None]
+# How many errors of a file are said where no number is given.
+MOST_ERRORS = 20
 # How a message calls standard input, and what names it.
 STANDARD_INPUT, DASH = "<stdin>", "-"
 
@@ -101,9 +104,9 @@ class Run:
     The function is told the name of the file where there are several.
     """
 
-    def __init__(self, write: Write, out: BinaryIO, is_named: bool) -> None:
-        self.write, self.out, self.is_named = write, out, is_named
-        self.files = self.refused = self.unread = 0
+    def __init__(self, write: Write, out: BinaryIO, is_named: bool, most: int = MOST_ERRORS) -> None:
+        self.write, self.out, self.is_named, self.most = write, out, is_named, most
+        self.files = self.refused = self.unread = self.errors = 0
 
     def read(self, word: str) -> Status:
         """Reads the file that an argument names, and writes what stands in it."""
@@ -116,7 +119,7 @@ class Run:
         try:
             self.write(data, self.out, name if self.is_named else None)
         except Refused as refused:
-            self.tell(f"{name}:{refused}")
+            self.tell_all(name, data, refused)
             self.files, self.refused = self.files + 1, self.refused + 1
             return Status.REFUSED
         except UnicodeDecodeError:
@@ -125,6 +128,19 @@ class Run:
             return self.complain(name, "out of memory", Status.NO_MEMORY)
         self.files += 1
         return Status.READ
+
+    def tell_all(self, name: str, data: bytes, refused: Refused) -> None:
+        """Says all errors of a file: the first as `parse` has it, the others part by part."""
+        try:
+            others = recover(data).errors[1:]
+        except MemoryError:
+            others = []
+        self.errors += 1 + len(others)
+        for it in [refused, *others][:self.most]:
+            self.tell(f"{name}:{it}")
+        left = 1 + len(others) - self.most
+        if left > 0:
+            self.tell(f"{name}: {left} more error{'s' * (left != 1)}")
 
     def tell(self, line: str) -> None:
         """Says why a file is refused: where nothing else is written, there."""
@@ -144,6 +160,8 @@ class Run:
     def summary(self) -> str:
         """How many files there were."""
         files = f"{self.files} file{'s' * (self.files != 1)}, {self.refused} refused"
+        if self.errors > self.refused:
+            files += f", {self.errors} errors"
         return f"{files}, {self.unread} not read" if self.unread else files
 
     def read_all(self, words: Sequence[str]) -> Status:
@@ -153,6 +171,14 @@ class Run:
             self.out.write(f"{self.summary()}\n".encode())
         self.out.flush()
         return status
+
+
+def number(word: str) -> int:
+    """How many errors are said of a file, from 1 on."""
+    found = int(word)
+    if found < 1:
+        raise ValueError(word)
+    return found
 
 
 def arguments(words: Optional[Sequence[str]]) -> argparse.Namespace:
@@ -168,6 +194,10 @@ def arguments(words: Optional[Sequence[str]]) -> argparse.Namespace:
             option, dest="write", action="store_const", const=write, default=write_nothing,
             help=words_,
         )
+    parser.add_argument(
+        "--errors", metavar="N", type=number, default=MOST_ERRORS,
+        help=f"say so many errors of each file at most ({MOST_ERRORS})",
+    )
     parser.add_argument("--version", action="version", version=f"%(prog)s {__version__}")
     parser.add_argument(
         "files", metavar="FILE", nargs="*", help="else standard input is read, as by -",
@@ -189,7 +219,7 @@ def main(words: Optional[Sequence[str]] = None) -> int:
     try:
         if is_lint:
             return lint.main(words[1:], out)
-        return Run(wanted.write, out, len(files) > 1).read_all(files)
+        return Run(wanted.write, out, len(files) > 1, wanted.errors).read_all(files)
     except OSError as fault:
         # what waits is let go of: Python 3.13 says of a buffer that it can't flush it
         with suppress(OSError):
