@@ -1,6 +1,6 @@
 //! The parts of a text, read or unread.
 
-ghost use Rattle.std.specs.Prelude.{◌≡◌, ◌≢◌, ◌≤◌, ◌↔◌, IsUtf8, length};
+ghost use Rattle.std.specs.Prelude.{◌≡◌, ◌≢◌, ◌⊎◌, ◌≤◌, ◌↔◌, IsUtf8, length};
 ghost use Rattle.std.specs.Str.{IsValidUpTo};
 ghost use Rattle.weedle_c.specs.Parts.{
   AreParted,
@@ -13,7 +13,8 @@ use crate::node::{MOST, WeedleNode, all_fit, fill};
 use crate::part::{WeedlePart, all_parts_fit, fill_parts, unread_in};
 use crate::status::{NO_MEMORY, NO_ROOM, NOT_UTF8, READ, REFUSED, TOO_LONG};
 use std::alloc::Global;
-use weedle_recovery::{Recovered, recover};
+use weedle_recovery::{Part, recover};
+use weedle_syntax::Node;
 
 /// What is said of the parts of a text beside the status.
 #[repr(C)]
@@ -95,47 +96,53 @@ fn divide_text(
         return TOO_LONG;
     }
     match recover(alloc, raw) {
-        Ok(found) => put(raw, &found, parts, nodes, answer),
+        Ok(found) => put(raw, &found.parts, &found.nodes, parts, nodes, answer),
         Err(_) => NO_MEMORY,
     }
 }
 
-/// Writes the parts that a text was divided into.
+/// Writes the parts that a text was divided into, and their nodes.
 fn put(
     raw: &str,
-    found: &Recovered,
+    found: &[Part],
+    tree: &[Node],
     parts: &mut [WeedlePart],
     nodes: &mut [WeedleNode],
     answer: &mut WeedleRecovered,
 ) -> u32
-    requires is { IsRecovery raw.now found.now.parts.items found.now.nodes.items }
+    requires is { IsRecovery raw.now found.now tree.now }
     requires nothing { answer.old ≡ NOTHING }
-    ensures known { (result ≤ TOO_LONG) × (result ≢ NOT_UTF8) × (result ≢ REFUSED)
-        × (result ≢ NO_MEMORY) }
+    ensures known { (result ≡ READ) ⊎ (result ≡ NO_ROOM) ⊎ (result ≡ TOO_LONG) }
     ensures read { result ≡ READ
         → AreParted raw.now parts.old parts.new nodes.old nodes.new answer.new }
     ensures no_room { result ≡ NO_ROOM
         → AreUncounted raw.now (length parts.old) (length nodes.old) answer.new }
     ensures too_long { result ≡ TOO_LONG → AreTooLong raw.now }
-    ensures counted { result ≢ READ → result ≢ NO_ROOM
+    ensures counted { result ≡ TOO_LONG
         → (answer.new.parts ≡ 0) × (answer.new.nodes ≡ 0) × (answer.new.unread ≡ 0) }
     ensures placed { answer.new.rest ≡ 0 }
     ensures parts_unwritten { result ≢ READ → parts.new ≡ parts.old }
     ensures nodes_unwritten { result ≢ READ → nodes.new ≡ nodes.old }
 {
-    if !all_parts_fit(&found.parts) || !all_fit(&found.nodes) {
+    if !all_parts_fit(found) {
+        return TOO_LONG;
+    }
+    if !all_fit(tree) {
         return TOO_LONG;
     }
     *answer = WeedleRecovered {
-        parts: found.parts.len(),
-        nodes: found.nodes.len(),
-        unread: unread_in(&found.parts),
+        parts: found.len(),
+        nodes: tree.len(),
+        unread: unread_in(found),
         rest: 0,
     };
-    if found.parts.len() > parts.len() || found.nodes.len() > nodes.len() {
+    if found.len() > parts.len() {
         return NO_ROOM;
     }
-    fill_parts(&found.parts, parts);
-    fill(&found.nodes, nodes);
+    if tree.len() > nodes.len() {
+        return NO_ROOM;
+    }
+    fill_parts(found, parts);
+    fill(tree, nodes);
     READ
 }

@@ -1,5 +1,5 @@
 -- What is said of an unread part.
-use Rattle.std.specs.Prelude.{◌≡◌, ◌⊎◌, ◌≤◌, ◌+◌, ◌-◌, ◌==◌, ◌++◌, if◌then◌else◌, ℕ, false, List, [], ◌∷◌, Option, Some, None, IfSome, IsCharBoundary, codes, length, map, min, slice_range, take}
+use Rattle.std.specs.Prelude.{◌≡◌, ◌⊎◌, ◌≤◌, ◌+◌, ◌-◌, ◌==◌, ◌++◌, if◌then◌else◌, ℕ, false, List, [], ◌∷◌, Option, Some, None, IfSome, IsCharBoundary, codes, length, map, min, slice_range}
 use Rattle.weedle_grammar.specs.written.Table.InterfaceMembers.{INTERFACE_MEMBER}
 use Rattle.weedle_grammar.specs.written.Table.OtherMembers.{DICTIONARY_MEMBER, MIXIN_MEMBER, NAMESPACE_MEMBER}
 use Rattle.weedle_grammar.specs.written.Table.Symbols.{CLOSE_BRACE, OPEN_BRACE, SEMI_COLON}
@@ -95,7 +95,7 @@ IsSaidBy None said start refusal = IsSaidOf said start refusal
 -- of anything but a member, what is said where its definition is read up to the end of the part
 pub record IsSaidInDefinition (raw : List ℕ) (part : Part) (refusal : Refusal) : Type 0 where
   pub said : Refusal
-  pub is_said : IsSaidFrom (take part.end raw) part.definition said
+  pub is_said : IsSaidFrom (slice_range raw 0 part.end) part.definition said
   pub by : IsSaidBy (missing_sign part) said part.start refusal
 
 -- by the front of the definition that a member is read in, if it is a member

@@ -15,6 +15,7 @@ ghost use Rattle.std.specs.Prelude.{
 };
 ghost use Rattle.weedle_recovery.specs.Refusals.{
   IsPartRefusal,
+  IsSaidBehind,
   IsSaidInBody,
   IsSaidInDefinition,
   IsUnread,
@@ -52,11 +53,21 @@ pub fn refusal_of_part(alloc: Global, raw: &str, part: &Part) -> Result<Option<R
     if !is_unread(raw, part) {
         return Ok(None);
     }
-    let refusal = match front_of(part.rule) {
-        Some(front) => in_body(alloc, raw, part, front)?,
-        None => in_definition(alloc, raw, part)?,
-    };
+    let refusal = said_of(alloc, raw, part)?;
     Ok(Some(refusal))
+}
+
+/// What is said of an unread part.
+fn said_of(alloc: Global, raw: &str, part: &Part) -> Result<Refusal, AllocError>
+    requires { IsUnread raw.now part.now }
+    ensures said { IfOk result
+        (λ refusal. IsSaidBehind (the_front_of part.now.rule) raw.now part.now refusal) }
+    ensures within { IfOk result (λ refusal. refusal.place ≤ length raw.now) }
+{
+    match front_of(part.rule) {
+        Some(front) => in_body(alloc, raw, part, front),
+        None => in_definition(alloc, raw, part),
+    }
 }
 
 /// Whether a part is unread, and its places are those of a text in their order.
