@@ -38,18 +38,21 @@ for standard in c++98 c++11 c++17; do
     "$CXX" -std=$standard $warnings -x c++ -fsyntax-only "$top/include/weedle.h"
 done
 
-# Builds both programs of tests, with these flags more. The first refuses requests for memory, so its functions stand
+# Builds the programs of tests, with these flags more. The first two refuse requests for memory, so their functions stand
 # before the C library's own.
 build_tests() {
-    "$CC" -std=c11 $warnings "$@" -I"$top/include" -o "$out/test_weedle" \
-        "$top/c/tests/test_weedle.c" "$library" -pthread -Wl,--wrap=malloc,--wrap=realloc
+    for name in test_weedle test_recovery; do
+        "$CC" -std=c11 $warnings "$@" -I"$top/include" -o "$out/$name" \
+            "$top/c/tests/$name.c" "$library" -pthread -Wl,--wrap=malloc,--wrap=realloc
+    done
     "$CC" -std=c11 $warnings "$@" -I"$top/include" -o "$out/test_hostile" \
         "$top/c/tests/test_hostile.c" "$library" -pthread
 }
 
-# Runs both, behind these words.
+# Runs them, behind these words.
 run_tests() {
     "$@" "$out/test_weedle"
+    "$@" "$out/test_recovery"
     "$@" "$out/test_hostile" "$top/tests/families.txt"
 }
 

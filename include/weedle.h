@@ -50,7 +50,8 @@ enum weedle_status {
     WEEDLE_STATUS_NO_MEMORY = 3, /* Memory was refused. */
     WEEDLE_STATUS_NO_ROOM = 4, /* It does, and its nodes need more room. */
     WEEDLE_STATUS_TOO_LONG = 5, /* The text is longer, or nests deeper, than the numbers of a node hold. */
-    WEEDLE_STATUS_NO_RULE = 6 /* No rule has the number. */
+    WEEDLE_STATUS_NO_RULE = 6, /* No rule has the number. */
+    WEEDLE_STATUS_NO_PLACE = 7 /* The text has no such place, or no such unread part. */
 };
 
 /* A rule that was read, and the bytes that it took. */
@@ -70,14 +71,61 @@ struct weedle_answer {
                      WEEDLE_STATUS_NOT_UTF8: the byte up to which the text is UTF-8; else 0 */
 };
 
-/* What weedle_explain says beside its status. */
+/* Kinds of hints: what would mend a text, or what it lacks. */
+enum weedle_hint {
+    WEEDLE_HINT_NONE = 0, /* There is none. */
+    WEEDLE_HINT_KEYWORD = 1, /* A keyword in place of the word that stands there. */
+    WEEDLE_HINT_MISSING = 2, /* A sign is missing there. */
+    WEEDLE_HINT_EXTRA = 3, /* The sign that stands there is too many. */
+    WEEDLE_HINT_WRONG_SIGN = 4, /* Another sign in place of the one that stands there. */
+    WEEDLE_HINT_WORD_ORDER = 5, /* The two words that stand there, in the other order. */
+    WEEDLE_HINT_DOCSTRING = 6, /* The docstring that stands there belongs elsewhere. */
+    WEEDLE_HINT_OPEN_STRING = 7, /* The string that opens there isn't closed. */
+    WEEDLE_HINT_SPLIT_STRING = 8, /* The string that opens there ends in another line. */
+    WEEDLE_HINT_BYTE_ORDER_MARK = 9, /* A byte order mark stands there. */
+    WEEDLE_HINT_NO_DEFINITIONS = 10 /* The text has no definitions. */
+};
+
+/* What weedle_explain, weedle_explain_from and weedle_explain_part say beside their status. Places are in bytes from the
+   front of the text. With any status but WEEDLE_STATUS_REFUSED all of it is 0, but `place` with
+   WEEDLE_STATUS_NOT_UTF8. */
 struct weedle_refusal {
-    size_t start;  /* where the unread rest begins, in bytes from the front of the text */
-    size_t place;  /* the furthest place to which the reading comes;
-                      WEEDLE_STATUS_NOT_UTF8: the byte up to which the text is UTF-8 (tested) */
-    size_t line;   /* the line of that place, from 1 on */
-    size_t column; /* its column, in characters, from 1 on */
-    size_t length; /* how many bytes the whole message has, without the zero behind it (tested) */
+    size_t start;       /* where the unread rest begins, or the unread part */
+    size_t place;       /* the furthest place to which the reading comes;
+                           WEEDLE_STATUS_NOT_UTF8: the byte up to which the text is UTF-8 */
+    size_t line;        /* the line of that place, from 1 on */
+    size_t column;      /* its column, in characters, from 1 on */
+    size_t length;      /* how many bytes the whole message has, without the zero behind it (tested) */
+    size_t hint;        /* an enum weedle_hint */
+    size_t hint_place;  /* where the hint is; 0 where there is none */
+    size_t hint_length; /* how many bytes stand there that it speaks of: the word, the sign, both words and what stands
+                           between them, the lines of the docstring, the quote or the mark; 0 where something is missing */
+    size_t hint_offset; /* where the hint's line begins in the message, which is `length` where there is none (tested) */
+};
+
+/* What weedle_expected and weedle_expected_part say beside their status. */
+struct weedle_expected_words {
+    size_t count;  /* WEEDLE_STATUS_READ, WEEDLE_STATUS_NO_ROOM: how many words there are; else 0 */
+    size_t length; /* WEEDLE_STATUS_READ, WEEDLE_STATUS_NO_ROOM: how many bytes they have, with a zero behind each; else 0 */
+    size_t place;  /* WEEDLE_STATUS_READ, WEEDLE_STATUS_NO_ROOM: the furthest place to which the reading comes, in bytes
+                      from the front of the text; WEEDLE_STATUS_NOT_UTF8: the byte up to which the text is UTF-8; else 0 */
+};
+
+/* A part of a text: a rule is read there, or it is unread. */
+struct weedle_part {
+    uint32_t rule;       /* an enum weedle_rule: the one that is read, or of an unread part the one that fails there */
+    uint32_t is_read;    /* 1 where it is read, and else 0 */
+    uint32_t start;      /* where it begins, in bytes from the front of the text */
+    uint32_t end;        /* where it ends: the place behind its last byte, or `start` where something is missing */
+    uint32_t definition; /* where the definition begins that it belongs to */
+};
+
+/* What weedle_recover says beside its status. */
+struct weedle_recovered {
+    size_t parts;  /* WEEDLE_STATUS_READ, WEEDLE_STATUS_NO_ROOM: how many parts there are; else 0 */
+    size_t nodes;  /* WEEDLE_STATUS_READ, WEEDLE_STATUS_NO_ROOM: how many nodes those have that are read; else 0 */
+    size_t unread; /* WEEDLE_STATUS_READ, WEEDLE_STATUS_NO_ROOM: how many parts are unread; else 0 */
+    size_t rest;   /* WEEDLE_STATUS_NOT_UTF8: the byte up to which the text is UTF-8; else 0 */
 };
 
 /* What weedle_format says beside its status. */
@@ -164,6 +212,94 @@ uint32_t weedle_explain(
     const char *text, size_t length,
     char *message, size_t room,
     struct weedle_refusal *refusal);
+
+/*
+ * The same of what stands from `start` on: what stands before it isn't read. Places, line and column are those of the
+ * whole text, and so is the line in the message. With the `rest` that weedle_syntax left, it says what weedle_explain
+ * says (tested), and reads nothing again.
+ *
+ * WEEDLE_STATUS_READ: the grammar reads whole what stands from `start` on.
+ * WEEDLE_STATUS_REFUSED: it doesn't.
+ * WEEDLE_STATUS_NOT_UTF8: exactly where the bytes aren't UTF-8, those before `start` included.
+ * WEEDLE_STATUS_NO_MEMORY: memory was refused (tested).
+ * WEEDLE_STATUS_NO_PLACE: exactly where the text is UTF-8 and `start` is behind its end or within a character.
+ * Only with WEEDLE_STATUS_REFUSED is anything written to `message`.
+ */
+uint32_t weedle_explain_from(
+    const char *text, size_t length, size_t start,
+    char *message, size_t room,
+    struct weedle_refusal *refusal);
+
+/*
+ * Writes all words for what would go on where the reading of definitions comes furthest, from `start` on: "`;`" or
+ * "a name", as the message of weedle_explain has up to six of them, with a zero behind each. Of what is read whole too:
+ * what could follow at its end.
+ *
+ * WEEDLE_STATUS_READ: the first `length` bytes of `words` are the `count` words. What stands behind them stays as it was.
+ * WEEDLE_STATUS_NOT_UTF8: exactly where the bytes aren't UTF-8.
+ * WEEDLE_STATUS_NO_MEMORY: memory was refused (tested).
+ * WEEDLE_STATUS_NO_ROOM: they need `length` bytes, more than `room`. 2,048 bytes hold any (tested).
+ * WEEDLE_STATUS_NO_PLACE: exactly where the text is UTF-8 and `start` is behind its end or within a character.
+ * Only with WEEDLE_STATUS_READ is anything written to `words`.
+ *
+ * It costs what weedle_explain_from does without the search for a hint.
+ */
+uint32_t weedle_expected(
+    const char *text, size_t length, size_t start,
+    char *words, size_t room,
+    struct weedle_expected_words *expected);
+
+/*
+ * Divides a text into parts, one behind another, each read or unread: error recovery. docs/RECOVERY.md says which.
+ *
+ * WEEDLE_STATUS_READ: the first `recovered.parts` of `parts` join to the text. The rule of a part that is read is read
+ *     from its start to its end, and that of one that isn't fails at its start; that one has no byte, or ends at the first
+ *     synchronisation point. The first `recovered.nodes` of `nodes` are the trees of the parts that are read, in their
+ *     order, as weedle_syntax_of writes them: the first node of each has the depth 0. Of a text that weedle_syntax reads
+ *     each part is a definition that is read. What stands behind them in `parts` and `nodes` stays as it was.
+ * WEEDLE_STATUS_NOT_UTF8: exactly where the bytes aren't UTF-8.
+ * WEEDLE_STATUS_NO_MEMORY: memory was refused (tested).
+ * WEEDLE_STATUS_NO_ROOM: the parts are more than `part_room`, or the nodes more than `room`. So with rooms of 0 it
+ *     counts them.
+ * WEEDLE_STATUS_TOO_LONG: 32 bits don't hold the length of the text, a place of a part, or a place or a depth of a node.
+ * Only with WEEDLE_STATUS_READ is anything written to `parts` or to `nodes`.
+ *
+ * It reads by descent within the limits of weedle_syntax, whatever the number of errors, and where they are spent over a
+ * table; it takes their memory, and 48 bytes for each part, up to 96 where the list grows.
+ */
+uint32_t weedle_recover(
+    const char *text, size_t length,
+    struct weedle_part *parts, size_t part_room,
+    struct weedle_node *nodes, size_t room,
+    struct weedle_recovered *recovered);
+
+/*
+ * Says why a part that weedle_recover left unread is so, and writes a message, as weedle_explain does. A member is read
+ * as the only one of a definition, all else behind what is read of its definition, up to the end of the part. Where a
+ * sign is missing, and the part has no byte, the sign alone is expected. What stands elsewhere in the text isn't looked
+ * at.
+ *
+ * WEEDLE_STATUS_REFUSED: `refusal` says where, and the message is written to `message` (tested), cut and ended as that
+ *     of weedle_explain.
+ * WEEDLE_STATUS_NOT_UTF8: exactly where the bytes aren't UTF-8.
+ * WEEDLE_STATUS_NO_MEMORY: memory was refused (tested).
+ * WEEDLE_STATUS_NO_PLACE: exactly where the text is UTF-8 and `part` is no unread part of it by its numbers: it is read,
+ *     no rule has its number, its places aren't in order, or one is behind the end of the text or within a character.
+ * Only with WEEDLE_STATUS_REFUSED is anything written to `message`.
+ */
+uint32_t weedle_explain_part(
+    const char *text, size_t length,
+    const struct weedle_part *part,
+    char *message, size_t room,
+    struct weedle_refusal *refusal);
+
+/* Writes all words for what would go on where weedle_explain_part says, as weedle_expected does, with its statuses;
+   WEEDLE_STATUS_NO_PLACE as weedle_explain_part has it. */
+uint32_t weedle_expected_part(
+    const char *text, size_t length,
+    const struct weedle_part *part,
+    char *words, size_t room,
+    struct weedle_expected_words *expected);
 
 /*
  * Lays a text out anew, as `weedle_format` does: blanks are moved, and nothing else changes.

@@ -35,6 +35,50 @@ export declare function syntax(text: string | Uint8Array): Node;
  */
 export declare function format<T extends string | Uint8Array>(text: T): T extends string ? string : T;
 
+/**
+ * The parts of a text, read or unread, whatever errors it has. It throws what `parse` throws, but never `Refused`. Why a
+ * part is unread is found when it is asked for.
+ */
+export declare function recover(text: string | Uint8Array): Recovered;
+
+/** The parts of a text, one behind another: together they are the text. */
+export declare class Recovered {
+  private constructor();
+  /** The parts. */
+  readonly parts: Part[];
+  /** The whole text. */
+  readonly text: string;
+  /** Why each unread part is so, in the order of the text. */
+  readonly errors: Refused[];
+  /** The definitions that are read whole. */
+  readonly definitions: Definition[];
+}
+
+/** A part of a text: a rule that is read, or an unread stretch. */
+export declare class Part {
+  private constructor();
+  /** The name of the rule that is read; of an unread part that of the one that fails where it begins. */
+  readonly rule: string;
+  /** Whether it is read. */
+  readonly isRead: boolean;
+  /** All that it takes, blanks and comments included, in UTF-16 units; nothing where something is missing. */
+  readonly span: Span;
+  /** The same in bytes of UTF-8. */
+  readonly byteSpan: Span;
+  /** The byte at which the definition begins that it belongs to: parts of one definition have the same. */
+  readonly byteDefinition: number;
+  /** The line and the column at which it begins. */
+  readonly position: Position;
+  /** The part of the text at `span`. */
+  readonly text: string;
+  /** The node of the rule, of depth 0; null of an unread part. */
+  readonly node: Node | null;
+  /** Its value, as `parse` gives it; null where there is none. */
+  readonly value: Value | null;
+  /** Why it is unread, this part alone; null where it is read. */
+  readonly refusal: Refused | null;
+}
+
 /** The definitions of a text: an array, of which `map` and the like give plain ones. */
 export declare class Definitions extends Array<Definition> {
   private constructor();
@@ -112,6 +156,19 @@ export declare class Node {
   equals(other: unknown): boolean;
 }
 
+/** Kinds of hints: what would mend a text, or what it lacks. */
+export type HintKind =
+  | "Keyword"
+  | "Missing"
+  | "Extra"
+  | "WrongSign"
+  | "WordOrder"
+  | "Docstring"
+  | "OpenString"
+  | "SplitString"
+  | "ByteOrderMark"
+  | "NoDefinitions";
+
 /**
  * A text that the grammar doesn't read whole. Its message is the one that weedle_check prints.
  *
@@ -134,8 +191,16 @@ export declare class Refused extends SyntaxError {
   readonly column: number;
   /** What would have been read there, as "`,` or `}`"; empty where memory ran out for it. */
   readonly expected: string;
+  /** All that would have been read there, as ["`,`", "`}`"]. */
+  readonly words: readonly string[];
   /** What would mend the text, as "1:15: `attribute` in place of `atribute`?", or null. */
   readonly hint: string | null;
+  /** Which kind of hint that is. */
+  readonly hintKind: HintKind | null;
+  /** What it speaks of, the word, the sign or the lines, in UTF-16 units; empty where something is missing. */
+  readonly hintSpan: Span | null;
+  /** The same in bytes of UTF-8. */
+  readonly hintByteSpan: Span | null;
 }
 
 /** Bytes that aren't UTF-8, or a string with a lone surrogate, which UTF-8 hasn't. */

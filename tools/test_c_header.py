@@ -23,15 +23,24 @@ pub const READ: u32 = 0;
 /// not whole.
 pub const REFUSED: u32 = 1;
 """
+HINTS = """//! Hints.
+
+/// There is none.
+pub const NONE: usize = 0;
+
+/// A sign is missing there.
+pub const MISSING: usize = 1;
+"""
 
 
 class Header(unittest.TestCase):
-    def header(self, code=CODE, statuses=STATUSES):
+    def header(self, code=CODE, statuses=STATUSES, hints=HINTS):
         with tempfile.TemporaryDirectory() as folder:
             source = Path(folder, "crates/weedle_c/src")
             source.mkdir(parents=True)
             (source / "lib.rt").write_text(code)
             (source / "status.rt").write_text(statuses)
+            (source / "hint.rt").write_text(hints)
             return c_header.header_of(Path(folder))
 
     def test_the_version_is_the_crates(self):
@@ -45,6 +54,11 @@ class Header(unittest.TestCase):
         text = self.header()
         self.assertIn("    WEEDLE_STATUS_READ = 0, /* It is read. */\n", text)
         self.assertIn("    WEEDLE_STATUS_REFUSED = 1 /* It isn't, not whole. */\n};", text)
+
+    def test_each_kind_of_hint_has_its_doc_and_the_last_no_comma(self):
+        text = self.header()
+        self.assertIn("    WEEDLE_HINT_NONE = 0, /* There is none. */\n", text)
+        self.assertIn("    WEEDLE_HINT_MISSING = 1 /* A sign is missing there. */\n};", text)
 
     def test_each_rule_has_a_constant_and_a_name_at_its_number(self):
         text = self.header()

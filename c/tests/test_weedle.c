@@ -10,25 +10,7 @@
 #include <pthread.h>
 
 #include "checks.h"
-
-/* Memory that is refused: the request of this number, from 1 on. And how many bytes were asked for in all. */
-static unsigned long requests, refused;
-static size_t asked;
-static int counts;
-
-void *__real_malloc(size_t size);
-void *__real_realloc(void *block, size_t size);
-void *__wrap_malloc(size_t size);
-void *__wrap_realloc(void *block, size_t size);
-
-static int is_refused(size_t size) {
-    asked += size;
-    return counts && ++requests == refused;
-}
-
-void *__wrap_malloc(size_t size) { return is_refused(size) ? NULL : __real_malloc(size); }
-
-void *__wrap_realloc(void *block, size_t size) { return is_refused(size) ? NULL : __real_realloc(block, size); }
+#include "requests.h"
 
 /* A statement, and what its rows read. */
 static const char STATEMENT[] = "A includes B;// c";
@@ -103,6 +85,12 @@ static void test_room(void) {
     }
 }
 
+/* Whether all that is said of a refusal is 0 but its place. */
+static int is_silent(const struct weedle_refusal *refusal, size_t place) {
+    const struct weedle_refusal none = {0, place, 0, 0, 0, 0, 0, 0, 0};
+    return memcmp(refusal, &none, sizeof none) == 0;
+}
+
 static void test_no_text(void) {
     struct weedle_node node;
     struct weedle_answer answer;
@@ -112,7 +100,7 @@ static void test_no_text(void) {
     CHECK(answer.count == 1 && answer.rest == 0);
     CHECK(node.rule == WEEDLE_DEFINITIONS && node.depth == 0 && node.start == 0 && node.end == 0);
     CHECK(weedle_explain("", 0, message, sizeof message, &refusal) == WEEDLE_STATUS_READ);
-    CHECK(strcmp(message, "xyz") == 0);
+    CHECK(strcmp(message, "xyz") == 0 && is_silent(&refusal, 0));
 }
 
 /* Every field of each answer is written. */
@@ -120,7 +108,7 @@ static void test_what_is_not_utf8(void) {
     static const char text[] = "interface A {}; // \xc3\xa9 \xff";
     struct weedle_node node = {7, 7, 7, 7};
     struct weedle_answer answer = {7, 7};
-    struct weedle_refusal refusal = {7, 7, 7, 7, 7};
+    struct weedle_refusal refusal = {7, 7, 7, 7, 7, 7, 7, 7, 7};
     struct weedle_formatted formatted = {7, 7, 7};
     char message[4] = "xyz";
     CHECK(weedle_syntax(text, strlen(text), &node, 1, &answer) == WEEDLE_STATUS_NOT_UTF8);
@@ -129,7 +117,7 @@ static void test_what_is_not_utf8(void) {
     CHECK(weedle_syntax_of(WEEDLE_DEFINITION, text, strlen(text), &node, 1, &answer) == WEEDLE_STATUS_NOT_UTF8);
     CHECK(answer.count == 0 && answer.rest == 22 && node.rule == 7);
     CHECK(weedle_explain(text, strlen(text), message, sizeof message, &refusal) == WEEDLE_STATUS_NOT_UTF8);
-    CHECK(refusal.start == 0 && refusal.place == 22 && refusal.line == 0 && refusal.column == 0 && refusal.length == 0);
+    CHECK(is_silent(&refusal, 22));
     CHECK(weedle_format(text, strlen(text), message, sizeof message, &formatted) == WEEDLE_STATUS_NOT_UTF8);
     CHECK(formatted.length == 0 && formatted.rest == 22 && formatted.is_laid_out == 0);
     CHECK(strcmp(message, "xyz") == 0);
@@ -244,24 +232,39 @@ static void test_what_cannot_be_seen_has_room_too(void) {
     free(text);
 }
 
-static const char *hint_of(const char *text, char message[1024]) {
-    struct weedle_refusal refusal;
-    CHECK(weedle_explain(text, strlen(text), message, 1024, &refusal) == WEEDLE_STATUS_REFUSED);
-    char *mark = strstr(message, "^\n");
-    return mark == NULL ? message : mark + 2;
-}
+/* A text with what is said of it: the hint's line, its kind, and the bytes that it speaks of. */
+struct hinted {
+    const char *text, *line;
+    enum weedle_hint hint;
+    size_t place, length;
+};
+
+static const struct hinted HINTED[] = {
+    {"interface A { atribute long x; };", "1:15: `attribute` in place of `atribute`?\n", WEEDLE_HINT_KEYWORD, 14, 8},
+    {"/// a\ntypedef long T;", "1:1: no docstring here\n", WEEDLE_HINT_DOCSTRING, 0, 5},
+    {"interface A { }\ninterface B { };", "1:16: `;` missing here?\n", WEEDLE_HINT_MISSING, 15, 0},
+    {"enum E { \"a };", "1:10: the string opens here\n", WEEDLE_HINT_OPEN_STRING, 9, 1},
+    {"enum E { \"a,\n\"b\" };", "1:10: the string that opens here spans lines\n", WEEDLE_HINT_SPLIT_STRING, 9, 1},
+    {"\xef\xbb\xbftypedef long T;", "1:1: a byte order mark\n", WEEDLE_HINT_BYTE_ORDER_MARK, 0, 3},
+    {"// a", "1:1: no definitions\n", WEEDLE_HINT_NO_DEFINITIONS, 0, 0},
+    {"enum E { \"a\" \"b\" };", "1:13: `,` missing here?\n", WEEDLE_HINT_MISSING, 12, 0},
+    {"enum E { \"a\"; \"b\" };", "1:13: `,` in place of `;`?\n", WEEDLE_HINT_WRONG_SIGN, 12, 1},
+    {"interface A { attribute long x;; };", "1:32: no `;` here\n", WEEDLE_HINT_EXTRA, 31, 1},
+    {"interface A { attribute readonly long x; };", "1:15: `readonly` in front of `attribute`?\n",
+     WEEDLE_HINT_WORD_ORDER, 14, 18},
+    {"dictionary D { const long X = 1; };", "", WEEDLE_HINT_NONE, 0, 0},
+};
 
 static void test_hints(void) {
-    char message[1024];
-    CHECK(strcmp(hint_of("interface A { atribute long x; };", message), "1:15: `attribute` in place of `atribute`?\n") == 0);
-    CHECK(strcmp(hint_of("/// a\ntypedef long T;", message), "1:1: no docstring here\n") == 0);
-    CHECK(strcmp(hint_of("interface A { }\ninterface B { };", message), "1:16: `;` missing here?\n") == 0);
-    CHECK(strcmp(hint_of("enum E { \"a };", message), "1:10: the string opens here\n") == 0);
-    CHECK(strcmp(hint_of("\xef\xbb\xbftypedef long T;", message), "1:1: a byte order mark\n") == 0);
-    CHECK(strcmp(hint_of("// a", message), "1:1: no definitions\n") == 0);
-    CHECK(strcmp(hint_of("enum E { \"a\" \"b\" };", message), "1:13: `,` missing here?\n") == 0);
-    CHECK(strcmp(hint_of("interface A { attribute long x;; };", message), "1:32: no `;` here\n") == 0);
-    CHECK(strcmp(hint_of("dictionary D { const long X = 1; };", message), "") == 0);
+    for (size_t i = 0; i < sizeof HINTED / sizeof *HINTED; i++) {
+        const struct hinted *it = &HINTED[i];
+        struct weedle_refusal said;
+        char message[1024];
+        CHECK(weedle_explain(it->text, strlen(it->text), message, sizeof message, &said) == WEEDLE_STATUS_REFUSED);
+        CHECK(strcmp(message + said.hint_offset, it->line) == 0);
+        CHECK(said.hint == it->hint && said.hint_place == it->place && said.hint_length == it->length);
+        CHECK(said.length == strlen(message) && said.hint_offset == said.length - strlen(it->line));
+    }
 }
 
 /* Laid out by hand, as docs/LAYOUT.md says. */
@@ -313,21 +316,21 @@ static void test_memory_that_is_refused(void) {
         char message[200], whole[200];
         uint32_t status, ample_status = weedle_syntax(texts[i], strlen(texts[i]), nodes, COUNT, &ample);
         uint32_t said = weedle_explain(texts[i], strlen(texts[i]), whole, sizeof whole, &ample_refusal);
-        for (refused = 1;; refused++) {
-            requests = 0, counts = 1;
+        for (unsigned long number = 1;; number++) {
+            refuse(number);
             status = weedle_syntax(texts[i], strlen(texts[i]), nodes, COUNT, &answer);
-            counts = 0;
-            if (requests < refused)
+            refuse_none();
+            if (none_was_refused())
                 break;
             CHECK(status == WEEDLE_STATUS_NO_MEMORY && answer.count == 0 && answer.rest == 0);
         }
         CHECK(refused > 1 && status == ample_status && answer.count == ample.count && answer.rest == ample.rest);
-        for (refused = 1;; refused++) {
-            requests = 0, counts = 1;
+        for (unsigned long number = 1;; number++) {
+            refuse(number);
             strcpy(message, "xyz");
             status = weedle_explain(texts[i], strlen(texts[i]), message, sizeof message, &refusal);
-            counts = 0;
-            if (requests < refused)
+            refuse_none();
+            if (none_was_refused())
                 break;
             CHECK(status == WEEDLE_STATUS_NO_MEMORY && strcmp(message, "xyz") == 0);
         }
@@ -344,12 +347,12 @@ static void test_memory_of_a_layout_that_is_refused(void) {
     char whole[100] = {0}, out[100];
     uint32_t status;
     CHECK(weedle_format(text, strlen(text), whole, sizeof whole, &ample) == WEEDLE_STATUS_READ);
-    for (refused = 1;; refused++) {
-        requests = 0, counts = 1;
+    for (unsigned long number = 1;; number++) {
+        refuse(number);
         strcpy(out, "xyz");
         status = weedle_format(text, strlen(text), out, sizeof out, &formatted);
-        counts = 0;
-        if (requests < refused)
+        refuse_none();
+        if (none_was_refused())
             break;
         CHECK(status == WEEDLE_STATUS_NO_MEMORY && strcmp(out, "xyz") == 0 && formatted.length == 0);
     }

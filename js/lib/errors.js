@@ -5,20 +5,36 @@
  * @module
  */
 
-const { explanationOf } = require("./explanation.js");
+const { explanationOf, inARow, wordsOf } = require("./explanation.js");
 
-/** A text that the grammar doesn't read whole. */
+/** A text that the grammar doesn't read whole, or a part of one that is unread. */
 class Refused extends SyntaxError {
-  constructor(text, start) {
-    const { place, expected, hint, message } = explanationOf(text, start);
+  #text;
+  #part;
+  #words;
+
+  constructor(text, start, part = null) {
+    const { place, hint, hintKind, hintPlace, hintLength, message } = explanationOf(text, start, part);
     super(message);
     const { line, column } = text.position(place);
-    Object.assign(this, { line, column, expected, hint });
+    this.#text = text;
+    this.#part = part;
+    Object.assign(this, { line, column, hint, hintKind });
+    this.hintByteSpan = hintKind && { start: hintPlace, end: hintPlace + hintLength };
+    this.hintSpan = hintKind && { start: text.units(hintPlace), end: text.units(hintPlace + hintLength) };
     Object.assign(this, { start: text.units(start), place: text.units(place), byteStart: start, bytePlace: place });
   }
 
   get name() {
     return "Refused";
+  }
+
+  get words() {
+    return (this.#words ??= Object.freeze(wordsOf(this.#text, this.byteStart, this.#part)));
+  }
+
+  get expected() {
+    return inARow(this.words);
   }
 }
 

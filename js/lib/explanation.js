@@ -1,31 +1,65 @@
 "use strict";
 
 /**
- * Why a text is refused, as the library says it: the one place that takes its message apart.
+ * Why a text is refused, as the library says it.
  * @module
  */
 
 const { Status, library } = require("./library.js");
 
-/** A message begins with line and column, and what was expected ends with its line. */
-const MESSAGE = /^\d+:\d+: (?:expected )?(.*)/;
-/** Behind that line, the line of the text and the mark stands the hint, if there is one. */
-const HINT = 3;
+/** Kinds of hints, by their numbers: what `enum weedle_hint` of include/weedle.h has. */
+const HINTS = Object.freeze([
+  null,
+  "Keyword",
+  "Missing",
+  "Extra",
+  "WrongSign",
+  "WordOrder",
+  "Docstring",
+  "OpenString",
+  "SplitString",
+  "ByteOrderMark",
+  "NoDefinitions",
+]);
+/** How many words a message has at most. */
+const SHOWN = 6;
+
+/** Words in a row, as a message has them: six at most, and how many more there are. */
+function inARow(words) {
+  const shown = words.length > SHOWN ? [...words.slice(0, SHOWN), `${words.length - SHOWN} more`] : words;
+  const [first, last] = [shown.slice(0, -1), shown.slice(-1)];
+  return first.length ? `${first.join(", ")} or ${last}` : last.join();
+}
+
+/** What would go on where the reading from a byte on comes furthest, or that of a part; nothing where memory runs out. */
+function wordsOf(text, start, part) {
+  const found = part ? library.expectedPart(text.bytes, part) : library.expected(text.bytes, start);
+  return found.words.split("\0").slice(0, -1);
+}
 
 /**
- * Where and why a text is refused whose unread rest begins at `start`; no more than that where memory runs out.
- * @returns {{place: number, expected: string, hint: string | null, message: string}} the place in bytes
+ * Where and why a text is refused whose unread rest begins at `start`, or why the part is unread that begins there; no
+ * more than that where memory runs out.
+ * @returns {{place: number, hint: string | null, hintKind: string | null, hintPlace: number, hintLength: number,
+ *   message: string}} places in bytes
  */
-function explanationOf(text, start) {
-  const { status, place, message } = library.explain(text.bytes);
+function explanationOf(text, start, part) {
+  const found = part ? library.explainPart(text.bytes, part) : library.explain(text.bytes, start);
+  const { status, place, message, hint, hintKind, hintPlace, hintLength } = found;
   if (status !== Status.REFUSED) {
     const { line, column } = text.position(start);
     const said = `${line}:${column}: unread from here on; memory ran out for more`;
-    return { place: start, expected: "", hint: null, message: said };
+    const none = { hint: null, hintKind: null, hintPlace: start, hintLength: 0 };
+    return { place: start, ...none, message: said };
   }
-  const expected = MESSAGE.exec(message)?.[1] ?? "";
-  const hint = message.split("\n")[HINT] || null;
-  return { place, expected, hint, message: message.replace(/\n$/, "") };
+  return {
+    place,
+    hint: hint.trimEnd() || null,
+    hintKind: HINTS[hintKind],
+    hintPlace,
+    hintLength,
+    message: message.replace(/\n$/, ""),
+  };
 }
 
-module.exports = { explanationOf };
+module.exports = { explanationOf, inARow, wordsOf };

@@ -58,7 +58,8 @@ class Node {
   }
 
   get parent() {
-    return this.#node === 0 ? null : new Node(this.#tree, this.#tree.above(this.#node));
+    const above = this.#tree.above(this.#node);
+    return above === this.#node ? null : new Node(this.#tree, above);
   }
 
   walk() {

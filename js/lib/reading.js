@@ -68,4 +68,36 @@ function treeOf(given) {
   return new Tree(text, room.subarray(0, found.count * STRIDE));
 }
 
-module.exports = { faultOf, textOf, treeOf };
+/** How many numbers a part has, and for how many parts there is room at first beside one for each byte. */
+const [PART_STRIDE, LEAST_PARTS] = [5, 64];
+
+/** Room for so many parts and nodes. */
+function roomsFor(text, parts, nodes) {
+  const rooms = [roomFor((parts * PART_STRIDE) / STRIDE), roomFor(nodes)];
+  if (rooms.includes(null)) {
+    throw new NoMemory(text);
+  }
+  return rooms;
+}
+
+/** The numbers of the parts of a text, each a Uint32Array, and the nodes of those that are read. */
+function partsOf(given) {
+  const text = textOf(given);
+  const { length } = text.bytes;
+  // a multiple of what makes the room of parts one of whole nodes
+  const many = STRIDE * Math.ceil((length + LEAST_PARTS) / STRIDE);
+  let [parts, nodes] = roomsFor(text, many, Math.ceil(length * NODES_A_BYTE) + LEAST_NODES);
+  let found = library.recover(text.bytes, parts, nodes);
+  if (found.status === Status.NO_ROOM) {
+    [parts, nodes] = roomsFor(text, STRIDE * Math.ceil(found.parts / STRIDE), found.nodes);
+    found = library.recover(text.bytes, parts, nodes);
+  }
+  if (found.status !== Status.READ) {
+    throw faultOf(text, found.status, found.rest);
+  }
+  const starts = Array.from({ length: found.parts }, (_, at) => at * PART_STRIDE);
+  const numbers = starts.map((at) => parts.slice(at, at + PART_STRIDE));
+  return { numbers, tree: new Tree(text, nodes.subarray(0, found.nodes * STRIDE)) };
+}
+
+module.exports = { faultOf, partsOf, textOf, treeOf };

@@ -54,10 +54,10 @@ class Tree {
     return this.#behind[node];
   }
 
-  /** The node right above a node; of the first it is that itself. */
+  /** The node right above a node; of one that stands in no other it is that itself. */
   above(node) {
     if (!this.#above) {
-      this.#above = new Uint32Array(this.count);
+      this.#above = Uint32Array.from({ length: this.count }, (_, node) => node);
       this.#link((child, parent) => (this.#above[child] = parent));
     }
     return this.#above[node];
@@ -71,6 +71,15 @@ class Tree {
       child = this.#behind[child];
     }
     return child < end ? child : -1;
+  }
+
+  /** The nodes that stand in no other. */
+  roots() {
+    const found = [];
+    for (let node = 0; node < this.count; node = this.behind(node)) {
+      found.push(node);
+    }
+    return found;
   }
 
   /** The nodes right below a node. */
@@ -123,7 +132,7 @@ class Tree {
     return end;
   }
 
-  /** Which node stands behind each and all below it; calls `child(node, parent)` for each but the first. */
+  /** Which node stands behind each and all below it; calls `child(node, parent)` for each that stands in one. */
   #link(child = () => {}) {
     const behind = new Uint32Array(this.count).fill(this.count);
     // the nodes that the next one may stand in, by their depths

@@ -33,10 +33,12 @@ const isOf = (one, other) => one === other || one.prototype instanceof other;
 /** The value that a node stands in, or null. */
 function parentOf(tree, node) {
   const values = rulesOfAll();
-  for (let above = tree.above(node); above > 0; above = tree.above(above)) {
+  let [below, above] = [node, tree.above(node)];
+  while (above !== below) {
     if (values[tree.rule(above)] === 1) {
       return made(tree, above);
     }
+    [below, above] = [above, tree.above(above)];
   }
   return null;
 }

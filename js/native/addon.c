@@ -3,7 +3,12 @@
  *
  *     syntax(bytes, room)   writes four numbers a node to a Uint32Array where there is room for all, and answers {status,
  *                           count}; or {status, rest} of a text that isn't read whole
- *     explain(bytes)        {status, start, place, message}
+ *     explain(bytes, start) why what stands from a byte on is refused: {status, place, message, hint, hintKind, hintPlace,
+ *                           hintLength}; `hint` is the line of the message that has it
+ *     expected(bytes, start)  what would go on there: {status, words}, with a zero behind each word
+ *     explainPart(bytes, part), expectedPart(bytes, part)  the same of an unread part, which is a Uint32Array of its numbers
+ *     recover(bytes, parts, nodes)  writes five numbers a part, and four a node, to Uint32Arrays where there is room for
+ *                           all, and answers {status, parts, nodes, rest}
  *     format(bytes)         the bytes laid out; or {status, rest}
  *     version()             the version of the library, a byte each for its three numbers
  *     rules()               how many rules its grammar has
@@ -19,11 +24,12 @@
 
 #include "weedle.h"
 
-/* How many numbers a node has. */
+/* How many numbers a node has, and a part. */
 #define NUMBERS (sizeof(struct weedle_node) / sizeof(uint32_t))
+#define PART_NUMBERS (sizeof(struct weedle_part) / sizeof(uint32_t))
 /* How much longer than its text a layout may be at first. */
 #define MORE 64
-/* Any message of weedle_explain fits. */
+/* Any message fits, and any words that are expected. */
 #define MESSAGE_ROOM 4096
 
 struct bytes {
@@ -77,19 +83,18 @@ static napi_value answer_of(napi_env env, uint32_t status, const char *name, siz
     return object;
 }
 
-/* The room of a Uint32Array: where it is, and for how many nodes. */
-static bool room_of(napi_env env, napi_value value, struct weedle_node **nodes, size_t *room) {
-    static struct weedle_node none;
+/* The numbers of a Uint32Array: where they are, and how many. No pointer is null, also where there is none. */
+static bool numbers_of(napi_env env, napi_value value, void **numbers, size_t *count) {
+    static struct weedle_part none;
     napi_typedarray_type type;
     bool is_array = false;
     void *data = NULL;
     if (napi_is_typedarray(env, value, &is_array) != napi_ok || !is_array
-        || napi_get_typedarray_info(env, value, &type, room, &data, NULL, NULL) != napi_ok || type != napi_uint32_array) {
+        || napi_get_typedarray_info(env, value, &type, count, &data, NULL, NULL) != napi_ok || type != napi_uint32_array) {
         failed(env, "a Uint32Array is wanted");
         return false;
     }
-    *room /= NUMBERS;
-    *nodes = *room ? data : &none;
+    *numbers = *count ? data : &none;
     return true;
 }
 
@@ -97,34 +102,155 @@ static napi_value syntax(napi_env env, napi_callback_info info) {
     size_t count = 2, room;
     napi_value arguments[2];
     struct bytes bytes;
-    struct weedle_node *nodes;
+    void *nodes;
     struct weedle_answer answer;
     if (napi_get_cb_info(env, info, &count, arguments, NULL, NULL) != napi_ok
-        || !bytes_of(env, arguments[0], &bytes) || !room_of(env, arguments[1], &nodes, &room)) {
+        || !bytes_of(env, arguments[0], &bytes) || !numbers_of(env, arguments[1], &nodes, &room)) {
         return NULL;
     }
-    uint32_t status = weedle_syntax(bytes.data, bytes.length, nodes, room, &answer);
+    uint32_t status = weedle_syntax(bytes.data, bytes.length, nodes, room / NUMBERS, &answer);
     bool is_counted = status == WEEDLE_STATUS_READ || status == WEEDLE_STATUS_NO_ROOM;
     return answer_of(env, status, is_counted ? "count" : "rest", is_counted ? answer.count : answer.rest);
 }
 
+/* The bytes of a Buffer and a place in them. */
+static bool bytes_and_place(napi_env env, napi_callback_info info, struct bytes *bytes, size_t *place) {
+    size_t count = 2;
+    napi_value arguments[2];
+    uint32_t given;
+    if (napi_get_cb_info(env, info, &count, arguments, NULL, NULL) != napi_ok || !bytes_of(env, arguments[0], bytes)) {
+        return false;
+    }
+    if (napi_get_value_uint32(env, arguments[1], &given) != napi_ok) {
+        failed(env, "a place is wanted");
+        return false;
+    }
+    *place = given;
+    return true;
+}
+
+static bool set_text(napi_env env, napi_value object, const char *name, const char *text, size_t length) {
+    napi_value value;
+    return napi_create_string_utf8(env, text, length, &value) == napi_ok
+        && napi_set_named_property(env, object, name, value) == napi_ok;
+}
+
+/* {status, place, message, ..} of a refusal. */
+static napi_value refusal_of(napi_env env, uint32_t status, const struct weedle_refusal *refusal, const char *message) {
+    napi_value object;
+    size_t offset = status == WEEDLE_STATUS_REFUSED && refusal->length < MESSAGE_ROOM ? refusal->hint_offset : 0;
+    if (napi_create_object(env, &object) != napi_ok || !set_number(env, object, "status", status)
+        || !set_number(env, object, "place", (double)refusal->place)
+        || !set_number(env, object, "hintKind", (double)refusal->hint)
+        || !set_number(env, object, "hintPlace", (double)refusal->hint_place)
+        || !set_number(env, object, "hintLength", (double)refusal->hint_length)
+        || !set_text(env, object, "message", message, NAPI_AUTO_LENGTH)
+        || !set_text(env, object, "hint", message + offset, NAPI_AUTO_LENGTH)) {
+        return failed(env, "no object");
+    }
+    return object;
+}
+
 static napi_value explain(napi_env env, napi_callback_info info) {
     struct bytes bytes;
-    struct weedle_refusal refusal = {0, 0, 0, 0, 0};
+    size_t start;
+    struct weedle_refusal refusal;
     char message[MESSAGE_ROOM];
-    napi_value object, said;
-    if (!only_bytes(env, info, &bytes)) {
+    if (!bytes_and_place(env, info, &bytes, &start)) {
         return NULL;
     }
-    uint32_t status = weedle_explain(bytes.data, bytes.length, message, sizeof message, &refusal);
+    uint32_t status = weedle_explain_from(bytes.data, bytes.length, start, message, sizeof message, &refusal);
     if (status != WEEDLE_STATUS_REFUSED) {
         message[0] = 0;
     }
+    return refusal_of(env, status, &refusal, message);
+}
+
+/* {status, words}. */
+static napi_value words_of(
+    napi_env env, uint32_t status, const struct weedle_expected_words *expected, const char *words) {
+    napi_value object;
+    size_t length = status == WEEDLE_STATUS_READ ? expected->length : 0;
     if (napi_create_object(env, &object) != napi_ok || !set_number(env, object, "status", status)
-        || !set_number(env, object, "start", (double)refusal.start)
-        || !set_number(env, object, "place", (double)refusal.place)
-        || napi_create_string_utf8(env, message, NAPI_AUTO_LENGTH, &said) != napi_ok
-        || napi_set_named_property(env, object, "message", said) != napi_ok) {
+        || !set_text(env, object, "words", words, length)) {
+        return failed(env, "no object");
+    }
+    return object;
+}
+
+static napi_value expected(napi_env env, napi_callback_info info) {
+    struct bytes bytes;
+    size_t start;
+    struct weedle_expected_words found;
+    char words[MESSAGE_ROOM];
+    if (!bytes_and_place(env, info, &bytes, &start)) {
+        return NULL;
+    }
+    uint32_t status = weedle_expected(bytes.data, bytes.length, start, words, sizeof words, &found);
+    return words_of(env, status, &found, words);
+}
+
+/* The bytes of a Buffer and the numbers of a part. */
+static bool bytes_and_part(napi_env env, napi_callback_info info, struct bytes *bytes, struct weedle_part *part) {
+    size_t count = 2, numbers;
+    napi_value arguments[2];
+    void *data;
+    if (napi_get_cb_info(env, info, &count, arguments, NULL, NULL) != napi_ok || !bytes_of(env, arguments[0], bytes)
+        || !numbers_of(env, arguments[1], &data, &numbers)) {
+        return false;
+    }
+    if (numbers != PART_NUMBERS) {
+        failed(env, "the numbers of a part are wanted");
+        return false;
+    }
+    memcpy(part, data, sizeof *part);
+    return true;
+}
+
+static napi_value explain_part(napi_env env, napi_callback_info info) {
+    struct bytes bytes;
+    struct weedle_part part;
+    struct weedle_refusal refusal;
+    char message[MESSAGE_ROOM];
+    if (!bytes_and_part(env, info, &bytes, &part)) {
+        return NULL;
+    }
+    uint32_t status = weedle_explain_part(bytes.data, bytes.length, &part, message, sizeof message, &refusal);
+    if (status != WEEDLE_STATUS_REFUSED) {
+        message[0] = 0;
+    }
+    return refusal_of(env, status, &refusal, message);
+}
+
+static napi_value expected_part(napi_env env, napi_callback_info info) {
+    struct bytes bytes;
+    struct weedle_part part;
+    struct weedle_expected_words found;
+    char words[MESSAGE_ROOM];
+    if (!bytes_and_part(env, info, &bytes, &part)) {
+        return NULL;
+    }
+    uint32_t status = weedle_expected_part(bytes.data, bytes.length, &part, words, sizeof words, &found);
+    return words_of(env, status, &found, words);
+}
+
+static napi_value recover(napi_env env, napi_callback_info info) {
+    size_t count = 3, part_room, room;
+    napi_value arguments[3], object;
+    struct bytes bytes;
+    void *parts, *nodes;
+    struct weedle_recovered found;
+    if (napi_get_cb_info(env, info, &count, arguments, NULL, NULL) != napi_ok
+        || !bytes_of(env, arguments[0], &bytes) || !numbers_of(env, arguments[1], &parts, &part_room)
+        || !numbers_of(env, arguments[2], &nodes, &room)) {
+        return NULL;
+    }
+    uint32_t status = weedle_recover(
+        bytes.data, bytes.length, parts, part_room / PART_NUMBERS, nodes, room / NUMBERS, &found);
+    if (napi_create_object(env, &object) != napi_ok || !set_number(env, object, "status", status)
+        || !set_number(env, object, "parts", (double)found.parts)
+        || !set_number(env, object, "nodes", (double)found.nodes)
+        || !set_number(env, object, "rest", (double)found.rest)) {
         return failed(env, "no object");
     }
     return object;
@@ -193,7 +319,8 @@ NAPI_MODULE_INIT() {
         const char *name;
         napi_callback call;
     } calls[] = {
-        {"syntax", syntax}, {"explain", explain}, {"format", format},
+        {"syntax", syntax}, {"explain", explain}, {"expected", expected}, {"format", format},
+        {"explainPart", explain_part}, {"expectedPart", expected_part}, {"recover", recover},
         {"version", version}, {"rules", rules}, {"describe", describe},
     };
     for (size_t at = 0; at < sizeof calls / sizeof *calls; at++) {

@@ -2,12 +2,11 @@
 
 import pickle
 import unittest
-from unittest import mock
 
 import support  # noqa: F401  (finds the package)
 import weedle
 from test_values import read_texts
-from weedle import _library, common, types
+from weedle import common, types
 from weedle.grammar import RULES
 
 # A rule, a text, and what of it the rule reads; None where it fails.
@@ -22,7 +21,6 @@ TABLE = [
 ]
 
 
-@unittest.skipUnless(_library.HAS_RULES, "the shared object reads no rule alone")
 class Rules(unittest.TestCase):
     def test_worked_texts(self):
         for rule, text, read in TABLE:
@@ -75,10 +73,6 @@ class Asked(unittest.TestCase):
     def test_no_such_rule(self):
         with self.assertRaisesRegex(ValueError, "no rule has the name 'typ'"):
             weedle.syntax("long", "typ")
-
-    def test_a_shared_object_that_is_too_old(self):
-        with mock.patch.object(_library, "HAS_RULES", False), self.assertRaisesRegex(NotImplementedError, "build.sh"):
-            weedle.syntax("long", "type")
 
 
 class Values(unittest.TestCase):

@@ -1,6 +1,6 @@
 """Reads files of WebIDL, and writes what stands in them.
 
-    weedle [--json | --syntax | --format [--check | --write]] [FILE..]
+    weedle [--json | --syntax | --format [--check | --write]] [--errors N] [FILE..]
     weedle lint [--json] [--ignore CODE].. [--known FILE].. FILE..
     weedle lsp
 
@@ -12,11 +12,14 @@ standard input, which `-` names too. With
 the `file` and the `definition`. With `--syntax` it writes each node on a line, indented by its
 depth, with `--format` the text laid out; what is refused, and why, it then says on standard error.
 With none of them it says that on standard output, and last how many files were read and refused, as
-weedle_check does. With `--format --check` it names the files whose layout would change, and with
-`--format --write` it replaces each of them at once; both say on standard output what is refused and
-how many there were, as weedle_format does. The status is 0 where all is read, 1 where something is
-refused or would change, 2 where a file can't be read or isn't UTF-8, 3 where memory ran out, 4 where
-a file or the output can't be written, and 5 where the arguments are others; of several the greatest.
+weedle_check does. Of each file it says the first N errors, 20 where no number is given, and how many
+more there are; where files have more errors than one, the last line has their number. With
+`--format --check` it names the files whose layout would change, and with `--format --write` it
+replaces each of them at once; both say on standard output what is refused, of each file the first
+error, and how many there were, as weedle_format does. The status is 0 where all is read, 1 where
+something is refused or would change, 2 where a file can't be read or isn't UTF-8, 3 where memory ran
+out, 4 where a file or the output can't be written, and 5 where the arguments are others; of several
+the greatest.
 """
 
 from __future__ import annotations
@@ -32,11 +35,13 @@ from contextlib import suppress
 from enum import IntEnum
 from typing import BinaryIO, Callable, Dict, NoReturn, Optional, Sequence, Tuple
 
-from weedle import Refused, __version__, format, lint, parse, syntax
+from weedle import Refused, __version__, format, lint, parse, recover, syntax
 
 # What writes the text of a file, whose name it is told where there are several, and where it is laid
 # out. It gives whether the layout would change.
 Write = Callable[[bytes, BinaryIO, Optional[str]], Optional[bool]]
+# How many errors of a file are said where no number is given.
+MOST_ERRORS = 20
 # How a message calls standard input, and what names it.
 STANDARD_INPUT, DASH = "<stdin>", "-"
 EPILOG = """\
@@ -162,9 +167,10 @@ class Run:
     The function is told the name of the file where there are several, or where it is laid out.
     """
 
-    def __init__(self, write: Write, out: BinaryIO, is_named: bool) -> None:
-        self.write, self.out, self.is_named = write, out, is_named or bool(COUNTS.get(write))
-        self.files = self.refused = self.unread = self.changed = 0
+    def __init__(self, write: Write, out: BinaryIO, is_named: bool, most: int = MOST_ERRORS) -> None:
+        self.write, self.out, self.most = write, out, most
+        self.is_named = is_named or bool(COUNTS.get(write))
+        self.files = self.refused = self.unread = self.changed = self.errors = 0
 
     def read(self, word: str) -> Status:
         """Reads the file that an argument names, and writes what stands in it."""
@@ -177,7 +183,10 @@ class Run:
         try:
             changes = bool(self.write(data, self.out, name if self.is_named else None))
         except Refused as refused:
-            self.tell(f"{name}:{refused}")
+            if COUNTS.get(self.write):
+                self.tell(f"{name}:{refused}")
+            else:
+                self.tell_all(name, data, refused)
             self.files, self.refused = self.files + 1, self.refused + 1
             return Status.REFUSED
         except UnicodeDecodeError:
@@ -188,6 +197,19 @@ class Run:
             return self.complain(name, f"cannot write file: {why}", Status.UNWRITTEN)
         self.files, self.changed = self.files + 1, self.changed + changes
         return Status.REFUSED if changes and self.write is write_name else Status.READ
+
+    def tell_all(self, name: str, data: bytes, refused: Refused) -> None:
+        """Says all errors of a file: the first as `parse` has it, the others part by part."""
+        try:
+            others = recover(data).errors[1:]
+        except MemoryError:
+            others = []
+        self.errors += 1 + len(others)
+        for it in [refused, *others][:self.most]:
+            self.tell(f"{name}:{it}")
+        left = 1 + len(others) - self.most
+        if left > 0:
+            self.tell(f"{name}: {left} more error{'s' * (left != 1)}")
 
     def tell(self, line: str) -> None:
         """Says why a file is refused: where files are counted, there."""
@@ -210,6 +232,7 @@ class Run:
         words = [f"{self.files} file{'s' * (self.files != 1)}"]
         words += [f"{self.changed} {did}"] if did else []
         words.append(f"{self.refused} refused")
+        words += [f"{self.errors} errors"] if self.errors > self.refused else []
         words += [f"{self.unread} {'failed' if did else 'not read'}"] if self.unread else []
         return ", ".join(words)
 
@@ -235,6 +258,14 @@ LAYOUTS: Tuple[Option, ...] = (
 )
 
 
+def number(word: str) -> int:
+    """How many errors are said of a file, from 1 on."""
+    found = int(word)
+    if found < 1:
+        raise ValueError(word)
+    return found
+
+
 def parser_of_words() -> Parser:
     """The parser of the arguments."""
     parser = Parser(
@@ -245,6 +276,10 @@ def parser_of_words() -> Parser:
         group = parser.add_mutually_exclusive_group()
         for option, write, words in options:
             group.add_argument(option, dest=place, action="store_const", const=write, help=words)
+    parser.add_argument(
+        "--errors", metavar="N", type=number, default=MOST_ERRORS,
+        help=f"say so many errors of each file at most ({MOST_ERRORS})",
+    )
     parser.add_argument("--version", action="version", version=f"%(prog)s {__version__}")
     parser.add_argument(
         "files", metavar="FILE", nargs="*", help="else standard input is read, as by -",
@@ -282,7 +317,7 @@ def main(words: Optional[Sequence[str]] = None) -> int:
     try:
         if is_lint:
             return lint.main(words[1:], out)
-        return Run(wanted.write, out, len(files) > 1).read_all(files)
+        return Run(wanted.write, out, len(files) > 1, wanted.errors).read_all(files)
     except OSError as fault:
         # what waits is let go of: Python 3.13 says of a buffer that it can't flush it
         with suppress(OSError):

@@ -7,7 +7,7 @@ import mmap
 import os
 from ctypes import POINTER, Structure, byref, c_char_p, c_size_t, c_uint32
 from pathlib import Path
-from typing import NamedTuple, Optional, Union
+from typing import Any, Callable, List, NamedTuple, Optional, Tuple, Union
 
 from weedle.grammar import RULES, VERSION
 
@@ -24,6 +24,10 @@ FIELDS = ("rule", "depth", "start", "end")
 NODE_SIZE = len(FIELDS) * ctypes.sizeof(NUMBER)
 # What `weedle_syntax` answers.
 READ, REFUSED, NOT_UTF8, NO_MEMORY, NO_ROOM, TOO_LONG = range(6)
+# Few texts have more parts than bytes.
+LEAST_PARTS = 64
+# How many bytes there is room for at first: no message was found that has 1,024, and no words that have 2,048.
+MESSAGE_ROOM = WORDS_ROOM = 4096
 # How many nodes there is room for at first: the densest text that was found has 9.3 for a byte.
 NODES_A_BYTE, LEAST_NODES = 12, 64
 # Room of more bytes is taken page by page as it is written to, and none is kept free for it before:
@@ -41,7 +45,7 @@ class SyntaxAnswer(Structure):
 
 
 class ExplainAnswer(Structure):
-    """Where a text is refused, and how long the message is."""
+    """Where a text is refused, how long the message is, and what the hint is."""
 
     _fields_ = [
         ("start", c_size_t),
@@ -49,7 +53,23 @@ class ExplainAnswer(Structure):
         ("line", c_size_t),
         ("column", c_size_t),
         ("length", c_size_t),
+        ("hint", c_size_t),
+        ("hint_place", c_size_t),
+        ("hint_length", c_size_t),
+        ("hint_offset", c_size_t),
     ]
+
+
+class ExpectAnswer(Structure):
+    """How many words there are, how long they are, and where they are expected."""
+
+    _fields_ = [("count", c_size_t), ("length", c_size_t), ("place", c_size_t)]
+
+
+class RecoverAnswer(Structure):
+    """How many parts there are, how many nodes they have, and how many parts are unread."""
+
+    _fields_ = [("parts", c_size_t), ("nodes", c_size_t), ("unread", c_size_t), ("rest", c_size_t)]
 
 
 class FormatAnswer(Structure):
@@ -59,12 +79,37 @@ class FormatAnswer(Structure):
 
 
 class Explanation(NamedTuple):
-    """Why a text is refused: the place in bytes, its line and column, and the message."""
+    """Why a text is refused: the place in bytes, its line and column, the message and the hint."""
 
     place: int
     line: int
     column: int
     message: str
+    #: The line of the message that has the hint; empty where there is none.
+    hint: str
+    #: Its kind, as `enum weedle_hint` of include/weedle.h has it, and the bytes that it speaks of.
+    kind: int
+    hint_place: int
+    hint_length: int
+
+
+class Part(NamedTuple):
+    """A part: its rule, whether it is read, where it begins and ends, and where its definition begins."""
+
+    rule: int
+    is_read: int
+    start: int
+    end: int
+    definition: int
+
+
+class PartNumbers(Structure):
+    """A part as C has it."""
+
+    _fields_ = [(name, NUMBER) for name in Part._fields]
+
+
+PART_FIELDS, PART_SIZE = len(Part._fields), ctypes.sizeof(PartNumbers)
 
 
 class Unread(Exception):
@@ -124,27 +169,28 @@ def _unloaded(path: Path, fault: OSError) -> str:
     return f"weedle {said}. python/build.sh of the repository makes it. ({fault})"
 
 
+# What a call is given behind the text, before the room that it writes to.
+TEXT: List[Any] = [c_char_p, c_size_t]
+ROOM: List[Any] = [ctypes.c_void_p, c_size_t]
+CALLS = {
+    "weedle_syntax": [*TEXT, *ROOM, POINTER(SyntaxAnswer)],
+    "weedle_syntax_of": [c_uint32, *TEXT, *ROOM, POINTER(SyntaxAnswer)],
+    "weedle_explain_from": [*TEXT, c_size_t, *ROOM, POINTER(ExplainAnswer)],
+    "weedle_explain_part": [*TEXT, POINTER(PartNumbers), *ROOM, POINTER(ExplainAnswer)],
+    "weedle_expected": [*TEXT, c_size_t, *ROOM, POINTER(ExpectAnswer)],
+    "weedle_expected_part": [*TEXT, POINTER(PartNumbers), *ROOM, POINTER(ExpectAnswer)],
+    "weedle_recover": [*TEXT, *ROOM, *ROOM, POINTER(RecoverAnswer)],
+    "weedle_format": [*TEXT, *ROOM, POINTER(FormatAnswer)],
+}
+
+
 def _declare(library: ctypes.CDLL) -> None:
-    library.weedle_syntax.argtypes = [
-        c_char_p, c_size_t, ctypes.c_void_p, c_size_t, POINTER(SyntaxAnswer),
-    ]
-    library.weedle_syntax.restype = c_uint32
-    if hasattr(library, "weedle_syntax_of"):
-        library.weedle_syntax_of.argtypes = [c_uint32, *library.weedle_syntax.argtypes]
-        library.weedle_syntax_of.restype = c_uint32
-    library.weedle_explain.argtypes = [
-        c_char_p, c_size_t, ctypes.c_void_p, c_size_t, POINTER(ExplainAnswer),
-    ]
-    library.weedle_explain.restype = c_uint32
-    library.weedle_format.argtypes = [
-        c_char_p, c_size_t, ctypes.c_void_p, c_size_t, POINTER(FormatAnswer),
-    ]
-    library.weedle_format.restype = c_uint32
+    for name, types in CALLS.items():
+        call = getattr(library, name)
+        call.argtypes, call.restype = types, c_uint32
 
 
 LIBRARY = _loaded()
-# Whether it reads a rule alone: those that were built before version 0.11 don't.
-HAS_RULES = hasattr(LIBRARY, "weedle_syntax_of")
 
 
 def _room(size: int) -> Buffer:
@@ -174,15 +220,13 @@ def _call(data: bytes, nodes: int, rule: Optional[int] = None) -> tuple[int, Buf
 def _first_call(data: bytes, rule: Optional[int]) -> tuple[int, Buffer, SyntaxAnswer]:
     """The same with room for all nodes; where the system grants no such room, they are counted."""
     try:
-        return _call(data, len(data) * NODES_A_BYTE + LEAST_NODES, rule)
+        return _call(data, _most_nodes(data), rule)
     except MemoryError:
         return _call(data, 0, rule)
 
 
 def read_nodes(data: bytes, rule: Optional[int] = None) -> memoryview:
     """The numbers of all nodes, four a node, or Unread: of a rule at the front, or of the whole text."""
-    if rule is not None and not HAS_RULES:
-        raise NotImplementedError(f"{place()} reads no rule alone: build it anew by python/build.sh")
     status, room, answer = _first_call(data, rule)
     if status == NO_ROOM:
         status, room, answer = _call(data, answer.count, rule)
@@ -200,19 +244,100 @@ def _cut(room: Buffer, size: int) -> Buffer:
     return room
 
 
-def explain(data: bytes) -> Explanation:
-    """Why a text is refused; MemoryError where there is no room to find it."""
-    room, answer = bytearray(4096), ExplainAnswer()
+def _address(room: Buffer) -> int:
+    """Where a room is; a view has to go before it can shrink."""
+    return ctypes.addressof(ctypes.c_char.from_buffer(room))
+
+
+def _numbers(part: Part) -> PartNumbers:
+    return PartNumbers(*part)
+
+
+def explain(data: bytes, start: int) -> Explanation:
+    """Why what stands from a byte on is refused; MemoryError where there is no room to find it."""
+    call = LIBRARY.weedle_explain_from
+    return _explained(lambda *room: call(data, len(data), start, *room))
+
+
+def explain_part(data: bytes, part: Part) -> Explanation:
+    """Why a part is unread; MemoryError where there is no room to find it."""
+    call = LIBRARY.weedle_explain_part
+    return _explained(lambda *room: call(data, len(data), byref(_numbers(part)), *room))
+
+
+def _explained(call: Callable[..., int]) -> Explanation:
+    """What a call says that is given a room, and how many bytes it has."""
+    size = MESSAGE_ROOM
     while True:
-        address = ctypes.addressof(ctypes.c_char.from_buffer(room))
-        status = LIBRARY.weedle_explain(data, len(data), address, len(room), byref(answer))
+        room, answer = bytearray(size), ExplainAnswer()
+        status = call(_address(room), size, byref(answer))
         if status == NO_MEMORY:
             raise MemoryError("no memory to explain why the text is refused")
-        if answer.length < len(room):
-            message = room[:answer.length].decode()
-            return Explanation(answer.place, answer.line, answer.column, message)
+        if answer.length < size:
+            break
         # A zero stands behind the message.
-        room = bytearray(answer.length + 1)
+        size = answer.length + 1
+    message, hint = (room[at:answer.length].decode() for at in (0, answer.hint_offset))
+    return Explanation(
+        answer.place, answer.line, answer.column, message, hint.rstrip("\n"), answer.hint,
+        answer.hint_place, answer.hint_length,
+    )
+
+
+def expected(data: bytes, start: int) -> List[str]:
+    """The words for what would go on where the reading from a byte on comes furthest; else MemoryError."""
+    call = LIBRARY.weedle_expected
+    return _expected(lambda *room: call(data, len(data), start, *room))
+
+
+def expected_part(data: bytes, part: Part) -> List[str]:
+    """The same of an unread part."""
+    call = LIBRARY.weedle_expected_part
+    return _expected(lambda *room: call(data, len(data), byref(_numbers(part)), *room))
+
+
+def _expected(call: Callable[..., int]) -> List[str]:
+    """The words that a call writes, each with a zero behind it."""
+    size, status = WORDS_ROOM, NO_ROOM
+    while status == NO_ROOM:
+        room, answer = bytearray(size), ExpectAnswer()
+        status, size = call(_address(room), size, byref(answer)), answer.length
+    if status != READ:
+        raise MemoryError("no memory to say what is expected")
+    return room[:answer.length].decode().split("\0")[:-1]
+
+
+def recover(data: bytes) -> Tuple[List[Part], memoryview]:
+    """The parts of a text, and the numbers of the nodes of those that are read, or Unread."""
+    try:
+        rooms = _room((len(data) + LEAST_PARTS) * PART_SIZE), _room(_most_nodes(data) * NODE_SIZE)
+    except MemoryError:
+        rooms = bytearray(PART_SIZE), bytearray(NODE_SIZE)
+    status, answer = _recovered(data, *rooms)
+    if status == NO_ROOM:
+        rooms = _room(answer.parts * PART_SIZE), _room(max(answer.nodes, 1) * NODE_SIZE)
+        status, answer = _recovered(data, *rooms)
+    if status != READ:
+        raise Unread(status, answer.rest)
+    parts = memoryview(rooms[0])[:answer.parts * PART_SIZE].cast("B").cast(FORMAT).tolist()
+    found = [Part(*parts[at:at + PART_FIELDS]) for at in range(0, len(parts), PART_FIELDS)]
+    nodes = _cut(rooms[1], answer.nodes * NODE_SIZE) if answer.nodes else b""
+    return found, memoryview(nodes).cast("B").cast(FORMAT)
+
+
+def _recovered(data: bytes, parts: Buffer, nodes: Buffer) -> Tuple[int, RecoverAnswer]:
+    """The status with these rooms, and the answer."""
+    answer = RecoverAnswer()
+    status = LIBRARY.weedle_recover(
+        data, len(data), _address(parts), len(parts) // PART_SIZE, _address(nodes), len(nodes) // NODE_SIZE,
+        byref(answer),
+    )
+    return status, answer
+
+
+def _most_nodes(data: bytes) -> int:
+    """How many nodes there is room for at first."""
+    return len(data) * NODES_A_BYTE + LEAST_NODES
 
 
 def lay_out(data: bytes) -> bytes:

@@ -2,10 +2,12 @@
 
 from __future__ import annotations
 
-from typing import TYPE_CHECKING, Any, Iterator, List, Type, TypeVar
+from typing import TYPE_CHECKING, Any, Iterator, List, Sequence, Type, TypeVar
 
 from weedle import _building
 from weedle._tree import Tree
+from weedle.errors import Refused
+from weedle.grammar import NUMBERS
 from weedle.names import Name, names_in
 from weedle.nodes import Node
 
@@ -14,12 +16,16 @@ if TYPE_CHECKING:
 
 D = TypeVar("D")
 V = TypeVar("V", bound="Value")
+# The rules whose names are known: that of the whole text, and that of a definition.
+WHOLE, DEFINITION = NUMBERS["definitions"], NUMBERS["definition"]
 
 
 class Listing(List[D]):
     """A list of what stands in a text, which knows that text."""
 
     _tree: Tree
+    #: Why parts of the text are unread; none where it is read whole.
+    errors: Sequence[Refused] = ()
 
     @property
     def text(self) -> str:
@@ -28,8 +34,16 @@ class Listing(List[D]):
 
     @property
     def syntax(self) -> Node:
-        """The node of the whole text, as `weedle.syntax` gives it; it isn't read again."""
+        """The node of the whole text, as `weedle.syntax` gives it; it isn't read again.
+
+        ValueError of a text that was read with `recover=True`, of which `weedle.recover` has the nodes.
+        """
+        if self._roots() != [0] or self._tree.rules[0] != WHOLE:
+            raise ValueError("a text that was read with recover=True has no node for all of it")
         return Node(self._tree, 0)
+
+    def _roots(self) -> List[int]:
+        return [it for it in self._tree.roots() if self._tree.rules[it] in (WHOLE, DEFINITION)]
 
     def walk(self) -> Iterator[Value]:
         """All values in the list, each before those below it, terminals included."""
@@ -42,8 +56,8 @@ class Listing(List[D]):
         return (value for it in items for value in it.find(kind))
 
     def names(self) -> Iterator[Name]:
-        """Each name of the text, in its order, with what it stands for."""
-        return names_in(self._tree, 0)
+        """Each name of the definitions, in the order of the text, with what it stands for."""
+        return (name for it in self._roots() for name in names_in(self._tree, it))
 
     def to_webidl(self) -> str:
         """The definitions as WebIDL, laid out as `weedle.format` does it, without comments."""

@@ -2,12 +2,12 @@
 
 from __future__ import annotations
 
-from typing import Optional, Union
+from typing import List, Optional, Tuple, Union
 
 from weedle import _library
-from weedle._library import NO_MEMORY, NOT_UTF8, REFUSED, TOO_LONG
+from weedle._library import NO_MEMORY, NOT_UTF8, REFUSED, TOO_LONG, Part
 from weedle._text import Text
-from weedle._tree import Tree
+from weedle._tree import Forest, Tree
 from weedle.errors import Refused, RuleRefused
 from weedle.grammar import RULES, VERSION
 
@@ -23,11 +23,32 @@ def tree_of(given: Union[str, bytes], rule: Optional[int] = None) -> Tree:
         raise fault_of(text, unread.status, unread.rest) from None
 
 
+def forest_of(given: Union[str, bytes]) -> Tuple[List[Part], Forest]:
+    """The parts of a text, and the nodes of those that are read."""
+    text = Text(given)
+    try:
+        parts, numbers = _library.recover(text.data)
+    except _library.Unread as unread:
+        raise fault_of(text, unread.status, unread.rest) from None
+    return parts, Forest(text, numbers)
+
+
+def forest_again(data: bytes, version: int) -> Forest:
+    """The nodes of the parts of a text that the library of this version has read before."""
+    check(version)
+    return forest_of(data)[1]
+
+
 def tree_again(data: bytes, version: int, rule: Optional[int]) -> Tree:
     """The nodes of a text that the library of this version has read before."""
+    check(version)
+    return tree_of(data, rule)
+
+
+def check(version: int) -> None:
+    """Refuses a tree of a library of another version."""
     if version != VERSION:
         raise ValueError(f"a tree of weedle's version {version:#08x}, and this one is {VERSION:#08x}")
-    return tree_of(data, rule)
 
 
 def fault_of(text: Text, status: int, rest: int) -> Exception:

@@ -142,7 +142,9 @@ class Tree:
 
     def above(self, node: int) -> int:
         """The node that a node stands in, or -1."""
-        if self.levels is not None and node > 0:
+        if self.depths[node] == 0:
+            return -1
+        if self.levels is not None:
             return self.levels.rfind(self.levels[node] - 1, 0, node)
         depths, above = self.depths, node - 1
         while above >= 0 and depths[above] >= depths[node]:
@@ -168,6 +170,22 @@ class Tree:
     def __deepcopy__(self, memo: Any) -> Tree:
         return self
 
+    def roots(self) -> Iterator[int]:
+        """The nodes that stand in no other."""
+        node = 0
+        while node < self.count:
+            yield node
+            node = self.behind(node)
+
     def walk(self, node: int) -> Iterator[int]:
         """A node and all below it, in preorder."""
         return iter(range(node, self.behind(node)))
+
+
+class Forest(Tree):
+    """The trees of all parts of a text that are read, one behind another."""
+
+    def __reduce__(self) -> Tuple[Any, ...]:
+        from weedle._reading import forest_again
+
+        return forest_again, (self.text.data, VERSION)

@@ -2,17 +2,40 @@
 
 from __future__ import annotations
 
-import re
+from enum import Enum
 from functools import cached_property
-from typing import Optional
+from typing import List, Optional
 
 from weedle import _library
-from weedle._text import Text
+from weedle._text import Span, Text
 
-# A message begins with line and column, and what was expected ends with its line.
-MESSAGE = re.compile(r"\d+:\d+: (?:expected )?(.*)")
-# Behind that line, the line of the text and the mark stands the hint, if there is one.
-HINT = 3
+# How many words a message has at most.
+SHOWN = 6
+
+
+class Hint(Enum):
+    """What would mend a text, or what it lacks: what is said of the bytes at `hint_span`."""
+
+    #: A keyword belongs there in place of a word that differs by a letter.
+    KEYWORD = 1
+    #: A sign is missing there.
+    MISSING = 2
+    #: The sign that stands there is too many.
+    EXTRA = 3
+    #: Another sign belongs there.
+    WRONG_SIGN = 4
+    #: Two words stand there in the wrong order.
+    WORD_ORDER = 5
+    #: A docstring stands where none may.
+    DOCSTRING = 6
+    #: A string opens there that isn't closed.
+    OPEN_STRING = 7
+    #: A string opens there that ends in another line.
+    SPLIT_STRING = 8
+    #: A byte order mark stands there.
+    BYTE_ORDER_MARK = 9
+    #: The text has no definitions.
+    NO_DEFINITIONS = 10
 
 
 class Refused(ValueError):
@@ -23,8 +46,8 @@ class Refused(ValueError):
 
     What is expected is found when it is asked for: mostly in some 300 nanoseconds for each byte of
     the definition that isn't read, and up to sixteen changes are tried for a hint, each once or
-    twice. Where the text nests deep, by a table of it from `start` on, which takes some 1,600 bytes
-    of memory and 2 microseconds a byte.
+    twice. What stands before that definition isn't read again. Where the text nests deep, by a
+    table of it from `start` on, which takes some 1,600 bytes of memory and 2 microseconds a byte.
     """
 
     def __init__(self, text: Text, start: int) -> None:
@@ -33,12 +56,26 @@ class Refused(ValueError):
         #: The byte from which on the text is unread: where the first definition that isn't begins.
         self.start = start
 
+    def _explain(self) -> _library.Explanation:
+        return _library.explain(self._text.data, self.start)
+
+    def _expect(self) -> List[str]:
+        return _library.expected(self._text.data, self.start)
+
     @cached_property
     def _explanation(self) -> Optional[_library.Explanation]:
         try:
-            return _library.explain(self._text.data)
+            return self._explain()
         except MemoryError:
             return None
+
+    @cached_property
+    def words(self) -> List[str]:
+        """All that would have been read there, as ["`,`", "`}`"]; none where memory ran out for it."""
+        try:
+            return self._expect()
+        except MemoryError:
+            return []
 
     @property
     def place(self) -> int:
@@ -57,20 +94,38 @@ class Refused(ValueError):
 
     @property
     def expected(self) -> str:
-        """What would have been read there, as "`,` or `}`"; empty where memory ran out for it."""
-        found = self._explanation and MESSAGE.match(self._explanation.message)
-        return found[1] if found else ""
+        """What would have been read there, as "`,` or `}`": of more than six words six, and how many more there are.
+
+        It is empty where memory ran out for it.
+        """
+        words = self.words[:SHOWN]
+        if len(self.words) > SHOWN:
+            words.append(f"{len(self.words) - SHOWN} more")
+        return " or ".join(filter(None, (", ".join(words[:-1]), *words[-1:])))
 
     @property
     def hint(self) -> Optional[str]:
         """What would mend the text, or what it lacks, with line and column; None where nothing was found.
 
         Of `interface A { atribute long x; };`, which is read up to column 29, it is
-        "1:15: `attribute` in place of `atribute`?". A keyword, a closing sign or the place of a
-        docstring is told only where the text was read again with the change, and came further.
+        "1:15: `attribute` in place of `atribute`?". A change is told only where the text was read
+        again with it, and came to the end of the definition, or further by more than a member.
         """
-        lines = self._explanation.message.split("\n") if self._explanation else []
-        return lines[HINT] or None if len(lines) > HINT else None
+        return self._explanation.hint or None if self._explanation else None
+
+    @property
+    def hint_kind(self) -> Optional[Hint]:
+        """Which kind of hint that is."""
+        found = self._explanation
+        return Hint(found.kind) if found and found.kind else None
+
+    @property
+    def hint_span(self) -> Optional[Span]:
+        """The bytes that it speaks of: the word, the sign, the lines; none where something is missing."""
+        found = self._explanation
+        if not found or not found.kind:
+            return None
+        return Span(found.hint_place, found.hint_place + found.hint_length)
 
     @property
     def message(self) -> str:
@@ -96,16 +151,28 @@ class RuleRefused(Refused):
         #: The name of the rule.
         self.rule = rule
 
-    @property
-    def _explanation(self) -> None:
-        return None
+    def _explain(self) -> _library.Explanation:
+        raise MemoryError
 
-    @property
-    def expected(self) -> str:
-        """The rule."""
-        return f"the rule `{self.rule}`"
+    def _expect(self) -> List[str]:
+        return [f"the rule `{self.rule}`"]
 
     @property
     def message(self) -> str:
         """Where the text begins, and the rule."""
         return f"1:1: expected {self.expected}"
+
+
+class PartRefused(Refused):
+    """An unread part of a text: why that part is unread, whatever stands elsewhere."""
+
+    def __init__(self, text: Text, numbers: _library.Part) -> None:
+        super().__init__(text, numbers.start)
+        self.args = (text, numbers)
+        self._numbers = numbers
+
+    def _explain(self) -> _library.Explanation:
+        return _library.explain_part(self._text.data, self._numbers)
+
+    def _expect(self) -> List[str]:
+        return _library.expected_part(self._text.data, self._numbers)

@@ -1,4 +1,6 @@
 pub mod FillFacts
+pub mod PartFacts
+pub mod WordFacts
 pub mod TreeFacts
 pub mod RuleFacts
 mod FormatFacts

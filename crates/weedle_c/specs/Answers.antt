@@ -1,13 +1,8 @@
 -- What an answer says of a text, by its status.
 use Rattle.std.specs.Prelude.{◌≡◌, ◌⊎◌, ◌≤◌, ◌<◌, ◌^◌, ◌++◌, ℕ, List, All, length, drop, map}
 use Rattle.weedle_c.specs.Nodes.{Fits, c_node}
-use Rattle.weedle_c.specs.declared.message.WeedleRefusal.{WeedleRefusal}
 use Rattle.weedle_c.specs.declared.node.WeedleNode.{WeedleNode}
 use Rattle.weedle_c.specs.declared.reader.WeedleAnswer.{WeedleAnswer}
-use Rattle.weedle_refusal.specs.Position.{IsPositionOf}
-use Rattle.weedle_refusal.specs.Refusal.{IsRefusal}
-use Rattle.weedle_refusal.specs.declared.position.Position.{Position}
-use Rattle.weedle_refusal.specs.declared.refusal.Refusal.{Refusal}
 use Rattle.weedle_rules.specs.Outcomes.{EndsAt}
 use Rattle.weedle_syntax.specs.Syntax.{IsRuleTo, IsSyntax, IsWhole, RestBegins}
 use Rattle.weedle_syntax.specs.declared.node.Node.{Node}
@@ -58,15 +53,3 @@ pub record IsUnread (text : List ℕ) (answer : WeedleAnswer) : Type 0 where
   pub refused : ¬ IsWhole text
   pub left : RestBegins text answer.rest
   pub unread : answer.rest < length text
-
--- the text isn't read whole, and the answer says where the unread rest begins, and the furthest place with its line
--- and its column
-pub record IsExplained (text : List ℕ) (answer : WeedleRefusal) : Type 0 where
-  pub refusal : Refusal
-  pub is_refusal : IsRefusal text refusal
-  pub start : answer.start ≡ refusal.start
-  pub place : answer.place ≡ refusal.place
-  pub position : Position
-  pub is_position : IsPositionOf text refusal.place position
-  pub line : answer.line ≡ position.line
-  pub column : answer.column ≡ position.column

@@ -1,3 +1,6 @@
 pub mod Nodes
 pub mod Answers
 pub mod Formatted
+pub mod Parts
+pub mod Explained
+pub mod Expectations

@@ -10,34 +10,71 @@
 //! a slice as a pointer and a length, and no `alloc`.
 #![tactic(auto)]
 
+mod behind;
 mod format;
+mod hint;
 mod message;
 mod node;
+mod part;
 mod reader;
+mod recovered;
 mod rule;
 mod status;
+mod told;
+mod unread;
+mod words;
 
-ghost use Rattle.std.specs.Prelude.{◌≡◌, ◌≢◌, ◌⊎◌, ◌≤◌, ◌<◌, ◌↔◌, IsUtf8, length};
+ghost use Rattle.std.specs.Prelude.{
+  ◌≡◌,
+  ◌≢◌,
+  ◌⊎◌,
+  ◌≤◌,
+  ◌<◌,
+  ◌↔◌,
+  IsCharBoundary,
+  IsUtf8,
+  drop,
+  length,
+};
 ghost use Rattle.std.specs.Str.{IsValidUpTo};
 ghost use Rattle.weedle_c.specs.Answers.{
   IsCounted,
-  IsExplained,
   IsRuleCounted,
   IsRuleTree,
   IsTooLong,
   IsTree,
   IsUnread,
 };
+ghost use Rattle.weedle_c.specs.Expectations.{
+  AreLonger,
+  AreWritten,
+  IsExpectedFrom,
+  IsExpectedOfPart,
+  IsNone,
+};
+ghost use Rattle.weedle_c.specs.Explained.{
+  IsExplained,
+  IsExplainedBehind,
+  IsPartExplained,
+  IsSilent,
+};
 ghost use Rattle.weedle_c.specs.Formatted.{IsFormatted, IsLonger, IsUnformatted};
+ghost use Rattle.weedle_c.specs.Parts.{AreParted, AreTooLong, AreUncounted, IsPart};
 ghost use Rattle.weedle_rules.specs.Outcomes.{FailsAt};
 ghost use Rattle.weedle_syntax.specs.Syntax.{IsRuleFront, IsSyntax, IsWhole};
 
+use crate::behind::explain_from;
 use crate::format::{WeedleFormatted, format};
-use crate::message::{WeedleRefusal, explain};
+use crate::message::explain;
 use crate::node::WeedleNode;
+use crate::part::WeedlePart;
 use crate::reader::{WeedleAnswer, read};
+use crate::recovered::{WeedleRecovered, divide};
 use crate::rule::read_rule;
-use crate::status::{NO_MEMORY, NO_ROOM, NO_RULE, NOT_UTF8, READ, REFUSED, TOO_LONG};
+use crate::status::{NO_MEMORY, NO_PLACE, NO_ROOM, NO_RULE, NOT_UTF8, READ, REFUSED, TOO_LONG};
+use crate::told::WeedleRefusal;
+use crate::unread::{expect_in_part, explain_part};
+use crate::words::{WeedleExpected, expect};
 use std::alloc::Global;
 use weedle_grammar::RULES;
 
@@ -108,9 +145,137 @@ pub extern "C" fn weedle_explain(
     ensures refused { result ≡ REFUSED → IsExplained text.now answer.new }
     ensures not_utf8 { (result ≡ NOT_UTF8) ↔ ¬ IsUtf8 text.now }
     ensures byte { result ≡ NOT_UTF8 → IsValidUpTo text.now answer.new.place }
+    ensures silent { result ≢ REFUSED → IsSilent answer.new }
+    ensures placed { result ≢ REFUSED → result ≢ NOT_UTF8 → answer.new.place ≡ 0 }
     ensures unwritten { result ≢ REFUSED → message.new ≡ message.old }
 {
     explain(alloc, text, message, answer)
+}
+
+/// Says where and why what stands from a place of a text on is refused, and writes as much of the
+/// message as there is room for. The answer is the status.
+#[unsafe(no_mangle)]
+pub extern "C" fn weedle_explain_from(
+    alloc: Global,
+    text: &[u8],
+    start: usize,
+    message: &mut [u8],
+    answer: &mut WeedleRefusal,
+) -> u32
+    ensures known { result ≤ NO_PLACE }
+    ensures read { result ≡ READ → IsWhole (drop start text.now) }
+    ensures refused { result ≡ REFUSED → IsExplainedBehind text.now start answer.new }
+    ensures not_utf8 { (result ≡ NOT_UTF8) ↔ ¬ IsUtf8 text.now }
+    ensures byte { result ≡ NOT_UTF8 → IsValidUpTo text.now answer.new.place }
+    ensures no_place { IsUtf8 text.now
+        → ((result ≡ NO_PLACE) ↔ ¬ IsCharBoundary text.now start) }
+    ensures silent { result ≢ REFUSED → IsSilent answer.new }
+    ensures placed { result ≢ REFUSED → result ≢ NOT_UTF8 → answer.new.place ≡ 0 }
+    ensures unwritten { result ≢ REFUSED → message.new ≡ message.old }
+{
+    explain_from(alloc, text, start, message, answer)
+}
+
+/// Writes the words for what would go on where the reading of definitions comes furthest, from a
+/// place of a text on, where there is room for all. The answer is the status.
+#[unsafe(no_mangle)]
+pub extern "C" fn weedle_expected(
+    alloc: Global,
+    text: &[u8],
+    start: usize,
+    words: &mut [u8],
+    answer: &mut WeedleExpected,
+) -> u32
+    ensures known { (result ≤ NO_PLACE) × (result ≢ REFUSED) }
+    ensures read { result ≡ READ
+        → AreWritten (IsExpectedFrom text.now start) words.old words.new answer.new }
+    ensures not_utf8 { (result ≡ NOT_UTF8) ↔ ¬ IsUtf8 text.now }
+    ensures byte { result ≡ NOT_UTF8 → IsValidUpTo text.now answer.new.place }
+    ensures no_room { result ≡ NO_ROOM
+        → AreLonger (IsExpectedFrom text.now start) (length words.old) answer.new }
+    ensures no_place { IsUtf8 text.now
+        → ((result ≡ NO_PLACE) ↔ ¬ IsCharBoundary text.now start) }
+    ensures none { result ≢ READ → result ≢ NO_ROOM → IsNone answer.new }
+    ensures placed { result ≢ READ → result ≢ NO_ROOM → result ≢ NOT_UTF8
+        → answer.new.place ≡ 0 }
+    ensures unwritten { result ≢ READ → words.new ≡ words.old }
+{
+    expect(alloc, text, start, words, answer)
+}
+
+/// Divides a text into parts, read or unread, and writes them and the nodes of those that are read
+/// where there is room for all. The answer is the status.
+#[unsafe(no_mangle)]
+pub extern "C" fn weedle_recover(
+    alloc: Global,
+    text: &[u8],
+    parts: &mut [WeedlePart],
+    nodes: &mut [WeedleNode],
+    answer: &mut WeedleRecovered,
+) -> u32
+    ensures known { (result ≤ TOO_LONG) × (result ≢ REFUSED) }
+    ensures read { result ≡ READ
+        → AreParted text.now parts.old parts.new nodes.old nodes.new answer.new }
+    ensures not_utf8 { (result ≡ NOT_UTF8) ↔ ¬ IsUtf8 text.now }
+    ensures byte { result ≡ NOT_UTF8 → IsValidUpTo text.now answer.new.rest }
+    ensures no_room { result ≡ NO_ROOM
+        → AreUncounted text.now (length parts.old) (length nodes.old) answer.new }
+    ensures too_long { result ≡ TOO_LONG → AreTooLong text.now }
+    ensures counted { result ≢ READ → result ≢ NO_ROOM
+        → (answer.new.parts ≡ 0) × (answer.new.nodes ≡ 0) × (answer.new.unread ≡ 0) }
+    ensures placed { result ≢ NOT_UTF8 → answer.new.rest ≡ 0 }
+    ensures parts_unwritten { result ≢ READ → parts.new ≡ parts.old }
+    ensures nodes_unwritten { result ≢ READ → nodes.new ≡ nodes.old }
+{
+    divide(alloc, text, parts, nodes, answer)
+}
+
+/// Says why a part of a text is unread, and writes as much of the message as there is room for. The
+/// answer is the status.
+#[unsafe(no_mangle)]
+pub extern "C" fn weedle_explain_part(
+    alloc: Global,
+    text: &[u8],
+    part: &WeedlePart,
+    message: &mut [u8],
+    answer: &mut WeedleRefusal,
+) -> u32
+    ensures known { (result ≤ NO_PLACE) × (result ≢ READ) }
+    ensures refused { result ≡ REFUSED → IsPartExplained text.now part.now answer.new }
+    ensures not_utf8 { (result ≡ NOT_UTF8) ↔ ¬ IsUtf8 text.now }
+    ensures byte { result ≡ NOT_UTF8 → IsValidUpTo text.now answer.new.place }
+    ensures no_place { IsUtf8 text.now → ((result ≡ NO_PLACE) ↔ ¬ IsPart text.now part.now) }
+    ensures silent { result ≢ REFUSED → IsSilent answer.new }
+    ensures placed { result ≢ REFUSED → result ≢ NOT_UTF8 → answer.new.place ≡ 0 }
+    ensures unwritten { result ≢ REFUSED → message.new ≡ message.old }
+{
+    explain_part(alloc, text, part, message, answer)
+}
+
+/// Writes the words for what would go on where the reading of an unread part comes furthest, where
+/// there is room for all. The answer is the status.
+#[unsafe(no_mangle)]
+pub extern "C" fn weedle_expected_part(
+    alloc: Global,
+    text: &[u8],
+    part: &WeedlePart,
+    words: &mut [u8],
+    answer: &mut WeedleExpected,
+) -> u32
+    ensures known { (result ≤ NO_PLACE) × (result ≢ REFUSED) }
+    ensures read { result ≡ READ
+        → AreWritten (IsExpectedOfPart text.now part.now) words.old words.new answer.new }
+    ensures not_utf8 { (result ≡ NOT_UTF8) ↔ ¬ IsUtf8 text.now }
+    ensures byte { result ≡ NOT_UTF8 → IsValidUpTo text.now answer.new.place }
+    ensures no_room { result ≡ NO_ROOM
+        → AreLonger (IsExpectedOfPart text.now part.now) (length words.old) answer.new }
+    ensures no_place { IsUtf8 text.now → ((result ≡ NO_PLACE) ↔ ¬ IsPart text.now part.now) }
+    ensures none { result ≢ READ → result ≢ NO_ROOM → IsNone answer.new }
+    ensures placed { result ≢ READ → result ≢ NO_ROOM → result ≢ NOT_UTF8
+        → answer.new.place ≡ 0 }
+    ensures unwritten { result ≢ READ → words.new ≡ words.old }
+{
+    expect_in_part(alloc, text, part, words, answer)
 }
 
 /// Lays a text out anew, and writes it where there is room for all. The answer is the status.

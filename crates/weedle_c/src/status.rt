@@ -20,3 +20,6 @@ pub const TOO_LONG: u32 = 5;
 
 /// No rule has the number.
 pub const NO_RULE: u32 = 6;
+
+/// The text has no such place, or no such unread part.
+pub const NO_PLACE: u32 = 7;

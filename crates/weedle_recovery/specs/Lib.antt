@@ -1,3 +1,4 @@
 pub mod Tokens
 pub mod Stops
 pub mod Recovery
+pub mod Refusals

@@ -17,12 +17,16 @@
 
 mod definitions;
 mod division;
+mod moved;
 mod part;
 mod reading;
 mod recovered;
 mod recovery;
+mod refusal;
+mod sign;
 mod stops;
 mod token;
 
 pub use part::Part;
 pub use recovered::{Recovered, recover};
+pub use refusal::refusal_of_part;

@@ -22,3 +22,27 @@ pub record IsRefusal (raw : List ℕ) (refusal : Refusal) : Type 0 where
 abbrev pub Explains : List ℕ → Option Refusal → Type 0
 Explains raw None = IsWhole raw
 Explains raw (Some refusal) = IsRefusal raw refusal
+
+-- of the definitions that are read from a place on: the furthest place to which their reading comes, and what is said there
+pub record IsSaidFrom (raw : List ℕ) (start : ℕ) (refusal : Refusal) : Type 0 where
+  pub begins : refusal.start ≡ start
+  pub furthest : ℕ
+  pub found : IsFurthest (drop start raw) furthest refusal.expected.items
+  pub place : refusal.place ≡ start + furthest
+  -- a character of the whole text begins at the place, or the text ends there
+  pub boundary : IsCharBoundary raw refusal.place
+  -- what is told beside it was tried, or stands in the text
+  pub hint : IfSome refusal.hint (IsHint raw start refusal.place)
+
+-- what stands from a place on isn't read whole: the rest begins so many bytes behind it, and of that the place and the words tell
+pub record IsRefusalBehind (raw : List ℕ) (from : ℕ) (refusal : Refusal) : Type 0 where
+  pub refused : ¬ IsWhole (drop from raw)
+  pub rest : ℕ
+  pub left : RestBegins (drop from raw) rest
+  pub nonempty : from + rest < length raw
+  pub said : IsSaidFrom raw (from + rest) refusal
+
+-- None where the grammar reads whole what stands from a place on, and else a refusal
+abbrev pub ExplainsBehind : List ℕ → ℕ → Option Refusal → Type 0
+ExplainsBehind raw from None = IsWhole (drop from raw)
+ExplainsBehind raw from (Some refusal) = IsRefusalBehind raw from refusal

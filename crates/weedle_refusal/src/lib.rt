@@ -15,6 +15,7 @@
 //! It prints ``a.webidl:3:1: expected `;` ``.
 #![tactic(auto)]
 
+mod behind;
 mod display;
 mod excerpt;
 mod expected;
@@ -28,6 +29,7 @@ mod refusal;
 mod starts;
 mod words;
 
+pub use behind::{refusal_at, refusal_behind};
 pub use excerpt::write_excerpt;
 pub use expected::Expected;
 pub use furthest::furthest_in;

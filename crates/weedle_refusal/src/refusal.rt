@@ -4,9 +4,9 @@ ghost use Rattle.std.specs.Prelude.{◌≡◌, ◌≤◌, ◌<◌, IfOk, IfSome,
 ghost use Rattle.weedle_refusal.specs.Refusal.{Explains, IsRefusal};
 ghost use Rattle.weedle_syntax.specs.Syntax.{RestBegins, rest_of as the_rest_of};
 
+use crate::behind::refusal_at;
 use crate::expected::Expected;
-use crate::furthest::furthest_in;
-use crate::hint::{Hint, hint_among};
+use crate::hint::Hint;
 use std::alloc::{AllocError, Global};
 use weedle_syntax::{Node, syntax_of_front};
 
@@ -66,15 +66,8 @@ pub fn refusal_from(alloc: Global, raw: &str, start: usize) -> Result<Refusal, A
     ensures is { IfOk result (IsRefusal raw.now) }
     ensures within { IfOk result (λ refusal. refusal.place ≤ length raw.now) }
 {
-    let (furthest, expected) = furthest_in(alloc, &raw[start..])?;
-    let place = start + furthest;
-    let hint = hint_among(alloc, raw, start, place, &expected)?;
-    Ok(Refusal {
-        start,
-        place,
-        expected,
-        hint,
-    })
+    let refusal = refusal_at(alloc, raw, start)?;
+    Ok(refusal)
 }
 
 /// Where the unread rest begins behind the nodes of what stands at the front of a text: there the

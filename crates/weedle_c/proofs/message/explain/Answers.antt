@@ -1,5 +1,5 @@
 use Rattle.std.proofs.Common.{List, ℕ, subst}
-use Rattle.weedle_c.specs.Answers.{IsExplained}
+use Rattle.weedle_c.specs.Explained.{IsExplained}
 use Rattle.weedle_c.proofs.message.explain.Goals as goal
 
 pub returns-in-Ok-clause-refused : goal.returns-in-Ok-clause-refused

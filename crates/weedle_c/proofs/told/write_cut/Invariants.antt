@@ -1,5 +1,5 @@
 use Rattle.std.proofs.Common.{◌≤◌, ◌<◌, length}
-use Rattle.weedle_c.proofs.message.write_cut.Given as goal
+use Rattle.weedle_c.proofs.told.write_cut.Given as goal
 
 -- the end lies in the message, and there is room for the zero behind it
 abbrev pub invariant-loop-end : goal.invariant-loop-end

@@ -1,0 +1,95 @@
+-- What an answer says of a text that is refused.
+use Rattle.std.specs.Prelude.{◌≡◌, ◌≤◌, ◌<◌, ◌+◌, ◌-◌, ◌^◌, ℕ, List, Option, Some, None, length}
+use Rattle.weedle_c.specs.Parts.{part_of}
+use Rattle.weedle_c.specs.declared.part.WeedlePart.{WeedlePart}
+use Rattle.weedle_c.specs.declared.told.WeedleRefusal.{WeedleRefusal}
+use Rattle.weedle_recovery.specs.Refusals.{IsPartRefusal}
+use Rattle.weedle_refusal.specs.Position.{IsPositionOf}
+use Rattle.weedle_refusal.specs.Refusal.{IsRefusal, IsRefusalBehind}
+use Rattle.weedle_refusal.specs.declared.hint.Hint.{Hint}
+use Rattle.weedle_refusal.specs.declared.hint.Hint.TheVariants as hint
+use Rattle.weedle_refusal.specs.declared.position.Position.{Position}
+use Rattle.weedle_refusal.specs.declared.refusal.Refusal.{Refusal}
+
+-- the number of a hint's kind, 0 of none
+abbrev pub hint_kind : Option Hint → ℕ
+hint_kind None = 0
+hint_kind (Some (hint.Keyword at taken keyword)) = 1
+hint_kind (Some (hint.Missing at sign)) = 2
+hint_kind (Some (hint.Extra at sign)) = 3
+hint_kind (Some (hint.WrongSign at found sign)) = 4
+hint_kind (Some (hint.WordOrder at taken next next_taken)) = 5
+hint_kind (Some (hint.Docstring at taken)) = 6
+hint_kind (Some (hint.OpenString at)) = 7
+hint_kind (Some (hint.SplitString at)) = 8
+hint_kind (Some (hint.ByteOrderMark at)) = 9
+hint_kind (Some hint.NoDefinitions) = 10
+
+-- where it is, 0 of none
+abbrev pub hint_place : Option Hint → ℕ
+hint_place None = 0
+hint_place (Some (hint.Keyword at taken keyword)) = at
+hint_place (Some (hint.Missing at sign)) = at
+hint_place (Some (hint.Extra at sign)) = at
+hint_place (Some (hint.WrongSign at found sign)) = at
+hint_place (Some (hint.WordOrder at taken next next_taken)) = at
+hint_place (Some (hint.Docstring at taken)) = at
+hint_place (Some (hint.OpenString at)) = at
+hint_place (Some (hint.SplitString at)) = at
+hint_place (Some (hint.ByteOrderMark at)) = at
+hint_place (Some hint.NoDefinitions) = 0
+
+-- how many bytes stand there that it speaks of: a word, a sign, two words with what stands between them, the lines of a docstring, a quote, a mark
+abbrev pub IsHintLength : Option Hint → ℕ → Type 0
+IsHintLength None n = n ≡ 0
+IsHintLength (Some (hint.Keyword at taken keyword)) n = n ≡ taken
+IsHintLength (Some (hint.Missing at sign)) n = n ≡ 0
+IsHintLength (Some (hint.Extra at sign)) n = n ≡ length sign.now
+IsHintLength (Some (hint.WrongSign at found sign)) n = n ≡ length found.now
+IsHintLength (Some (hint.WordOrder at taken next next_taken)) n = next + next_taken < 2 ^ 64 → n ≡ next + next_taken - at
+IsHintLength (Some (hint.Docstring at taken)) n = n ≡ taken
+IsHintLength (Some (hint.OpenString at)) n = n ≡ 1
+IsHintLength (Some (hint.SplitString at)) n = n ≡ 1
+IsHintLength (Some (hint.ByteOrderMark at)) n = n ≡ 3
+IsHintLength (Some hint.NoDefinitions) n = n ≡ 0
+
+-- the answer has the numbers of a refusal: its places, with line and column, and its hint
+pub record IsTold (text : List ℕ) (refusal : Refusal) (answer : WeedleRefusal) : Type 0 where
+  pub start : answer.start ≡ refusal.start
+  pub place : answer.place ≡ refusal.place
+  pub position : Position
+  pub is_position : IsPositionOf text refusal.place position
+  pub line : answer.line ≡ position.line
+  pub column : answer.column ≡ position.column
+  pub kind : answer.hint ≡ hint_kind refusal.hint
+  pub at : answer.hint_place ≡ hint_place refusal.hint
+  pub bytes : IsHintLength refusal.hint answer.hint_length
+
+-- the text isn't read whole, and the answer says where the unread rest begins, the furthest place, and the hint
+pub record IsExplained (text : List ℕ) (answer : WeedleRefusal) : Type 0 where
+  pub refusal : Refusal
+  pub is_refusal : IsRefusal text refusal
+  pub told : IsTold text refusal answer
+
+-- the same of what stands from a place on
+pub record IsExplainedBehind (text : List ℕ) (start : ℕ) (answer : WeedleRefusal) : Type 0 where
+  pub refusal : Refusal
+  pub is_refusal : IsRefusalBehind text start refusal
+  pub told : IsTold text refusal answer
+
+-- the same of an unread part
+pub record IsPartExplained (text : List ℕ) (part : WeedlePart) (answer : WeedleRefusal) : Type 0 where
+  pub refusal : Refusal
+  pub is_refusal : IsPartRefusal text (part_of part) refusal
+  pub told : IsTold text refusal answer
+
+-- all numbers of the answer but its place are 0
+pub record IsSilent (answer : WeedleRefusal) : Type 0 where
+  pub start : answer.start ≡ 0
+  pub line : answer.line ≡ 0
+  pub column : answer.column ≡ 0
+  pub bytes : answer.length ≡ 0
+  pub hint : answer.hint ≡ 0
+  pub hint_place : answer.hint_place ≡ 0
+  pub hint_length : answer.hint_length ≡ 0
+  pub hint_offset : answer.hint_offset ≡ 0

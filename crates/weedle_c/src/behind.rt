@@ -1,0 +1,68 @@
+//! Why what stands from a place of a text on is refused.
+
+ghost use Rattle.std.specs.Prelude.{◌≡◌, ◌≢◌, ◌≤◌, ◌↔◌, IsCharBoundary, IsUtf8, drop};
+ghost use Rattle.std.specs.Str.{IsValidUpTo};
+ghost use Rattle.weedle_c.specs.Explained.{IsExplainedBehind, IsSilent};
+ghost use Rattle.weedle_syntax.specs.Syntax.{IsWhole};
+
+use crate::status::{NO_MEMORY, NO_PLACE, NOT_UTF8, READ, REFUSED};
+use crate::told::{NOTHING, WeedleRefusal, tell};
+use std::alloc::Global;
+use weedle_refusal::refusal_behind;
+
+/// Says where and why what stands from a place on is refused, and writes as much of the message as
+/// there is room for. The answer is the status.
+pub(crate) fn explain_from(
+    alloc: Global,
+    text: &[u8],
+    start: usize,
+    message: &mut [u8],
+    answer: &mut WeedleRefusal,
+) -> u32
+    ensures known { result ≤ NO_PLACE }
+    ensures read { result ≡ READ → IsWhole (drop start text.now) }
+    ensures refused { result ≡ REFUSED → IsExplainedBehind text.now start answer.new }
+    ensures not_utf8 { (result ≡ NOT_UTF8) ↔ ¬ IsUtf8 text.now }
+    ensures byte { result ≡ NOT_UTF8 → IsValidUpTo text.now answer.new.place }
+    ensures no_place { IsUtf8 text.now
+        → ((result ≡ NO_PLACE) ↔ ¬ IsCharBoundary text.now start) }
+    ensures silent { result ≢ REFUSED → IsSilent answer.new }
+    ensures placed { result ≢ REFUSED → result ≢ NOT_UTF8 → answer.new.place ≡ 0 }
+    ensures unwritten { result ≢ REFUSED → message.new ≡ message.old }
+{
+    *answer = NOTHING;
+    match str::from_utf8(text) {
+        Ok(raw) => explain_text_from(alloc, raw, start, message, answer),
+        Err(error) => {
+            answer.place = error.valid_up_to();
+            NOT_UTF8
+        }
+    }
+}
+
+/// Says where and why what stands from a place of a text that is UTF-8 on is refused.
+fn explain_text_from(
+    alloc: Global,
+    raw: &str,
+    start: usize,
+    message: &mut [u8],
+    answer: &mut WeedleRefusal,
+) -> u32
+    requires { answer.old ≡ NOTHING }
+    ensures known { (result ≤ NO_PLACE) × (result ≢ NOT_UTF8) }
+    ensures read { result ≡ READ → IsWhole (drop start raw.now) }
+    ensures refused { result ≡ REFUSED → IsExplainedBehind raw.now start answer.new }
+    ensures no_place { (result ≡ NO_PLACE) ↔ ¬ IsCharBoundary raw.now start }
+    ensures silent { result ≢ REFUSED → IsSilent answer.new }
+    ensures placed { result ≢ REFUSED → answer.new.place ≡ 0 }
+    ensures unwritten { result ≢ REFUSED → message.new ≡ message.old }
+{
+    if !raw.is_char_boundary(start) {
+        return NO_PLACE;
+    }
+    match refusal_behind(alloc, raw, start) {
+        Ok(Some(refusal)) => tell(alloc, raw, &refusal, message, answer),
+        Ok(None) => READ,
+        Err(_) => NO_MEMORY,
+    }
+}
