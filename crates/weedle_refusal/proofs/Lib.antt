@@ -4,6 +4,7 @@ pub mod LineFacts
 pub mod WordFacts
 pub mod TextFacts
 pub mod ExcerptFacts
+pub mod LineAtFacts
 pub mod StartFacts
 pub mod EmptyFacts
 pub mod FurthestFacts

@@ -1,5 +1,5 @@
 -- A line of a text with a mark below a place of it.
-use Rattle.std.specs.Prelude.{ℕ, ◌+◌, ◌-◌, ◌/◌, ◌%◌, ◌^◌, min, Bool, ◌==◌, ◌||◌, ◌&&◌, not, nat_lt, nat_le, if◌then◌else◌, List, [], ◌∷◌, ◌++◌, take, count_by, codes}
+use Rattle.std.specs.Prelude.{ℕ, ◌+◌, ◌-◌, ◌/◌, ◌%◌, ◌^◌, min, Bool, ◌==◌, ◌||◌, ◌&&◌, not, nat_lt, nat_le, if◌then◌else◌, List, [], ◌∷◌, ◌++◌, length, take, drop, take_while, count_by, slice_index, slice_range, codes}
 use Rattle.std.specs.Char.{encode_utf8, is_control}
 use Rattle.std.specs.Int.{is_in_range}
 use Rattle.std.specs.Str.{chars}
@@ -68,7 +68,27 @@ marked cs column =
 abbrev pub excerpt_text : List ℕ → ℕ → List ℕ
 excerpt_text line column = marked (chars line) column
 
--- what is printed of a place of a text: its line and column, what is said of it, this line, and a mark below the place
-abbrev pub message_text : List ℕ → ℕ → List ℕ → List ℕ → List ℕ
-message_text text place said line =
-    place_text text place ++ (codes ": " ++ (said ++ (codes "\n" ++ excerpt_text line (count_by begins_character (last_line (take place text))))))
+-- where the line of a place begins: behind the last LF before it
+abbrev pub line_start : List ℕ → ℕ → ℕ
+line_start text place = place - length (last_line (take place text))
+
+-- where it ends: at the first LF from the place on, or with the text
+abbrev pub line_end : List ℕ → ℕ → ℕ
+line_end text place = place + length (take_while (λ byte. not (byte == 10)) (drop place text))
+
+-- the end, or in front of a CR that an LF ends there
+abbrev pub before_return : List ℕ → ℕ → ℕ → ℕ
+before_return text start end = if nat_lt end (length text) && (nat_lt start end && slice_index text (end - 1) == 13) then end - 1 else end
+
+-- the line of a text in which a place stands, without what ends it
+abbrev pub line_at : List ℕ → ℕ → List ℕ
+line_at text place = slice_range text (line_start text place) (before_return text (line_start text place) (line_end text place))
+
+-- what is printed of a place of a text: its line and column, what is said of it, the line of the text, and a mark below the place
+abbrev pub place_message : List ℕ → ℕ → List ℕ → List ℕ
+place_message text place said =
+    place_text text place ++ (codes ": " ++ (said ++ (codes "\n" ++ excerpt_text (line_at text place) (count_by begins_character (last_line (take place text))))))
+
+-- a place behind the end of the text is taken as that end
+abbrev pub message_text : List ℕ → ℕ → List ℕ → List ℕ
+message_text text place said = place_message text (min place (length text)) said
