@@ -120,6 +120,11 @@ class Stages(unittest.TestCase):
     def test_none(self):
         self.assertEqual(self.found([False, False], [False], []), (0, 3))
 
+    def test_the_formatter_is_run_over_files(self):
+        with mock.patch.object(try_wrong_programs.layout_runs, "failures_of_runs", lambda program: iter([(program, "what")])):
+            found = try_wrong_programs.failing_texts("p", "weedle_format")
+        self.assertEqual((sum(found), len(found)), (1, len(try_wrong_programs.layout_runs.RUNS)))
+
 
 if __name__ == "__main__":
     unittest.main()

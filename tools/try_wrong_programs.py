@@ -15,7 +15,7 @@ First it looks whether each edit applies: whether each old text stands in its fi
 all. Else it copies the repository to a temporary folder, without .git but with what `rt check` kept of the crates that
 are proved, and builds each program there, with one edit at a time. It runs it by the runs of tests/runs.toml; where none
 fails, by those of tests/memory.toml, of which a program with checks is given the shorter texts; and where none of these
-fails, weedle_check reads the texts of the folder `tests`.
+fails, weedle_check reads the texts of the folder `tests`, and weedle_format is run over files (tools/layout_runs.py).
 
 It prints a line for each edit:
 
@@ -40,6 +40,7 @@ import time
 from pathlib import Path
 
 import asked_memory
+import layout_runs
 from case_files import cases_of
 from case_programs import Built, compared
 from case_runs import runs
@@ -172,7 +173,10 @@ def failing_memory(program: str, name: str, library: str) -> list[bool]:
 
 
 def failing_texts(program: str, name: str) -> list[bool]:
-    """Of each of the shorter texts of tests/tests, where it is weedle_check."""
+    """Of each of the shorter texts of tests/tests, where it is weedle_check; of each run over files, of weedle_format."""
+    if name == "weedle_format":
+        failed = len([*layout_runs.failures_of_runs(program)])
+        return [True] * failed + [False] * (len(layout_runs.RUNS) - failed)
     if name != "weedle_check":
         return []
     failures, count = check_texts(Built(program), [case for case in cases_of("tests") if len(case.text) <= TRIED_TEXT])

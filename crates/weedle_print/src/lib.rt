@@ -58,6 +58,7 @@ mod statement;
 mod string;
 mod texts;
 mod type_words;
+mod widths;
 mod words;
 mod written;
 
