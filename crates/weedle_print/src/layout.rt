@@ -1,8 +1,15 @@
 //! Where a line stands, and what goes between two words.
 
+ghost use Rattle.std.specs.Prelude.{◌≡◌, ◌≤◌, ◌+◌, ◌↔◌, IsTrue, false};
+ghost use Rattle.weedle_print.specs.Apart.{
+  begins_as_name as the_begins_as_name,
+  ends_as_name as the_ends_as_name,
+};
+
 mod items;
 mod lists;
 
+use crate::name_bytes::{begins_as_name, ends_as_name};
 use crate::statement::Statement;
 use crate::widths::{characters, characters_behind, line_ends};
 use crate::written::reserved::is_read_behind;
@@ -36,6 +43,15 @@ pub(crate) struct Space {
     pub(crate) blanks: usize,
 }
 
+impl Space {
+    /// Whether nothing goes there.
+    fn is_nothing(&self) -> bool
+        ensures { IsTrue result ↔ (self.now.line_ends + self.now.blanks ≡ 0) }
+    {
+        self.line_ends == 0 && self.blanks == 0
+    }
+}
+
 /// How the line stands at the end of a text that is being written: what whoever writes the next
 /// word has to know for the layout. It is no part of what a text says.
 #[derive(Clone, Copy, Debug)]
@@ -50,6 +66,8 @@ pub struct Layout {
     width: usize,
     /// Whether nothing stands on the line.
     is_line_begun: bool,
+    /// Whether the text ends with a character of names: another one would go on with its last word.
+    is_in_name: bool,
     /// Whether lists stay on the line.
     is_flat: bool,
     /// Whether the innermost open list has a line for each item.
@@ -104,6 +122,7 @@ impl Layout {
             lines: 0,
             width: 0,
             is_line_begun: true,
+            is_in_name: false,
             is_flat: false,
             is_broken: false,
             listed: 0,
@@ -119,8 +138,21 @@ impl Layout {
         }
     }
 
-    /// What goes in front of this word.
-    pub(crate) fn space(&self, text: &str) -> Space {
+    /// What goes in front of this word: a blank or a line end at least, where it would go on with
+    /// the word before.
+    pub(crate) fn space(&self, text: &str) -> Space
+        ensures apart { IsTrue self.now.is_in_name → IsTrue (the_begins_as_name text.now)
+            → 1 ≤ result.line_ends + result.blanks }
+    {
+        let space = self.wanted_space(text);
+        if self.is_in_name && space.is_nothing() && begins_as_name(text) {
+            return self.blanks(1);
+        }
+        space
+    }
+
+    /// What goes in front of this word by what was asked for.
+    fn wanted_space(&self, text: &str) -> Space {
         match self.front {
             Front::Nothing => self.blanks(0),
             Front::Blank if is_tight_in_front(text) => self.blanks(0),
@@ -131,7 +163,9 @@ impl Layout {
     }
 
     /// So many blanks on the line.
-    fn blanks(&self, blanks: usize) -> Space {
+    fn blanks(&self, blanks: usize) -> Space
+        ensures { result.blanks ≡ blanks }
+    {
         Space {
             line_ends: 0,
             blanks,
@@ -163,18 +197,23 @@ impl Layout {
     }
 
     /// Keeps that the line was ended. An empty line isn't counted.
-    pub(crate) fn end_line(&mut self) {
+    pub(crate) fn end_line(&mut self)
+        ensures { self.new.is_in_name ≡ false }
+    {
         if !self.is_line_begun {
             self.width = self.column;
             self.lines = self.lines.saturating_add(1);
         }
         self.column = 0;
         self.is_line_begun = true;
+        self.is_in_name = false;
         self.front = Front::Line;
     }
 
     /// Keeps that a text was written that holds no word of the grammar, as a name or a string.
-    pub(crate) fn wrote(&mut self, text: &str, before: &'static str) {
+    pub(crate) fn wrote(&mut self, text: &str, before: &'static str)
+        ensures ends { self.new.is_in_name ≡ the_ends_as_name text.now }
+    {
         let ended = line_ends(text);
         if ended > 0 {
             self.lines = self.lines.saturating_add(ended);
@@ -185,13 +224,16 @@ impl Layout {
         }
         self.count = self.count.saturating_add(characters(text));
         self.is_line_begun = false;
+        self.is_in_name = ends_as_name(text);
         self.is_behind_type = false;
         self.front = Front::Blank;
         self.before = before;
     }
 
     /// Keeps that a word was written.
-    pub(crate) fn wrote_word(&mut self, word: &'static str) {
+    pub(crate) fn wrote_word(&mut self, word: &'static str)
+        ensures ends { self.new.is_in_name ≡ the_ends_as_name word.now }
+    {
         self.wrote(word, word);
         if is_tight_behind(word) {
             self.front = Front::Nothing;
@@ -199,7 +241,9 @@ impl Layout {
     }
 
     /// Keeps that a name was written, perhaps behind an underscore.
-    pub(crate) fn wrote_name(&mut self, name: &str, is_behind_underscore: bool) {
+    pub(crate) fn wrote_name(&mut self, name: &str, is_behind_underscore: bool)
+        ensures ends { self.new.is_in_name ≡ the_ends_as_name name.now }
+    {
         if is_behind_underscore {
             self.column = self.column.saturating_add(1);
             self.count = self.count.saturating_add(1);
@@ -208,11 +252,14 @@ impl Layout {
     }
 
     /// Keeps that a text was written in quotes.
-    pub(crate) fn wrote_string(&mut self, text: &str) {
+    pub(crate) fn wrote_string(&mut self, text: &str)
+        ensures { self.new.is_in_name ≡ false }
+    {
         self.column = self.column.saturating_add(1);
         self.wrote(text, "");
         self.column = self.column.saturating_add(1);
         self.count = self.count.saturating_add(2);
+        self.is_in_name = false;
     }
 
     /// Has what follows begin a line.
