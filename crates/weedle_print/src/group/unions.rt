@@ -49,7 +49,7 @@ pub(crate) fn print_union_type(
     word(out, layout, "(")?;
     let start = *layout;
     layout.try_flat();
-    if start.is_flat() {
+    if start.is_flat() || type_.body.list.is_empty() {
         push_members(&type_.body.list, out, layout)?;
         layout.end_try(&start);
         return Ok(());
