@@ -3,7 +3,7 @@ use Rattle.std.proofs.Common.{◌≡◌, inl, inr, ℕ, List, [], ◌∷◌, ◌
 use Rattle.weedle_grammar.specs.declared.class.Class.{Class}
 use Rattle.weedle_grammar.specs.declared.class.Class.TheVariants.{Blank}
 use Rattle.weedle_print.specs.Adds.{Adds}
-use Rattle.weedle_spell.specs.Forms.{Form, Chain, chain_ends, chain_goes_on, ◌then◌, empty, exactly, perhaps, that, any}
+use Rattle.weedle_spell.specs.Forms.{Form, chain_ends, chain_goes_on, ◌then◌, empty, exactly, any}
 use Rattle.weedle_spell.specs.Tokens.{IsTrivia, blanks, word}
 
 -- what is of the one form is of the other
