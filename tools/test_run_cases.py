@@ -290,7 +290,7 @@ class Runs(unittest.TestCase):
         runs = case_runs.runs()
         self.assertEqual({run.program for run in runs}, set(run_cases.PROGRAMS))
         self.assertEqual(len(runs), len({(run.program, run.what) for run in runs}))
-        self.assertEqual(len(runs), 132)
+        self.assertEqual(len(runs), 133)
 
 
 if __name__ == "__main__":

@@ -1,7 +1,8 @@
 """Builds programs with wrong bodies, and says how many runs of tests/ find one, for tools/try_edits.py --programs.
 
 A program runs by tests/runs.toml; where none fails, by tests/memory.toml, of which a program with checks is given the
-shorter texts; and where none of these fails, weedle_check reads the texts of the folder `tests`.
+shorter texts; and where none of these fails, weedle_check reads the texts of the folder `tests`, and weedle_format is run
+over files (tools/layout_runs.py).
 """
 
 import contextlib
@@ -13,6 +14,7 @@ import time
 from pathlib import Path
 
 import asked_memory
+import layout_runs
 from case_files import cases_of
 from case_programs import Built, compared
 from case_runs import runs
@@ -94,7 +96,10 @@ def failing_memory(program: str, name: str, library: str) -> list[bool]:
 
 
 def failing_texts(program: str, name: str) -> list[bool]:
-    """Of each of the shorter texts of tests/tests, where it is weedle_check."""
+    """Of each of the shorter texts of tests/tests, where it is weedle_check; of each run over files, of weedle_format."""
+    if name == "weedle_format":
+        failed = len([*layout_runs.failures_of_runs(program)])
+        return [True] * failed + [False] * (len(layout_runs.RUNS) - failed)
     if name != "weedle_check":
         return []
     failures, count = check_texts(Built(program), [case for case in cases_of("tests") if len(case.text) <= TRIED_TEXT])

@@ -42,13 +42,20 @@ fn kind_at(pieces: &[Piece], i: usize) -> u16 {
         Some(piece) => piece.definition,
         None => 0,
     };
+    if is_statement(rule) && is_one_line(pieces, i) {
+        return rule;
+    }
+    0
+}
+
+/// Whether the rule is of a definition that has no braces, as `typedef long L;`.
+pub(crate) fn is_statement(rule: u16) -> bool {
     match rule {
         CALLBACK_DEFINITION
         | TYPEDEF_DEFINITION
         | INCLUDES_STATEMENT_DEFINITION
-        | IMPLEMENTS_DEFINITION
-            if is_one_line(pieces, i) => { rule }
-        _ => 0,
+        | IMPLEMENTS_DEFINITION => true,
+        _ => false,
     }
 }
 

@@ -134,7 +134,7 @@ fn are_long(pieces: &[Piece], behind: usize) -> bool {
         width = width.saturating_add(more);
         match piece.role {
             Role::ClosesList => depth = depth.saturating_add(1),
-            Role::OpensList => depth = depth.saturating_sub(1),
+            Role::OpensList | Role::OpensUnion => depth = depth.saturating_sub(1),
             _ => {}
         }
         if depth == 0 || width > MOST_IN_FRONT {
@@ -151,7 +151,7 @@ fn are_long(pieces: &[Piece], behind: usize) -> bool {
 /// Whether the token before opens braces of members or a list.
 fn is_behind_opener(run: &Run) -> bool {
     match run.before {
-        Some(piece) => piece.role == Role::OpensBody || piece.role == Role::OpensList,
+        Some(piece) => piece.role == Role::OpensBody || piece.role.opens_list(),
         None => false,
     }
 }

@@ -2,6 +2,7 @@
 
 use crate::piece::{Joint, Role};
 use weedle_grammar::grammar::interface_members::BRACED_INTERFACE_MEMBERS;
+use weedle_grammar::grammar::keywords::OR;
 use weedle_grammar::grammar::literals::EMPTY_DICTIONARY_LIT;
 use weedle_grammar::grammar::other_members::{
     BRACED_DICTIONARY_MEMBERS, BRACED_ENUM_VALUE_LIST, BRACED_MIXIN_MEMBERS,
@@ -15,7 +16,7 @@ use weedle_grammar::grammar::symbols::{
 use weedle_grammar::grammar::types::{
     EXTENDED_ATTRIBUTE_IDENT, EXTENDED_ATTRIBUTE_IDENT_LIST, EXTENDED_ATTRIBUTE_LIST,
     EXTENDED_ATTRIBUTE_NAMED_ARG_LIST, PARENTHESIZED_ARGUMENT_LIST, TAIL_ARGUMENT_COMMA,
-    TAIL_EXTENDED_ATTRIBUTE_COMMA,
+    TAIL_EXTENDED_ATTRIBUTE_COMMA, TAIL_UNION_MEMBER_TYPE_OR, UNION_TYPE,
 };
 
 /// A token: the numbers of its rule and of the rule that reads it.
@@ -45,6 +46,13 @@ pub(crate) fn role_of(token: Token) -> Role {
                 Role::ClosesList
             }
         }
+        UNION_TYPE => {
+            if opens(token.rule) {
+                Role::OpensUnion
+            } else {
+                Role::ClosesList
+            }
+        }
         _ => Role::Plain,
     }
 }
@@ -62,7 +70,8 @@ pub(crate) fn ends_item(token: Token) -> bool {
     match token.parent {
         TAIL_ARGUMENT_COMMA | TAIL_EXTENDED_ATTRIBUTE_COMMA | TAIL_ENUM_VARIANT_COMMA | OPT_COMMA =>
             { token.rule == COMMA }
-        _ => role_of(token) == Role::OpensList,
+        TAIL_UNION_MEMBER_TYPE_OR => token.rule == OR,
+        _ => role_of(token).opens_list(),
     }
 }
 

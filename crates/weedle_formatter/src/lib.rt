@@ -13,6 +13,7 @@ mod apart;
 mod fits;
 mod formatter;
 mod gaps;
+mod in_front;
 mod joint;
 pub mod laws;
 mod line_end;

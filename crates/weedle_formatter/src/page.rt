@@ -6,6 +6,7 @@ ghost use Rattle.weedle_formatter.specs.Bound.{most_laid_out};
 use crate::apart::set_apart;
 use crate::fits::list_fits;
 use crate::gaps::set_gaps;
+use crate::in_front::set_in_front;
 use crate::line_end::ends_in_two;
 use crate::piece::{Gap, Kind, Piece, Role, characters};
 use crate::pieces::pieces_of;
@@ -14,7 +15,7 @@ use std::alloc::{AllocError, Global};
 use weedle_syntax::Node;
 
 /// How many blanks a level is.
-const LEVEL: usize = 2;
+pub(crate) const LEVEL: usize = 2;
 
 /// How many levels a line is indented at most. Lists that stand so deep aren't broken.
 const MOST_LEVELS: usize = 16;
@@ -72,6 +73,7 @@ pub(crate) fn short_layout(
     let text = raw.as_bytes();
     let mut pieces = pieces_of(alloc, text, nodes)?;
     set_gaps(&mut pieces);
+    set_in_front(&mut pieces);
     set_apart(&mut pieces);
     let page = written(alloc, text, &pieces, ends_in_two(text, nodes))?;
     if page.out.len() > most_bytes(text.len()) {
@@ -92,7 +94,7 @@ fn written(alloc: Global, text: &[u8], pieces: &[Piece], in_two: bool) -> Result
         let piece = pieces[i];
         page.separate(&piece)?;
         page.write(&piece, between(text, piece.start, piece.end))?;
-        if piece.role == Role::OpensList {
+        if piece.role.opens_list() {
             let column = page.column;
             page.open_list(!list_fits(pieces, i, column))?;
         }

@@ -43,8 +43,20 @@ pub(crate) enum Role {
     /// It opens a list, which may be broken: of arguments, of extended attributes, or of an enum's
     /// values.
     OpensList,
+    /// It opens a union, which is a list of types that may be broken.
+    OpensUnion,
     /// It closes a list that may be broken.
     ClosesList,
+}
+
+impl Role {
+    /// Whether it opens a list that may be broken.
+    pub(crate) fn opens_list(self) -> bool {
+        match self {
+            Role::OpensList | Role::OpensUnion => true,
+            Role::Plain | Role::OpensBody | Role::ClosesBody | Role::ClosesList => false,
+        }
+    }
 }
 
 /// What is written in front of a piece.

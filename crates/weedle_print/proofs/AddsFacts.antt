@@ -3,7 +3,7 @@ use Rattle.std.proofs.Common.{◌≡◌, inl, inr, ℕ, List, [], ◌∷◌, ◌
 use Rattle.weedle_grammar.specs.declared.class.Class.{Class}
 use Rattle.weedle_grammar.specs.declared.class.Class.TheVariants.{Blank}
 use Rattle.weedle_print.specs.Adds.{Adds}
-use Rattle.weedle_spell.specs.Forms.{Form, Chain, chain_ends, chain_goes_on, ◌then◌, empty, exactly, perhaps, that, any}
+use Rattle.weedle_spell.specs.Forms.{Form, chain_ends, chain_goes_on, ◌then◌, empty, exactly, any}
 use Rattle.weedle_spell.specs.Tokens.{IsTrivia, blanks, word}
 
 -- what is of the one form is of the other
@@ -35,7 +35,7 @@ adds_pushed {t = t} e = record { added = t; is = e; of = refl }
 pub adds_none : {x : List ℕ} → Adds empty x x
 adds_none {x} = record { added = []; is = sym (append-nil x); of = refl }
 
-any_then : (c : Class) (s t : List ℕ) → any c s → any c t → any c (s ++ t)
+pub any_then : (c : Class) (s t : List ℕ) → any c s → any c t → any c (s ++ t)
 any_then c [] t h k = k
 any_then c (b ∷ s) t h k = (h.0, any_then c s t h.1 k)
 

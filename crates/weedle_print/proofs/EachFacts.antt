@@ -3,7 +3,7 @@ use Rattle.std.proofs.Common.{◌≡◌, ℕ, ◌+◌, ◌<◌, ◌≤◌, List,
 use Rattle.std.proofs.lemmas.List.{take_more, take_all}
 use Rattle.weedle_print.proofs.AddsFacts.{adds_as, adds_then, adds_none}
 use Rattle.weedle_print.specs.Adds.{Adds}
-use Rattle.weedle_spell.specs.Forms.{Form, ◌then◌, empty, each, each_behind, separated_by, separated_non_empty, perhaps}
+use Rattle.weedle_spell.specs.Forms.{Form, ◌then◌, each, each_behind, separated_by}
 
 module _ {V : Type 0} (S : V → Form) where
   -- one more

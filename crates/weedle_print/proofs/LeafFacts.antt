@@ -1,5 +1,5 @@
 -- Names, numbers and strings: what is read has its form, and what is put there does.
-use Rattle.std.proofs.Common.{◌≡◌, inl, inr, List, [], ◌∷◌, ◌++◌, ℕ, length, take, codes, None, refl, sym, ap, ◌∙◌, subst, append-nil, arith}
+use Rattle.std.proofs.Common.{◌≡◌, inl, inr, List, [], ◌∷◌, ℕ, length, take, codes, None, refl, sym, ap, ◌∙◌, subst, append-nil, arith}
 use Rattle.std.proofs.lemmas.List.{take_all}
 use Rattle.memchr.specs.Find.{IsFirstByte, is_byte}
 use Rattle.weedle_grammar.proofs.FindFacts.{run_whole}
@@ -19,8 +19,8 @@ use Rattle.weedle_print.proofs.AddsFacts.{adds_as, adds_then, adds_trivia, adds_
 use Rattle.weedle_print.specs.Adds.{Adds}
 use Rattle.weedle_spell.proofs.LeafLaws.{identifier_law, dec_law, hex_law, oct_law, float_value_law}
 use Rattle.weedle_spell.proofs.RowBytes.{run_form}
-use Rattle.weedle_spell.specs.Forms.{Form, ◌then◌, exactly, perhaps, that, any}
-use Rattle.weedle_spell.specs.Tokens.{IsTrivia, word, name, named, number, quoted, decimal, hexadecimal, octal, floating}
+use Rattle.weedle_spell.specs.Forms.{Form, exactly, perhaps, that, any}
+use Rattle.weedle_spell.specs.Tokens.{word, name, named, number, quoted, decimal, hexadecimal, octal, floating}
 
 name_kept : (text s : List ℕ) → named text s → name text
 name_kept text s h = let kept = h.of_rest.of_rest.of_first in subst name kept.0 kept.1

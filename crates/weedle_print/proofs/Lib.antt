@@ -1,4 +1,5 @@
 pub mod AddsFacts
+pub mod ApartFacts
 pub mod EachFacts
 pub mod SeparatedFacts
 pub mod LeafFacts

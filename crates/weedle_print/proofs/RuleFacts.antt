@@ -2,7 +2,7 @@
 use Rattle.std.proofs.Common.{◌≡◌, ◌≢◌, inl, inr, ℕ, zero, suc, ◌<◌, ◌≤◌, List, [], ◌∷◌, length, refl, sym, ◌∙◌, arith}
 use Rattle.std.proofs.lemmas.Bool.Decides.{leb_tells}
 use Rattle.weedle_grammar.specs.Entry.{Entry, entry_at}
-use Rattle.weedle_grammar.specs.Rows.{Row, Bytes, First}
+use Rattle.weedle_grammar.specs.Rows.{Bytes, First}
 use Rattle.weedle_grammar.specs.written.Bound.{rule_count}
 use Rattle.weedle_grammar.specs.written.Table.{table, row_of}
 use Rattle.weedle_print.specs.Reserved.{IsRead}

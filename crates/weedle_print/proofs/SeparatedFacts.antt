@@ -1,13 +1,12 @@
 -- Values put with separators between them, as loops put them.
-use Rattle.std.proofs.Common.{◌≡◌, ℕ, zero, suc, ◌+◌, ◌<◌, ◌≤◌, Bool, true, false, List, [], ◌∷◌, ◌++◌, length, take, get_or, codes, refl, sym, ap, ◌∙◌, subst, inl, inr, append-nil, append_assoc, arith}
+use Rattle.std.proofs.Common.{◌≡◌, ℕ, zero, suc, ◌+◌, ◌<◌, ◌≤◌, Bool, true, false, List, [], ◌∷◌, ◌++◌, length, take, get_or, refl, sym, ap, ◌∙◌, subst, inr, append-nil, append_assoc, arith}
 use Rattle.std.proofs.lemmas.List.{take_more, take_all}
 use Rattle.std.specs.Prelude.{◌==◌}
 use Rattle.weedle_print.proofs.AddsFacts.{adds_as, adds_then, adds_none}
 use Rattle.weedle_print.proofs.EachFacts.{first_snoc, separated_snoc}
 use Rattle.weedle_print.specs.Adds.{Adds}
 use Rattle.weedle_print.specs.Separators.{in_front_of}
-use Rattle.weedle_spell.specs.Forms.{Form, ◌then◌, empty, perhaps, separated_by, separated_non_empty}
-use Rattle.weedle_spell.specs.Tokens.{word}
+use Rattle.weedle_spell.specs.Forms.{Form, ◌then◌, perhaps, separated_by, separated_non_empty}
 
 -- as many values stand before, and it says whether none does
 abbrev pub Counts : Bool → ℕ → Type 0

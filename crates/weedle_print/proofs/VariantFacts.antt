@@ -1,5 +1,5 @@
 -- What spells the member of a variant spells the variant.
-use Rattle.std.specs.Prelude.{◌↔◌, ℕ, List}
+use Rattle.std.specs.Prelude.{ℕ, List}
 use Rattle.weedle_base.specs.declared.term.written.type_keywords.Or.{Or}
 use Rattle.weedle_parts.specs.declared.common.brackets.Parenthesized.{Parenthesized}
 use Rattle.weedle_parts.specs.declared.common.punctuated.Punctuated.{Punctuated}
@@ -24,7 +24,6 @@ use Rattle.weedle_types.specs.declared.types.UnionMemberType.TheVariants.{Single
 use Rattle.weedle_types.specs.declared.types.UnionMemberType.{UnionMemberType}
 use Rattle.weedle_types.specs.declared.types.«Type».TheVariants.{Single as Type-Single, Union as Type-Union}
 use Rattle.weedle_types.specs.declared.types.«Type».{«Type»}
-use Rattle.weedle_spell.specs.Forms.{Form}
 use Rattle.weedle_spell.specs.GenericParts.{may_be_null_spelling}
 use Rattle.weedle_spell.specs.written.Arguments.{single_argument_spelling, variadic_argument_spelling, extended_attribute_arg_list_spelling, extended_attribute_named_arg_list_spelling}
 use Rattle.weedle_spell.specs.RecursiveTypes.{type_spelling, non_any_type_spelling, union_member_type_spelling, argument_spelling, extended_attribute_spelling}

@@ -1,4 +1,5 @@
 pub mod Adds
+pub mod Apart
 pub mod Reserved
 pub mod Separators
 pub mod Words

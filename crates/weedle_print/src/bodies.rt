@@ -9,7 +9,7 @@ ghost use Rattle.weedle_print.specs.Adds.{Adds};
 use crate::error::PrintError;
 use crate::layout::Layout;
 use crate::list::{close_list, separate};
-use crate::print::Print;
+use crate::print::{Print, try_line};
 use crate::texts::{last_word, push, word};
 use weedle_base::term::Comma;
 use weedle_parts::common::{Braced, PunctuatedNonEmpty};
@@ -30,6 +30,26 @@ fn open_body(is_empty: bool, out: &mut String, layout: &mut Layout) -> Result<()
     Ok(())
 }
 
+/// Writes members, each first on a line alone, to see whether it fits there with the extended
+/// attributes in front of it.
+#[tactic(auto, using(crate::proofs::EachFacts::each_steps))]
+fn push_members<P: Print>(
+    members: &Vec<P::Value>,
+    out: &mut String,
+    layout: &mut Layout,
+) -> Result<(), PrintError>
+    ensures { OnOk result
+        (Adds (each P.spelling members.now.items) (string_bytes out.old) (string_bytes out.new)) }
+{
+    for member in members {
+        let start = *layout;
+        try_line::<P>(*out.allocator(), member, layout)?;
+        P::print(member, out, layout)?;
+        layout.end_item(&start);
+    }
+    Ok(())
+}
+
 /// Members in braces, as `{ stringifier; }`: each takes a line, and none is `{}`.
 #[tactic(auto, using(crate::proofs::AddsFacts::adds_then))]
 impl<P: Print> Print for Braced<Vec<P>> {
@@ -43,7 +63,7 @@ impl<P: Print> Print for Braced<Vec<P>> {
         layout: &mut Layout,
     ) -> Result<(), PrintError> {
         open_body(value.body.is_empty(), out, layout)?;
-        Vec::<P>::print(&value.body, out, layout)?;
+        push_members::<P>(&value.body, out, layout)?;
         layout.close_body();
         word(out, layout, "}")
     }

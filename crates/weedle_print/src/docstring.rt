@@ -39,6 +39,7 @@ impl Print for Docstring {
         for line in value.0.as_str().split('\n') {
             push_doc_line(line, out, layout)?;
         }
+        layout.end_docstring();
         Ok(())
     }
 }

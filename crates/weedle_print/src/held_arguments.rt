@@ -95,6 +95,7 @@ impl<'a> Print for Held<ParenthesizedArgumentList<'a>> {
         out: &mut String,
         layout: &mut Layout,
     ) -> Result<(), PrintError> {
+        layout.end_head();
         print_arguments(value, out, layout)
     }
 }

@@ -1,6 +1,17 @@
 //! Where a line stands, and what goes between two words.
 
+ghost use Rattle.std.specs.Prelude.{◌≡◌, ◌≤◌, ◌+◌, ◌↔◌, IsTrue, false};
+ghost use Rattle.weedle_print.specs.Apart.{
+  begins_as_name as the_begins_as_name,
+  ends_as_name as the_ends_as_name,
+};
+
+mod items;
+mod lists;
+
+use crate::name_bytes::{begins_as_name, ends_as_name};
 use crate::statement::Statement;
+use crate::widths::{characters, characters_behind, line_ends};
 use crate::written::reserved::is_read_behind;
 
 /// How many columns a line has.
@@ -11,10 +22,6 @@ const LEVEL: usize = 2;
 
 /// How many levels a line is indented at most. Lists that stand so deep aren't broken.
 const MOST_LEVELS: usize = 16;
-
-/// How many characters extended attributes have at most that stand in front of what they belong to,
-/// on its line.
-const MOST_IN_FRONT: usize = 40;
 
 /// What goes in front of the next word.
 #[derive(Clone, Copy, Debug, PartialEq, Eq)]
@@ -36,6 +43,15 @@ pub(crate) struct Space {
     pub(crate) blanks: usize,
 }
 
+impl Space {
+    /// Whether nothing goes there.
+    fn is_nothing(&self) -> bool
+        ensures { IsTrue result ↔ (self.now.line_ends + self.now.blanks ≡ 0) }
+    {
+        self.line_ends == 0 && self.blanks == 0
+    }
+}
+
 /// How the line stands at the end of a text that is being written: what whoever writes the next
 /// word has to know for the layout. It is no part of what a text says.
 #[derive(Clone, Copy, Debug)]
@@ -50,12 +66,27 @@ pub struct Layout {
     width: usize,
     /// Whether nothing stands on the line.
     is_line_begun: bool,
+    /// Whether the text ends with a character of names: another one would go on with its last word.
+    is_in_name: bool,
     /// Whether lists stay on the line.
     is_flat: bool,
     /// Whether the innermost open list has a line for each item.
     is_broken: bool,
     /// How many characters the last list has on one line, with its brackets.
     listed: usize,
+    /// How many characters were written, as they would stand if no list were broken, and no
+    /// attributes had a line of their own.
+    count: usize,
+    /// The count at the end of the line that an item, a member or a statement begins, where it
+    /// stands on one: up to the parenthesis of its arguments, or to its end. 0 while it isn't known.
+    head: usize,
+    /// The count in front of the last string on that line in which a line ends.
+    cut: usize,
+    /// How many lines were ended in front of that line.
+    first: usize,
+    /// Whether extended attributes in front of a member or a statement have a line of their own,
+    /// since it doesn't fit on one with them.
+    is_apart: bool,
     /// Whether a type ended with the word before, behind which arguments stand apart.
     is_behind_type: bool,
     front: Front,
@@ -82,41 +113,6 @@ fn is_tight_behind(text: &str) -> bool {
     }
 }
 
-/// How many characters a text has: its bytes, but those that go on with a character.
-fn characters(text: &str) -> usize {
-    let mut found: usize = 0;
-    for &byte in text.as_bytes() {
-        if byte < 0x80 || byte >= 0xC0 {
-            found = found.saturating_add(1);
-        }
-    }
-    found
-}
-
-/// How many line ends stand in a text.
-fn line_ends(text: &str) -> usize {
-    let mut found: usize = 0;
-    for &byte in text.as_bytes() {
-        if byte == b'\n' {
-            found = found.saturating_add(1);
-        }
-    }
-    found
-}
-
-/// What stands behind the last line end of a text, in characters.
-fn characters_behind(text: &str) -> usize {
-    let mut found: usize = 0;
-    for &byte in text.as_bytes() {
-        if byte == b'\n' {
-            found = 0;
-        } else if byte < 0x80 || byte >= 0xC0 {
-            found = found.saturating_add(1);
-        }
-    }
-    found
-}
-
 impl Layout {
     /// The layout at the front of a line, of which nothing is written yet.
     pub fn new() -> Layout {
@@ -126,9 +122,15 @@ impl Layout {
             lines: 0,
             width: 0,
             is_line_begun: true,
+            is_in_name: false,
             is_flat: false,
             is_broken: false,
             listed: 0,
+            count: 0,
+            head: 0,
+            cut: 0,
+            first: 0,
+            is_apart: false,
             is_behind_type: false,
             front: Front::Line,
             statement: Statement::Other,
@@ -136,8 +138,21 @@ impl Layout {
         }
     }
 
-    /// What goes in front of this word.
-    pub(crate) fn space(&self, text: &str) -> Space {
+    /// What goes in front of this word: a blank or a line end at least, where it would go on with
+    /// the word before.
+    pub(crate) fn space(&self, text: &str) -> Space
+        ensures apart { IsTrue self.now.is_in_name → IsTrue (the_begins_as_name text.now)
+            → 1 ≤ result.line_ends + result.blanks }
+    {
+        let space = self.wanted_space(text);
+        if self.is_in_name && space.is_nothing() && begins_as_name(text) {
+            return self.blanks(1);
+        }
+        space
+    }
+
+    /// What goes in front of this word by what was asked for.
+    fn wanted_space(&self, text: &str) -> Space {
         match self.front {
             Front::Nothing => self.blanks(0),
             Front::Blank if is_tight_in_front(text) => self.blanks(0),
@@ -148,7 +163,9 @@ impl Layout {
     }
 
     /// So many blanks on the line.
-    fn blanks(&self, blanks: usize) -> Space {
+    fn blanks(&self, blanks: usize) -> Space
+        ensures { result.blanks ≡ blanks }
+    {
         Space {
             line_ends: 0,
             blanks,
@@ -169,6 +186,10 @@ impl Layout {
 
     /// Keeps that this was written in front of a word.
     pub(crate) fn spaced(&mut self, space: Space) {
+        match self.front {
+            Front::Nothing | Front::Blank => self.count = self.count.saturating_add(space.blanks),
+            Front::Line | Front::EmptyLine => {}
+        }
         if space.line_ends > 0 {
             self.end_line();
         }
@@ -176,33 +197,43 @@ impl Layout {
     }
 
     /// Keeps that the line was ended. An empty line isn't counted.
-    pub(crate) fn end_line(&mut self) {
+    pub(crate) fn end_line(&mut self)
+        ensures { self.new.is_in_name ≡ false }
+    {
         if !self.is_line_begun {
             self.width = self.column;
             self.lines = self.lines.saturating_add(1);
         }
         self.column = 0;
         self.is_line_begun = true;
+        self.is_in_name = false;
         self.front = Front::Line;
     }
 
     /// Keeps that a text was written that holds no word of the grammar, as a name or a string.
-    pub(crate) fn wrote(&mut self, text: &str, before: &'static str) {
+    pub(crate) fn wrote(&mut self, text: &str, before: &'static str)
+        ensures ends { self.new.is_in_name ≡ the_ends_as_name text.now }
+    {
         let ended = line_ends(text);
         if ended > 0 {
             self.lines = self.lines.saturating_add(ended);
             self.column = characters_behind(text);
+            self.cut_line();
         } else {
             self.column = self.column.saturating_add(characters(text));
         }
+        self.count = self.count.saturating_add(characters(text));
         self.is_line_begun = false;
+        self.is_in_name = ends_as_name(text);
         self.is_behind_type = false;
         self.front = Front::Blank;
         self.before = before;
     }
 
     /// Keeps that a word was written.
-    pub(crate) fn wrote_word(&mut self, word: &'static str) {
+    pub(crate) fn wrote_word(&mut self, word: &'static str)
+        ensures ends { self.new.is_in_name ≡ the_ends_as_name word.now }
+    {
         self.wrote(word, word);
         if is_tight_behind(word) {
             self.front = Front::Nothing;
@@ -210,18 +241,25 @@ impl Layout {
     }
 
     /// Keeps that a name was written, perhaps behind an underscore.
-    pub(crate) fn wrote_name(&mut self, name: &str, is_behind_underscore: bool) {
+    pub(crate) fn wrote_name(&mut self, name: &str, is_behind_underscore: bool)
+        ensures ends { self.new.is_in_name ≡ the_ends_as_name name.now }
+    {
         if is_behind_underscore {
             self.column = self.column.saturating_add(1);
+            self.count = self.count.saturating_add(1);
         }
         self.wrote(name, "a");
     }
 
     /// Keeps that a text was written in quotes.
-    pub(crate) fn wrote_string(&mut self, text: &str) {
+    pub(crate) fn wrote_string(&mut self, text: &str)
+        ensures { self.new.is_in_name ≡ false }
+    {
         self.column = self.column.saturating_add(1);
         self.wrote(text, "");
         self.column = self.column.saturating_add(1);
+        self.count = self.count.saturating_add(2);
+        self.is_in_name = false;
     }
 
     /// Has what follows begin a line.
@@ -268,74 +306,6 @@ impl Layout {
     pub(crate) fn skip_line(&mut self) {
         if self.lines > 0 {
             self.front = Front::EmptyLine;
-        }
-    }
-
-    /// Whether lists stay on the line, so that none is to be tried.
-    pub fn is_flat(&self) -> bool {
-        self.is_flat
-    }
-
-    /// Has lists stay on the line, to try whether they fit.
-    pub fn try_flat(&mut self) {
-        self.is_flat = true;
-        self.is_broken = false;
-    }
-
-    /// Ends a list that was tried. `start` is the layout behind its bracket.
-    pub fn end_try(&mut self, start: &Layout) {
-        self.is_flat = start.is_flat;
-        self.is_broken = start.is_broken;
-        self.listed = if self.lines == start.lines {
-            self.column.saturating_sub(start.column).saturating_add(1)
-        } else {
-            usize::MAX
-        };
-    }
-
-    /// Whether the list that was tried stays on its line: it fits there with a sign of so many
-    /// characters behind it, or stands too deep to be broken.
-    pub fn fits(&self, start: &Layout, sign: usize) -> bool {
-        start.level >= MOST_LEVELS
-            || self.lines == start.lines && self.column.saturating_add(sign) <= COLUMNS
-    }
-
-    /// Opens the list anew, with a line for each item. The answer is how many characters it had on
-    /// one line.
-    pub fn break_list(&mut self, start: &Layout) -> usize {
-        let width = self.listed;
-        *self = *start;
-        self.is_broken = true;
-        self.level = self.level.saturating_add(1);
-        width
-    }
-
-    /// Begins an item of a list.
-    pub fn begin_item(&mut self) {
-        if self.is_broken {
-            self.front = Front::Line;
-        }
-    }
-
-    /// Ends the items of a list.
-    pub fn end_items(&mut self) {
-        if self.is_broken {
-            self.is_broken = false;
-            self.level = self.level.saturating_sub(1);
-            self.front = Front::Line;
-        }
-    }
-
-    /// Ends a list with a line for each item, which had so many characters on one line.
-    pub fn end_list(&mut self, start: &Layout, width: usize) {
-        self.is_broken = start.is_broken;
-        self.listed = width;
-    }
-
-    /// Has what follows extended attributes take a line of its own where they are long.
-    pub fn end_attributes(&mut self) {
-        if self.listed > MOST_IN_FRONT {
-            self.front = Front::Line;
         }
     }
 

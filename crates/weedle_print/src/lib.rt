@@ -47,6 +47,7 @@ mod list;
 mod literals;
 mod modifier_words;
 mod name;
+mod name_bytes;
 mod null;
 mod number;
 mod plain_attributes;
@@ -58,6 +59,7 @@ mod statement;
 mod string;
 mod texts;
 mod type_words;
+mod widths;
 mod words;
 mod written;
 

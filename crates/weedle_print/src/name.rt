@@ -1,10 +1,12 @@
 //! Names.
 
 ghost use Rattle.std.specs.Prelude.{◌≡◌, ◌↔◌, ℕ, List, codes, IsTrue, OnOk, string_bytes};
-ghost use Rattle.weedle_spell.specs.Forms.{exactly, perhaps};
+ghost use Rattle.weedle_grammar.specs.declared.class.Class.TheVariants.{Blank};
+ghost use Rattle.weedle_spell.specs.Forms.{◌then◌, exactly, perhaps, some};
 ghost use Rattle.weedle_spell.specs.Leaves.{identifier_spelling};
-ghost use Rattle.weedle_spell.specs.Tokens.{name as the_name};
+ghost use Rattle.weedle_spell.specs.Tokens.{name as the_name, named};
 ghost use Rattle.weedle_print.specs.Adds.{Adds};
+ghost use Rattle.weedle_print.specs.Apart.{begins_as_name, ends_as_name};
 ghost use Rattle.weedle_print.specs.Reserved.{IsWord};
 
 use crate::error::PrintError;
@@ -56,9 +58,28 @@ fn push_underscore(is_wanted: bool, out: &mut String) -> Result<(), PrintError>
     Ok(())
 }
 
+/// Writes a name behind an underscore, where a keyword of its letters would be read there; and
+/// behind a blank or a line end at least, where it would go on with the word before.
+#[tactic(auto, using(crate::proofs::LeafFacts::adds_name, crate::proofs::ApartFacts::apart_name))]
+fn push_name(name: &str, out: &mut String, layout: &mut Layout) -> Result<(), PrintError>
+    requires { the_name name.now }
+    ensures adds { OnOk result
+        (Adds (named name.now) (string_bytes out.old) (string_bytes out.new)) }
+    ensures apart { IsTrue layout.old.is_in_name → IsTrue (begins_as_name name.now)
+        → OnOk result (Adds (some Blank then perhaps (exactly (codes "_")) then exactly name.now)
+        (string_bytes out.old) (string_bytes out.new)) }
+    ensures ends { OnOk result (layout.new.is_in_name ≡ ends_as_name name.now) }
+{
+    space(out, layout, name)?;
+    let is_wanted = layout.is_read_as_word(name);
+    push_underscore(is_wanted, out)?;
+    push(out, name)?;
+    layout.wrote_name(name, is_wanted);
+    Ok(())
+}
+
 /// A name, as `width`. Where a keyword of its letters would be read there, it stands behind an
 /// underscore.
-#[tactic(auto, using(crate::proofs::LeafFacts::adds_name))]
 impl<'a> Print for Identifier<'a> {
     type Value = Self;
 
@@ -72,11 +93,6 @@ impl<'a> Print for Identifier<'a> {
         if !is_name(*out.allocator(), value.0) {
             return Err(PrintError::NoText);
         }
-        space(out, layout, value.0)?;
-        let is_wanted = layout.is_read_as_word(value.0);
-        push_underscore(is_wanted, out)?;
-        push(out, value.0)?;
-        layout.wrote_name(value.0, is_wanted);
-        Ok(())
+        push_name(value.0, out, layout)
     }
 }

@@ -15,6 +15,7 @@ ghost use Rattle.weedle_spell.specs.Tokens.{
   floating,
 };
 ghost use Rattle.weedle_print.specs.Adds.{Adds};
+ghost use Rattle.weedle_print.specs.Apart.{apart as the_apart, begins_as_name, ends_as_name};
 
 use crate::error::PrintError;
 use crate::layout::Layout;
@@ -24,10 +25,15 @@ use std::alloc::Global;
 use weedle_base::Parse;
 use weedle_parts::literal::{DecLit, FloatValueLit, HexLit, OctLit};
 
-/// Writes a number as it is kept.
-#[tactic(auto, using(crate::proofs::AddsFacts::adds_word))]
+/// Writes a number as it is kept, behind a blank or a line end at least, where it would go on with
+/// the word before.
+#[tactic(auto, using(crate::proofs::AddsFacts::adds_word, crate::proofs::ApartFacts::apart_word))]
 fn push_number(out: &mut String, layout: &mut Layout, text: &str) -> Result<(), PrintError>
-    ensures { OnOk result (Adds (the_word text.now) (string_bytes out.old) (string_bytes out.new)) }
+    ensures adds { OnOk result
+        (Adds (the_word text.now) (string_bytes out.old) (string_bytes out.new)) }
+    ensures apart { IsTrue layout.old.is_in_name → IsTrue (begins_as_name text.now)
+        → OnOk result (Adds (the_apart text.now) (string_bytes out.old) (string_bytes out.new)) }
+    ensures ends { OnOk result (layout.new.is_in_name ≡ ends_as_name text.now) }
 {
     space(out, layout, text)?;
     push(out, text)?;

@@ -7,6 +7,7 @@ ghost use Rattle.weedle_print.specs.Adds.{Adds};
 use crate::error::PrintError;
 use crate::layout::Layout;
 use crate::texts::push;
+use std::alloc::Global;
 
 /// How values of a type are written as WebIDL. `spelling` says which texts spell a value.
 ///
@@ -26,6 +27,21 @@ pub trait Print {
     fn print(value: &Self::Value, out: &mut String, layout: &mut Layout) -> Result<(), PrintError>
         ensures { OnOk result
             (Adds (spelling value.now) (string_bytes out.old) (string_bytes out.new)) };
+}
+
+/// Writes a value that begins a line into a text of its own, to see how much stands on that line,
+/// and has `layout` be as it was, but for that.
+pub(crate) fn try_line<P: Print>(
+    alloc: Global,
+    value: &P::Value,
+    layout: &mut Layout,
+) -> Result<(), PrintError> {
+    let start = *layout;
+    let mut text = String::new(alloc);
+    layout.try_line();
+    P::print(value, &mut text, layout)?;
+    layout.end_line_try(&start, 0);
+    Ok(())
 }
 
 /// Writes a value at the end of `out`, as `long long? a` of an argument, in the one layout. It

@@ -5,8 +5,7 @@ ghost use Rattle.weedle_print.specs.Adds.{Adds};
 
 use crate::error::PrintError;
 use crate::layout::Layout;
-use crate::print::Print;
-use crate::texts::push;
+use crate::print::{Print, try_line};
 
 /// What a definition is for the layout: statements of one kind that take one line each stand below
 /// one another, and an empty line stands between all other definitions.
@@ -24,10 +23,9 @@ pub enum Statement {
     Other,
 }
 
-/// Writes a definition of this kind, behind an empty line where the layout has one. A statement
-/// that may stand right below the one before is written into a text of its own first, to see
-/// whether it takes one line.
-#[tactic(auto, using(crate::proofs::AddsFacts::adds_copied))]
+/// Writes a definition of this kind, behind an empty line where the layout has one. A statement is
+/// written into a text of its own first, to see whether it takes one line, and whether that fits
+/// with the extended attributes in front of it.
 pub fn print_statement<P: Print>(
     value: &P::Value,
     kind: Statement,
@@ -38,16 +36,14 @@ pub fn print_statement<P: Print>(
         (Adds (P.spelling value.now) (string_bytes out.old) (string_bytes out.new)) }
 {
     let start = *layout;
-    if layout.may_follow(kind) {
-        let mut text = String::new(*out.allocator());
-        P::print(value, &mut text, layout)?;
-        if layout.is_one_line(&start) {
-            return push(out, text.as_str());
-        }
-        *layout = start;
+    if kind != Statement::Other {
+        try_line::<P>(*out.allocator(), value, layout)?;
     }
-    layout.skip_line();
+    if !layout.is_flat() || !layout.may_follow(kind) {
+        layout.skip_line();
+    }
     P::print(value, out, layout)?;
+    layout.end_item(&start);
     layout.end_statement(kind, &start);
     Ok(())
 }

@@ -59,7 +59,8 @@ pub(crate) fn print_arguments(
     Ok(())
 }
 
-/// Writes arguments with commas between them, and the parenthesis behind them.
+/// Writes arguments with commas between them, and the parenthesis behind them. Where each has a
+/// line, it is first written on a line alone.
 #[cycle(prints)]
 #[tactic(auto, using(crate::proofs::AddsFacts::adds_then, crate::proofs::SeparatedFacts::separated_steps, weedle_types::proofs::TreeLaws::clone_steps, weedle_types::proofs::Smaller::argument_smaller))]
 pub(crate) fn push_arguments(
@@ -73,10 +74,20 @@ pub(crate) fn push_arguments(
         (string_bytes out.old) (string_bytes out.new)) }
 {
     let mut is_first = true;
+    let mut left = arguments.len();
     for argument in arguments {
         separate(is_first, out, layout, ",")?;
         layout.begin_item();
+        left = left.saturating_sub(1);
+        let start = *layout;
+        if !layout.is_flat() {
+            let mut text = String::new(*out.allocator());
+            layout.try_line();
+            print_argument(argument, &mut text, layout)?;
+            layout.end_line_try(&start, if left > 0 { 1 } else { 0 });
+        }
         print_argument(argument, out, layout)?;
+        layout.end_item(&start);
         is_first = false;
     }
     close_list(out, layout, ")")
