@@ -8,8 +8,10 @@ import unittest
 from pathlib import Path
 
 from lsp_client import PAGE, Client, places, range_, where
+from run_slips import slips
 from weedle import Span
 from weedle.lsp import layout, renaming
+from weedle.lsp.diagnostics import actions
 from weedle.lsp.protocol import Fault
 from weedle.lsp.sources import Source
 
@@ -36,6 +38,8 @@ typedef (Page or Store) Either;
 CLASS, METHOD, PROPERTY, FIELD, CONSTRUCTOR, ENUM, INTERFACE, CONSTANT, MEMBER, STRUCT, TYPE = (
     5, 6, 7, 8, 9, 10, 11, 14, 22, 23, 26)
 REQUEST_FAILED, INVALID_PARAMS = -32803, -32602
+# Of the texts with a slip so many at least are mended by an action: docs/SLIPS.md has 134 of 155.
+MEND = 0.85
 
 
 def applied(text, changes):
@@ -190,6 +194,21 @@ partial interface Page { undefined turn(); };
         found = self.page.about("textDocument/formatting", options={})
         wanted = self.TEXT.replace("{ undefined turn(); }", "{\n  undefined turn();\n}")
         self.assertEqual(applied(self.TEXT, found), wanted.replace("{};\nt", "{};\n\nt").replace("Leaf;\n", "Leaf;\n\n"))
+
+
+class Slips(unittest.TestCase):
+    """The texts of tests/slips.txt, each with one slip."""
+
+    def test_what_mends_the_first_error_mends_the_text(self):
+        all_, mended = slips(), 0
+        for slip in all_:
+            source = Source(PAGE, slip.text.encode())
+            for action in actions(source, Span(0, len(source.data)))[:1]:
+                (edit,) = action["edit"]["changes"][PAGE]
+                after = source.changed([{"range": edit["range"], "text": edit["newText"]}])
+                self.assertEqual(after.reading.problems, [], (slip.line, action["title"]))
+                mended += 1
+        self.assertGreaterEqual(mended, MEND * len(all_))
 
 
 class Outline(Features):

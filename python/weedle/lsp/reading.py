@@ -9,6 +9,7 @@ import re
 from itertools import groupby
 from typing import Iterator, List, NamedTuple, Optional, Sequence
 
+from weedle import parse
 from weedle._comments import comments_before, said
 from weedle._formatting import is_blank
 from weedle._listing import listing
@@ -99,16 +100,25 @@ def read(data: bytes) -> Reading:
 
     A text of whitespace and comments alone has no definitions, and is no error.
     """
+    try:
+        definitions = parse(b"" if is_blank(data) else data)
+    except Refused as refused:
+        return recovered(data, refused)
+    return Reading(definitions, [], definitions._tree.children(0), [])
+
+
+def recovered(data: bytes, first: Refused) -> Reading:
+    """What is read of a text that is refused. What is said of its first error is of the whole text."""
     found = recover(data)
     values = [it.value for it in found.definitions]
     definitions: Definitions = listing(Definitions, found._tree, values)
-    parts: Sequence[Part] = [] if is_blank(data) else found.parts
-    problems = [Problem(it.span, it.refusal) for it in parts if it.refusal]
+    problems = [Problem(it.span, it.refusal) for it in found.parts if it.refusal]
+    problems[:1] = [Problem(problems[0].unread, first)]
     roots = [
-        it._node for it in parts
+        it._node for it in found.parts
         if it._node is not None and it.rule != IDENTIFIER and it.span.end > it.span.start
     ]
-    return Reading(definitions, list(broken_in(parts)), roots, problems)
+    return Reading(definitions, list(broken_in(found.parts)), roots, problems)
 
 
 def broken_in(parts: Sequence[Part]) -> Iterator[Broken]:
