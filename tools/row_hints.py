@@ -1,8 +1,8 @@
 """Says what would mend a refused definition, or what it lacks, by the rows of the grammar alone.
 
 It is what docs/USING.md says under "What is said of a refused text", read by row_ends.py; nothing is taken from
-the port. A hint is a place in bytes and a line of words. Here descent never gives up: of more than 10,000 bytes
-with long extended attributes more may be told here.
+the port. A hint is a place in bytes and a line of words. Here what changes may take together has no limit: of long extended
+attributes, or of what nests deep, more may be told here.
 """
 
 import re
@@ -24,8 +24,6 @@ LONGEST = 65_536
 SIGNS = (b";", b"=", b"{", b",", b")", b">", b"]", b"(", b":", b"};", b"}")
 # What is left out wherever the reading stops at it; other signs only where they stand twice.
 SPARE = (b";", b",")
-# What descent may look at, on the average of a byte, and how many levels a text may nest that is read again.
-LOOKS, LEVELS = 4, 64
 
 MISPLACED = "no docstring here"
 BYTE_ORDER_MARK = "\ufeff".encode()
@@ -34,7 +32,6 @@ LINE = re.compile(rb"///[^\n]*")
 STRING = re.compile(rb'"[^"]*("?)')
 COMMENT = re.compile(rb"/\*.*", re.S)
 CHARACTER = re.compile(rb"[^\x80-\xbf][\x80-\xbf]*", re.S)
-ASIDE = re.compile(rb'"[^"]*(?:"|\Z)|//[^\n]*|/\*(?:.*?\*/|.*\Z)', re.S)
 # The keywords, in the order of their rules.
 KEYWORDS = [
     ROWS[rule][1].encode() for rule in sorted((it for it in ROWS if it in grammar.NUMBER), key=grammar.NUMBER.get)
@@ -73,24 +70,6 @@ def kind_at(text, place):
         if match := pattern.match(text, place):
             return "open" if kind == "string" and not match[1] else kind, match
     return "sign", CHARACTER.match(text, place)
-
-
-def is_read_again(text):
-    """Whether descent looks four times at a byte at most, on the average of one more, and takes little stack."""
-    looks = attributes = brackets = deep = broad = place = 0
-    while place < len(text):
-        match = ASIDE.match(text, place)
-        size = match.end() - place if match else 1
-        looks += size * 3 ** attributes
-        if not match:
-            byte = text[place:place + 1]
-            attributes = max(0, attributes + (byte == b"[") - (byte == b"]"))
-            brackets = max(0, brackets + (byte in b"(<") - (byte in b")>"))
-            deep, broad = max(deep, attributes), max(broad, brackets)
-        if looks >= LOOKS * (len(text) + 1):
-            return False
-        place += size
-    return 2 * deep + broad <= LEVELS
 
 
 def fact(text, start, place, tokens):
@@ -195,8 +174,6 @@ def mends(text, start, place, tokens, change):
     if not may_begin(text, end):
         return False
     changed = text[start:at] + put + text[at + taken:end]
-    if not is_read_again(changed):
-        return False
     NOW.take(changed)
     return NOW.ends_at() == len(changed)
 
@@ -250,9 +227,9 @@ def comes_beyond(text, start, place, tokens, change):
         place = past_token(text, place)
     beyond = past_semicolon(text, past_semicolon(text, max(place, at + taken)))
     end = past_semicolon(text, beyond)
-    changed = text[start:at] + put + text[at + taken:end]
-    if end == beyond or not is_read_again(changed):
+    if end == beyond:
         return False
+    changed = text[start:at] + put + text[at + taken:end]
     NOW.take(changed)
     NOW.ends_at()
     return len(changed) - NOW.unmet()[0] < end - beyond

@@ -8,7 +8,7 @@ import unittest
 
 import row_hints
 from row_ends import NOW
-from row_hints import KEYWORDS, differ_by_one, is_read_again, tokens_of
+from row_hints import KEYWORDS, differ_by_one, tokens_of
 from row_words import refusal
 
 
@@ -51,12 +51,6 @@ class Tokens(unittest.TestCase):
 
     def test_no_token_begins_behind_the_place(self):
         self.assertEqual([start for _, start, _ in tokens_of(b"ab cd ef", 0, 3)], [0, 3])
-
-    def test_what_is_read_again(self):
-        for text in (b"", b"[A] interface B {};", b'"[[[[[[" /*[[[[[*/ //[[[[[\n', b"(" * 64, b"()" * 100, b"[" + b"<" * 62):
-            self.assertTrue(is_read_again(text), text)
-        for text in (b"[A([A([A([A(", b"(" * 65, b"[]" + b"<" * 63):
-            self.assertFalse(is_read_again(text), text)
 
 
 class Hints(unittest.TestCase):

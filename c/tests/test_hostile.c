@@ -253,29 +253,37 @@ static const struct kind KINDS[] = {
     {"an attribute with arguments", "", "[A(", "any a", ")] any a", " interface I {};"},
 };
 
-/* The stack that a call takes with so many of these brackets. */
-static size_t stack_of(const struct kind *kind, size_t levels, unsigned char *painted) {
+/* The stack that a call takes with so many of these brackets, to read them or to explain them without the last `;`. */
+static size_t stack_of(void *(*start)(void *), const struct kind *kind, size_t levels, unsigned char *painted) {
     struct call call = nested(kind->front, kind->open, kind->inner, kind->close, levels, kind->end);
-    with_little_stack(read_it, &call, painted);
+    if (start == explain_it)
+        call.length--;
+    with_little_stack(start, &call, painted);
     free(call.text);
     return call.stack;
 }
 
 /* Prints what descent takes of the stack for a level, and at the most before it takes the table: less than 200 kB. */
+static void stack_of_kind(const char *what, void *(*start)(void *), const struct kind *kind, unsigned char *painted) {
+    size_t ten = stack_of(start, kind, 10, painted), twenty = stack_of(start, kind, 20, painted);
+    size_t most = twenty, deepest = 20;
+    for (size_t levels = 21; levels < 200; levels++) {
+        size_t stack = stack_of(start, kind, levels, painted);
+        if (stack > most)
+            most = stack, deepest = levels;
+    }
+    printf("  %s %s: %zu bytes of stack, %zu in all at %zu levels\n", what, kind->name, (twenty - ten) / 10, most,
+           deepest);
+    CHECK(most < 200 * 1024);
+}
+
 static void test_stack(void) {
     void *painted;
     if (getenv("WEEDLE_SMALL") || posix_memalign(&painted, 4096, STACK) != 0)
         return;
     for (size_t i = 0; i < sizeof KINDS / sizeof *KINDS; i++) {
-        const struct kind *kind = &KINDS[i];
-        size_t ten = stack_of(kind, 10, painted), twenty = stack_of(kind, 20, painted), most = twenty, deepest = 20;
-        for (size_t levels = 21; levels < 200; levels++) {
-            size_t stack = stack_of(kind, levels, painted);
-            if (stack > most)
-                most = stack, deepest = levels;
-        }
-        printf("  %s: %zu bytes of stack, %zu in all at %zu levels\n", kind->name, (twenty - ten) / 10, most, deepest);
-        CHECK(most < 200 * 1024);
+        stack_of_kind("to read", read_it, &KINDS[i], painted);
+        stack_of_kind("to explain", explain_it, &KINDS[i], painted);
     }
     free(painted);
 }

@@ -4,7 +4,7 @@ ghost use Rattle.std.specs.Prelude.{◌≡◌, ◌≤◌, ◌<◌, ◌↔◌, �
 ghost use Rattle.weedle_c.specs.Nodes.{Fits, c_node};
 ghost use Rattle.weedle_syntax.specs.Syntax.{rest_of as the_rest_of};
 
-use weedle_syntax::Narrow;
+use weedle_syntax::{Narrow, Node};
 
 /// A rule that was read, and the bytes that it took.
 #[repr(C)]
@@ -24,22 +24,36 @@ pub struct WeedleNode {
 pub const MOST: usize = u32::MAX as usize;
 
 /// Whether each node fits into the numbers that C has for it.
-pub(crate) fn all_fit(found: &[Narrow]) -> bool
+pub(crate) fn all_fit(found: &[Node]) -> bool
     ensures { IsTrue result ↔ All Fits found.now }
 {
     found.iter().all(fits)
 }
 
 /// Whether the node's places and depth fit.
-fn fits(narrow: &Narrow) -> bool
-    ensures { IsTrue result ↔ Fits narrow.now }
+fn fits(node: &Node) -> bool
+    ensures { IsTrue result ↔ Fits node.now }
 {
-    let node = narrow.node();
     node.depth <= MOST && node.start <= MOST && node.end <= MOST
 }
 
+/// Whether each node of 16 bytes fits into the numbers that C has for it.
+pub(crate) fn all_narrow_fit(found: &[Narrow]) -> bool
+    ensures { IsTrue result ↔ All Fits found.now }
+{
+    found.iter().all(narrow_fits)
+}
+
+/// Whether the places and the depth of a node of 16 bytes fit.
+fn narrow_fits(narrow: &Narrow) -> bool
+    ensures { IsTrue result ↔ Fits narrow.now }
+{
+    let node = narrow.node();
+    fits(&node)
+}
+
 /// Writes the nodes to the front of the room.
-pub(crate) fn fill(found: &[Narrow], room: &mut [WeedleNode])
+pub(crate) fn fill(found: &[Node], room: &mut [WeedleNode])
     requires room { length found.now ≤ length room.old }
     requires fit { All Fits found.now }
     ensures { room.new ≡ map c_node found.now ++ drop (length found.now) room.old }
@@ -49,12 +63,23 @@ pub(crate) fn fill(found: &[Narrow], room: &mut [WeedleNode])
     }
 }
 
-/// The node as C has it.
-fn packed(narrow: &Narrow) -> WeedleNode
-    requires { Fits narrow.now }
-    ensures { result ≡ c_node narrow.now }
+/// Writes the nodes of 16 bytes to the front of the room.
+pub(crate) fn fill_narrow(found: &[Narrow], room: &mut [WeedleNode])
+    requires room { length found.now ≤ length room.old }
+    requires fit { All Fits found.now }
+    ensures { room.new ≡ map c_node found.now ++ drop (length found.now) room.old }
 {
-    let node = narrow.node();
+    for (at, narrow) in found.iter().enumerate() {
+        let node = narrow.node();
+        room[at] = packed(&node);
+    }
+}
+
+/// The node as C has it.
+fn packed(node: &Node) -> WeedleNode
+    requires { Fits node.now }
+    ensures { result ≡ c_node node.now }
+{
     WeedleNode {
         rule: u32::from(node.rule.number()),
         depth: node.depth as u32,

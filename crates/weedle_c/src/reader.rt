@@ -5,7 +5,7 @@ ghost use Rattle.std.specs.Str.{IsValidUpTo};
 ghost use Rattle.weedle_c.specs.Answers.{IsCounted, IsTooLong, IsTree, IsUnread};
 ghost use Rattle.weedle_syntax.specs.Syntax.{IsFront, IsSyntax};
 
-use crate::node::{MOST, WeedleNode, all_fit, fill, rest_of};
+use crate::node::{MOST, WeedleNode, all_narrow_fit, fill_narrow, rest_of};
 use crate::status::{NO_MEMORY, NO_ROOM, NOT_UTF8, READ, REFUSED, TOO_LONG};
 use std::alloc::Global;
 use weedle_syntax::{Narrow, narrow_of_front};
@@ -91,7 +91,7 @@ fn answer_of(raw: &str, found: &[Narrow], nodes: &mut [WeedleNode], answer: &mut
         *answer = WeedleAnswer { count: 0, rest };
         return REFUSED;
     }
-    if !all_fit(found) {
+    if !all_narrow_fit(found) {
         return TOO_LONG;
     }
     *answer = WeedleAnswer {
@@ -101,6 +101,6 @@ fn answer_of(raw: &str, found: &[Narrow], nodes: &mut [WeedleNode], answer: &mut
     if found.len() > nodes.len() {
         return NO_ROOM;
     }
-    fill(found, nodes);
+    fill_narrow(found, nodes);
     READ
 }

@@ -6,7 +6,7 @@ ghost use Rattle.weedle_c.specs.Answers.{IsTooLong, IsRuleTree, IsRuleCounted};
 ghost use Rattle.weedle_rules.specs.Outcomes.{FailsAt};
 ghost use Rattle.weedle_syntax.specs.Syntax.{IsRuleFront, rest_of as the_rest_of};
 
-use crate::node::{MOST, WeedleNode, all_fit, fill, rest_of};
+use crate::node::{MOST, WeedleNode, all_narrow_fit, fill_narrow, rest_of};
 use crate::reader::{NOTHING, WeedleAnswer};
 use crate::status::{NO_MEMORY, NO_ROOM, NO_RULE, NOT_UTF8, READ, REFUSED, TOO_LONG};
 use std::alloc::Global;
@@ -99,7 +99,7 @@ fn rule_answer(
         → answer.new.rest ≡ 0 }
     ensures unwritten { result ≢ READ → nodes.new ≡ nodes.old }
 {
-    if !all_fit(found) {
+    if !all_narrow_fit(found) {
         return TOO_LONG;
     }
     *answer = WeedleAnswer {
@@ -109,6 +109,6 @@ fn rule_answer(
     if found.len() > nodes.len() {
         return NO_ROOM;
     }
-    fill(found, nodes);
+    fill_narrow(found, nodes);
     READ
 }

@@ -76,7 +76,7 @@ module _ (text : List ℕ) (start : ℕ) (fits : start ≤ length text) (old fir
   ]
 
   module _ (found : Furthest) (o : AreOpened text first rule_count found) where
-    same_place : found.place ≡ first.place
+    pub same_place : found.place ≡ first.place
     same_place =
         let forward = o.notes.forward in
         let at = o.at in

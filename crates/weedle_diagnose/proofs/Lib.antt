@@ -14,4 +14,5 @@ pub mod NotedFacts
 pub mod NotingFacts
 pub mod LeadFacts
 pub mod TestFacts
+pub mod StepFacts
 pub mod DiagnosisFacts

@@ -8,11 +8,13 @@ ghost use Rattle.std.specs.Prelude.{
   ◌≡◌,
   ◌≤◌,
   ◌<◌,
+  ◌+◌,
   length,
   false,
   None,
   IfOk,
   IsTrue,
+  OnOk,
   if◌then◌else◌,
 };
 ghost use Rattle.weedle_grammar.specs.Rows.{Seq, First, Opt, Many, ListOf, List1, Tail, If};
@@ -21,19 +23,21 @@ ghost use Rattle.weedle_grammar.specs.written.Bound.{rule_count};
 ghost use Rattle.weedle_grammar.specs.written.Table.{row_of as the_row_of};
 ghost use Rattle.weedle_rules.specs.Cells.{HasEnd};
 ghost use Rattle.weedle_starts.specs.Tries.{TriesHere};
+ghost use Rattle.weedle_syntax.specs.Steps.{RowSteps, Spends, Steps};
 ghost use Rattle.weedle_diagnose.specs.Noted.{IsUnmetIn, Notes};
 
 use crate::noted::Furthest;
 use weedle_grammar::{Parts, Row, Rule, row_of};
 use weedle_starts::source::Source;
 
-/// The descent gave up: it would have to read more rules than it may, or deeper in one another.
+/// The descent gave up: it would have to try more rules than it may, or deeper in one another.
 #[derive(Drop)]
 pub(crate) struct GaveUp;
 
 /// Notes what fails where the rule is read, and says where it ends; nothing where it fails.
 ///
-/// At most `left` rules are read, and at most `depth` in one another.
+/// At most `left` rules are tried, and at most `depth` in one another. What can't begin with the
+/// byte that stands there is passed over, and not counted.
 #[cycle(descent)]
 pub(crate) fn read(
     furthest: &mut Furthest,
@@ -48,12 +52,13 @@ pub(crate) fn read(
     ensures end { IfOk result (λ o. HasEnd text.now rule place o) }
     ensures notes { IfOk result
         (λ o. Notes text.now (IsUnmetIn text.now rule place) furthest.old furthest.new) }
+    ensures steps { OnOk result (Spends (Steps text.now rule place) left.old left.new) }
 {
-    let below = step(left, depth)?;
     if is_refused(furthest, text, rule, place) {
         furthest.note(rule, place);
         return Ok(None);
     }
+    let below = step(left, depth)?;
     match row_of(rule) {
         Row::Bytes(bytes) => Ok(furthest.unless(text.end_of_bytes(bytes, place), rule, place)),
         Row::OneOf(class) => Ok(furthest.unless(text.end_of_one(class, place), rule, place)),
@@ -91,9 +96,11 @@ fn is_refused(furthest: &Furthest, text: &Source<'_>, rule: Rule, place: usize) 
     text.refuses(rule, place)
 }
 
-/// Counts a rule that is read, and says how deep those may stand in one another that it reads.
+/// Counts a rule that is tried, and says how deep those may stand in one another that it reads.
 #[inline(always)]
-fn step(left: &mut usize, depth: usize) -> Result<usize, GaveUp> {
+fn step(left: &mut usize, depth: usize) -> Result<usize, GaveUp>
+    ensures { OnOk result (left.old ≡ 1 + left.new) }
+{
     if *left == 0 || depth == 0 {
         return Err(GaveUp);
     }
@@ -118,6 +125,8 @@ fn read_parts(
     ensures end { IfOk result (λ o. HasEnd text.now rule place o) }
     ensures notes { IfOk result
         (λ o. Notes text.now (IsUnmetIn text.now rule place) furthest.old furthest.new) }
+    ensures steps { OnOk result
+        (Spends (RowSteps text.now (the_row_of rule) place) left.old left.new) }
 {
     let mut at = place;
     for i in 0..parts.len() {
@@ -146,6 +155,8 @@ fn read_choice(
     ensures end { IfOk result (λ o. HasEnd text.now rule place o) }
     ensures notes { IfOk result
         (λ o. Notes text.now (IsUnmetIn text.now rule place) furthest.old furthest.new) }
+    ensures steps { OnOk result
+        (Spends (RowSteps text.now (the_row_of rule) place) left.old left.new) }
 {
     for i in 0..choices.len() {
         match read(furthest, left, text, choices.rule(i), place, depth)? {
@@ -173,6 +184,8 @@ fn read_optional(
     ensures end { IfOk result (λ o. HasEnd text.now rule place o) }
     ensures notes { IfOk result
         (λ o. Notes text.now (IsUnmetIn text.now rule place) furthest.old furthest.new) }
+    ensures steps { OnOk result
+        (Spends (RowSteps text.now (the_row_of rule) place) left.old left.new) }
 {
     match read(furthest, left, text, item, place, depth)? {
         Some(end) => Ok(Some(end)),
@@ -197,6 +210,8 @@ fn read_items(
     ensures end { IfOk result (λ o. HasEnd text.now rule place o) }
     ensures notes { IfOk result
         (λ o. Notes text.now (IsUnmetIn text.now rule place) furthest.old furthest.new) }
+    ensures steps { OnOk result
+        (Spends (RowSteps text.now (the_row_of rule) place) left.old left.new) }
 {
     let mut at = place;
     loop {
@@ -229,6 +244,8 @@ fn read_list(
     ensures end { IfOk result (λ o. HasEnd text.now rule place o) }
     ensures notes { IfOk result
         (λ o. Notes text.now (IsUnmetIn text.now rule place) furthest.old furthest.new) }
+    ensures steps { OnOk result
+        (Spends (RowSteps text.now (the_row_of rule) place) left.old left.new) }
 {
     match read(furthest, left, text, item, place, depth)? {
         Some(at) => {
@@ -257,6 +274,8 @@ fn read_list1(
     ensures end { IfOk result (λ o. HasEnd text.now rule place o) }
     ensures notes { IfOk result
         (λ o. Notes text.now (IsUnmetIn text.now rule place) furthest.old furthest.new) }
+    ensures steps { OnOk result
+        (Spends (RowSteps text.now (the_row_of rule) place) left.old left.new) }
 {
     match read(furthest, left, text, item, place, depth)? {
         Some(at) => {
@@ -285,6 +304,8 @@ fn read_tail(
     ensures end { IfOk result (λ o. HasEnd text.now rule place o) }
     ensures notes { IfOk result
         (λ o. Notes text.now (IsUnmetIn text.now rule place) furthest.old furthest.new) }
+    ensures steps { OnOk result
+        (Spends (RowSteps text.now (the_row_of rule) place) left.old left.new) }
 {
     let mut at = place;
     loop {
@@ -322,6 +343,8 @@ fn read_conditional(
     ensures end { IfOk result (λ o. HasEnd text.now rule place o) }
     ensures notes { IfOk result
         (λ o. Notes text.now (IsUnmetIn text.now rule place) furthest.old furthest.new) }
+    ensures steps { OnOk result
+        (Spends (RowSteps text.now (the_row_of rule) place) left.old left.new) }
 {
     let mut at = place;
     let mut present = false;

@@ -26,4 +26,4 @@ mod unmet;
 mod ways;
 
 pub use diagnosis::{Diagnosis, diagnose_from};
-pub use quick::{diagnose_by_descent, diagnose_quick};
+pub use quick::{diagnose_by_descent, diagnose_quick, diagnose_within};

@@ -3,6 +3,8 @@ pub mod TableFacts
 pub mod LineFacts
 pub mod WordFacts
 pub mod TextFacts
+pub mod ExcerptFacts
+pub mod LineAtFacts
 pub mod StartFacts
 pub mod EmptyFacts
 pub mod FurthestFacts

@@ -8,3 +8,5 @@ pub mod Near
 pub mod Inside
 pub mod Hint
 pub mod Refusal
+pub mod Said
+pub mod Excerpt

@@ -1,7 +1,8 @@
 //! What would mend a refused definition, or what it lacks.
 
-ghost use Rattle.std.specs.Prelude.{◌≤◌, IfOk, IfSome, length};
+ghost use Rattle.std.specs.Prelude.{◌≡◌, ◌≤◌, IfOk, IfSome, length};
 ghost use Rattle.weedle_refusal.specs.Hint.{IsHint};
+ghost use Rattle.weedle_refusal.specs.Said.{hint_place};
 
 mod again;
 mod beyond;
@@ -24,6 +25,7 @@ mod words;
 
 use crate::expected::Expected;
 use crate::furthest::furthest_in;
+use crate::hint::again::Trials;
 use crate::hint::candidates::candidates;
 use crate::hint::check::{Aim, helps};
 use crate::hint::facts::{fact, is_fact};
@@ -117,9 +119,10 @@ pub enum Hint {
 }
 
 impl Hint {
-    /// Where it is, in bytes from the front of the text. It takes no memory. It has no contract: it
-    /// gives the field `place` of whichever variant it is, and 0 where there is none.
-    pub fn place(&self) -> usize {
+    /// Where it is, in bytes from the front of the text. It takes no memory.
+    pub fn place(&self) -> usize
+        ensures { result ≡ hint_place self.now }
+    {
         match *self {
             Hint::Keyword { place, .. }
             | Hint::Missing { place, .. }
@@ -191,15 +194,16 @@ pub(crate) fn hint_among(
     }
     let mut hints = candidates(alloc, &unread)?;
     hints.truncate(MOST_TRIES);
-    if let Some(hint) = first_that_helps(alloc, &unread, &hints, Aim::End)? {
+    let mut trials = Trials::of(alloc, &unread);
+    if let Some(hint) = first_that_helps(&mut trials, &unread, &hints, Aim::End)? {
         return Ok(Some(hint));
     }
-    first_that_helps(alloc, &unread, &hints, Aim::Beyond)
+    first_that_helps(&mut trials, &unread, &hints, Aim::Beyond)
 }
 
 /// The first change that brings the reading so far.
 fn first_that_helps(
-    alloc: Global,
+    trials: &mut Trials,
     unread: &Unread<'_>,
     hints: &[Hint],
     aim: Aim,
@@ -209,7 +213,7 @@ fn first_that_helps(
         (λ hint. IfSome hint (IsHint unread.now.raw.now unread.now.start unread.now.place)) }
 {
     for hint in hints {
-        if helps(alloc, unread, *hint, aim)? {
+        if helps(trials, unread, *hint, aim)? {
             return Ok(Some(*hint));
         }
     }

@@ -1,11 +1,10 @@
 -- Rows in an array, and what a byte says of a rule.
-use Rattle.std.proofs.Common.{◌≡◌, inl, inr, ℕ, ◌+◌, ◌/◌, ◌^◌, ◌<◌, List, length, drop, get_or, set, Option, Some, None, refl, sym, subst, ◌∙◌, ap, arith, length-set}
+use Rattle.std.proofs.Common.{◌≡◌, inl, inr, ℕ, ◌+◌, ◌/◌, ◌^◌, ◌<◌, List, length, drop, get_or, set, Some, None, refl, sym, subst, ◌∙◌, ap, arith, length-set}
 use Rattle.std.specs.Prelude.{bit_and, slice_index}
 use Rattle.std.specs.Int.{bit_at}
 use Rattle.std.proofs.lemmas.Bool.{cases_lt}
 use Rattle.std.proofs.lemmas.List.{drop_more, get_or-set_same, get_or-set_other}
 use Rattle.std.proofs.lemmas.Nat.Bits.{shr_and_one}
-use Rattle.weedle_grammar.specs.Rows.{Row}
 use Rattle.weedle_grammar.specs.View.{row_view}
 use Rattle.weedle_grammar.specs.declared.row.Parts.{Parts}
 use Rattle.weedle_grammar.specs.declared.row.Row as rows

@@ -20,7 +20,7 @@ ghost use Rattle.weedle_starts.specs.Ways.{IsAhead};
 use crate::ahead::Ahead;
 use crate::starts::Starts;
 use std::marker::Model;
-use weedle_grammar::{Class, Row, Rule, leaf_ends};
+use weedle_grammar::{Class, Row, Rule, holds, leaf_ends};
 
 /// A text, and the bytes that each rule can begin with.
 #[derive(Drop)]
@@ -130,7 +130,7 @@ impl<'t> Source<'t> {
         requires { place ≤ length self.now }
         ensures { result ≡ place + the_run_length class (drop place self.now) }
     {
-        leaf_ends::end_of_run(class, self.text, place)
+        place + run_length(class, &self.text[place..])
     }
 
     /// Where the first of these bytes behind a place end.
@@ -142,4 +142,23 @@ impl<'t> Source<'t> {
     {
         leaf_ends::end_past(bytes, self.text, place)
     }
+}
+
+/// How many bytes at the front are in the class.
+///
+/// It is `leaf_ends::run_length` as it stands there, but inlined: where the class is known, a byte
+/// takes a few instructions, and no choice among classes.
+#[inline(always)]
+fn run_length(class: Class, left: &[u8]) -> usize
+    ensures value { result ≡ the_run_length class left.now }
+    ensures within { result ≤ length left.now }
+{
+    let mut taken = 0;
+    while taken < left.len() {
+        if !holds(class, left[taken]) {
+            return taken;
+        }
+        taken += 1;
+    }
+    taken
 }

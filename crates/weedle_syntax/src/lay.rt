@@ -4,6 +4,7 @@ ghost use Rattle.std.specs.Prelude.{◌≡◌, ◌≤◌, ◌<◌, [], length, I
 ghost use Rattle.weedle_grammar.specs.written.Bound.{rule_count};
 ghost use Rattle.weedle_rules.specs.Cells.{HasEnd};
 ghost use Rattle.weedle_rules.specs.Outcomes.{FailsAt};
+ghost use Rattle.weedle_starts.specs.Starts.{AreStarts};
 ghost use Rattle.weedle_syntax.specs.Laid.{LaysNode};
 ghost use Rattle.weedle_syntax.specs.Steps.{Spends, Steps};
 ghost use Rattle.weedle_syntax.specs.Syntax.{RestBegins, IsSyntaxTo, IsRuleFront};
@@ -15,7 +16,7 @@ use crate::node::Node;
 use std::alloc::{AllocError, Global};
 use weedle_grammar::Rule;
 use weedle_starts::source::Source;
-use weedle_starts::starts::{starts, starts_for};
+use weedle_starts::starts::{Starts, starts, starts_for};
 
 /// Lays down the nodes of a rule that is read at a place, behind those that stand there, and says
 /// where it ends; where it fails, nothing is laid down.
@@ -56,8 +57,22 @@ pub(crate) fn front_by_descent(
     ensures are { IfOk result (λ end. IsSyntaxTo raw.now end nodes.new.items) }
 {
     limits.allow(raw.len())?;
-    let starts = starts();
-    let text = Source::new(raw.as_bytes(), &starts);
+    front_with(nodes, raw, &starts(), limits)
+}
+
+/// The same, with these words: so they stand once on the stack, which takes 25 kB.
+fn front_with(
+    nodes: &mut Vec<Narrow>,
+    raw: &str,
+    starts: &Starts,
+    limits: &mut Limits,
+) -> Result<usize, AllocError>
+    requires empty { nodes.old.items ≡ [] }
+    requires starts { AreStarts starts.now }
+    ensures end { IfOk result (λ end. RestBegins raw.now end) }
+    ensures are { IfOk result (λ end. IsSyntaxTo raw.now end nodes.new.items) }
+{
+    let text = Source::new(raw.as_bytes(), starts);
     match read(nodes, &text, Rule::DEFINITIONS, 0, 0, limits)? {
         Some(end) => Ok(end),
         None => unreachable!(),
@@ -80,8 +95,26 @@ pub(crate) fn rule_by_descent(
         (Spends (Steps raw.now rule 0) limits.old.steps limits.new.steps) }
 {
     limits.allow(raw.len())?;
-    let starts = starts_for(rule, raw.as_bytes());
-    let text = Source::new(raw.as_bytes(), &starts);
+    rule_with(alloc, raw, rule, &starts_for(rule, raw.as_bytes()), limits)
+}
+
+/// The same, with these words.
+fn rule_with(
+    alloc: Global,
+    raw: &str,
+    rule: Rule,
+    starts: &Starts,
+    limits: &mut Limits,
+) -> Result<Option<Vec<Narrow>>, AllocError>
+    requires low { rule < rule_count }
+    requires starts { AreStarts starts.now }
+    ensures fails { IfOk result (λ found. IfNone found (FailsAt raw.now rule 0)) }
+    ensures are { IfOk result
+        (λ found. IfSome found (λ nodes. IsRuleFront raw.now rule nodes.items)) }
+    ensures steps { OnOk result
+        (Spends (Steps raw.now rule 0) limits.old.steps limits.new.steps) }
+{
+    let text = Source::new(raw.as_bytes(), starts);
     let mut nodes = Vec::new(alloc);
     match read(&mut nodes, &text, rule, 0, 0, limits)? {
         Some(_) => Ok(Some(nodes)),

@@ -18,7 +18,7 @@ pub struct Limits {
     pub depth: usize,
 }
 
-/// How many nodes deep a descent goes, for which 180 kB of stack are enough.
+/// How many nodes deep a descent goes, for which 190 kB of stack are enough.
 const DEPTH: usize = 400;
 
 impl Limits {

@@ -4,58 +4,85 @@ ghost use Rattle.std.specs.Prelude.{IfOk, IsTrue};
 ghost use Rattle.weedle_refusal.specs.Hint.{LeavesLess};
 ghost use Rattle.weedle_syntax.specs.Syntax.{IsWhole};
 
-use crate::refusal::rest_of;
+use crate::hint::unread::Unread;
 use std::alloc::{AllocError, Global};
-use weedle_diagnose::{diagnose_by_descent, diagnose_quick};
-use weedle_nesting::{nesting, suits_descent};
-use weedle_syntax::syntax_of_front;
+use weedle_diagnose::diagnose_within;
+use weedle_grammar::Rule;
+use weedle_starts::source::Source;
+use weedle_starts::starts::starts;
+use weedle_syntax::{Limits, lay_by_descent};
 
-/// How many levels a text may nest that is read again: some 1.6 kB of stack for each.
-const MOST_LEVELS: usize = 64;
+/// How many rules are tried for each byte of a definition, with all its changes together. Of what
+/// people write a reading takes two a byte, and with most changes it stops near the slip.
+const STEPS_A_BYTE: usize = 16;
 
-/// How many bytes a text may have of which a table is filled: some 16 MB.
-const MOST_OF_TABLE: usize = 10_000;
+/// How many more are tried, so that a short definition may have long extended attributes.
+const MORE_STEPS: usize = 100_000;
 
-/// Whether a text is read whole. No where it doesn't suit descent, or nests deep.
-pub(crate) fn is_whole(alloc: Global, text: &str) -> Result<bool, AllocError>
-    ensures { IfOk result (λ whole. IsTrue whole → IsWhole text.now) }
-{
-    if !is_read_again(text) {
-        return Ok(false);
-    }
-    let nodes = syntax_of_front(alloc, text)?;
-    Ok(rest_of(&nodes) == text.len())
+/// How many nodes deep a definition is read again, for which 150 kB of stack are enough.
+const DEPTH: usize = 320;
+
+/// How many rules are tried in one another where it is looked for the furthest place, for which as
+/// much is enough.
+const DEPTH_OF_PLACE: usize = 500;
+
+/// What the changes of a definition are tried with.
+#[derive(Drop)]
+pub(crate) struct Trials {
+    /// Where memory is asked for.
+    pub(crate) alloc: Global,
+    /// How many rules may still be tried, with all changes together.
+    left: usize,
 }
 
-/// Whether the furthest place of a text leaves fewer bytes behind it than so many. No where descent
-/// gives up, but of a short text, of which a table is filled then; and where it nests deep.
-pub(crate) fn leaves_less(alloc: Global, text: &str, left: usize) -> Result<bool, AllocError>
-    ensures { IfOk result (λ less. IsTrue less → LeavesLess text.now left) }
-{
-    if !is_read_again(text) {
-        return Ok(false);
+impl Trials {
+    /// The trials of a definition.
+    pub(crate) fn of(alloc: Global, unread: &Unread<'_>) -> Trials {
+        let left = unread
+            .longest()
+            .saturating_mul(STEPS_A_BYTE)
+            .saturating_add(MORE_STEPS);
+        Trials { alloc, left }
     }
-    let found = if text.len() <= MOST_OF_TABLE {
-        Some(diagnose_quick(alloc, text, 0)?)
-    } else {
-        diagnose_by_descent(alloc, text, 0)?
-    };
-    match found {
-        Some(diagnosis) => Ok(text.len().saturating_sub(diagnosis.place) < left),
-        None => Ok(false),
-    }
-}
 
-/// Whether descent takes little time and stack for a text. A `[` counts as two levels, since its
-/// arguments take more stack.
-fn is_read_again(text: &str) -> bool {
-    if !suits_descent(text) {
-        return false;
+    /// Whether a text is read whole. No where descent gives up.
+    pub(crate) fn is_whole(&mut self, text: &str) -> Result<bool, AllocError>
+        ensures { IfOk result (λ whole. IsTrue whole → IsWhole text.now) }
+    {
+        let starts = starts();
+        let source = Source::new(text.as_bytes(), &starts);
+        let mut limits = Limits {
+            steps: self.left,
+            depth: DEPTH,
+        };
+        let mut nodes = Vec::new(self.alloc);
+        let found = lay_by_descent(&mut nodes, &source, Rule::DEFINITIONS, 0, &mut limits);
+        self.left = limits.steps;
+        match found {
+            Ok(end) => Ok(end == Some(text.len())),
+            Err(error) => {
+                if limits.are_spent() {
+                    return Ok(false);
+                }
+                Err(error)
+            }
+        }
     }
-    let depths = nesting(text);
-    depths
-        .attributes
-        .saturating_mul(2)
-        .saturating_add(depths.brackets)
-        <= MOST_LEVELS
+
+    /// Whether the furthest place of a text leaves fewer bytes behind it than so many. No where
+    /// descent gives up.
+    pub(crate) fn leaves_less(&mut self, text: &str, left: usize) -> Result<bool, AllocError>
+        ensures { IfOk result (λ less. IsTrue less → LeavesLess text.now left) }
+    {
+        let mut limits = Limits {
+            steps: self.left,
+            depth: DEPTH_OF_PLACE,
+        };
+        let found = diagnose_within(self.alloc, text, 0, &mut limits)?;
+        self.left = limits.steps;
+        match found {
+            Some(diagnosis) => Ok(text.len().saturating_sub(diagnosis.place) < left),
+            None => Ok(false),
+        }
+    }
 }

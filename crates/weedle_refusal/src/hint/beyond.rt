@@ -3,17 +3,17 @@
 ghost use Rattle.std.specs.Prelude.{◌≤◌, IfOk, IsTrue, length};
 ghost use Rattle.weedle_refusal.specs.Hint.{ComesBeyond};
 
-use crate::hint::again::leaves_less;
+use crate::hint::again::Trials;
 use crate::hint::change::{Change, changed};
 use crate::hint::tokens::past_semicolon;
 use crate::hint::unread::Unread;
-use std::alloc::{AllocError, Global};
+use std::alloc::AllocError;
 
 /// Whether the definition is read with a change beyond the second `;` behind what is changed and
 /// behind a place, which is the furthest one or stands behind it. It is read up to the third `;`
 /// alone.
 pub(crate) fn comes_beyond(
-    alloc: Global,
+    trials: &mut Trials,
     unread: &Unread<'_>,
     from: usize,
     change: Change<'_>,
@@ -35,9 +35,9 @@ pub(crate) fn comes_beyond(
     if end == next {
         return Ok(false);
     }
-    let Some(text) = changed(alloc, raw, unread.start, end, change)? else {
+    let Some(text) = changed(trials.alloc, raw, unread.start, end, change)? else {
         return Ok(false);
     };
-    let less = leaves_less(alloc, text.as_str(), end - next)?;
+    let less = trials.leaves_less(text.as_str(), end - next)?;
     Ok(less)
 }

@@ -4,6 +4,7 @@ ghost use Rattle.std.specs.Prelude.{◌≤◌, IfOk, IsTrue, length};
 ghost use Rattle.weedle_refusal.specs.Hint.{ArePair, Helps, IsHint, IsMistyped, IsSign};
 
 use crate::hint::Hint;
+use crate::hint::again::Trials;
 use crate::hint::beyond::comes_beyond;
 use crate::hint::change::Change;
 use crate::hint::docstring::are_doc_lines;
@@ -14,7 +15,7 @@ use crate::hint::order::exchanged;
 use crate::hint::stands::{is_word, stand_at};
 use crate::hint::tokens::past_token;
 use crate::hint::unread::Unread;
-use std::alloc::{AllocError, Global};
+use std::alloc::AllocError;
 
 /// How far a change is to bring the reading.
 #[derive(Clone, Copy)]
@@ -27,7 +28,7 @@ pub(crate) enum Aim {
 
 /// Whether the hint tells a change that brings the reading so far.
 pub(crate) fn helps(
-    alloc: Global,
+    trials: &mut Trials,
     unread: &Unread<'_>,
     hint: Hint,
     aim: Aim,
@@ -41,19 +42,19 @@ pub(crate) fn helps(
             place,
             taken,
             keyword,
-        } => keyword_helps(alloc, unread, place, taken, keyword, aim),
-        Hint::Missing { place, sign } => missing_helps(alloc, unread, place, sign, aim),
-        Hint::Extra { place, sign } => extra_helps(alloc, unread, place, sign, aim),
+        } => keyword_helps(trials, unread, place, taken, keyword, aim),
+        Hint::Missing { place, sign } => missing_helps(trials, unread, place, sign, aim),
+        Hint::Extra { place, sign } => extra_helps(trials, unread, place, sign, aim),
         Hint::WrongSign { place, found, sign } => {
-            other_sign_helps(alloc, unread, place, found, sign, aim)
+            other_sign_helps(trials, unread, place, found, sign, aim)
         }
         Hint::WordOrder {
             place,
             taken,
             next,
             next_taken,
-        } => order_helps(alloc, unread, place, taken, next, next_taken, aim),
-        Hint::Docstring { place, taken } => docstring_helps(alloc, unread, place, taken, aim),
+        } => order_helps(trials, unread, place, taken, next, next_taken, aim),
+        Hint::Docstring { place, taken } => docstring_helps(trials, unread, place, taken, aim),
         Hint::OpenString { .. }
         | Hint::SplitString { .. }
         | Hint::ByteOrderMark { .. }
@@ -63,7 +64,7 @@ pub(crate) fn helps(
 
 /// Whether a change brings the reading of the definition so far.
 fn change_helps(
-    alloc: Global,
+    trials: &mut Trials,
     unread: &Unread<'_>,
     from: usize,
     change: Change<'_>,
@@ -76,14 +77,14 @@ fn change_helps(
         change.entry.at change.entry.taken change.entry.bytes.now) }
 {
     match aim {
-        Aim::End => is_mended(alloc, unread, change),
-        Aim::Beyond => comes_beyond(alloc, unread, from, change),
+        Aim::End => is_mended(trials, unread, change),
+        Aim::Beyond => comes_beyond(trials, unread, from, change),
     }
 }
 
 /// Whether a keyword in place of a word helps that differs little from it.
 fn keyword_helps(
-    alloc: Global,
+    trials: &mut Trials,
     unread: &Unread<'_>,
     at: usize,
     taken: usize,
@@ -103,7 +104,7 @@ fn keyword_helps(
         taken,
         bytes: keyword,
     };
-    let helped = change_helps(alloc, unread, unread.place, change, aim)?;
+    let helped = change_helps(trials, unread, unread.place, change, aim)?;
     Ok(helped)
 }
 
@@ -122,7 +123,7 @@ fn is_mistyped(raw: &[u8], at: usize, taken: usize, keyword: &str) -> bool
 
 /// Whether a sign more helps.
 fn missing_helps(
-    alloc: Global,
+    trials: &mut Trials,
     unread: &Unread<'_>,
     at: usize,
     sign: &'static str,
@@ -141,13 +142,13 @@ fn missing_helps(
         taken: 0,
         bytes: sign,
     };
-    let helped = change_helps(alloc, unread, unread.place, change, aim)?;
+    let helped = change_helps(trials, unread, unread.place, change, aim)?;
     Ok(helped)
 }
 
 /// Whether it helps to leave a sign out.
 fn extra_helps(
-    alloc: Global,
+    trials: &mut Trials,
     unread: &Unread<'_>,
     at: usize,
     sign: &'static str,
@@ -166,13 +167,13 @@ fn extra_helps(
         taken: sign.len(),
         bytes: "",
     };
-    let helped = change_helps(alloc, unread, unread.place, change, aim)?;
+    let helped = change_helps(trials, unread, unread.place, change, aim)?;
     Ok(helped)
 }
 
 /// Whether another sign helps in place of one.
 fn other_sign_helps(
-    alloc: Global,
+    trials: &mut Trials,
     unread: &Unread<'_>,
     at: usize,
     found: &'static str,
@@ -192,12 +193,12 @@ fn other_sign_helps(
         taken: found.len(),
         bytes: sign,
     };
-    change_helps(alloc, unread, unread.place, change, aim)
+    change_helps(trials, unread, unread.place, change, aim)
 }
 
 /// Whether two words help in the other order.
 fn order_helps(
-    alloc: Global,
+    trials: &mut Trials,
     unread: &Unread<'_>,
     at: usize,
     taken: usize,
@@ -210,14 +211,14 @@ fn order_helps(
         → IsHint unread.now.raw.now unread.now.start unread.now.place
         (Hint.WordOrder at taken next next_taken)) }
 {
-    match exchanged(alloc, unread.raw, at, taken, next, next_taken)? {
+    match exchanged(trials.alloc, unread.raw, at, taken, next, next_taken)? {
         Some(words) => {
             let change = Change {
                 at,
                 taken: next + next_taken - at,
                 bytes: &words,
             };
-            change_helps(alloc, unread, unread.place, change, aim)
+            change_helps(trials, unread, unread.place, change, aim)
         }
         None => Ok(false),
     }
@@ -227,7 +228,7 @@ fn order_helps(
 /// the definition, it is to come past the word or sign at the place, so that no unknown word behind
 /// a docstring is laid to the docstring.
 fn docstring_helps(
-    alloc: Global,
+    trials: &mut Trials,
     unread: &Unread<'_>,
     at: usize,
     taken: usize,
@@ -247,7 +248,7 @@ fn docstring_helps(
         bytes: "",
     };
     change_helps(
-        alloc,
+        trials,
         unread,
         past_token(unread.raw, unread.place),
         change,

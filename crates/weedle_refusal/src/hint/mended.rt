@@ -3,17 +3,14 @@
 ghost use Rattle.std.specs.Prelude.{◌≡◌, ◌≤◌, IfOk, IsTrue, length, slice_range};
 ghost use Rattle.weedle_refusal.specs.Hint.{Goes, IsMended, MayBegin, begins_definition};
 
-use crate::hint::again::is_whole;
+use crate::hint::again::Trials;
 use crate::hint::change::{Change, changed};
 use crate::hint::stands::{SLASHES, stand_at};
 use crate::hint::tokens::{Token, next_token};
-use crate::hint::unread::Unread;
-use std::alloc::{AllocError, Global};
+use crate::hint::unread::{LONGEST, Unread};
+use std::alloc::AllocError;
 use weedle_grammar::trivia::skip_trivia;
 use weedle_grammar::{Class, holds};
-
-/// How far behind the place the end of a definition is looked for.
-const LONGEST: usize = 65_536;
 
 /// Where a definition ends, as far as it is known.
 #[derive(Clone, Copy)]
@@ -27,7 +24,7 @@ struct Braces {
 /// Whether the definition is read to its end with a change, up to the furthest place at least and
 /// past what is changed, and what stands behind it may begin another.
 pub(crate) fn is_mended(
-    alloc: Global,
+    trials: &mut Trials,
     unread: &Unread<'_>,
     change: Change<'_>,
 ) -> Result<bool, AllocError>
@@ -46,10 +43,10 @@ pub(crate) fn is_mended(
     if !goes_on(raw, end) {
         return Ok(false);
     }
-    let Some(text) = changed(alloc, raw, unread.start, end, change)? else {
+    let Some(text) = changed(trials.alloc, raw, unread.start, end, change)? else {
         return Ok(false);
     };
-    let whole = is_whole(alloc, text.as_str())?;
+    let whole = trials.is_whole(text.as_str())?;
     Ok(whole)
 }
 

@@ -3,6 +3,9 @@
 use crate::expected::Expected;
 use crate::hint::tokens::Token;
 
+/// How far behind the place the end of a definition is looked for.
+pub(crate) const LONGEST: usize = 65_536;
+
 /// A definition that isn't read, and what is known of it.
 #[derive(Clone, Copy)]
 pub(crate) struct Unread<'a> {
@@ -24,6 +27,14 @@ impl<'a> Unread<'a> {
         let is_read = |token: &&Token| token.end <= self.place;
         let count = self.tokens.iter().take_while(is_read).count();
         self.tokens.get(..count).unwrap_or(self.tokens)
+    }
+
+    /// How many bytes the definition has at most, as far as its end is looked for.
+    pub(crate) fn longest(&self) -> usize {
+        self.place
+            .saturating_add(LONGEST)
+            .min(self.raw.len())
+            .saturating_sub(self.start)
     }
 
     /// Whether one of the words for what would go on is this text.

@@ -29,13 +29,13 @@ returns-clause-read c =
     λ _. record {
       tree = c.args.found.now;
       has = has_tree c.requires.front done rest refl;
-      written = c.fill.ensures;
+      written = c.fill_narrow.ensures;
     }
 
-pub returns-then-not-all_fit-clause-too_long : goal.returns-then-not-all_fit-clause-too_long
-returns-then-not-all_fit-clause-too_long c =
+pub returns-then-not-all_narrow_fit-clause-too_long : goal.returns-then-not-all_narrow_fit-clause-too_long
+returns-then-not-all_narrow_fit-clause-too_long c =
     let rest = c.rest_of-rest.ensures in
     let behind = c.if-rest-raw.false in
     let done : length c.args.raw.now ≤ rest_of c.args.found.now = omega arith in
     let has = has_tree c.requires.front {answer = record { count = length c.args.found.now; rest = c.rest_of-rest.result }} done rest refl in
-    λ _. inr (c.args.found.now, has.is_syntax, λ all. let t = c.if-not-all_fit.ensures.1 all in cc)
+    λ _. inr (c.args.found.now, has.is_syntax, λ all. let t = c.if-not-all_narrow_fit.ensures.1 all in cc)

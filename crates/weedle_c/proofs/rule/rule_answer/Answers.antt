@@ -15,5 +15,5 @@ returns-clause-read c =
     λ _. record {
       tree = c.args.found.now;
       has = has_rule c.requires.front c.rest_of.ensures refl;
-      written = c.fill.ensures;
+      written = c.fill_narrow.ensures;
     }
