@@ -8,8 +8,10 @@ import unittest
 from pathlib import Path
 
 from lsp_client import PAGE, Client, places, range_, where
+from run_slips import slips
 from weedle import Span
 from weedle.lsp import layout, renaming
+from weedle.lsp.diagnostics import actions
 from weedle.lsp.protocol import Fault
 from weedle.lsp.sources import Source
 
@@ -36,6 +38,8 @@ typedef (Page or Store) Either;
 CLASS, METHOD, PROPERTY, FIELD, CONSTRUCTOR, ENUM, INTERFACE, CONSTANT, MEMBER, STRUCT, TYPE = (
     5, 6, 7, 8, 9, 10, 11, 14, 22, 23, 26)
 REQUEST_FAILED, INVALID_PARAMS = -32803, -32602
+# Of the texts with a slip so many at least are mended by an action: docs/SLIPS.md has 134 of 155.
+MEND = 0.85
 
 
 def applied(text, changes):
@@ -124,11 +128,87 @@ class Errors(Features):
         self.assertEqual(error["message"], "`,` missing here? (expected `}` or `,` at 1:16)")
         self.assertEqual(error["relatedInformation"][0]["location"]["range"], range_(0, 15, 0, 16))
 
-    def test_what_stands_in_front_of_an_error_is_known(self):
-        self.page.open("interface A {};\ninterface B : A { attribute long x };\n")
-        (found,) = self.page.about("textDocument/documentSymbol")
-        self.assertEqual(found["name"], "A")
-        self.assertEqual(places(self.page.at("textDocument/definition", 1, 14)), [(0, 10, 0, 11)])
+    def test_each_error(self):
+        found = self.page.open('interface A { atribute long x; };\nenum E { "a" "b" };\ntypedef long;\ntypedef long T;')
+        self.assertEqual([(it["range"]["start"]["line"], it["message"].split("?")[0]) for it in found], [
+            (0, "`attribute` in place of `atribute`"), (1, "`,` missing here"), (2, "expected `"),
+        ])
+        for line, title in enumerate(("put `attribute` in place of `atribute`", "put `,` here")):
+            (it,) = self.page.about("textDocument/codeAction", range=range_(line, 0, line, 0), context={"diagnostics": []})
+            self.assertEqual((it["title"], it["diagnostics"]), (title, [found[line]]))
+
+    def test_of_many_a_hundred_are_told(self):
+        self.assertEqual(len(self.page.open("typedef long;\n" * 150)), 100)
+
+
+class WithErrors(Features):
+    """What is known of a text with errors."""
+
+    TEXT = """\
+// Of a page.
+interface Page : Base {
+  atribute long wide;
+  attribute Page next; // of the book
+  undefined turn(Kind kind);
+};
+enum Kind { "left" "right" };
+interface Base {};
+typedef Page Leaf;
+partial interface Page { undefined turn(); };
+"""
+
+    def setUp(self):
+        self.assertEqual(len(self.page.open(self.TEXT)), 2)
+
+    def test_the_outline(self):
+        found = self.page.about("textDocument/documentSymbol")
+        self.assertEqual([(it["name"], it["detail"], len(it["children"])) for it in found], [
+            ("Page", "interface, with errors", 2), ("Kind", "enum, with errors", 0), ("Base", "interface", 0),
+            ("Leaf", "typedef", 0), ("Page", "partial interface", 1),
+        ])
+        self.assertEqual((found[0]["range"], found[0]["selectionRange"]), (range_(1, 0, 5, 2), range_(1, 10, 1, 14)))
+        self.assertEqual([it["name"] for it in found[0]["children"]], ["next", "turn"])
+
+    def test_names(self):
+        self.assertEqual(places(self.page.at("textDocument/definition", 3, 14)), [(1, 10, 1, 14)])
+        self.assertEqual(places(self.page.at("textDocument/definition", 4, 18)), [(6, 5, 6, 9)])
+        found = self.page.at("textDocument/references", 1, 12, context={"includeDeclaration": True})
+        self.assertEqual(places(found), [(1, 10, 1, 14), (3, 12, 3, 16), (8, 8, 8, 12), (9, 18, 9, 22)])
+        found = self.page.at("textDocument/hover", 8, 9)["contents"]["value"]
+        self.assertEqual(found, (
+            "```webidl\ninterface Page : Base\n```\n\nOf a page.\n\nnot read whole\n\n"
+            "`partial interface Page` (page.webidl:10)"
+        ))
+
+    def test_renames(self):
+        found = self.page.at("textDocument/rename", 3, 14, newName="Sheet")["changes"][PAGE]
+        self.assertEqual(places(found), [(1, 10, 1, 14), (3, 12, 3, 16), (8, 8, 8, 12), (9, 18, 9, 22)])
+        found = self.page.at("textDocument/rename", 4, 14, newName="flip")["changes"][PAGE]
+        self.assertEqual(places(found), [(4, 12, 4, 16), (9, 35, 9, 39)])
+
+    def test_completion(self):
+        found = {it["label"] for it in self.page.at("textDocument/completion", 4, 17)}
+        self.assertLessEqual({"Page", "Kind", "Base", "Leaf", "optional"}, found)
+
+    def test_a_layout(self):
+        found = self.page.about("textDocument/formatting", options={})
+        wanted = self.TEXT.replace("{ undefined turn(); }", "{\n  undefined turn();\n}")
+        self.assertEqual(applied(self.TEXT, found), wanted.replace("{};\nt", "{};\n\nt").replace("Leaf;\n", "Leaf;\n\n"))
+
+
+class Slips(unittest.TestCase):
+    """The texts of tests/slips.txt, each with one slip."""
+
+    def test_what_mends_the_first_error_mends_the_text(self):
+        all_, mended = slips(), 0
+        for slip in all_:
+            source = Source(PAGE, slip.text.encode())
+            for action in actions(source, Span(0, len(source.data)))[:1]:
+                (edit,) = action["edit"]["changes"][PAGE]
+                after = source.changed([{"range": edit["range"], "text": edit["newText"]}])
+                self.assertEqual(after.reading.problems, [], (slip.line, action["title"]))
+                mended += 1
+        self.assertGreaterEqual(mended, MEND * len(all_))
 
 
 class Outline(Features):
@@ -392,7 +472,13 @@ class Tokens(Features):
     def test_behind_an_error(self):
         text = "typedef long;\ntypedef A B;"
         self.page.open(text)
-        self.assertEqual(self.tokens(text)[2:], [("typedef", "keyword"), ("A", "type"), ("B", "type")])
+        self.assertEqual(self.tokens(text)[2:], [("typedef", "keyword"), ("A", "type"), ("B", "type", "declaration")])
+        text = "interface A { attribute; }; typedef B"
+        self.page.open(text)
+        self.assertEqual(self.tokens(text), [
+            ("interface", "keyword"), ("A", "interface", "declaration"), ("attribute", "keyword"),
+            ("typedef", "keyword"), ("B", "type"),
+        ])
 
 
 class Folder(unittest.TestCase):

@@ -44,7 +44,7 @@ NONE: FrozenSet[str] = frozenset()
 def completions(workspace: Workspace, source: Source, place: int) -> List[Json]:
     """What may go on at a place, or stand there in place of the word."""
     word = source.word_at(place)
-    front = front_at(source.data, source.read_before(word.start), word.start)
+    front = front_at(source.data, source.begun_before(word.start), word.start)
     if front is None:
         return []
     prefix = source.text(Span(word.start, place)).lstrip("_").lower()
@@ -153,6 +153,10 @@ def definitions(workspace: Workspace, kinds: AbstractSet[str]) -> Iterator[Tuple
             if kind and name not in seen:
                 seen.add(name)
                 yield name, kind, file
+        for broken in source.reading.broken:
+            if broken.kind in kinds and broken.name.text not in seen:
+                seen.add(broken.name.text)
+                yield broken.name.text, broken.kind, file
 
 
 def definition_item(name: str, kind: str, file: str) -> Json:

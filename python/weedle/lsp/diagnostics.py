@@ -17,6 +17,8 @@ IN_PLACE = re.compile(r"`(?P<new>[^`]+)` in place of `(?P<old>[^`]+)`\?")
 MISSING = re.compile(r"`(?P<new>[^`]+)` missing here\?")
 EXTRA = re.compile(r"no `(?P<old>[^`]+)` here")
 IN_FRONT = re.compile(r"`(?P<new>[^`]+)` in front of `(?P<old>[^`]+)`\?")
+# So many errors of a text are told: each takes up to a millisecond.
+MOST = 100
 NO_DOCSTRING, BYTE_ORDER_MARK = "no docstring here", "a byte order mark"
 # Lines of a docstring, and what ends a body.
 DOC_LINES = re.compile(rb"///[^\n]*(?:\n[ \t]*///[^\n]*)*")
@@ -26,8 +28,8 @@ TOKEN = re.compile(rb"[A-Za-z0-9_-]+|[^\s\x80-\xff]|[\xc0-\xff][\x80-\xbf]*")
 
 
 def diagnostics(source: Source) -> List[Json]:
-    """The syntax errors of a text."""
-    return [diagnostic(source, it) for it in source.reading.problems]
+    """The syntax errors of a text, the first hundred of them."""
+    return [diagnostic(source, it) for it in source.reading.problems[:MOST]]
 
 
 def unchecked(fault: Exception) -> Json:
@@ -73,7 +75,7 @@ def actions(source: Source, span: Span) -> List[Json]:
     """What would mend the errors of a text at a part of it."""
     found = []
     first, last = source.lines.line_of(span.start), source.lines.line_of(span.end)
-    for problem in source.reading.problems:
+    for problem in source.reading.problems[:MOST]:
         shown = diagnostic(source, problem)
         edit = mending(source.data, problem.hint) if problem.hint else None
         # the line of an error offers what mends it

@@ -9,7 +9,7 @@ from weedle._text import Span
 from weedle._tree import Tree
 from weedle.edits import DEFINING, RENAMED
 from weedle.grammar import NUMBERS
-from weedle.index import kind_of, members_of, name_of
+from weedle.index import kind_of, members_of
 from weedle.lsp.outline import KINDS, STATEMENTS, one_line, words_start
 from weedle.lsp.protocol import HighlightKind, Json
 from weedle.lsp.sources import Source
@@ -73,10 +73,13 @@ def names(workspace: Workspace, source: Source, it: Target) -> Iterator[Tuple[So
 
 def members(workspace: Workspace, source: Source, name: Name) -> Iterator[Tuple[Source, Name]]:
     """The members of that name in a definition and in its parts, as operations are overloaded."""
-    definition: Any = source.definition_at(name.span.start)
+    owner = source.owner_at(name.span.start)
+    if not owner:
+        yield source, name
+        return
     for other in workspace.sources():
-        for it in other.defined(name_of(definition).value):
-            for found in names_in(other.tree, it._node):
+        for node in other.bodies(owner):
+            for found in names_in(other.tree, node):
                 if found.role is name.role and found.text == name.text:
                     yield other, found
 
@@ -146,16 +149,26 @@ def hover(workspace: Workspace, source: Source, place: int) -> Optional[Json]:
 
 def definitions_said(workspace: Workspace, text: str) -> List[str]:
     """What is said of a definition of a name: the words, the docs, its parts and statements."""
-    whole: List[Tuple[Source, Any]] = []
+    said: List[str] = []
     others: List[Tuple[Source, Any]] = []
     for source in workspace.sources():
         for it in source.defined(text):
-            is_whole = kind_of(it) not in STATEMENTS and not it.variant.startswith("Partial")
-            (whole if is_whole else others).append((source, it))
-    said = []
-    for source, it in whole or others:
-        said += [code(head(source.tree, it._node)), it.doc, count_said(it)]
-    return [*filter(None, said), *([part_said(*it) for it in others] if whole else [])]
+            if kind_of(it) in STATEMENTS or it.variant.startswith("Partial"):
+                others.append((source, it))
+            else:
+                said += whole_said(source, it)
+        for broken in source.broken(text):
+            said += [code(one_line(source.tree, broken.head)), broken.doc, "not read whole"]
+    if said:
+        return [*filter(None, said), *(part_said(*it) for it in others)]
+    return [line for it in others for line in whole_said(*it) if line]
+
+
+def whole_said(source: Source, it: Any) -> List[str]:
+    """The words of a definition, its docs and how many members it has; empty where none."""
+    count = len(members_of(it))
+    counted = f"{count} member{'s' * (count != 1)}" if count else ""
+    return [code(head(source.tree, it._node)), it.doc, counted]
 
 
 def code(text: str) -> str:
@@ -173,12 +186,6 @@ def head(tree: Tree, node: int) -> str:
     body = next(bodies, None)
     end = span.end if body is None else tree.starts[body]
     return one_line(tree, Span(span.start, end))[:LONGEST]
-
-
-def count_said(it: Any) -> str:
-    """How many members a definition has."""
-    count = len(members_of(it))
-    return f"{count} member{'s' * (count != 1)}" if count else ""
 
 
 def part_said(source: Source, it: Any) -> str:

@@ -8,6 +8,7 @@ from weedle._text import Span
 from weedle._tree import Tree
 from weedle.grammar import NUMBERS
 from weedle.lsp.protocol import Check, Json, SymbolKind as Kind, nothing
+from weedle.lsp.reading import Broken
 from weedle.lsp.sources import Source
 from weedle.lsp.workspace import Workspace
 
@@ -42,6 +43,7 @@ KINDS: Dict[int, Tuple[Kind, str]] = {
     **{NUMBERS[name]: it for name, it in DEFINITIONS.items()},
     **{NUMBERS[name]: (kind, "") for name, kind in MEMBERS.items()},
 }
+WORDS: Dict[str, Kind] = {word: kind for kind, word in DEFINITIONS.values()}
 NO_KIND: Tuple[Optional[Kind], str] = None, ""
 # What stands in front of the words of a definition or a member.
 FRONTS = frozenset(NUMBERS[it] for it in (
@@ -69,18 +71,29 @@ class Symbol(NamedTuple):
 def symbols(source: Source, check: Check = nothing) -> List[Symbol]:
     """The definitions of a text, each in front of its members. It checks at each definition."""
     found: List[Symbol] = []
-    tree, above, node = source.tree, -1, 0
+    tree, above, end, node = source.tree, -1, 0, 0
     rules, behind = tree.rules, tree.behind
+    heads = {it.name.value._node: it for it in source.reading.broken}
     while node < tree.count:
         kind, word = KINDS.get(rules[node], NO_KIND)
-        if word:
+        if word or node in heads:
             check()
-            above = len(found)
+            above, end = len(found), heads[node].span.end if node in heads else tree.ends[node]
         if kind:
-            found.append(symbol(tree, node, kind, word, -1 if word else above))
+            is_below = not word and tree.starts[node] < end
+            found.append(symbol(tree, node, kind, word, above if is_below else -1))
+        elif node in heads:
+            found.append(broken_symbol(tree, heads[node]))
         # nothing within a member is shown
         node = behind(node) if kind and not word else node + 1
     return found
+
+
+def broken_symbol(tree: Tree, it: Broken) -> Symbol:
+    """A definition that isn't read whole."""
+    size = len(tree.text.slice(it.span).rstrip().encode())
+    span = Span(it.span.start, max(it.span.start + size, it.name.span.end))
+    return Symbol(it.name.text, f"{it.kind}, with errors", WORDS[it.kind], span, it.name.span, -1)
 
 
 def symbol(tree: Tree, node: int, kind: Kind, word: str, above: int) -> Symbol:

@@ -1,25 +1,37 @@
-"""What is read of a text, and what isn't: its definitions, and its syntax errors.
+"""What is read of a text, and what isn't: its definitions, parts of others, and its syntax errors.
 
-This is the one place that asks the parser for either.
+This is the one place that asks the parser for them.
 """
 
 from __future__ import annotations
 
 import re
-from typing import List, NamedTuple, Optional
+from itertools import groupby
+from typing import Iterator, List, NamedTuple, Optional, Sequence
 
 from weedle import parse
+from weedle._comments import comments_before, said
 from weedle._formatting import is_blank
 from weedle._listing import listing
-from weedle._making import made
-from weedle._reading import tree_of
-from weedle._text import Span, Text
+from weedle._text import Span
 from weedle.definitions import Definitions
 from weedle.errors import Refused
-from weedle.grammar import NUMBERS
+from weedle.names import Name, Role
+from weedle.recovery import Part, recover
 
-DEFINITIONS = NUMBERS["definitions"]
-HINT = re.compile(r"(\d+):(\d+): (.*)", re.DOTALL)
+# A hint has its line and its column in front.
+HINT = re.compile(r"\d+:\d+: (.*)", re.DOTALL)
+# The words that a definition with a name begins with, and what the name stands for behind them.
+HEADS = {
+    "callback": Role.CALLBACK, "callback interface": Role.CALLBACK_INTERFACE,
+    "interface": Role.INTERFACE, "interface mixin": Role.MIXIN, "namespace": Role.NAMESPACE,
+    "dictionary": Role.DICTIONARY, "partial interface": Role.PARTIAL_INTERFACE,
+    "partial interface mixin": Role.PARTIAL_MIXIN, "partial dictionary": Role.PARTIAL_DICTIONARY,
+    "partial namespace": Role.PARTIAL_NAMESPACE, "enum": Role.ENUM, "typedef": Role.TYPEDEF,
+}
+WORDS = frozenset(word for head in HEADS for word in head.split())
+IDENTIFIER, OPEN_BRACE, DOCSTRING = "identifier", "open_brace", "opt_docstring"
+DOC_LINE = re.compile(r"^\s*/// ?", re.MULTILINE)
 
 
 class Hint(NamedTuple):
@@ -33,7 +45,7 @@ class Problem:
     """A syntax error. What is said of it is found when it is asked for."""
 
     def __init__(self, unread: Span, refused: Refused) -> None:
-        #: The bytes that aren't read because of it.
+        #: The bytes that aren't read because of it; none where a sign is missing.
         self.unread = unread
         self._refused = refused
 
@@ -50,17 +62,30 @@ class Problem:
     @property
     def hint(self) -> Optional[Hint]:
         """What would mend the text, or what it lacks."""
-        found = HINT.match(self._refused.hint or "")
-        if not found:
-            return None
-        return Hint(byte_at(self._refused._text, int(found[1]), int(found[2])), found[3])
+        found, span = HINT.match(self._refused.hint or ""), self._refused.hint_span
+        return Hint(span.start, found[1]) if found and span else None
+
+
+class Broken(NamedTuple):
+    """A definition that isn't read whole, but for its name."""
+
+    #: What it is, as "partial interface".
+    kind: str
+    name: Name
+    #: All of it, its words up to its body, as far as they are read, and what its comments say.
+    span: Span
+    head: Span
+    doc: str
 
 
 class Reading(NamedTuple):
     """A text as far as it is read."""
 
     definitions: Definitions
-    #: The nodes of the parts that are read, in the order of the text; each is a definition.
+    #: What is read of other definitions.
+    broken: List[Broken]
+    #: The nodes of the parts that are read, in the order of the text: definitions, and of others
+    #: the members and whatever else has names, but for the name itself.
     roots: List[int]
     problems: List[Problem]
 
@@ -71,29 +96,76 @@ class Reading(NamedTuple):
 
 
 def read(data: bytes) -> Reading:
-    """The definitions of a text, and its syntax error; behind that nothing is read.
+    """The definitions of a text, what is read of others, and each syntax error.
 
     A text of whitespace and comments alone has no definitions, and is no error.
     """
-    problems = []
     try:
-        definitions = parse(data)
+        definitions = parse(b"" if is_blank(data) else data)
     except Refused as refused:
-        problems += [] if is_blank(data) else [Problem(Span(refused.start, len(data)), refused)]
-        definitions = front_of(data)
-    return Reading(definitions, definitions._tree.children(0), problems)
+        return recovered(data, refused)
+    return Reading(definitions, [], definitions._tree.children(0), [])
 
 
-def front_of(data: bytes) -> Definitions:
-    """The definitions at the front of a text, whatever stands behind them."""
-    tree = tree_of(data, DEFINITIONS)
-    found: Definitions = listing(Definitions, tree, [made(tree, it) for it in tree.children(0)])
-    return found
+def recovered(data: bytes, first: Refused) -> Reading:
+    """What is read of a text that is refused. What is said of its first error is of the whole text."""
+    found = recover(data)
+    values = [it.value for it in found.definitions]
+    definitions: Definitions = listing(Definitions, found._tree, values)
+    problems = [Problem(it.span, it.refusal) for it in found.parts if it.refusal]
+    problems[:1] = [Problem(problems[0].unread, first)]
+    roots = [
+        it._node for it in found.parts
+        if it._node is not None and it.rule != IDENTIFIER and it.span.end > it.span.start
+    ]
+    return Reading(definitions, list(broken_in(found.parts)), roots, problems)
 
 
-def byte_at(text: Text, line: int, column: int) -> int:
-    """The place in bytes of a line and a column in characters, both from 1 on."""
-    start = text._line_starts[line - 1]
-    end = text.data.find(b"\n", start)
-    before = text.data[start:end if end >= 0 else None].decode()[:column - 1]
-    return start + len(before.encode())
+def broken_in(parts: Sequence[Part]) -> Iterator[Broken]:
+    """The definitions that aren't read whole, but for their names."""
+    for _, of_one in groupby(parts, key=lambda it: it.definition):
+        found = broken_of(list(of_one))
+        if found:
+            yield found
+
+
+def broken_of(parts: List[Part]) -> Optional[Broken]:
+    """The definition that some parts are of, where its name is read."""
+    words: List[Part] = []
+    for at, part in enumerate(parts):
+        if part.is_read and part.rule in WORDS:
+            words.append(part)
+        elif part.is_read and part.rule == IDENTIFIER and words:
+            kind = " ".join(it.rule for it in words)
+            if kind not in HEADS:
+                return None
+            name = Name(HEADS[kind], part.value)
+            first = next(it for it in parts if it.is_read and it.span.end > it.span.start)
+            span = Span(start_of(first), parts[-1].span.end)
+            head = Span(start_of(words[0]), head_end(parts[at:]))
+            return Broken(kind, name, span, head, doc_of(parts, span.start))
+    return None
+
+
+def start_of(part: Part) -> int:
+    """Where the words of a part begin that is read, behind blanks and comments."""
+    assert part._node is not None
+    return part._tree.span(part._node).start
+
+
+def doc_of(parts: List[Part], start: int) -> str:
+    """The docstring among some parts, or else what the comments in front of a place say."""
+    docstring = next((it.text for it in parts if it.is_read and it.rule == DOCSTRING), "")
+    comments = comments_before(parts[0]._tree, start)
+    lines = [line for it in comments for line in said(it)]
+    return DOC_LINE.sub("", docstring).strip("\n") or "\n".join(lines).strip("\n")
+
+
+def head_end(parts: List[Part]) -> int:
+    """Where the words of a definition end, from its name on, in front of its body."""
+    end = parts[0].span.end
+    for part in parts[1:]:
+        if not part.is_read or part.rule == OPEN_BRACE:
+            break
+        end = part.span.end
+    return end

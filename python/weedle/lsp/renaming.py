@@ -7,12 +7,11 @@ else, as `attribute long a;` with `long` in place of `a`.
 from __future__ import annotations
 
 import re
-from typing import Any, Dict, List, Optional, Tuple
+from typing import Dict, List, Optional, Tuple
 
 from weedle._text import Span
 from weedle.edits import DEFINING, RENAMED, kinds
 from weedle.grammar import KEYWORDS
-from weedle.index import name_of
 from weedle.lsp.navigation import MEMBERS, Target, names
 from weedle.lsp.protocol import Code, Fault, Json
 from weedle.lsp.sources import Source
@@ -50,7 +49,7 @@ def rename(workspace: Workspace, source: Source, place: int, given: str) -> Json
             refuse_unread(other, it.text)
     written = f"_{new}" if new in KEYWORDS else given
     return {"changes": {
-        uri: renamed(other, all_, new, written) for uri, (other, all_) in spans.items()
+        uri: renamed(other, sorted(all_), new, written) for uri, (other, all_) in spans.items()
     }}
 
 
@@ -62,10 +61,10 @@ def refuse_taken(workspace: Workspace, source: Source, it: Target, new: str) -> 
                 if name.role in DEFINING:
                     raise Fault(f"{new} is defined already, {said_place(other, name.span)}")
     elif it.name and it.name.role in MEMBERS:
-        definition: Any = source.definition_at(it.span.start)
+        owner = source.owner_at(it.span.start)
         for other in workspace.sources():
-            for part in other.defined(name_of(definition).value):
-                for name in names_in(other.tree, part._node):
+            for node in other.bodies(owner):
+                for name in names_in(other.tree, node):
                     if name.role in MEMBERS and name.text == new:
                         raise Fault(f"{new} is a member already, {said_place(other, name.span)}")
 

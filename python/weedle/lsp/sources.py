@@ -3,7 +3,7 @@
 from __future__ import annotations
 
 import re
-from bisect import bisect_right
+from bisect import bisect_left, bisect_right
 from functools import cached_property
 from typing import Any, Dict, Iterator, List, Optional, Set
 
@@ -14,7 +14,7 @@ from weedle.edits import RENAMED
 from weedle.index import name_of
 from weedle.lsp.positions import USUAL, Lines, Place
 from weedle.lsp.protocol import Json
-from weedle.lsp.reading import Reading, read
+from weedle.lsp.reading import Broken, Reading, read
 from weedle.names import Name, Role, names_in
 
 # A half of a pair of UTF-16 that stands alone has no UTF-8.
@@ -70,9 +70,11 @@ class Source:
                 found.setdefault(it.text, []).append(it)
         return found
 
-    def all_names(self) -> Iterator[Name]:
+    def all_names(self) -> List[Name]:
         """All names of what is read, in the order of the text."""
-        return (name for root in self.reading.roots for name in names_in(self.tree, root))
+        heads = [it.name for it in self.reading.broken]
+        found = [name for root in self.reading.roots for name in names_in(self.tree, root)]
+        return sorted(heads + found, key=lambda it: it.value._node) if heads else found
 
     @cached_property
     def by_name(self) -> Dict[str, List[Any]]:
@@ -108,6 +110,30 @@ class Source:
         # most files of a folder don't have the word at all
         return self.names.get(text, []) if text.encode() in self.data else []
 
+    def broken(self, text: str) -> List[Broken]:
+        """The definitions of a name that aren't read whole."""
+        return [it for it in self.reading.broken if it.name.text == text]
+
+    def broken_at(self, place: int) -> Optional[Broken]:
+        """The definition that isn't read whole that a place stands in, or right behind."""
+        found = [it for it in self.reading.broken if it.span.start <= place <= it.span.end]
+        return found[-1] if found else None
+
+    def owner_at(self, place: int) -> str:
+        """The name of the definition that a place stands in; empty where it isn't known."""
+        whole, broken = self.definition_at(place), self.broken_at(place)
+        return name_of(whole).value if whole else broken.name.text if broken else ""
+
+    def bodies(self, text: str) -> Iterator[int]:
+        """The nodes of the definitions of a name, and of those not read whole what is read."""
+        yield from (it._node for it in self.defined(text))
+        for broken in self.broken(text):
+            first = bisect_left(self.starts, broken.span.start)
+            for root in self.reading.roots[first:]:
+                if self.tree.starts[root] >= broken.span.end:
+                    break
+                yield root
+
     def defined(self, text: str) -> List[Any]:
         """The definitions of a name, its parts and its statements."""
         return self.by_name.get(text, []) if text.encode() in self.data else []
@@ -120,12 +146,15 @@ class Source:
         found = self.reading.roots[at]
         return found if place <= self.tree.ends[found] else None
 
-    def read_before(self, place: int) -> int:
-        """Where the part begins that a place stands in, or ends that stands in front of it."""
-        root, at = self.root_at(place), bisect_right(self.starts, place) - 1
-        if root is not None:
-            return self.tree.starts[root]
-        return self.tree.ends[self.reading.roots[at]] if at >= 0 else 0
+    def begun_before(self, place: int) -> int:
+        """Where the last definition begins in front of a place, be it read whole or not."""
+        at = bisect_right(self._begun, place) - 1
+        return self._begun[at] if at >= 0 else 0
+
+    @cached_property
+    def _begun(self) -> List[int]:
+        whole = [self.tree.starts[it._node] for it in self.definitions]
+        return sorted([*whole, *(it.span.start for it in self.reading.broken)])
 
     def is_unread(self, place: int) -> bool:
         """Whether a place stands in what isn't read."""
@@ -147,11 +176,9 @@ class Source:
 
     def name_at(self, place: int) -> Optional[Name]:
         """The name that a place stands in, or right behind."""
-        root = self.root_at(place)
-        if root is None:
-            return None
-        starts, ends = self.tree.starts, self.tree.ends
-        for it in names_in(self.tree, root):
+        root, starts, ends = self.root_at(place), self.tree.starts, self.tree.ends
+        found = list(names_in(self.tree, root)) if root is not None else []
+        for it in [*found, *(it.name for it in self.reading.broken)]:
             node = it.value._node
             if starts[node] <= place <= ends[node] and it.span.start <= place <= it.span.end:
                 return it

@@ -6,7 +6,6 @@ import re
 from typing import Dict, List, NamedTuple, Optional
 
 from weedle._text import Span
-from weedle._tree import Tree
 from weedle.grammar import KEYWORDS, NUMBERS, RULES
 from weedle.lsp.positions import Lines, Place
 from weedle.lsp.protocol import Check, Json, nothing
@@ -109,14 +108,15 @@ class Encoder:
         self._last = Place(self._line, character)
 
 
-def roles(tree: Tree, start: int, end: int) -> Dict[int, Look]:
+def roles(source: Source, start: int, end: int) -> Dict[int, Look]:
     """What the names in a part of a text are, by the places of their letters."""
-    found: Dict[int, Look] = {}
+    found = {it.name.span.start: ROLES[it.name.role] for it in source.reading.broken}
+    tree = source.tree
     rules, starts, ends = tree.rules, tree.starts, tree.ends
     low = bytes(tree._numbers.cast("B")[0::tree._numbers.itemsize * 4])
     reader, node = -1, low.find(LOW)
     while node >= 0 and starts[node] <= end:
-        if rules[node] == IDENTIFIER and start <= ends[node]:
+        if rules[node] == IDENTIFIER and start <= ends[node] and tree.depths[node]:
             above = tree.above(node)
             table = LATER_ROLES if above == reader else FIRST_ROLES
             reader = above
@@ -128,10 +128,10 @@ def roles(tree: Tree, start: int, end: int) -> Dict[int, Look]:
 
 def tokens(source: Source, span: Optional[Span] = None, check: Check = nothing) -> Json:
     """The tokens of a text, or of the lines that a part of it is in, numbered."""
-    data, lines, tree = source.data, source.lines, source.tree
+    data, lines = source.data, source.lines
     start, end = span or Span(0, len(data))
     start, end = lines.starts[lines.line_of(start)], lines.end_of(lines.line_of(end))
-    names = roles(tree, start, end)
+    names = roles(source, start, end)
     encoder = Encoder(lines, start)
     for number, it in enumerate(TOKEN.finditer(data, start, end)):
         kind = it.lastgroup or ""
