@@ -108,7 +108,7 @@ def read(data: bytes) -> Reading:
 
 
 def recovered(data: bytes, first: Refused) -> Reading:
-    """What is read of a text that is refused. What is said of its first error is of the whole text."""
+    """What is read of a text that is refused. Its first error is said as of the whole text."""
     found = recover(data)
     values = [it.value for it in found.definitions]
     definitions: Definitions = listing(Definitions, found._tree, values)
