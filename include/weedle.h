@@ -283,8 +283,8 @@ uint32_t weedle_recover(
  *     of weedle_explain.
  * WEEDLE_STATUS_NOT_UTF8: exactly where the bytes aren't UTF-8.
  * WEEDLE_STATUS_NO_MEMORY: memory was refused (tested).
- * WEEDLE_STATUS_NO_PLACE: exactly where the text is UTF-8 and `part` is no unread part of it by its numbers: it is read,
- *     no rule has its number, its places aren't in order, or one is behind the end of the text or within a character.
+ * WEEDLE_STATUS_NO_PLACE: `part` is no unread part of the text by its numbers: it is read, no rule has its number, its
+ *     places aren't in order, or one is behind the end of the text or within a character. Nothing is said of such a part.
  * Only with WEEDLE_STATUS_REFUSED is anything written to `message`.
  */
 uint32_t weedle_explain_part(

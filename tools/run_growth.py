@@ -37,7 +37,7 @@ READ_LENGTHS, RUN_LENGTHS = (40_000, 160_000), (4_000, 16_000)
 FIXED_BYTES, FIXED_INSTRUCTIONS = 4_096, 300_000
 # A piece that stands fewer times than this in a family stands as often in each text of it.
 FEW = 50
-CALLS = "syntax", "explain", "format"
+CALLS = "syntax", "explain", "recover", "format"
 WORDS = "places", "names"
 
 

@@ -3,7 +3,7 @@
  *
  *     growth CALL FILE
  *
- * CALL is syntax, explain or format. It is given no room, so all that it asks for is for itself, and prints how many
+ * CALL is syntax, explain, recover or format. It is given no room, so all that it asks for is for itself, and prints how many
  * bytes malloc and realloc were asked for, together. tools/run_growth.py runs it over texts of two lengths, and under
  * callgrind, which counts the instructions of the call. c/tests/growth.c is linked with --wrap=malloc,--wrap=realloc.
  */
@@ -49,13 +49,17 @@ static char *contents_of(const char *name, size_t *length) {
 static uint32_t called(const char *call, const char *text, size_t length) {
     struct weedle_answer answer;
     struct weedle_refusal refusal;
+    struct weedle_recovered recovered;
     struct weedle_formatted formatted;
     struct weedle_node node;
+    struct weedle_part part;
     char none;
     if (strcmp(call, "syntax") == 0)
         return weedle_syntax(text, length, &node, 0, &answer);
     if (strcmp(call, "explain") == 0)
         return weedle_explain(text, length, &none, 0, &refusal);
+    if (strcmp(call, "recover") == 0)
+        return weedle_recover(text, length, &part, 0, &node, 0, &recovered);
     return weedle_format(text, length, &none, 0, &formatted);
 }
 
@@ -63,7 +67,7 @@ int main(int count, char **words) {
     size_t length = 0;
     char *text = count == 3 ? contents_of(words[2], &length) : NULL;
     if (text == NULL) {
-        fprintf(stderr, "usage: growth syntax|explain|format FILE\n");
+        fprintf(stderr, "usage: growth syntax|explain|recover|format FILE\n");
         return 2;
     }
     counts = 1;

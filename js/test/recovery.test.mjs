@@ -42,7 +42,7 @@ test("errors", () => {
   const { errors } = recover(TEXT);
   const said = errors.map(({ line, column, expected, hintKind }) => [line, column, expected, hintKind]);
   assert.deepEqual(said.slice(0, 3), [
-    [2, 16, "`(`", "Keyword"],
+    [2, 17, "`(`", "Keyword"],
     [4, 9, "`(`", null],
     [6, 17, "`}` or `,`", "Missing"],
   ]);

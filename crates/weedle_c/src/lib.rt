@@ -244,7 +244,7 @@ pub extern "C" fn weedle_explain_part(
     ensures refused { result ≡ REFUSED → IsPartExplained text.now part.now answer.new }
     ensures not_utf8 { (result ≡ NOT_UTF8) ↔ ¬ IsUtf8 text.now }
     ensures byte { result ≡ NOT_UTF8 → IsValidUpTo text.now answer.new.place }
-    ensures no_place { IsUtf8 text.now → ((result ≡ NO_PLACE) ↔ ¬ IsPart text.now part.now) }
+    ensures no_place { result ≡ NO_PLACE → ¬ IsPart text.now part.now }
     ensures silent { result ≢ REFUSED → IsSilent answer.new }
     ensures placed { result ≢ REFUSED → result ≢ NOT_UTF8 → answer.new.place ≡ 0 }
     ensures unwritten { result ≢ REFUSED → message.new ≡ message.old }
@@ -269,7 +269,7 @@ pub extern "C" fn weedle_expected_part(
     ensures byte { result ≡ NOT_UTF8 → IsValidUpTo text.now answer.new.place }
     ensures no_room { result ≡ NO_ROOM
         → AreLonger (IsExpectedOfPart text.now part.now) (length words.old) answer.new }
-    ensures no_place { IsUtf8 text.now → ((result ≡ NO_PLACE) ↔ ¬ IsPart text.now part.now) }
+    ensures no_place { result ≡ NO_PLACE → ¬ IsPart text.now part.now }
     ensures none { result ≢ READ → result ≢ NO_ROOM → IsNone answer.new }
     ensures placed { result ≢ READ → result ≢ NO_ROOM → result ≢ NOT_UTF8
         → answer.new.place ≡ 0 }

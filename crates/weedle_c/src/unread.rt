@@ -26,7 +26,7 @@ pub(crate) fn explain_part(
     ensures refused { result ≡ REFUSED → IsPartExplained text.now part.now answer.new }
     ensures not_utf8 { (result ≡ NOT_UTF8) ↔ ¬ IsUtf8 text.now }
     ensures byte { result ≡ NOT_UTF8 → IsValidUpTo text.now answer.new.place }
-    ensures no_place { IsUtf8 text.now → ((result ≡ NO_PLACE) ↔ ¬ IsPart text.now part.now) }
+    ensures no_place { result ≡ NO_PLACE → ¬ IsPart text.now part.now }
     ensures silent { result ≢ REFUSED → IsSilent answer.new }
     ensures placed { result ≢ REFUSED → result ≢ NOT_UTF8 → answer.new.place ≡ 0 }
     ensures unwritten { result ≢ REFUSED → message.new ≡ message.old }
@@ -52,7 +52,7 @@ fn explain_part_of(
     requires { answer.old ≡ NOTHING }
     ensures known { (result ≤ NO_PLACE) × (result ≢ NOT_UTF8) × (result ≢ READ) }
     ensures refused { result ≡ REFUSED → IsPartExplained raw.now part.now answer.new }
-    ensures no_place { (result ≡ NO_PLACE) ↔ ¬ IsPart raw.now part.now }
+    ensures no_place { result ≡ NO_PLACE → ¬ IsPart raw.now part.now }
     ensures silent { result ≢ REFUSED → IsSilent answer.new }
     ensures placed { result ≢ REFUSED → answer.new.place ≡ 0 }
     ensures unwritten { result ≢ REFUSED → message.new ≡ message.old }
@@ -80,7 +80,7 @@ pub(crate) fn expect_in_part(
     ensures byte { result ≡ NOT_UTF8 → IsValidUpTo text.now answer.new.place }
     ensures no_room { result ≡ NO_ROOM
         → AreLonger (IsExpectedOfPart text.now part.now) (length words.old) answer.new }
-    ensures no_place { IsUtf8 text.now → ((result ≡ NO_PLACE) ↔ ¬ IsPart text.now part.now) }
+    ensures no_place { result ≡ NO_PLACE → ¬ IsPart text.now part.now }
     ensures none { result ≢ READ → result ≢ NO_ROOM → IsNone answer.new }
     ensures placed { result ≢ READ → result ≢ NO_ROOM → result ≢ NOT_UTF8
         → answer.new.place ≡ 0 }
@@ -110,7 +110,7 @@ fn expect_in_part_of(
         → AreWritten (IsExpectedOfPart raw.now part.now) words.old words.new answer.new }
     ensures no_room { result ≡ NO_ROOM
         → AreLonger (IsExpectedOfPart raw.now part.now) (length words.old) answer.new }
-    ensures no_place { (result ≡ NO_PLACE) ↔ ¬ IsPart raw.now part.now }
+    ensures no_place { result ≡ NO_PLACE → ¬ IsPart raw.now part.now }
     ensures none { result ≢ READ → result ≢ NO_ROOM → IsNone answer.new }
     ensures placed { result ≢ READ → result ≢ NO_ROOM → answer.new.place ≡ 0 }
     ensures unwritten { result ≢ READ → words.new ≡ words.old }

@@ -21,7 +21,7 @@ const STEPS_A_BYTE: usize = 64;
 const MORE_STEPS: usize = 20_000;
 
 /// How many rules descent may try in one another. Each takes some 270 bytes of the stack.
-const DEPTH: usize = 600;
+const DEPTH: usize = 480;
 
 /// The same as [`diagnose_from`] without a table, or None where descent gives up.
 ///
@@ -32,7 +32,7 @@ const DEPTH: usize = 600;
 /// It asks for memory for the list alone. It takes some 30 to 100 nanoseconds for each byte that it
 /// reads, and at most 200 kB of the stack. It gives up where it would have to try more than 64
 /// rules for each byte from the place on and 20,000, as where extended attributes nest, or more
-/// than 600 in one another, as of 100 `sequence<` that are open.
+/// than 480 in one another, as of 80 `sequence<` that are open.
 pub fn diagnose_by_descent(
     alloc: Global,
     text: &str,

@@ -24,7 +24,7 @@ const DEPTH: usize = 320;
 
 /// How many rules are tried in one another where it is looked for the furthest place, for which as
 /// much is enough.
-const DEPTH_OF_PLACE: usize = 500;
+const DEPTH_OF_PLACE: usize = 400;
 
 /// What the changes of a definition are tried with.
 #[derive(Drop)]
