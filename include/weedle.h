@@ -204,9 +204,10 @@ uint32_t weedle_syntax_of(
  * It reads the text as weedle_syntax does, and then goes by descent over the first definition that isn't read, in some 200
  * to 300 nanoseconds for each byte of it and with no more memory than for a list. Where that would take too long or too
  * much of the stack, since the rest nests deep, it takes a table of the rest: some 1,600 bytes for each byte.
- * Where the rest nests little, descent goes over the definition again with up to sixteen changes, for what would mend it,
- * and once more with each where none does. Where one would take long, as of `[A, A, A` that isn't closed or of many comments
- * in front of a definition, a table of at most 10,000 bytes is taken in its place: some tens of microseconds a byte.
+ * Descent goes over the definition again with up to sixteen changes, for what would mend it, and once more with each where
+ * none does. All of them together try at most 16 rules for each byte of the definition, up to 64 kB behind the furthest place,
+ * and 100,000, and take no table; where that isn't enough, no more changes are told. Of `[A, A, A` that isn't closed or of many
+ * comments in front of a definition tables of the text and of its rest are filled, in some 20,000 to 35,000 instructions a byte.
  */
 uint32_t weedle_explain(
     const char *text, size_t length,

@@ -20,8 +20,8 @@ const STEPS_A_BYTE: usize = 64;
 /// How many more it may try, so that a short definition may have long extended attributes.
 const MORE_STEPS: usize = 20_000;
 
-/// How many rules descent may try in one another. Each takes some 270 bytes of the stack.
-const DEPTH: usize = 480;
+/// How many rules descent may try in one another. Each takes some 370 bytes of the stack.
+const DEPTH: usize = 380;
 
 /// The same as [`diagnose_from`] without a table, or None where descent gives up.
 ///
@@ -32,7 +32,7 @@ const DEPTH: usize = 480;
 /// It asks for memory for the list alone. It takes some 30 to 100 nanoseconds for each byte that it
 /// reads, and at most 200 kB of the stack. It gives up where it would have to try more than 64
 /// rules for each byte from the place on and 20,000, as where extended attributes nest, or more
-/// than 480 in one another, as of 80 `sequence<` that are open.
+/// than 380 in one another, as of 63 `sequence<` that are open.
 pub fn diagnose_by_descent(
     alloc: Global,
     text: &str,
@@ -64,7 +64,7 @@ fn limits_of(length: usize) -> Limits
 /// The same as [`diagnose_from`] without a table, or None where the limits are spent.
 ///
 /// Each rule that is tried takes one of the steps, and the depth says how many may be tried in one
-/// another, of which each takes some 270 bytes of the stack. So several calls may share what they
+/// another, of which each takes some 370 bytes of the stack. So several calls may share what they
 /// may do together. Beside that it is what [`diagnose_by_descent`] is.
 pub fn diagnose_within(
     alloc: Global,

@@ -22,9 +22,9 @@ const MORE_STEPS: usize = 100_000;
 /// How many nodes deep a definition is read again, for which 150 kB of stack are enough.
 const DEPTH: usize = 320;
 
-/// How many rules are tried in one another where it is looked for the furthest place, for which as
-/// much is enough.
-const DEPTH_OF_PLACE: usize = 400;
+/// How many rules are tried in one another where it is looked for the furthest place, for which 150
+/// kB are enough.
+const DEPTH_OF_PLACE: usize = 360;
 
 /// What the changes of a definition are tried with.
 #[derive(Drop)]
