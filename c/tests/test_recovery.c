@@ -259,7 +259,17 @@ static struct outcome called(int call, const char *text, size_t length) {
     return it;
 }
 
-/* Refuses the first request of each call, then the second, and so on, until none is left. */
+/* Whether two calls came to the same. */
+static int are_same(const struct outcome *one, const struct outcome *other) {
+    return one->status == other->status && memcmp(&one->found, &other->found, sizeof one->found) == 0 &&
+           memcmp(&one->refusal, &other->refusal, sizeof one->refusal) == 0 &&
+           memcmp(&one->expected, &other->expected, sizeof one->expected) == 0 && strcmp(one->out, other->out) == 0;
+}
+
+/*
+ * Refuses the first request of each call, then the second, and so on, until none is left. Where descent is refused memory
+ * weedle_recover takes the table, which may have it.
+ */
 static void test_memory_that_is_refused(void) {
     static const char text[] = "A includes B; foo; interface A { long x; };";
     for (int call = 0; call < 5; call++) {
@@ -272,9 +282,9 @@ static void test_memory_that_is_refused(void) {
             if (none_was_refused())
                 break;
             none.status = WEEDLE_STATUS_NO_MEMORY;
-            CHECK(memcmp(&found, &none, sizeof none) == 0);
+            CHECK(are_same(&found, &none) || (call == 0 && are_same(&found, &ample)));
         }
-        CHECK(number > 1 && memcmp(&found, &ample, sizeof ample) == 0);
+        CHECK(number > 1 && are_same(&found, &ample));
     }
 }
 

@@ -63,7 +63,7 @@ test("what is read", () => {
   assert.equal(member.value.parent, null);
   assert.equal(member.value.value.identifier.parent.parent, member.value);
   assert.equal(member.byteDefinition, 0);
-  assert.deepEqual(member.position, { line: 3, column: 3 });
+  assert.deepEqual([member.position, member.value.position], [{ line: 3, column: 1 }, { line: 3, column: 3 }]);
   const [name] = found.parts.filter((it) => it.value instanceof Identifier && it.byteDefinition > 0);
   assert.equal(name.value.value, "Kind");
 });

@@ -71,14 +71,14 @@ class Recovered(unittest.TestCase):
         members = [it for it in found.parts if it.rule == "interface_member" and it.is_read]
         self.assertEqual([it.value.value.identifier.value for it in members], ["y"])
         self.assertEqual({it.definition for it in members}, {0})
-        self.assertEqual(members[0].position, (3, 3))
+        self.assertEqual((members[0].position, members[0].value.position), ((3, 1), (3, 3)))
         self.assertIsNone(members[0].value.parent)
         (name,) = [it.value.value for it in found.parts if it.rule == "identifier" and it.definition]
         self.assertEqual(name, "Kind")
 
     def test_definitions(self):
         found = weedle.parse(TEXT, recover=True)
-        self.assertEqual([type(it).__name__ for it in found], ["Typedef", "IncludesStatement"])
+        self.assertEqual([it.variant for it in found], ["Typedef", "IncludesStatement"])
         self.assertEqual(len(found.errors), 4)
         self.assertEqual([(it.text, it.role.name) for it in found.names()], [
             ("T", "TYPEDEF"), ("A", "INCLUDER"), ("B", "INCLUDED"),
