@@ -88,7 +88,7 @@ pub(crate) fn lay(
 pub(crate) fn widen(nodes: &mut Vec<Node>, narrow: &[Narrow]) -> Result<(), AllocError>
     ensures { IfOk result (λ _. nodes.new.items ≡ nodes.old.items ++ narrow.now) }
 {
-    nodes.reserve_exact(narrow.len())?;
+    nodes.reserve(narrow.len())?;
     for i in 0..narrow.len() {
         nodes.push(narrow[i].node())?;
     }
@@ -99,7 +99,7 @@ pub(crate) fn widen(nodes: &mut Vec<Node>, narrow: &[Narrow]) -> Result<(), Allo
 pub(crate) fn widened(alloc: Global, narrow: &[Narrow]) -> Result<Vec<Node>, AllocError>
     ensures { IfOk result (λ nodes. nodes.items ≡ narrow.now) }
 {
-    let mut nodes = Vec::new(alloc);
+    let mut nodes = Vec::with_capacity(alloc, narrow.len())?;
     widen(&mut nodes, narrow)?;
     Ok(nodes)
 }
