@@ -308,7 +308,7 @@ static size_t asked_by(int call, const char *text, size_t length, size_t start) 
 static void test_bytes_that_are_asked_for(void) {
     static const char member[] = "[A] interface A { [B] attribute long x; };\n";
     static const char *const ends[] = {"", "foo", "[A interface B {};", "interface B { long x; };"};
-    for (size_t times = 24; times < 7200; times *= 2) {
+    for (size_t times = 24; times < 7200; times *= 6) {
         for (int i = 0; i < 4; i++) {
             size_t length;
             char *text = repeated("", member, times, ends[i], &length);
