@@ -263,7 +263,8 @@ static size_t stack_of(void *(*start)(void *), const struct kind *kind, size_t l
     return call.stack;
 }
 
-/* Prints what descent takes of the stack for a level, and at the most before it takes the table: less than 200 kB. */
+/* Prints what descent takes of the stack for a level, and at the most before it takes the table: less than 200 kB to read,
+ * and than 224 to explain. */
 static void stack_of_kind(const char *what, void *(*start)(void *), const struct kind *kind, unsigned char *painted) {
     size_t ten = stack_of(start, kind, 10, painted), twenty = stack_of(start, kind, 20, painted);
     size_t most = twenty, deepest = 20;
@@ -274,7 +275,7 @@ static void stack_of_kind(const char *what, void *(*start)(void *), const struct
     }
     printf("  %s %s: %zu bytes of stack, %zu in all at %zu levels\n", what, kind->name, (twenty - ten) / 10, most,
            deepest);
-    CHECK(most < 200 * 1024);
+    CHECK(most < (start == explain_it ? 224 : 200) * 1024);
 }
 
 static void test_stack(void) {

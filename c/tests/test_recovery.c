@@ -327,7 +327,7 @@ static void test_many_errors(void) {
     size_t length, times = large(2500);
     char *text = repeated("", lines, times, "", &length);
     struct weedle_recovered found;
-    CHECK(asked_by(0, text, length, 0) < 1000 * length);
+    CHECK(asked_by(0, text, length, 0) < 1200 * length);
     CHECK(weedle_recover(text, length, parts, 0, nodes, 0, &found) == WEEDLE_STATUS_NO_ROOM);
     CHECK(found.unread == 2 * times);
     free(text);
