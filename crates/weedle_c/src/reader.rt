@@ -74,7 +74,12 @@ fn read_text(alloc: Global, raw: &str, nodes: &mut [WeedleNode], answer: &mut We
 }
 
 /// What is answered where these nodes were read.
-fn answer_of(raw: &str, found: &[Narrow], nodes: &mut [WeedleNode], answer: &mut WeedleAnswer) -> u32
+fn answer_of(
+    raw: &str,
+    found: &[Narrow],
+    nodes: &mut [WeedleNode],
+    answer: &mut WeedleAnswer,
+) -> u32
     requires front { IsFront raw.now found.now }
     requires nothing { answer.old ≡ NOTHING }
     ensures known { (result ≤ TOO_LONG) × (result ≢ NOT_UTF8) }
