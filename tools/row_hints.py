@@ -1,8 +1,8 @@
 """Says what would mend a refused definition, or what it lacks, by the rows of the grammar alone.
 
 It is what docs/USING.md says under "What is said of a refused text", read by row_ends.py; nothing is taken from
-the port. A hint is a place in bytes and a line of words. Here what changes may take together has no limit: of long extended
-attributes, or of what nests deep, more may be told here.
+the port. A hint is a place in bytes and a line of words. Here what changes may take together has no limit but that of nesting,
+by brackets: of long extended attributes more may be told here.
 """
 
 import re
@@ -24,6 +24,8 @@ LONGEST = 65_536
 SIGNS = (b";", b"=", b"{", b",", b")", b">", b"]", b"(", b":", b"};", b"}")
 # What is left out wherever the reading stops at it; other signs only where they stand twice.
 SPARE = (b";", b",")
+# How many brackets may be open at once in what is read again, a `[` counted as two.
+LEVELS = 50
 
 MISPLACED = "no docstring here"
 BYTE_ORDER_MARK = "\ufeff".encode()
@@ -32,6 +34,7 @@ LINE = re.compile(rb"///[^\n]*")
 STRING = re.compile(rb'"[^"]*("?)')
 COMMENT = re.compile(rb"/\*.*", re.S)
 CHARACTER = re.compile(rb"[^\x80-\xbf][\x80-\xbf]*", re.S)
+ASIDE = re.compile(rb'"[^"]*(?:"|\Z)|//[^\n]*|/\*(?:.*?\*/|.*\Z)', re.S)
 # The keywords, in the order of their rules.
 KEYWORDS = [
     ROWS[rule][1].encode() for rule in sorted((it for it in ROWS if it in grammar.NUMBER), key=grammar.NUMBER.get)
@@ -70,6 +73,16 @@ def kind_at(text, place):
         if match := pattern.match(text, place):
             return "open" if kind == "string" and not match[1] else kind, match
     return "sign", CHARACTER.match(text, place)
+
+
+def nests_deep(text):
+    """Whether more brackets are open at once than are read again, past strings and comments."""
+    attributes = brackets = most = 0
+    for byte in ASIDE.sub(b" ", text):
+        attributes = max(0, attributes + (byte == ord("[")) - (byte == ord("]")))
+        brackets = max(0, brackets + (byte in b"(<") - (byte in b")>"))
+        most = max(most, 2 * attributes + brackets)
+    return most > LEVELS
 
 
 def fact(text, start, place, tokens):
@@ -174,6 +187,8 @@ def mends(text, start, place, tokens, change):
     if not may_begin(text, end):
         return False
     changed = text[start:at] + put + text[at + taken:end]
+    if nests_deep(changed):
+        return False
     NOW.take(changed)
     return NOW.ends_at() == len(changed)
 
@@ -230,6 +245,8 @@ def comes_beyond(text, start, place, tokens, change):
     if end == beyond:
         return False
     changed = text[start:at] + put + text[at + taken:end]
+    if nests_deep(changed):
+        return False
     NOW.take(changed)
     NOW.ends_at()
     return len(changed) - NOW.unmet()[0] < end - beyond

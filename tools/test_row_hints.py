@@ -8,7 +8,7 @@ import unittest
 
 import row_hints
 from row_ends import NOW
-from row_hints import KEYWORDS, differ_by_one, tokens_of
+from row_hints import KEYWORDS, differ_by_one, nests_deep, tokens_of
 from row_words import refusal
 
 
@@ -48,6 +48,12 @@ class Tokens(unittest.TestCase):
 
     def test_a_comment_that_is_open_is_one(self):
         self.assertEqual([(kind, start, end) for kind, start, end in tokens_of(b"a /* b /* ;", 0, 11)], [("word", 0, 1), ("comment", 2, 11)])
+
+    def test_what_nests_deep(self):
+        for text in (b"", b"[A] interface B {};", b'"[[[[[[" /*[[[[[*/ //[[[[[\n', b"(" * 50, b"()" * 100, b"[" + b"<" * 48):
+            self.assertFalse(nests_deep(text), text)
+        for text in (b"(" * 51, b"[" * 26, b"[" + b"<" * 49):
+            self.assertTrue(nests_deep(text), text)
 
     def test_no_token_begins_behind_the_place(self):
         self.assertEqual([start for _, start, _ in tokens_of(b"ab cd ef", 0, 3)], [0, 3])

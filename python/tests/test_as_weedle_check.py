@@ -1,4 +1,7 @@
-"""The program `python3 -m weedle` as weedle_check: the runs of that without an option, in tests/runs.toml."""
+"""The program `python3 -m weedle` as weedle_check: the runs of that without an option, in tests/runs.toml.
+
+It says more than weedle_check where a file has more errors than one: each of them, and how many there are.
+"""
 
 import sys
 import tempfile
@@ -20,7 +23,11 @@ class AsWeedleCheck(unittest.TestCase):
             program.chmod(0o755)
             for it in filter(is_for_python, runs()):
                 with self.subTest(it.what):
-                    self.assertEqual(it.came(str(program)), it.wanted())
+                    came, wanted = it.came(str(program)), it.wanted()
+                    if " errors\n" in came:
+                        wanted = wanted[:wanted.index("1 file, 1 refused")]
+                        came = came[:len(wanted)]
+                    self.assertEqual(came, wanted)
                 count += 1
         self.assertGreater(count, 20)
 

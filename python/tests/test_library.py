@@ -177,9 +177,12 @@ class Memory(unittest.TestCase):
                  "-pthread"],
                 check=True,
             )
+            # by its soname
+            Path(room, f"libweedle.so.{VERSION >> 16}.{VERSION >> 8 & 255}").symlink_to(place().resolve())
             done = subprocess.run(
                 [VALGRIND, "-q", "--error-exitcode=1", "--leak-check=full", program, TOP / "tests/families.txt"],
-                capture_output=True, text=True, check=False, env={**os.environ, "WEEDLE_SMALL": "1"},
+                capture_output=True, text=True, check=False,
+                env={**os.environ, "WEEDLE_SMALL": "1", "LD_LIBRARY_PATH": room},
             )
         self.assertEqual((done.returncode, done.stderr), (0, ""))
 

@@ -361,7 +361,7 @@ class Renames(Features):
             self.assertEqual(self.refused(line, character, "x"), (REQUEST_FAILED, "nothing here can be renamed"))
 
     def test_a_part_that_is_not_read(self):
-        self.page.open("interface A {};\ntypedef A B;\ntypedef A;")
+        self.page.open("interface A {};\ntypedef A B;\n) A;")
         self.assertEqual(self.refused(0, 10, "C"), (REQUEST_FAILED, "A stands in what isn't read, in page.webidl, line 3"))
         self.assertEqual(self.renamed(1, 10, "C"), ([(1, 10, 1, 11)], {"C"}))
 

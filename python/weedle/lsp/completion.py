@@ -72,7 +72,8 @@ def items(workspace: Workspace, front: Front) -> Iterator[Json]:
         names = PLAIN | NAMED | BUILTIN if is_any else PLAIN
         yield from words_shown(names - found.words, "2")
     kinds = kinds_at(front, found)
-    yield from (definition_item(*it) for it in definitions(workspace, kinds))
+    own = frozenset(front.words)
+    yield from (definition_item(*it) for it in definitions(workspace, kinds, own))
 
 
 def words_shown(words: AbstractSet[str], order: str) -> Iterator[Json]:
@@ -141,8 +142,13 @@ def behind_attributes(words: Tuple[bytes, ...]) -> Tuple[bytes, ...]:
     return ()
 
 
-def definitions(workspace: Workspace, kinds: AbstractSet[str]) -> Iterator[Tuple[str, str, str]]:
-    """The definitions of some kinds, each once: name, kind and the name of the file."""
+def definitions(
+    workspace: Workspace, kinds: AbstractSet[str], own: AbstractSet[bytes],
+) -> Iterator[Tuple[str, str, str]]:
+    """The definitions of some kinds, each once: name, kind and the name of the file.
+
+    A broken one that has its name from these words is the one that is being written.
+    """
     if not kinds:
         return
     seen = set()
@@ -154,7 +160,8 @@ def definitions(workspace: Workspace, kinds: AbstractSet[str]) -> Iterator[Tuple
                 seen.add(name)
                 yield name, kind, file
         for broken in source.reading.broken:
-            if broken.kind in kinds and broken.name.text not in seen:
+            is_own = broken.name.text.encode() in own
+            if broken.kind in kinds and broken.name.text not in seen and not is_own:
                 seen.add(broken.name.text)
                 yield broken.name.text, broken.kind, file
 
