@@ -59,6 +59,7 @@ all_closed text m n is are i d l = elim (cases_lt i (length m.entries)) [
 pub extends_one : (m : Memory) (n : MemoEntry) → IsClosed m.text m n.rule n.place → Extends m (more m n) (cell_number (length m.text) n.rule n.place)
 extends_one m n is = record {
   text_is = refl;
+  start_is = refl;
   longer = omega (arith, length-append m.entries (n ∷ []));
   keeps = λ x q h. met_more m n h;
   leaves = λ x q l h. still_absent m.entries n x q h (λ er ep.
@@ -71,7 +72,7 @@ extends_one m n is = record {
     apart a b h e = omega arith
 
 pub extends_none : (m : Memory) (c : ℕ) → Extends m m c
-extends_none m c = record { text_is = refl; longer = omega arith; keeps = λ x q h. h; leaves = λ x q l h. h; closes = λ h. h }
+extends_none m c = record { text_is = refl; start_is = refl; longer = omega arith; keeps = λ x q h. h; leaves = λ x q l h. h; closes = λ h. h }
 
 below : (a b c : ℕ) → a ≤ b → b < c → a < c
 below a b c h k = omega arith
@@ -82,6 +83,7 @@ extends_on {m} {n} {k} {c} {d} {e} f g cl dl =
     let gl = g.longer in
     record {
       text_is = g.text_is ∙ f.text_is;
+      start_is = g.start_is ∙ f.start_is;
       longer = omega arith;
       keeps = λ x q h. g.keeps x q (f.keeps x q h);
       leaves = λ x q l h. g.leaves x q (subst (λ z. d < cell_number (length z) x q) (sym f.text_is) (below d e _ dl l)) (f.leaves x q (below c e _ cl l) h);

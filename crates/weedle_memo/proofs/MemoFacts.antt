@@ -4,14 +4,13 @@ use Rattle.weedle_grammar.specs.Rows.{Row, Bytes, OneOf, NotNext, Run, Past, Seq
 use Rattle.weedle_grammar.specs.Trees.{Outcome, Fails, Gives}
 use Rattle.weedle_grammar.specs.Laws.{HasOneOutcome}
 use Rattle.weedle_grammar.specs.written.Table.{row_of, Reads}
-use Rattle.weedle_grammar.specs.written.Table.Definitions.{DEFINITIONS}
 use Rattle.weedle_rules.specs.Cells.{HasEnd, end_of}
 use Rattle.weedle_rules.specs.Outcomes.{EndsAt, FailsAt}
 use Rattle.weedle_rules.proofs.OutcomeFacts.{it_fails, not_both}
 use Rattle.weedle_starts.specs.Tries.{SameAttempt, RowTries, Tries}
 use Rattle.weedle_memo.specs.Tables.{option_of, Lacks, Stays}
 use Rattle.weedle_memo.specs.Entries.{Reading, MemoEntry, Absent, IsAsked}
-use Rattle.weedle_memo.specs.Wanted.{Wanted, at_first, by}
+use Rattle.weedle_memo.specs.Wanted.{WantedFrom, at_first, by}
 use Rattle.weedle_memo.specs.Closure.{Memory, memory_of, Met, stored, passed, MetIf, IsClosed, AreClosed, IsMemo}
 
 same_some : {a b : ℕ} → Some a ≡ Some b → a ≡ b
@@ -48,15 +47,15 @@ tried_met m are {u} {v} (stored k) x q e t d =
 tried_met m are {u} {v} (passed s) x q e t d = absurd (nothing_read m.text (row_of u) u v x q e s.option s.is (it_fails s.fails) t d)
 
 -- so all that the reading of the text reads is known
-wanted_known : (m : Memory) → AreClosed m.text m → ((e : ℕ) → EndsAt m.text DEFINITIONS 0 e → Met m DEFINITIONS 0) → {r p e : ℕ} → Wanted m.text r p → EndsAt m.text r p e → Met m r p
-wanted_known m are first {r} {p} {e} (at_first s) d =
-    let f = first e (subst (λ z. EndsAt m.text z 0 e) s.0 (subst (λ z. EndsAt m.text r z e) s.1 d)) in
-    subst (λ z. Met m z p) (sym s.0) (subst (λ z. Met m DEFINITIONS z) (sym s.1) f)
-wanted_known m are first {r} {p} {e} (by h g t) d = tried_met m are (wanted_known m are first h g) r p e t d
+wanted_known : (m : Memory) (f s : ℕ) → AreClosed m.text m → ((e : ℕ) → EndsAt m.text f s e → Met m f s) → {r p e : ℕ} → WantedFrom m.text f s r p → EndsAt m.text r p e → Met m r p
+wanted_known m f s are first {r} {p} {e} (at_first same) d =
+    let k = first e (subst (λ z. EndsAt m.text z s e) same.0 (subst (λ z. EndsAt m.text r z e) same.1 d)) in
+    subst (λ z. Met m z p) (sym same.0) (subst (λ z. Met m f z) (sym same.1) k)
+wanted_known m f s are first {r} {p} {e} (by h g t) d = tried_met m are (wanted_known m f s are first h g) r p e t d
 
-first_known : (m : Memory) (end : Option ℕ) → HasEnd m.text DEFINITIONS 0 end → MetIf m DEFINITIONS 0 end → (e : ℕ) → EndsAt m.text DEFINITIONS 0 e → Met m DEFINITIONS 0
-first_known m (Some v) h k e d = k
-first_known m None h k e d = absurd (not_both (it_fails h) d)
+first_known : (m : Memory) (f s : ℕ) (end : Option ℕ) → HasEnd m.text f s end → MetIf m f s end → (e : ℕ) → EndsAt m.text f s e → Met m f s
+first_known m f s (Some v) h k e d = k
+first_known m f s None h k e d = absurd (not_both (it_fails h) d)
 
 -- what isn't known isn't read
 unknown : (m : Memory) (r p : ℕ) → Absent m.entries r p → (Lacks m.words m.text r p → ⊥) → Met m r p → ⊥
@@ -67,9 +66,9 @@ fails_here : (m : Memory) (r p : ℕ) (o : Outcome) → Reads m.text r p o → (
 fails_here m r p Fails d k none = record { outcome = Fails; reads = d; is = refl }
 fails_here m r p (Gives ts q) d k none = absurd (none (k q (ts, d)))
 
-pub asked_right : (s : Reading) (end : Option ℕ) (r p : ℕ) (e : Option ℕ) → IsMemo s end → Wanted s.text r p → HasOneOutcome s.text r p → IsAsked s.words s.text s.known r p e → HasEnd s.text r p e
+pub asked_right : (s : Reading) (end : Option ℕ) (r p : ℕ) (e : Option ℕ) → IsMemo s end → WantedFrom s.text s.start.rule s.start.place r p → HasOneOutcome s.text r p → IsAsked s.words s.text s.known r p e → HasEnd s.text r p e
 asked_right s end r p e f w one (inl h) = h
 asked_right s end r p e f w one (inr (none, absent, has)) =
     let m = memory_of s in
-    let h = fails_here m r p one.0 one.1 (λ q d. wanted_known m f.closed (first_known m end f.ends f.first) w d) (unknown m r p absent has) in
+    let h = fails_here m r p one.0 one.1 (λ q d. wanted_known m s.start.rule s.start.place f.closed (first_known m s.start.rule s.start.place end f.ends f.first) w d) (unknown m r p absent has) in
     record { outcome = h.outcome; reads = h.reads; is = none ∙ h.is }

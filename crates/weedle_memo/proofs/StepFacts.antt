@@ -4,10 +4,9 @@ use Rattle.std.proofs.lemmas.List.{reverse-append}
 use Rattle.weedle_grammar.specs.Rows.{Row, Bytes, OneOf, NotNext, Run, Past, Seq, First, Opt, Many, ListOf, List1, Tail, If}
 use Rattle.weedle_grammar.specs.written.Bound.{rule_count}
 use Rattle.weedle_grammar.specs.written.Table.{row_of}
-use Rattle.weedle_grammar.specs.written.Table.Definitions.{DEFINITIONS}
 use Rattle.weedle_rules.specs.Cells.{HasEnd, cell_number}
 use Rattle.weedle_rules.specs.written.Bound.{most_reads}
-use Rattle.weedle_memo.specs.Entries.{Absent}
+use Rattle.weedle_memo.specs.Entries.{Absent, Start}
 use Rattle.weedle_memo.specs.Closure.{Memory, MetIf, AreClosed, Covered, CoveredStep, Extends}
 use Rattle.weedle_memo.specs.Frames.{IsCovered, WaitsBy, Waits, IsOpen, IsStep, SameCell, IsState, IsDone, AreWaiting, weight}
 use Rattle.weedle_memo.proofs.GrowthFacts.{covered_on}
@@ -125,7 +124,7 @@ falls_new text {f} h {x} {q} w cell =
 
 -- more is known, of cells before
 waiting_on : {m n : Memory} {c : ℕ} → Extends m n c → (waiting : List Frame) (r p : ℕ) → AreWaiting m.text m waiting r p → c ≤ cell_number (length m.text) r p → AreWaiting m.text n waiting r p
-waiting_on e [] r p h l = h
+waiting_on e [] r p h l = (h.0 ∙ sym (ap (λ (v : Start). v.rule) e.start_is), h.1 ∙ sym (ap (λ (v : Start). v.place) e.start_is))
 waiting_on {m} {n} {c} e (f ∷ fs) r p h l =
     let less : c < cell_number (length m.text) f.rule f.place = smaller _ _ _ l h.1.before in (
       h.0,
@@ -163,6 +162,10 @@ module _ {m n : Memory} {c : ℕ} (e : Extends m n c) (f : Frame) where
 
 pub all_closed_on : {m n : Memory} {c : ℕ} → Extends m n c → AreClosed m.text m → AreClosed n.text n
 all_closed_on {m} {n} e h = subst (λ z. AreClosed z n) (sym e.text_is) (e.closes h)
+
+-- where nothing is known
+pub none_closed : (text : List ℕ) (m : Memory) → m.entries ≡ [] → AreClosed text m
+none_closed text m e i d l = let none : length m.entries ≡ 0 = ap length e in absurd (omega (arith, none))
 
 -- it goes on behind a rule without parts
 pub state_leaf : {m n : Memory} (waiting : List Frame) (f : Frame) {g h : Frame} {t : Step} {x q : ℕ} → IsOpen m.text f → Waits m.text f x q 0 → Absent m.entries f.rule f.place → AreWaiting m.text m waiting f.rule f.place
@@ -211,14 +214,14 @@ module _ {m : Memory} {f : Frame} {o : Option ℕ} (left : List Frame) (parent :
 
 -- the first frame is closed
 module _ {m : Memory} {f : Frame} {o : Option ℕ} {waiting : List Frame} (d : IsDone m.text m (reverse waiting) f o) (is : waiting ≡ []) where
-  first_cell : (f.rule ≡ DEFINITIONS) × (f.place ≡ 0)
+  first_cell : (f.rule ≡ m.start.rule) × (f.place ≡ m.start.place)
   first_cell = subst (λ z. AreWaiting m.text m (reverse z) f.rule f.place) is d.others
 
-  pub first_is : HasEnd m.text DEFINITIONS 0 o
-  first_is = subst (λ z. HasEnd m.text z 0 o) first_cell.0 (subst (λ z. HasEnd m.text f.rule z o) first_cell.1 d.over.right)
+  pub first_is : (n : Memory) → n.start ≡ m.start → HasEnd m.text n.start.rule n.start.place o
+  first_is n e = subst (λ (z : Start). HasEnd m.text z.rule z.place o) (sym e) (subst (λ z. HasEnd m.text z m.start.place o) first_cell.0 (subst (λ z. HasEnd m.text f.rule z o) first_cell.1 d.over.right))
 
-  pub first_met : (n : Memory) → MetIf n f.rule f.place o → MetIf n DEFINITIONS 0 o
-  first_met n h = subst (λ z. MetIf n z 0 o) first_cell.0 (subst (λ z. MetIf n f.rule z o) first_cell.1 h)
+  pub first_met : (n : Memory) → n.start ≡ m.start → MetIf n f.rule f.place o → MetIf n n.start.rule n.start.place o
+  first_met n e h = subst (λ (z : Start). MetIf n z.rule z.place o) (sym e) (subst (λ z. MetIf n z m.start.place o) first_cell.0 (subst (λ z. MetIf n f.rule z o) first_cell.1 h))
 
 -- a list of no elements
 pub emptied : (xs : List Frame) → length xs ≡ 0 → xs ≡ []

@@ -3,11 +3,10 @@ use Rattle.std.specs.Prelude.{◌≡◌, ◌≤◌, ◌<◌, ◌⊎◌, ℕ, fal
 use Rattle.std.proofs.Common.{get_or}
 use Rattle.weedle_grammar.specs.Rows.{Row, Bytes, OneOf, NotNext, Run, Past, Seq, First, Opt, Many, ListOf, List1, Tail, If}
 use Rattle.weedle_grammar.specs.written.Table.{row_of}
-use Rattle.weedle_grammar.specs.written.Table.Definitions.{DEFINITIONS}
 use Rattle.weedle_rules.specs.Outcomes.{EndsAt}
 use Rattle.weedle_rules.specs.Cells.{HasEnd, cell_number}
 use Rattle.weedle_starts.specs.Tries.{TriesInTurn, TriesByChoice, Tries, has_no_parts}
-use Rattle.weedle_memo.specs.Entries.{MemoEntry, Reading, Absent}
+use Rattle.weedle_memo.specs.Entries.{MemoEntry, Reading, Start, Absent}
 use Rattle.weedle_memo.specs.Tables.{Stays}
 use Rattle.weedle_memo.specs.declared.frame.Look.{Look}
 use Rattle.weedle_memo.specs.declared.frame.Look.TheVariants.{Known, Unknown}
@@ -22,14 +21,15 @@ pub record Present (known : List MemoEntry) (r p : ℕ) : Type 0 where
   pub rule_is : (d : MemoEntry) → (get_or known index d).rule ≡ r
   pub place_is : (d : MemoEntry) → (get_or known index d).place ≡ p
 
--- what is known of a text while it is read: the words of the rules, and the entries
+-- what is known of a text while it is read: what is read and where, the words of the rules, and the entries
 pub record Memory : Type 0 where
+  pub start : Start
   pub words : List ℕ
   pub text : List ℕ
   pub entries : List MemoEntry
 
 abbrev pub memory_of : Reading → Memory
-memory_of r = record { words = r.words; text = r.text; entries = r.known }
+memory_of r = record { start = r.start; words = r.words; text = r.text; entries = r.known }
 
 -- where rule r ends at p is known: by an entry, or since it goes without something there by the byte that stands there
 pub data Met (m : Memory) (r p : ℕ) : Type 0 where
@@ -82,19 +82,20 @@ abbrev pub MetLook : Memory → ℕ → ℕ → Look → Type 0
 MetLook m r p (Known e) = MetIf m r p e
 MetLook m r p Unknown = Unit {0}
 
--- a text was read from its front
+-- a text was read from the start
 pub record IsMemo (r : Reading) (end : Option ℕ) : Type 0 where
-  pub ends : HasEnd r.text DEFINITIONS 0 end
-  pub first : MetIf (memory_of r) DEFINITIONS 0 end
+  pub ends : HasEnd r.text r.start.rule r.start.place end
+  pub first : MetIf (memory_of r) r.start.rule r.start.place end
   pub closed : AreClosed r.text (memory_of r)
 
--- the same text, and the same words
+-- the same text, the same words, and the same start
 abbrev pub SameText : Reading → Reading → Type 0
-SameText r s = (s.text ≡ r.text) × (s.words ≡ r.words)
+SameText r s = (s.text ≡ r.text) × (s.words ≡ r.words) × (s.start ≡ r.start)
 
 -- n knows what m knows, and more of the cells up to number c
 pub record Extends (m n : Memory) (c : ℕ) : Type 0 where
   pub text_is : n.text ≡ m.text
+  pub start_is : n.start ≡ m.start
   pub longer : length m.entries ≤ length n.entries
   pub keeps : (x q : ℕ) → Met m x q → Met n x q
   pub leaves : (x q : ℕ) → c < cell_number (length m.text) x q → Absent m.entries x q → Absent n.entries x q

@@ -17,9 +17,18 @@ pub record MemoEntry : Type 0 where
 abbrev pub entry_at : ℕ → ℕ → Option ℕ → MemoEntry
 entry_at r p o = record { rule = r; place = p; end = o }
 
--- a reading as contracts see it: the text, what is known, and how many looks that took
+-- the rule that is read, and the place where it is read
+pub record Start : Type 0 where
+  pub rule : ℕ
+  pub place : ℕ
+
+abbrev pub start_at : ℕ → ℕ → Start
+start_at r p = record { rule = r; place = p }
+
+-- a reading as contracts see it: the text, what is read of it and where, what is known, and how many looks that took
 pub record Reading : Type 0 where
   pub text : List ℕ
+  pub start : Start
   -- the words of the rules: the bytes at which each isn't passed over
   pub words : List ℕ
   pub known : List MemoEntry
@@ -49,8 +58,9 @@ IsLook text known r p (Known e) = HasEnd text r p e
 IsLook text known r p Unknown = Absent known r p
 
 -- nothing is known of the text
-pub record IsUnread (r : Reading) (text words : List ℕ) : Type 0 where
+pub record IsUnread (r : Reading) (text words : List ℕ) (start : Start) : Type 0 where
   pub text_is : r.text ≡ text
+  pub start_is : r.start ≡ start
   pub words_are : r.words ≡ words
   pub none : r.known ≡ []
 

@@ -4,7 +4,6 @@ use Rattle.std.proofs.Common.{inl}
 use Rattle.weedle_grammar.specs.Rows.{Row, Bytes, OneOf, NotNext, Run, Past, Seq, First, Opt, Many, ListOf, List1, Tail, If}
 use Rattle.weedle_grammar.specs.written.Bound.{rule_count}
 use Rattle.weedle_grammar.specs.written.Table.{webidl, row_of}
-use Rattle.weedle_grammar.specs.written.Table.Definitions.{DEFINITIONS}
 use Rattle.weedle_grammar.proofs.Takes.{takes}
 use Rattle.weedle_rules.specs.Cells.{HasEnd, cell_number}
 use Rattle.weedle_rules.specs.written.Bound.{most_reads}
@@ -84,7 +83,7 @@ pub record IsCovered (text : List ℕ) (m : Memory) (f : Frame) (q : ℕ) : Type
 
 -- frames that wait, the one on top first: the top one for rule r at p, each other one for the cell of the one above
 abbrev pub AreWaiting : List ℕ → Memory → List Frame → ℕ → ℕ → Type 0
-AreWaiting text m [] r p = (r ≡ DEFINITIONS) × (p ≡ 0)
+AreWaiting text m [] r p = (r ≡ m.start.rule) × (p ≡ m.start.place)
 AreWaiting text m (f ∷ fs) r p = IsOpen text f × Waits text f r p 1 × Absent m.entries f.rule f.place × IsCovered text m f p × AreWaiting text m fs f.rule f.place
 
 -- a state of the reading: the frame on top, what it needs next, and those that wait

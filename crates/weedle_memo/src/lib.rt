@@ -22,8 +22,10 @@ mod machine;
 mod memo;
 mod read;
 mod reader;
+mod rule_memo;
 mod tables;
 
 pub use memo::Memo;
+pub use rule_memo::RuleMemo;
 pub use tables::Tables;
 pub use weedle_rules::READS;

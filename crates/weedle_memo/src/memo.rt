@@ -1,4 +1,4 @@
-//! The memo of a text that was read from its front.
+//! The memo of the definitions at the front of a text.
 
 ghost use Rattle.std.specs.Prelude.{◌≡◌, ◌≤◌, ◌+◌, ◌*◌, length, IfOk};
 ghost use Rattle.weedle_grammar.specs.written.Bound.{rule_count};
@@ -8,8 +8,7 @@ ghost use Rattle.weedle_memo.specs.Wanted.{Wanted};
 ghost use Rattle.weedle_memo.specs.Entries.{AreRight, AreDistinct};
 
 use crate::READS;
-use crate::read::read;
-use crate::reader::Reader;
+use crate::rule_memo::RuleMemo;
 use crate::tables::Tables;
 use std::alloc::{AllocError, Global};
 use std::marker::Model;
@@ -20,36 +19,29 @@ use weedle_grammar::Rule;
 /// Over `interface A {}; // end` the rule of definitions ends at 22 from place 0 on.
 #[derive(Drop)]
 pub struct Memo<'a> {
-    reader: Reader<'a>,
-    end: Option<usize>,
+    of_rule: RuleMemo<'a>,
 }
 
 impl<'a> Model for Memo<'a> {
-    ghost use Rattle.weedle_memo.specs.Entries.{Reading};
-    ghost use Rattle.weedle_memo.specs.Closure.{IsMemo};
+    ghost use Rattle.std.specs.Prelude.{◌≡◌};
+    ghost use Rattle.weedle_grammar.specs.written.Table.Definitions.{DEFINITIONS};
+    ghost use Rattle.weedle_memo.specs.Entries.{Reading, start_at};
 
     ghost Value = { Reading };
 
-    ghost view = { λ memo. memo.reader };
+    ghost view = { λ memo. memo.of_rule };
 
-    ghost invariant = { λ memo. IsMemo memo.reader memo.end };
+    ghost invariant = { λ memo. memo.of_rule.start ≡ start_at DEFINITIONS 0 };
 }
 
 impl<'a> Memo<'a> {
-    /// Reads the definitions at the front of a text, as of `interface A {}; // end`: each rule at
-    /// each place at most once, and only where it is tried.
-    ///
-    /// There is no recursion, so however deep a text nests, it takes little of the stack. It asks
-    /// for a number of 8 bytes for each place of the text, for entries of 16 bytes, of real files
-    /// one to two a byte, and for frames of 24 bytes of the rules that are open. Where 32 bits don't
-    /// hold a place or the number of an entry, entries have 40 bytes. Where memory is refused, the
-    /// answer is an error.
+    /// Reads the definitions at the front of a text, as of `interface A {}; // end`. It costs what
+    /// [`RuleMemo::new`] costs.
     pub fn new(alloc: Global, text: &'a str, tables: &'a Tables) -> Result<Memo<'a>, AllocError>
         ensures { IfOk result (λ memo. memo.text ≡ text.entry.now) }
     {
-        let mut reader = Reader::new(alloc, text.as_bytes(), tables)?;
-        let end = read(alloc, &mut reader)?;
-        Ok(Memo { reader, end })
+        let of_rule = RuleMemo::new(alloc, text, tables, Rule::DEFINITIONS, 0)?;
+        Ok(Memo { of_rule })
     }
 
     /// Where the definitions at the front of the text end: 15 of `interface A {}; x`, and the length
@@ -57,7 +49,7 @@ impl<'a> Memo<'a> {
     pub fn definitions_end(&self) -> Option<usize>
         ensures { HasEnd self.now.text DEFINITIONS 0 result }
     {
-        self.end
+        self.of_rule.rule_end()
     }
 
     /// Where a rule ends at a place, or None where it fails there. It answers of what the reading of
@@ -68,8 +60,7 @@ impl<'a> Memo<'a> {
         requires wanted { Wanted self.now.text rule place }
         ensures right { HasEnd self.now.text rule place result }
     {
-        weedle_grammar::laws::one_outcome();
-        self.reader.asked(rule, place)
+        self.of_rule.end(rule, place)
     }
 
     /// How many rules were worked out at a place, none of them twice there: of real files one to
@@ -80,8 +71,7 @@ impl<'a> Memo<'a> {
         ensures right { AreRight self.now.text self.now.known }
         ensures distinct { AreDistinct self.now.known }
     {
-        self.reader.recall();
-        self.reader.workings()
+        self.of_rule.workings()
     }
 
     /// How often a byte or an entry was looked at to work them out. It takes no memory.
@@ -89,8 +79,7 @@ impl<'a> Memo<'a> {
         ensures value { result ≡ self.now.reads }
         ensures few { result ≤ READS * length self.now.known }
     {
-        self.reader.recall();
-        self.reader.reads()
+        self.of_rule.reads()
     }
 
     /// How many looks the working-out took that took most. It takes no memory.
@@ -98,6 +87,6 @@ impl<'a> Memo<'a> {
         ensures value { result ≡ self.now.most }
         ensures few { result ≤ READS }
     {
-        self.reader.most()
+        self.of_rule.most()
     }
 }

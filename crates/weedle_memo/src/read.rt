@@ -1,9 +1,9 @@
 //! The reading of a text: frames wait on a stack of their own, and there is no recursion.
 
-ghost use Rattle.std.specs.Prelude.{◌^◌, ◌≡◌, ◌≤◌, ◌<◌, ◌+◌, ◌-◌, ◌*◌, [], length, reverse, IfOk};
-ghost use Rattle.weedle_grammar.specs.written.Table.Definitions.{DEFINITIONS};
+ghost use Rattle.std.specs.Prelude.{◌^◌, ◌≡◌, ◌≤◌, ◌<◌, ◌+◌, ◌-◌, ◌*◌, false, [], length, reverse, IfOk};
 ghost use Rattle.weedle_grammar.specs.written.Table.{row_of};
 ghost use Rattle.weedle_rules.specs.Cells.{HasEnd};
+ghost use Rattle.weedle_starts.specs.Tries.{has_no_parts};
 ghost use Rattle.weedle_memo.specs.Frames.{IsOpen, Waits, IsState, IsDone, AreWaiting, weight};
 ghost use Rattle.weedle_memo.specs.Closure.{memory_of, Covered, MetIf, AreClosed, SameText};
 ghost use Rattle.weedle_memo.specs.Entries.{Absent};
@@ -82,18 +82,20 @@ fn settle(
     }
 }
 
-/// Reads the definitions at the front of the text: where they end.
-pub(crate) fn read(alloc: Global, reader: &mut Reader<'_>) -> Result<Option<usize>, AllocError>
-    requires { reader.old.known ≡ [] }
+/// Reads the rule at the place where the reader starts, whose row has parts: where it ends.
+fn read_parts(alloc: Global, reader: &mut Reader<'_>) -> Result<Option<usize>, AllocError>
+    requires unread { reader.old.known ≡ [] }
+    requires within { reader.old.start.place ≤ length reader.old.text }
+    requires parts { has_no_parts (row_of reader.old.start.rule) ≡ false }
     ensures same { SameText reader.old reader.new }
-    ensures ends { IfOk result (λ end. HasEnd reader.new.text DEFINITIONS 0 end) }
-
-    // What is read of the text is known, and where what it tries is read, that is known too.
-    ensures met { IfOk result (λ end. MetIf (memory_of reader.new) DEFINITIONS 0 end) }
+    ensures ends { IfOk result
+        (λ end. HasEnd reader.new.text reader.new.start.rule reader.new.start.place end) }
+    ensures met { IfOk result
+        (λ end. MetIf (memory_of reader.new) reader.new.start.rule reader.new.start.place end) }
     ensures closed { IfOk result (λ end. AreClosed reader.new.text (memory_of reader.new)) }
 {
     let mut waiting = Vec::new(alloc);
-    let (mut frame, mut step) = begin(reader, Rule::DEFINITIONS, 0);
+    let (mut frame, mut step) = begin(reader, reader.rule(), reader.place());
     'cells: loop {
         let (done, outcome) = settle(reader, &mut waiting, frame, step)?;
         let (rule, place) = (done.rule, done.place);
@@ -107,5 +109,25 @@ pub(crate) fn read(alloc: Global, reader: &mut Reader<'_>) -> Result<Option<usiz
                 step = after;
             }
         }
+    }
+}
+
+/// Reads the rule at the place where the reader starts: where it ends.
+pub(crate) fn read(alloc: Global, reader: &mut Reader<'_>) -> Result<Option<usize>, AllocError>
+    requires unread { reader.old.known ≡ [] }
+    requires within { reader.old.start.place ≤ length reader.old.text }
+    ensures same { SameText reader.old reader.new }
+    ensures ends { IfOk result
+        (λ end. HasEnd reader.new.text reader.new.start.rule reader.new.start.place end) }
+
+    // What is read of the text is known, and where what it tries is read, that is known too.
+    ensures met { IfOk result
+        (λ end. MetIf (memory_of reader.new) reader.new.start.rule reader.new.start.place end) }
+    ensures closed { IfOk result (λ end. AreClosed reader.new.text (memory_of reader.new)) }
+{
+    let (rule, place) = (reader.rule(), reader.place());
+    match work(reader, rule, place)? {
+        Look::Known(end) => Ok(end),
+        Look::Unknown => read_parts(alloc, reader),
     }
 }

@@ -9,7 +9,7 @@ ghost use Rattle.weedle_grammar.specs.written.Bound.{rule_count};
 ghost use Rattle.weedle_grammar.specs.written.Table.{row_of as the_row_of};
 ghost use Rattle.weedle_rules.specs.Cells.{HasEnd};
 ghost use Rattle.weedle_memo.specs.Tables.{IsWay};
-ghost use Rattle.weedle_memo.specs.Entries.{IsUnread, AreRight, AreDistinct, Absent, IsLook, IsAsked, entry_at};
+ghost use Rattle.weedle_memo.specs.Entries.{IsUnread, AreRight, AreDistinct, Absent, IsLook, IsAsked, entry_at, start_at};
 ghost use Rattle.weedle_memo.specs.Closure.{MetLook, memory_of, SameText};
 
 use crate::READS;
@@ -24,6 +24,8 @@ use weedle_grammar::{Class, Parts, Rule, leaf_ends};
 #[derive(Drop)]
 pub(crate) struct Reader<'a> {
     text: &'a [u8],
+    rule: Rule,
+    place: usize,
     tables: &'a Tables,
     heads: Vec<usize>,
     entries: Entries,
@@ -33,7 +35,7 @@ pub(crate) struct Reader<'a> {
 
 impl<'a> Model for Reader<'a> {
     ghost use Rattle.std.specs.Prelude.{map};
-    ghost use Rattle.weedle_memo.specs.Entries.{Reading};
+    ghost use Rattle.weedle_memo.specs.Entries.{Reading, start_at};
 
     ghost Value = { Reading };
 
@@ -41,6 +43,7 @@ impl<'a> Model for Reader<'a> {
 
     ghost view = { λ r. record {
       text = r.text.now;
+      start = start_at r.rule r.place;
       words = r.tables.now;
       known = map entry_of r.entries;
       reads = r.reads;
@@ -51,24 +54,43 @@ impl<'a> Model for Reader<'a> {
 }
 
 impl<'a> Reader<'a> {
-    /// A text of which nothing is known.
+    /// A text of which nothing is known, and in which the rule is to be read at the place.
     pub(crate) fn new(
         alloc: Global,
         text: &'a [u8],
         tables: &'a Tables,
+        rule: Rule,
+        place: usize,
     ) -> Result<Reader<'a>, AllocError>
         requires fits { length text.now < 2 ^ 63 }
-        ensures { IfOk result (λ reader. IsUnread reader text.entry.now tables.entry.now) }
+        ensures { IfOk result
+            (λ reader. IsUnread reader text.entry.now tables.entry.now (start_at rule place)) }
     {
         let heads = Vec::from_elem(alloc, 0, text.len() + 1)?;
         Ok(Reader {
             text,
+            rule,
+            place,
             tables,
             heads,
             entries: Entries::new(alloc),
             reads: 0,
             most: 0,
         })
+    }
+
+    /// The rule that is read.
+    pub(crate) fn rule(&self) -> Rule
+        ensures { result ≡ self.now.start.rule }
+    {
+        self.rule
+    }
+
+    /// The place where it is read.
+    pub(crate) fn place(&self) -> usize
+        ensures { result ≡ self.now.start.place }
+    {
+        self.place
     }
 
     /// How many rules were worked out at a place.

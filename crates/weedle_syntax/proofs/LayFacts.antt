@@ -11,7 +11,7 @@ use Rattle.weedle_rules.proofs.FewReads.{if_switch}
 use Rattle.weedle_rules.specs.Outcomes.{EndsAt}
 use Rattle.weedle_rules.proofs.OutcomeFacts.{it_ends, it_fails, one_end, not_both}
 use Rattle.weedle_syntax.specs.declared.node.Node.{Node}
-use Rattle.weedle_syntax.specs.Parts.{AreInTurn, IsFirst, AreItems, AreFollowing, AreListed, ListReads, AreParts}
+use Rattle.weedle_syntax.specs.Parts.{AreInTurn, IsFirst, AreItems, AreFollowing, AreListed, ListReads, AreParts, Gave}
 use Rattle.weedle_starts.proofs.ReadFacts.{AreRead, first_part, ends_inside, ends_after, first_reads, opt_reads, list1_item, many_goes, many_stops, tail_goes, tail_stops, tail_turns_back, if_reads}
 use Rattle.weedle_syntax.specs.Laid.{node}
 use Rattle.weedle_syntax.proofs.TurnFacts.{is_node, one_node, sequence_end, turn_append, turn_end_is, turn_length, Tells, tells}
@@ -205,6 +205,15 @@ module _ (text : List ℕ) (r d p e : ℕ) {parts : List ℕ} {k y : ℕ} (is_if
 
   clash : {A : Type 0} (b : Bool) → b ≡ true → b ≡ false → A
   clash b h i = cc
+
+  -- the part with the condition gave something
+  pub if_gave : (at : ℕ) (ns : List Node) (m : Node) → AreInTurn text parts d p at ns → m ≡ get_or ns k m → m.start ≢ m.end → Gave text parts k p true
+  if_gave at ns m a is n =
+      let i = if_reads text r p e reads is_if in
+      elim (told at ns m i.0 i.1 a is) [
+        | inl t ↦ absurd (n t.0)
+        | inr t ↦ (i.0, i.1, t.1)
+      ]
 
   pub if_there : (at z : ℕ) (ns new : List Node) (m : Node) → AreInTurn text parts d p at ns → m ≡ get_or ns k m → m.start ≢ m.end → new ≡ ns ++ node y at z d ∷ [] → HasEnd text y at (Some z) → AreParts text (row_of r) d p e new
   if_there at z ns new m a is n more h =

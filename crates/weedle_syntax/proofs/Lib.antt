@@ -19,4 +19,5 @@ pub mod FrontFacts
 pub mod BelowFacts
 pub mod StepFacts
 pub mod WalkFacts
+mod WantedFacts
 pub mod InnerFacts

@@ -5,3 +5,4 @@ pub mod SyntaxView
 pub mod Tree
 pub mod Kinds
 pub mod Steps
+pub mod Table

@@ -7,10 +7,9 @@ ghost use Rattle.weedle_syntax.specs.Syntax.{IsFront, IsRuleFront};
 use crate::lay::{front_by_descent, rule_by_descent};
 use crate::limits::Limits;
 use crate::narrow::{Narrow, narrowed};
-use crate::readers::{front_of, rule_of_table};
+use crate::on_demand::{front_on_demand, rule_on_demand};
 use std::alloc::{AllocError, Global};
 use weedle_grammar::Rule;
-use weedle_rules::Ends;
 
 /// The nodes that [`syntax_of_front`](crate::syntax_of_front) gives, in 16 bytes each.
 ///
@@ -29,8 +28,7 @@ pub fn narrow_of_front(alloc: Global, raw: &str) -> Result<Vec<Narrow>, AllocErr
             }
         }
     }
-    let ends = Ends::new(alloc, raw)?;
-    let nodes = front_of(alloc, &ends)?;
+    let nodes = front_on_demand(alloc, raw)?;
     let narrow = narrowed(alloc, &nodes)?;
     Ok(narrow)
 }
@@ -69,8 +67,7 @@ pub fn narrow_of_rule(
             }
         }
     }
-    let ends = Ends::new(alloc, raw)?;
-    match rule_of_table(alloc, &ends, rule)? {
+    match rule_on_demand(alloc, raw, rule)? {
         Some(nodes) => {
             let narrow = narrowed(alloc, &nodes)?;
             Ok(Some(narrow))

@@ -19,10 +19,10 @@ use crate::lay::rule_by_descent;
 use crate::limits::Limits;
 use crate::narrow::widened;
 use crate::node::Node;
-use crate::readers::{front_of, rule_of_table, syntax, whole_within};
+use crate::on_demand::{front_on_demand, rule_on_demand, syntax};
+use crate::readers::whole_within;
 use std::alloc::{AllocError, Global};
 use weedle_grammar::Rule;
-use weedle_rules::Ends;
 
 /// Every rule that was read of a text that is read whole, as [`syntax`] gives them, by descent or
 /// over the table of ends.
@@ -77,8 +77,7 @@ pub fn syntax_of_front(alloc: Global, raw: &str) -> Result<Vec<Node>, AllocError
             }
         }
     }
-    let ends = Ends::new(alloc, raw)?;
-    let nodes = front_of(alloc, &ends)?;
+    let nodes = front_on_demand(alloc, raw)?;
     Ok(nodes)
 }
 
@@ -143,8 +142,7 @@ pub fn syntax_counted(alloc: Global, raw: &str, rule: Rule) -> Result<Counted, A
             if !limits.are_spent() {
                 return Err(error);
             }
-            let ends = Ends::new(alloc, raw)?;
-            let nodes = rule_of_table(alloc, &ends, rule)?;
+            let nodes = rule_on_demand(alloc, raw, rule)?;
             Ok(Counted {
                 nodes,
                 steps: most.saturating_sub(limits.steps),

@@ -1,4 +1,4 @@
-//! The calls that lay down the nodes of a text, over a table and by descent.
+//! The calls that lay down the nodes of a text, over its packrat table and by descent.
 
 ghost use Rattle.std.specs.Prelude.{◌≡◌, ◌↔◌, All, IsSome, IfOk, IfSome, IfNone};
 ghost use Rattle.weedle_rules.specs.Outcomes.{FailsAt};
@@ -15,35 +15,11 @@ use crate::lay::front_by_descent;
 use crate::limits::Limits;
 use crate::narrow::widened;
 use crate::node::Node;
-use crate::walk::{laid_from, nodes_to};
+use crate::table::Table;
+use crate::walk::laid_from;
 use std::alloc::{AllocError, Global};
 use weedle_grammar::Rule;
 use weedle_rules::Ends;
-
-/// Every rule that was read where the text is read whole, in preorder; None where it isn't.
-///
-/// The first node is that of the whole text. Behind a node stand those that it reads directly, each
-/// before its own: so what is below a node are the nodes behind it as long as they are deeper. Of
-/// `interface A {` the answer is None.
-///
-/// It asks for memory for a table of ends, as `Ends::new` says, and for the nodes: about one for
-/// each byte of a text. Where that is refused, the answer is an error. There is no recursion,
-/// however deep the text nests, and the time follows from the length of the text alone.
-pub fn syntax(alloc: Global, raw: &str) -> Result<Option<Vec<Node>>, AllocError>
-    ensures whole { IfOk result (λ found. IsSome found ↔ IsWhole raw.now) }
-    ensures are { IfOk result (λ found. IfSome found (λ nodes. IsSyntax raw.now nodes.items)) }
-
-    // The bytes of the leaves, one after another, are the text.
-    ensures lossless { IfOk result
-        (λ found. IfSome found (λ nodes. leaves_of raw.now nodes.items ≡ raw.now)) }
-
-    // Each node was read from its start to its end, and characters begin there.
-    ensures read { IfOk result
-        (λ found. IfSome found (λ nodes. All (IsRead raw.now) nodes.items)) }
-{
-    let ends = Ends::new(alloc, raw)?;
-    syntax_of(alloc, &ends)
-}
 
 /// Every rule that was read of a text that is read whole, in preorder, over its table of ends.
 ///
@@ -60,7 +36,7 @@ pub fn syntax_of(alloc: Global, ends: &Ends<'_>) -> Result<Option<Vec<Node>>, Al
     match ends.end(Rule::DEFINITIONS, 0) {
         Some(end) => {
             if end == ends.text().len() {
-                let nodes = nodes_to(alloc, ends, end)?;
+                let nodes = laid_from(alloc, &Table::of_ends(ends, Rule::DEFINITIONS, 0), end)?;
                 return Ok(Some(nodes));
             }
             Ok(None)
@@ -121,7 +97,7 @@ pub fn front_of(alloc: Global, ends: &Ends<'_>) -> Result<Vec<Node>, AllocError>
     ensures { IfOk result (λ nodes. IsFront ends.now.text nodes.items) }
 {
     match ends.end(Rule::DEFINITIONS, 0) {
-        Some(end) => nodes_to(alloc, ends, end),
+        Some(end) => laid_from(alloc, &Table::of_ends(ends, Rule::DEFINITIONS, 0), end),
         None => unreachable!(),
     }
 }
@@ -141,7 +117,7 @@ pub fn rule_of_table(
 {
     match ends.end(rule, 0) {
         Some(end) => {
-            let nodes = laid_from(alloc, ends, rule, 0, end)?;
+            let nodes = laid_from(alloc, &Table::of_ends(ends, rule, 0), end)?;
             Ok(Some(nodes))
         }
         None => Ok(None),

@@ -1,4 +1,4 @@
-//! The nodes of a text along its table of ends.
+//! The nodes of a text along what is known of it: its packrat table, or a memo.
 //!
 //! There is no recursion: nodes wait on a pile, the top goes to the answer, and what it reads
 //! directly takes its place.
@@ -8,9 +8,11 @@ ghost use Rattle.weedle_grammar.specs.written.Bound.{rule_count};
 ghost use Rattle.weedle_rules.specs.Cells.{HasEnd};
 ghost use Rattle.weedle_rules.specs.Outcomes.{EndsAt};
 ghost use Rattle.weedle_syntax.specs.Laid.{LaysNode, Piles, node};
-ghost use Rattle.weedle_syntax.specs.Syntax.{AreTrees, RestBegins, IsSyntaxTo};
+ghost use Rattle.weedle_syntax.specs.Syntax.{AreTrees};
+ghost use Rattle.weedle_syntax.specs.Table.{IsWanted};
 
 use crate::node::Node;
+use crate::table::Table;
 use std::alloc::{AllocError, Global};
 use weedle_grammar::Rule;
 use weedle_rules::Ends;
@@ -36,17 +38,18 @@ fn go_on(
     nodes: &mut Vec<Node>,
     waiting: &mut Vec<Node>,
     inner: &mut Vec<Node>,
-    ends: &Ends<'_>,
+    table: &Table<'_, '_>,
     node: Node,
 ) -> Result<(), AllocError>
     requires empty { inner.old.items ≡ [] }
     requires shallow { node.depth ≤ length nodes.old.items }
-    requires within { node.start ≤ length ends.now.text }
+    requires within { node.start ≤ length table.now.text }
     requires low { node.rule < rule_count }
-    requires reads { EndsAt ends.now.text node.rule node.start node.end }
+    requires reads { EndsAt table.now.text node.rule node.start node.end }
+    requires wanted { IsWanted table.now node.rule node.start }
     ensures found { OnOk result (nodes.new.items ≡ nodes.old.items ++ node ∷ []) }
     ensures empty { OnOk result (inner.new.items ≡ []) }
-    ensures piled { OnOk result (Piles ends.now.text node waiting.old.items waiting.new.items) }
+    ensures piled { OnOk result (Piles table.now.text node waiting.old.items waiting.new.items) }
 {
     nodes.push(Node {
         rule: node.rule,
@@ -54,45 +57,33 @@ fn go_on(
         end: node.end,
         depth: node.depth,
     })?;
-    rows::lay_parts(inner, ends, node)?;
+    rows::lay_parts(inner, table, node)?;
     pile_up(waiting, inner)
 }
 
-/// The node of a rule that is read from one place to another, and all below it.
+/// The node of the table's rule, which is read from its place up to this end, and all below it.
 pub(crate) fn laid_from(
     alloc: Global,
-    ends: &Ends<'_>,
-    rule: Rule,
-    start: usize,
+    table: &Table<'_, '_>,
     end: usize,
 ) -> Result<Vec<Node>, AllocError>
-    requires low { rule < rule_count }
-    requires within { start ≤ length ends.now.text }
-    requires reads { EndsAt ends.now.text rule start end }
-    ensures { IfOk result
-        (λ nodes. AreTrees ends.now.text (node rule start end 0 ∷ []) nodes.items) }
+    requires within { table.now.start.place ≤ length table.now.text }
+    requires reads { EndsAt table.now.text table.now.start.rule table.now.start.place end }
+    ensures { IfOk result (λ nodes. AreTrees table.now.text
+        (node table.now.start.rule table.now.start.place end 0 ∷ []) nodes.items) }
 {
     let mut nodes = Vec::new(alloc);
     let mut inner = Vec::new(alloc);
     let mut waiting = Vec::new(alloc);
     waiting.push(Node {
-        rule,
-        start,
+        rule: table.rule(),
+        start: table.place(),
         end,
         depth: 0,
     })?;
     while let Some(node) = waiting.pop() {
-        go_on(&mut nodes, &mut waiting, &mut inner, ends, node)?;
+        go_on(&mut nodes, &mut waiting, &mut inner, table, node)?;
     }
-    Ok(nodes)
-}
-
-/// The nodes of the definitions that are read from the front up to a place.
-pub(crate) fn nodes_to(alloc: Global, ends: &Ends<'_>, end: usize) -> Result<Vec<Node>, AllocError>
-    requires { RestBegins ends.now.text end }
-    ensures { IfOk result (λ nodes. IsSyntaxTo ends.now.text end nodes.items) }
-{
-    let nodes = laid_from(alloc, ends, Rule::DEFINITIONS, 0, end)?;
     Ok(nodes)
 }
 
@@ -115,7 +106,7 @@ pub fn lay_over_table(
 {
     match ends.end(rule, place) {
         Some(end) => {
-            let mut more = laid_from(alloc, ends, rule, place, end)?;
+            let mut more = laid_from(alloc, &Table::of_ends(ends, rule, place), end)?;
             nodes.append(&mut more)?;
             Ok(Some(end))
         }

@@ -15,6 +15,6 @@ places-preserved c =
       omega arith,
       omega arith,
       omega arith,
-      (c.fill_in.ensures.same.0 ∙ c.places.invariant.4.0, c.fill_in.ensures.same.1 ∙ c.places.invariant.4.1),
+      (c.fill_in.ensures.same.0 ∙ c.places.invariant.4.0, c.fill_in.ensures.same.1 ∙ c.places.invariant.4.1, c.fill_in.ensures.same.2 ∙ c.places.invariant.4.2),
       extends_behind {m = memory_of c.args.reader.now} {n = memory_of c.places.reader} c.args.rule c.args.place c.places.at c.args.outcome c.places.invariant.5 c.in_ok-fill_in.ensures.worked order,
     )

@@ -1,5 +1,5 @@
 use Rattle.weedle_memo.proofs.MemoFacts.{asked_right}
-use Rattle.weedle_memo.proofs.memo.Memo.end.Goals as goal
+use Rattle.weedle_memo.proofs.rule_memo.RuleMemo.end.Goals as goal
 
 pub returns : goal.returns
 returns c =
