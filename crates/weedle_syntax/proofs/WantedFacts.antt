@@ -1,5 +1,5 @@
 -- What the reading of a rule asks for, from node to node.
-use Rattle.std.proofs.Common.{◌≡◌, ◌≢◌, ◌⊎◌, inl, inr, ℕ, ◌<◌, List, [], ◌∷◌, ◌++◌, refl, sym, subst, ◌∙◌, ap, arith}
+use Rattle.std.proofs.Common.{◌≡◌, ◌≢◌, ◌⊎◌, inl, inr, ℕ, ◌+◌, ◌<◌, true, List, [], ◌∷◌, ◌++◌, refl, sym, subst, ◌∙◌, ap, arith}
 use Rattle.std.specs.Prelude.{reverse}
 use Rattle.weedle_grammar.specs.Rows.{Row, Bytes, OneOf, NotNext, Run, Past, Seq, First, Opt, Many, ListOf, List1, Tail, If}
 use Rattle.weedle_grammar.specs.Meaning.{last_end}
@@ -72,7 +72,7 @@ module _ (t : TableView) where
   pub wanted_again : (r y p e z : ℕ) → row_of r ≡ Many y → IsWanted t r p → EndsAt t.text r p e → EndsAt t.text y p z → IsWanted t r z
   wanted_again r y p e z is w d h =
       let on : p < z = (many_goes t.text r p e d is h).0 in
-      wanted_by w d is (inr (z, h, omega arith, refl, refl))
+      wanted_by w d is (inr (z, h, omega arith, (refl, refl)))
 
   items_asked : (r y d p e : ℕ) (ns : List Node) → row_of r ≡ Many y → IsWanted t r p → EndsAt t.text r p e → AreItems t.text y d p e ns → Each IsAsked ns
   items_asked r y d p e [] is w h a = tt
@@ -88,7 +88,7 @@ module _ (t : TableView) where
   pub wanted_tail : (r y s p q z e : ℕ) → row_of r ≡ Tail y s → IsWanted t r p → EndsAt t.text r p e → EndsAt t.text s p q → EndsAt t.text y q z → IsWanted t r z
   wanted_tail r y s p q z e is w d h k =
       let on : p < q = (tail_goes t.text r p e d is h k).0 in
-      wanted_by w d is (inr (q, h, omega arith, inr (z, k, refl, refl)))
+      wanted_by w d is (inr (q, h, omega arith, inr (z, k, (refl, refl))))
 
   following_asked : (r y s d p e : ℕ) (ns : List Node) → row_of r ≡ Tail y s → IsWanted t r p → EndsAt t.text r p e → AreFollowing t.text y s d p e ns → Each IsAsked ns
   following_asked r y s d p e [] is w h a = tt
@@ -96,8 +96,10 @@ module _ (t : TableView) where
   following_asked r y s d p e (n ∷ m ∷ ns) is w h a =
       let goes = tail_goes t.text r p e h is a.0.reads a.1.reads in (
         asked s d p n a.0 (wanted_by w h is (inl (refl, refl))),
-        asked y d n.end m a.1 (wanted_item r y s p n.end is w h a.0.reads),
-        following_asked r y s d m.end e ns is (wanted_tail r y s p n.end m.end e is w h a.0.reads a.1.reads) goes.1 a.2,
+        (
+          asked y d n.end m a.1 (wanted_item r y s p n.end is w h a.0.reads),
+          following_asked r y s d m.end e ns is (wanted_tail r y s p n.end m.end e is w h a.0.reads a.1.reads) goes.1 a.2,
+        ),
       )
 
   listed_asked : (y u d p e : ℕ) (ns : List Node) → ((x q : ℕ) → TriesListed t.text y u p x q → IsWanted t x q) → AreInTurn t.text (y ∷ u ∷ []) d p e ns → Each IsAsked ns

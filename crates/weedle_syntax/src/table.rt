@@ -19,7 +19,7 @@ enum Known<'t, 'a> {
 
 /// Where the rules end that the tree of a rule at a place is made of: over the packrat table, or
 /// over a memo.
-#[derive(Clone, Copy)]
+#[derive(Drop)]
 pub(crate) struct Table<'t, 'a> {
     text: &'a str,
     rule: Rule,

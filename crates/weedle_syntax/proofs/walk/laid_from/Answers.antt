@@ -1,4 +1,4 @@
-use Rattle.std.proofs.Common.{refl}
+use Rattle.std.proofs.Common.{rules, refl}
 use Rattle.weedle_memo.specs.Wanted.{at_first}
 use Rattle.weedle_syntax.specs.Laid.{node}
 use Rattle.weedle_syntax.proofs.SyntaxFacts.{popped, set_out, goes_on, less_left, none_left, finish, finish_trees, top_waits}
