@@ -20,4 +20,5 @@ pub mod BelowFacts
 pub mod StepFacts
 pub mod WalkFacts
 mod WantedFacts
+mod MemoFacts
 pub mod InnerFacts
