@@ -32,6 +32,7 @@ mod quick;
 mod readers;
 mod token;
 mod tree;
+mod trivia;
 mod walk;
 
 pub use compact::{narrow_of_front, narrow_of_rule};
