@@ -75,8 +75,8 @@ fn fill_narrow(found: &[Narrow], room: &mut [WeedleNode])
     }
 }
 
-/// How many nodes are written at once, whatever memory they take: 256 kB.
-const FEW: usize = 16_384;
+/// How many nodes are written at once, whatever memory they take: 4 MB.
+const FEW: usize = 262_144;
 
 /// Writes the nodes of a list to the front of the room, and gives the list's memory back on the
 /// way: a quarter of what is left at a time, from the end on.

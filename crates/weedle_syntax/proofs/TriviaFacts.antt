@@ -1,5 +1,5 @@
 -- Trivia that is blanks alone, which is laid down at once.
-use Rattle.std.proofs.Common.{◌≡◌, inl, inr, ℕ, ◌+◌, ◌≤◌, List, [], ◌∷◌, ◌++◌, length, drop, Some, None, refl, sym, ◌∙◌, ap, option_map, arith, append_assoc}
+use Rattle.std.proofs.Common.{◌≡◌, inl, inr, ℕ, ◌+◌, ◌≤◌, List, [], ◌∷◌, ◌++◌, length, drop, Some, refl, ◌∙◌, ap, option_map, arith, append_assoc}
 use Rattle.weedle_grammar.specs.declared.class.Class.TheVariants.{Blank}
 use Rattle.weedle_grammar.specs.Rows.{OneOf, Run, Seq, First, Many, take_one, run_length}
 use Rattle.weedle_grammar.specs.written.Table.{webidl, row_of}

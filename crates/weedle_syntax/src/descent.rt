@@ -79,9 +79,7 @@ fn read_trivia(
         (Spends (Steps text.now rule place) limits.old.steps limits.new.steps) }
 {
     match blanks_alone(text, place) {
-        Some((first, end)) => {
-            lay_blanks(nodes, text, rule, place, first, end, depth, limits)
-        }
+        Some((first, end)) => { lay_blanks(nodes, text, rule, place, first, end, depth, limits) }
         None => try_rule(nodes, text, rule, place, depth, limits),
     }
 }

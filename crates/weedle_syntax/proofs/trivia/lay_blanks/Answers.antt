@@ -1,7 +1,5 @@
-use Rattle.std.proofs.Common.{subst, sym, arith}
-use Rattle.weedle_rules.specs.Cells.{HasEnd}
+use Rattle.std.proofs.Common.{arith}
 use Rattle.weedle_syntax.proofs.TriviaFacts.{trivia_end, trivia_laid, trivia_steps}
-use Rattle.weedle_syntax.specs.Laid.{LaysNode}
 use Rattle.weedle_syntax.proofs.trivia.lay_blanks.Goals as goal
 
 pub returns-clause-end : goal.returns-clause-end
