@@ -5,11 +5,15 @@
 #ifndef REQUESTS_H
 #define REQUESTS_H
 
+#include <malloc.h>
 #include <stdlib.h>
 
-/* Memory that is refused: the request of this number, from 1 on. And how many bytes were asked for in all. */
+/*
+ * Memory that is refused: the request of this number, from 1 on. And how many bytes were asked for in all, and how many
+ * given back of blocks that were cut. To cut a block is no request: the C library refuses none of these.
+ */
 static unsigned long requests, refused;
-static size_t asked;
+static size_t asked, given_back;
 static int counts;
 
 void *__real_malloc(size_t size);
@@ -24,7 +28,14 @@ static int is_refused(size_t size) {
 
 void *__wrap_malloc(size_t size) { return is_refused(size) ? NULL : __real_malloc(size); }
 
-void *__wrap_realloc(void *block, size_t size) { return is_refused(size) ? NULL : __real_realloc(block, size); }
+void *__wrap_realloc(void *block, size_t size) {
+    size_t has = block == NULL ? 0 : malloc_usable_size(block);
+    if (size <= has) {
+        given_back += has - size;
+        return __real_realloc(block, size);
+    }
+    return is_refused(size) ? NULL : __real_realloc(block, size);
+}
 
 /* Refuses the next request of this number, from 1 on; and lets all pass again. */
 static inline void refuse(unsigned long number) { requests = 0, refused = number, counts = 1; }

@@ -403,6 +403,29 @@ static void test_bytes_that_are_asked_for(void) {
     }
 }
 
+/* Of a text of 1.1 MB the list of nodes is given back while they are written, but for the last 4 MB. */
+static void test_memory_that_is_given_back(void) {
+    static const char member[] = "[A] interface A { [B] attribute long x; };\n";
+    const size_t last = 262144 * sizeof(struct weedle_node);
+    size_t length;
+    char *text = repeated("", member, 25000, "", &length);
+    struct weedle_node none, *nodes = malloc(4 * length * sizeof *nodes);
+    struct weedle_answer counted, answer;
+    CHECK(nodes != NULL);
+    for (int whole = 0; whole < 2; whole++) {
+        given_back = 0;
+        uint32_t status = whole ? weedle_syntax(text, length, &none, 0, &counted)
+                                : weedle_syntax_of(WEEDLE_DEFINITIONS, text, length, &none, 0, &counted);
+        CHECK(status == WEEDLE_STATUS_NO_ROOM && given_back == 0);
+        status = whole ? weedle_syntax(text, length, nodes, 4 * length, &answer)
+                       : weedle_syntax_of(WEEDLE_DEFINITIONS, text, length, nodes, 4 * length, &answer);
+        CHECK(status == WEEDLE_STATUS_READ && answer.count == counted.count);
+        CHECK(answer.count * sizeof *nodes > 4 * last && given_back + last >= answer.count * sizeof *nodes);
+    }
+    free(nodes);
+    free(text);
+}
+
 /* Two extended attributes that aren't closed, before most of 160 kB: brackets that are open for all that follows. */
 static void test_brackets_that_are_not_closed(void) {
     static const char member[] = "[A] interface A { [B] attribute long x; };\n";
@@ -475,6 +498,7 @@ static const struct test TESTS[] = {
     {"memory that is refused", test_memory_that_is_refused},
     {"memory of a layout that is refused", test_memory_of_a_layout_that_is_refused},
     {"bytes that are asked for", test_bytes_that_are_asked_for},
+    {"memory that is given back", test_memory_that_is_given_back},
     {"brackets that aren't closed", test_brackets_that_are_not_closed},
     {"two threads", test_two_threads},
 };

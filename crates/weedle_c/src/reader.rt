@@ -5,7 +5,7 @@ ghost use Rattle.std.specs.Str.{IsValidUpTo};
 ghost use Rattle.weedle_c.specs.Answers.{IsCounted, IsTooLong, IsTree, IsUnread};
 ghost use Rattle.weedle_syntax.specs.Syntax.{IsFront, IsSyntax};
 
-use crate::node::{MOST, WeedleNode, all_narrow_fit, fill_narrow, rest_of};
+use crate::node::{MOST, WeedleNode, all_narrow_fit, move_narrow, rest_of};
 use crate::status::{NO_MEMORY, NO_ROOM, NOT_UTF8, READ, REFUSED, TOO_LONG};
 use std::alloc::Global;
 use weedle_syntax::{Narrow, narrow_of_front};
@@ -68,7 +68,7 @@ fn read_text(alloc: Global, raw: &str, nodes: &mut [WeedleNode], answer: &mut We
         return TOO_LONG;
     }
     match narrow_of_front(alloc, raw) {
-        Ok(found) => answer_of(raw, &found, nodes, answer),
+        Ok(mut found) => answer_of(raw, &mut found, nodes, answer),
         Err(_) => NO_MEMORY,
     }
 }
@@ -76,11 +76,11 @@ fn read_text(alloc: Global, raw: &str, nodes: &mut [WeedleNode], answer: &mut We
 /// What is answered where these nodes were read.
 fn answer_of(
     raw: &str,
-    found: &[Narrow],
+    found: &mut Vec<Narrow>,
     nodes: &mut [WeedleNode],
     answer: &mut WeedleAnswer,
 ) -> u32
-    requires front { IsFront raw.now found.now }
+    requires front { IsFront raw.now found.old.items }
     requires nothing { answer.old ≡ NOTHING }
     ensures known { (result ≤ TOO_LONG) × (result ≢ NOT_UTF8) }
     ensures read { result ≡ READ → IsTree raw.now nodes.old nodes.new answer.new }
@@ -91,6 +91,7 @@ fn answer_of(
     ensures placed { (result ≡ NO_MEMORY) ⊎ (result ≡ TOO_LONG) → answer.new.rest ≡ 0 }
     ensures unwritten { result ≢ READ → nodes.new ≡ nodes.old }
 {
+    let count = found.len();
     let rest = rest_of(found);
     if rest < raw.len() {
         *answer = WeedleAnswer { count: 0, rest };
@@ -99,13 +100,10 @@ fn answer_of(
     if !all_narrow_fit(found) {
         return TOO_LONG;
     }
-    *answer = WeedleAnswer {
-        count: found.len(),
-        rest,
-    };
-    if found.len() > nodes.len() {
+    *answer = WeedleAnswer { count, rest };
+    if count > nodes.len() {
         return NO_ROOM;
     }
-    fill_narrow(found, nodes);
+    move_narrow(found, nodes);
     READ
 }

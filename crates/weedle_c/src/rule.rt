@@ -6,7 +6,7 @@ ghost use Rattle.weedle_c.specs.Answers.{IsTooLong, IsRuleTree, IsRuleCounted};
 ghost use Rattle.weedle_rules.specs.Outcomes.{FailsAt};
 ghost use Rattle.weedle_syntax.specs.Syntax.{IsRuleFront, rest_of as the_rest_of};
 
-use crate::node::{MOST, WeedleNode, all_narrow_fit, fill_narrow, rest_of};
+use crate::node::{MOST, WeedleNode, all_narrow_fit, move_narrow, rest_of};
 use crate::reader::{NOTHING, WeedleAnswer};
 use crate::status::{NO_MEMORY, NO_ROOM, NO_RULE, NOT_UTF8, READ, REFUSED, TOO_LONG};
 use std::alloc::Global;
@@ -73,7 +73,7 @@ fn read_rule_text(
         return TOO_LONG;
     }
     match narrow_of_rule(alloc, raw, rule) {
-        Ok(Some(found)) => rule_answer(raw, rule, &found, nodes, answer),
+        Ok(Some(mut found)) => rule_answer(raw, rule, &mut found, nodes, answer),
         Ok(None) => REFUSED,
         Err(_) => NO_MEMORY,
     }
@@ -83,11 +83,11 @@ fn read_rule_text(
 fn rule_answer(
     raw: &str,
     rule: Rule,
-    found: &[Narrow],
+    found: &mut Vec<Narrow>,
     nodes: &mut [WeedleNode],
     answer: &mut WeedleAnswer,
 ) -> u32
-    requires front { IsRuleFront raw.now rule found.now }
+    requires front { IsRuleFront raw.now rule found.old.items }
     requires nothing { answer.old ≡ NOTHING }
     ensures known { (result ≤ TOO_LONG) × (result ≢ NOT_UTF8) × (result ≢ REFUSED) }
     ensures read { result ≡ READ → IsRuleTree raw.now rule nodes.old nodes.new answer.new }
@@ -102,13 +102,14 @@ fn rule_answer(
     if !all_narrow_fit(found) {
         return TOO_LONG;
     }
+    let count = found.len();
     *answer = WeedleAnswer {
-        count: found.len(),
+        count,
         rest: rest_of(found),
     };
-    if found.len() > nodes.len() {
+    if count > nodes.len() {
         return NO_ROOM;
     }
-    fill_narrow(found, nodes);
+    move_narrow(found, nodes);
     READ
 }

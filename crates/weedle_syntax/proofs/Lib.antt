@@ -13,6 +13,7 @@ pub mod RepeatFacts
 pub mod ConditionFacts
 pub mod CountFacts
 mod TokenFacts
+mod TriviaFacts
 mod EmptyFacts
 pub mod EachFacts
 pub mod FrontFacts

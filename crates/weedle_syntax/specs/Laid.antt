@@ -1,6 +1,11 @@
 -- What the readers lay down while they read: the words of their private contracts.
-use Rattle.std.specs.Prelude.{◌≡◌, ℕ, List, [], ◌∷◌, ◌++◌, reverse, Option, MatchOption}
+use Rattle.std.specs.Prelude.{◌≡◌, ◌≢◌, ◌+◌, ℕ, List, [], ◌∷◌, ◌++◌, reverse, drop, Option, Some, None, MatchOption, option_map}
+use Rattle.weedle_grammar.specs.Rows.{take_one, run_length}
+use Rattle.weedle_grammar.specs.declared.class.Class.TheVariants.{Blank}
 use Rattle.weedle_grammar.specs.written.Table.{row_of}
+use Rattle.weedle_grammar.specs.written.Table.Trivia.{LINE_COMMENT, PIECE}
+use Rattle.weedle_rules.specs.Cells.{HasEnd}
+use Rattle.weedle_starts.specs.Tries.{TriesHere}
 use Rattle.weedle_syntax.specs.declared.node.Node.{Node}
 use Rattle.weedle_syntax.specs.Parts.{AreParts, HasParts}
 use Rattle.weedle_syntax.specs.Syntax.{AreTrees}
@@ -25,3 +30,13 @@ LaysNode text r p d old new o = MatchOption o (new ≡ old) (λ e. Adds text (no
 abbrev pub LaysParts : List ℕ → ℕ → ℕ → ℕ → List Node → List Node → Option ℕ → Type 0
 LaysParts text r p d old new o =
     MatchOption o ((more : List Node) × (new ≡ old ++ more)) (λ e. (inner : List Node) × AreParts text (row_of r) d p e inner × Adds text inner old new)
+
+-- blanks stand from p to e, the first of them up to a; no comment begins where they begin, and no more trivia behind them
+pub record AreBlanksAlone (text : List ℕ) (p a e : ℕ) : Type 0 where
+  pub first : Some a ≡ option_map (λ k. p + k) (take_one Blank (drop p text))
+  pub others : e ≡ a + run_length Blank (drop a text)
+  pub some : e ≢ p
+  pub no_comment : HasEnd text LINE_COMMENT p None
+  pub comment_here : TriesHere text LINE_COMMENT p
+  pub no_piece : HasEnd text PIECE e None
+  pub piece_here : TriesHere text PIECE e

@@ -8,6 +8,7 @@ ghost use Rattle.weedle_grammar.specs.Rows.{Seq, First, Opt, Many, ListOf, List1
 ghost use Rattle.weedle_grammar.specs.View.{numbers_of};
 ghost use Rattle.weedle_grammar.specs.written.Bound.{rule_count};
 ghost use Rattle.weedle_grammar.specs.written.Table.{row_of as the_row_of};
+ghost use Rattle.weedle_grammar.specs.written.Table.Trivia.{TRIVIA};
 ghost use Rattle.weedle_rules.specs.Cells.{HasEnd};
 ghost use Rattle.weedle_syntax.specs.Laid.{LaysNode, LaysParts};
 ghost use Rattle.weedle_syntax.specs.Steps.{RowSteps, Spends, Steps};
@@ -16,6 +17,7 @@ use crate::empty::lay_empty;
 use crate::limits::Limits;
 use crate::narrow::{Narrow, lay, packed};
 use crate::token::{choose, read_blanks, read_name};
+use crate::trivia::{blanks_alone, lay_blanks};
 use std::alloc::AllocError;
 use weedle_grammar::{Parts, Row, Rule};
 use weedle_starts::ahead::Ahead;
@@ -47,7 +49,38 @@ pub(crate) fn read(
     match text.ahead(rule, place) {
         Ahead::Fails => Ok(None),
         Ahead::Empty => lay_empty(nodes, text, rule, place, depth, limits),
-        Ahead::Open => try_rule(nodes, text, rule, place, depth, limits),
+        Ahead::Open => {
+            if rule == Rule::TRIVIA {
+                return read_trivia(nodes, text, rule, place, depth, limits);
+            }
+            try_rule(nodes, text, rule, place, depth, limits)
+        }
+    }
+}
+
+/// Lays down trivia: at once where it is blanks alone.
+#[cycle(descent)]
+fn read_trivia(
+    nodes: &mut Vec<Narrow>,
+    text: &Source<'_>,
+    rule: Rule,
+    place: usize,
+    depth: usize,
+    limits: &mut Limits,
+) -> Result<Option<usize>, AllocError>
+    requires within { place ≤ length text.now }
+    requires shallow { depth ≤ length nodes.old.items }
+    requires low { rule < rule_count }
+    requires is { rule ≡ TRIVIA }
+    ensures end { IfOk result (λ o. HasEnd text.now rule place o) }
+    ensures lays { IfOk result
+        (λ o. LaysNode text.now rule place depth nodes.old.items nodes.new.items o) }
+    ensures steps { OnOk result
+        (Spends (Steps text.now rule place) limits.old.steps limits.new.steps) }
+{
+    match blanks_alone(text, place) {
+        Some((first, end)) => { lay_blanks(nodes, text, rule, place, first, end, depth, limits) }
+        None => try_rule(nodes, text, rule, place, depth, limits),
     }
 }
 

@@ -34,6 +34,7 @@ mod readers;
 mod table;
 mod token;
 mod tree;
+mod trivia;
 mod walk;
 
 pub use compact::{narrow_of_front, narrow_of_rule};
