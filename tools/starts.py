@@ -5,6 +5,8 @@ tools/write.py runs it.
 
 The grammar stands in tools/description/webidl.py. The script writes in crates/weedle_starts
     src/ways.rt             the rows of all rules, by number
+    src/numbers.rt          the numbers of the rules that rows name, one row's behind another's
+    src/bytes.rt            the bytes that rows name, as above
     src/first_sets.rt       the ASCII bytes that each rule can begin with
     src/gates.rt            those at which it isn't passed over
     src/written.rt          which modules these are
@@ -21,7 +23,7 @@ from pathlib import Path
 from command_line import refuse_writer
 from description.classes import CLASSES
 from description.webidl import NUMBER, RULES
-from grammar import TAKES, quoted
+from grammar import TAKES
 from written_places import put
 
 TOP = Path(__file__).resolve().parent.parent
@@ -93,20 +95,31 @@ def gate(rule):
 
 
 # Writing.
-def numbers(names):
-    return f"Numbers(&[{', '.join(str(NUMBER[it]) for it in names)}])"
+class Joined:
+    """What rows name, one behind another, each only once."""
+
+    def __init__(self, empty):
+        self.all = empty
+
+    def span(self, part):
+        """Where a part stands, in code. It is added behind all others where it isn't there."""
+        start = next((i for i in range(len(self.all) - len(part) + 1) if self.all[i:i + len(part)] == part), len(self.all))
+        if start == len(self.all):
+            self.all += part
+        return f"Span({start}, {start + len(part)})"
 
 
-def way(row):
+def way(row, numbers, texts):
+    """The row in code, where what it names is added to those of all."""
     kind, *rest = row
     if kind in ("Bytes", "Past"):
-        return f"Way::{kind}(Word(b{quoted(rest[0])}))"
+        return f"Way::{kind}({texts.span(rest[0])})"
     if kind in ("OneOf", "NotNext", "Run"):
         return f"Way::{kind}(Class::{rest[0]})"
-    if kind in ("Seq", "First"):
-        return f"Way::{kind}({numbers(rest[0])})"
-    if kind == "If":
-        return f"Way::If({numbers(rest[0])}, {rest[1]}, {NUMBER[rest[2]]})"
+    if kind in ("Seq", "First", "If"):
+        span = numbers.span([NUMBER[it] for it in rest[0]])
+        more = f", {rest[1]}, {NUMBER[rest[2]]}" if kind == "If" else ""
+        return f"Way::{kind}({span}{more})"
     return f"Way::{kind}({', '.join(str(NUMBER[it]) for it in rest)})"
 
 
@@ -115,10 +128,20 @@ def head(about, *uses):
 
 
 def code_ways():
-    out = head("The rows of all rules.", "use crate::way::{Numbers, Way, Word};", "use weedle_grammar::{Class, RULES};")
-    out += ["/// The rows of all rules, by number.", "pub(crate) static WAYS: [Way<Word, Numbers>; RULES] = ["]
-    out += [f"    {way(it.row)}," for it in RULES] + ["];"]
+    numbers, texts = Joined([]), Joined("")
+    ways = [way(it.row, numbers, texts) for it in RULES]
+    out = head("The rows of all rules.", "use crate::way::{Span, Way};", "use weedle_grammar::{Class, RULES};")
+    out += ["/// The rows of all rules, by number.", "pub(crate) static WAYS: [Way; RULES] = ["]
+    out += [f"    {it}," for it in ways] + ["];"]
     put(TOP, f"{CRATE}/src/ways.rt", "\n".join(out) + "\n")
+    out = head("The numbers of the rules that rows name.")
+    out += ["/// The numbers of the rules that rows name, one row's behind another's.",
+            f"pub(crate) static NUMBERS: [u16; {len(numbers.all)}] = [", *(f"    {it}," for it in numbers.all), "];"]
+    put(TOP, f"{CRATE}/src/numbers.rt", "\n".join(out) + "\n")
+    out = head("The bytes that rows name.")
+    out += ["/// The bytes that rows name, one row's behind another's.",
+            f"pub(crate) static BYTES: [u8; {len(texts.all)}] = [", *(f"    {it}," for it in texts.all.encode()), "];"]
+    put(TOP, f"{CRATE}/src/bytes.rt", "\n".join(out) + "\n")
 
 
 def code_words(module, about, words):
@@ -135,7 +158,7 @@ def code_sets():
 
 def code_written():
     out = head("What follows from the grammar.")
-    out += [f"pub(crate) mod {it};" for it in ("first_sets", "gates", "ways")]
+    out += [f"pub(crate) mod {it};" for it in ("bytes", "first_sets", "gates", "numbers", "ways")]
     put(TOP, f"{CRATE}/src/written.rt", "\n".join(out) + "\n")
 
 

@@ -8,7 +8,7 @@ import unittest
 
 from description.webidl import RULES
 from row_ends import FAILS, ROWS, Ends
-from starts import EVERY, NUMBER, TAKES, WORDS, begins, first_set, gate, way, word_of
+from starts import EVERY, NUMBER, TAKES, WORDS, Joined, begins, first_set, gate, way, word_of
 
 BY_NAME = {it.name: it for it in RULES}
 BLANKS, LETTERS = b" \t\r\n/", b"abcdefghijklmnopqrstuvwxyzABCDEFGHIJKLMNOPQRSTUVWXYZ"
@@ -64,10 +64,16 @@ class TestGates(unittest.TestCase):
 
 class TestWays(unittest.TestCase):
     def test_rows_in_code(self):
-        self.assertEqual(way(("Bytes", "\n")), 'Way::Bytes(Word(b"\\n"))')
-        self.assertEqual(way(("Run", "Digit")), "Way::Run(Class::Digit)")
-        self.assertEqual(way(("Opt", "TRIVIA")), f"Way::Opt({NUMBER['TRIVIA']})")
-        self.assertEqual(way(("First", ("LINE_END", "BLANKS"))), f"Way::First(Numbers(&[{NUMBER['LINE_END']}, {NUMBER['BLANKS']}]))")
+        numbers, texts = Joined([]), Joined("")
+        trivia, blanks = NUMBER["TRIVIA"], NUMBER["BLANKS"]
+        rows = [("Bytes", "ab"), ("Past", "b"), ("Run", "Digit"), ("Opt", "TRIVIA"), ("First", ("TRIVIA", "BLANKS")),
+                ("Seq", ("BLANKS", "TRIVIA")), ("If", ("TRIVIA", "BLANKS"), 1, "BLANKS")]
+        self.assertEqual([way(it, numbers, texts) for it in rows], [
+            "Way::Bytes(Span(0, 2))", "Way::Past(Span(1, 2))", "Way::Run(Class::Digit)", f"Way::Opt({trivia})",
+            "Way::First(Span(0, 2))", "Way::Seq(Span(2, 4))", f"Way::If(Span(0, 2), 1, {blanks})",
+        ])
+        self.assertEqual(numbers.all, [trivia, blanks, blanks, trivia])
+        self.assertEqual(texts.all, "ab")
 
 
 if __name__ == "__main__":

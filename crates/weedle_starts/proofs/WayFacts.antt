@@ -1,6 +1,7 @@
 -- The table has the rows of all rules, and the gates.
 use Rattle.std.proofs.Common.{◌≡◌, ℕ, zero, suc, ◌+◌, ◌<◌, ◌≤◌, List, [], ◌∷◌, length, map, get_or, Bool, true, Option, Some, None, refl, sym, subst, ◌∙◌, ap, arith}
-use Rattle.std.specs.Prelude.{IsTrue, nat_lt, slice_index, ◌&&◌}
+use Rattle.std.specs.Prelude.{nat_le, slice_index, slice_range, ◌&&◌}
+use borrow.Author.Tests.{leb-true}
 use Rattle.weedle_grammar.specs.Entry.{Entry, entry_at, are_rules}
 use Rattle.weedle_grammar.specs.Rows.{Row, Bytes, OneOf, NotNext, Run, Past, Seq, First, Opt, Many, ListOf, List1, Tail, If}
 use Rattle.weedle_grammar.specs.written.Bound.{rule_count}
@@ -9,49 +10,75 @@ use Rattle.weedle_grammar.proofs.Leaves.{both}
 use Rattle.weedle_rules.proofs.PartEnds.{below}
 use Rattle.weedle_starts.specs.Starts.{CoversStarts}
 use Rattle.weedle_starts.specs.View.{row_view}
-use Rattle.weedle_starts.specs.Ways.{IsWay, option_of, IsGateOf, IsGate}
+use Rattle.weedle_starts.specs.Ways.{AreNumbers, IsWay, option_of, IsGateOf, IsGate}
 use Rattle.weedle_starts.specs.declared.row.Row as rows
 use Rattle.weedle_starts.specs.declared.row.Row.TheVariants as code
-use Rattle.weedle_starts.specs.declared.way.Numbers.{Numbers}
-use Rattle.weedle_starts.specs.declared.way.Word.{Word}
+use Rattle.weedle_starts.specs.declared.way.Span.{Span}
 use Rattle.weedle_starts.specs.declared.way.Way.{Way}
 use Rattle.weedle_starts.specs.declared.way.Way.TheVariants as way
+use Rattle.weedle_starts.specs.declared.written.bytes.TheConstants.{BYTES}
 use Rattle.weedle_starts.specs.declared.written.first_sets.TheConstants.{FIRST_SETS}
 use Rattle.weedle_starts.specs.declared.written.gates.TheConstants.{GATES}
+use Rattle.weedle_starts.specs.declared.written.numbers.TheConstants.{NUMBERS}
 use Rattle.weedle_starts.specs.declared.written.ways.TheConstants.{WAYS}
 use Rattle.weedle_starts.proofs.LaterFacts.{names_rules, named}
 use Rattle.weedle_starts.proofs.StartedFacts.{sets_cover}
 
 -- the row of a way
-abbrev row_by : Way Word Numbers → Row
-row_by (way.Bytes word) = Bytes word.0.now
+abbrev row_by : Way → Row
+row_by (way.Bytes s) = Bytes (slice_range BYTES s.0 s.1)
 row_by (way.OneOf c) = OneOf c
 row_by (way.NotNext c) = NotNext c
 row_by (way.Run c) = Run c
-row_by (way.Past word) = Past word.0.now
-row_by (way.Seq numbers) = Seq numbers.0.now
-row_by (way.First numbers) = First numbers.0.now
+row_by (way.Past s) = Past (slice_range BYTES s.0 s.1)
+row_by (way.Seq s) = Seq (slice_range NUMBERS s.0 s.1)
+row_by (way.First s) = First (slice_range NUMBERS s.0 s.1)
 row_by (way.Opt x) = Opt x
 row_by (way.Many x) = Many x
 row_by (way.List x t) = ListOf x t
 row_by (way.List1 x t) = List1 x t
-row_by (way.Tail x s) = Tail x s
-row_by (way.If numbers k y) = If numbers.0.now k y
+row_by (way.Tail x t) = Tail x t
+row_by (way.If s k y) = If (slice_range NUMBERS s.0 s.1) k y
 
-is_way : (w : Way Word Numbers) → names_rules (row_by w) ≡ true → IsWay w (row_by w)
-is_way (way.Bytes b) n = refl
-is_way (way.OneOf c) n = refl
-is_way (way.NotNext c) n = refl
-is_way (way.Run c) n = refl
-is_way (way.Past b) n = refl
-is_way (way.Seq numbers) n = (n, refl)
-is_way (way.First numbers) n = (n, refl)
-is_way (way.Opt x) n = (below _ _ n, refl)
-is_way (way.Many x) n = (below _ _ n, refl)
-is_way (way.List x t) n = (below _ _ (both _ _ n).0, below _ _ (both _ _ n).1, refl)
-is_way (way.List1 x t) n = (below _ _ (both _ _ n).0, below _ _ (both _ _ n).1, refl)
-is_way (way.Tail x s) n = (below _ _ (both _ _ n).0, below _ _ (both _ _ n).1, refl)
-is_way (way.If numbers k y) n = ((both _ _ n).0, below _ _ (both _ _ n).1, refl)
+-- what it names stands among what all name
+abbrev is_span : ℕ → Span → Bool
+is_span most s = nat_le s.0 s.1 && nat_le s.1 most
+
+abbrev has_span : Way → Bool
+has_span (way.Bytes s) = is_span (length BYTES) s
+has_span (way.Past s) = is_span (length BYTES) s
+has_span (way.Seq s) = is_span (length NUMBERS) s
+has_span (way.First s) = is_span (length NUMBERS) s
+has_span (way.If s k y) = is_span (length NUMBERS) s
+has_span (way.OneOf c) = true
+has_span (way.NotNext c) = true
+has_span (way.Run c) = true
+has_span (way.Opt x) = true
+has_span (way.Many x) = true
+has_span (way.List x t) = true
+has_span (way.List1 x t) = true
+has_span (way.Tail x t) = true
+
+span : (most : ℕ) (s : Span) → is_span most s ≡ true → (s.0 ≤ s.1) × (s.1 ≤ most)
+span most s h = (leb-true s.0 s.1 (both _ _ h).0, leb-true s.1 most (both _ _ h).1)
+
+numbered : (s : Span) → is_span (length NUMBERS) s ≡ true → are_rules (slice_range NUMBERS s.0 s.1) ≡ true → AreNumbers s
+numbered s h n = let l = span (length NUMBERS) s h in (l.0, l.1, n)
+
+is_way : (w : Way) → has_span w ≡ true → names_rules (row_by w) ≡ true → IsWay w (row_by w)
+is_way (way.Bytes s) h n = (span (length BYTES) s h, refl)
+is_way (way.OneOf c) h n = refl
+is_way (way.NotNext c) h n = refl
+is_way (way.Run c) h n = refl
+is_way (way.Past s) h n = (span (length BYTES) s h, refl)
+is_way (way.Seq s) h n = (numbered s h n, refl)
+is_way (way.First s) h n = (numbered s h n, refl)
+is_way (way.Opt x) h n = (below _ _ n, refl)
+is_way (way.Many x) h n = (below _ _ n, refl)
+is_way (way.List x t) h n = (below _ _ (both _ _ n).0, below _ _ (both _ _ n).1, refl)
+is_way (way.List1 x t) h n = (below _ _ (both _ _ n).0, below _ _ (both _ _ n).1, refl)
+is_way (way.Tail x t) h n = (below _ _ (both _ _ n).0, below _ _ (both _ _ n).1, refl)
+is_way (way.If s k y) h n = (numbered s h (both _ _ n).0, below _ _ (both _ _ n).1, refl)
 
 abbrev its_row : Entry → Row
 its_row e = e.row
@@ -60,19 +87,32 @@ its_row e = e.row
 rows_here : map row_by WAYS ≡ map its_row table
 rows_here = refl
 
-row_at : (ws : List (Way Word Numbers)) (es : List Entry) (r : ℕ) (d : Way Word Numbers) → map row_by ws ≡ map its_row es → r < length ws → row_by (get_or ws r d) ≡ (entry_at es r).row
+row_at : (ws : List Way) (es : List Entry) (r : ℕ) (d : Way) → map row_by ws ≡ map its_row es → r < length ws → row_by (get_or ws r d) ≡ (entry_at es r).row
 row_at [] es r d h l = absurd (omega arith)
 row_at (w ∷ ws) [] r d h l = cc
 row_at (w ∷ ws) (e ∷ es) zero d h l = cc
 row_at (w ∷ ws) (e ∷ es) (suc r) d h l = let rest : map row_by ws ≡ map its_row es = cc in row_at ws es r d rest (omega arith)
 
+-- their spans are tested here
+abbrev all_spans : List Way → Bool
+all_spans [] = true
+all_spans (w ∷ ws) = has_span w && all_spans ws
+
+spans_here : all_spans WAYS ≡ true
+spans_here = refl
+
+span_at : (ws : List Way) (r : ℕ) (d : Way) → all_spans ws ≡ true → r < length ws → has_span (get_or ws r d) ≡ true
+span_at [] r d h l = absurd (omega arith)
+span_at (w ∷ ws) zero d h l = (both _ _ h).0
+span_at (w ∷ ws) (suc r) d h l = span_at ws r d (both _ _ h).1 (omega arith)
+
 ways_long : length WAYS ≡ rule_count
 ways_long = refl
 
-pub ways_are : (r : ℕ) → r < rule_count → (d : Way Word Numbers) → IsWay (get_or WAYS r d) (row_of r)
+pub ways_are : (r : ℕ) → r < rule_count → (d : Way) → IsWay (get_or WAYS r d) (row_of r)
 ways_are r l d =
     let is : row_by (get_or WAYS r d) ≡ row_of r = row_at WAYS table r d rows_here (omega (arith, ways_long)) in
-    subst (IsWay (get_or WAYS r d)) is (is_way (get_or WAYS r d) (subst (λ z. names_rules z ≡ true) (sym is) (named r)))
+    subst (IsWay (get_or WAYS r d)) is (is_way (get_or WAYS r d) (span_at WAYS r d spans_here (omega (arith, ways_long))) (subst (λ z. names_rules z ≡ true) (sym is) (named r)))
 
 -- the rule whose first set is the gate of rule r
 abbrev gate_rule : ℕ → Option ℕ → ℕ

@@ -83,7 +83,7 @@ of_class holds word (suc n) h b l k = elim (cases_lt b n) [
 
 of_first : (bs : List ℕ) (word : ℕ) → has_first bs word ≡ true → CoversFirst bs word
 of_first [] word h = tt
-of_first (b ∷ bs) word h l = eqb-true (bit_at word b) 1 (implied (nat_lt b 128) (has word b) h (lt-ltb b 128 l))
+of_first (b ∷ bs) word h = λ l. eqb-true (bit_at word b) 1 (implied (nat_lt b 128) (has word b) h (lt-ltb b 128 l))
 
 module _ (words : List ℕ) where
   of_parts : (word : ℕ) (rs : List ℕ) → has_parts words word rs ≡ true → CoversParts words word rs

@@ -1,7 +1,7 @@
 -- The rows of the table as the grammar's.
 use Rattle.std.specs.Prelude.{ℕ, List}
 use Rattle.weedle_grammar.specs.Rows.{Row, Bytes, OneOf, NotNext, Run, Past, Seq, First, Opt, Many, ListOf, List1, Tail, If}
-use Rattle.weedle_starts.specs.declared.row.Parts.{Parts}
+use Rattle.weedle_starts.specs.declared.parts.Parts.{Parts}
 use Rattle.weedle_starts.specs.declared.row.Row as rows
 use Rattle.weedle_starts.specs.declared.row.Row.TheVariants as code
 

@@ -1,5 +1,5 @@
 -- Rows in the table, and what the byte at a place says of a rule.
-use Rattle.std.specs.Prelude.{◌≡◌, ◌<◌, ℕ, List, Option, Some, None, IsTrue}
+use Rattle.std.specs.Prelude.{◌≡◌, ◌<◌, ◌≤◌, ℕ, List, length, slice_range, Option, Some, None, IsTrue}
 use Rattle.weedle_grammar.specs.Entry.{are_rules}
 use Rattle.weedle_grammar.specs.Rows.{Row, Bytes, OneOf, NotNext, Run, Past, Seq, First, Opt, Many, ListOf, List1, Tail, If}
 use Rattle.weedle_grammar.specs.written.Bound.{rule_count}
@@ -9,26 +9,34 @@ use Rattle.weedle_starts.specs.Starts.{CoversStarts}
 use Rattle.weedle_starts.specs.Tries.{TriesHere}
 use Rattle.weedle_starts.specs.declared.ahead.Ahead.{Ahead}
 use Rattle.weedle_starts.specs.declared.ahead.Ahead.TheVariants.{Fails, Empty, Open}
-use Rattle.weedle_starts.specs.declared.way.Numbers.{Numbers}
-use Rattle.weedle_starts.specs.declared.way.Word.{Word}
+use Rattle.weedle_starts.specs.declared.way.Span.{Span}
 use Rattle.weedle_starts.specs.declared.way.Way.{Way}
 use Rattle.weedle_starts.specs.declared.way.Way.TheVariants as way
+use Rattle.weedle_starts.specs.declared.written.bytes.TheConstants.{BYTES}
+use Rattle.weedle_starts.specs.declared.written.numbers.TheConstants.{NUMBERS}
+
+-- bytes of the table stand there, and numbers of rules
+abbrev pub AreBytes : Span → Type 0
+AreBytes s = (s.0 ≤ s.1) × (s.1 ≤ length BYTES)
+
+abbrev pub AreNumbers : Span → Type 0
+AreNumbers s = (s.0 ≤ s.1) × (s.1 ≤ length NUMBERS) × IsTrue (are_rules (slice_range NUMBERS s.0 s.1))
 
 -- the way is that of the row, and its numbers are rules'
-abbrev pub IsWay : Way Word Numbers → Row → Type 0
-IsWay (way.Bytes word) row = row ≡ Bytes word.0.now
+abbrev pub IsWay : Way → Row → Type 0
+IsWay (way.Bytes s) row = AreBytes s × (row ≡ Bytes (slice_range BYTES s.0 s.1))
 IsWay (way.OneOf c) row = row ≡ OneOf c
 IsWay (way.NotNext c) row = row ≡ NotNext c
 IsWay (way.Run c) row = row ≡ Run c
-IsWay (way.Past word) row = row ≡ Past word.0.now
-IsWay (way.Seq numbers) row = IsTrue (are_rules numbers.0.now) × (row ≡ Seq numbers.0.now)
-IsWay (way.First numbers) row = IsTrue (are_rules numbers.0.now) × (row ≡ First numbers.0.now)
+IsWay (way.Past s) row = AreBytes s × (row ≡ Past (slice_range BYTES s.0 s.1))
+IsWay (way.Seq s) row = AreNumbers s × (row ≡ Seq (slice_range NUMBERS s.0 s.1))
+IsWay (way.First s) row = AreNumbers s × (row ≡ First (slice_range NUMBERS s.0 s.1))
 IsWay (way.Opt x) row = (x < rule_count) × (row ≡ Opt x)
 IsWay (way.Many x) row = (x < rule_count) × (row ≡ Many x)
 IsWay (way.List x t) row = (x < rule_count) × (t < rule_count) × (row ≡ ListOf x t)
 IsWay (way.List1 x t) row = (x < rule_count) × (t < rule_count) × (row ≡ List1 x t)
-IsWay (way.Tail x s) row = (x < rule_count) × (s < rule_count) × (row ≡ Tail x s)
-IsWay (way.If numbers k y) row = IsTrue (are_rules numbers.0.now) × (y < rule_count) × (row ≡ If numbers.0.now k y)
+IsWay (way.Tail x t) row = (x < rule_count) × (t < rule_count) × (row ≡ Tail x t)
+IsWay (way.If s k y) row = AreNumbers s × (y < rule_count) × (row ≡ If (slice_range NUMBERS s.0 s.1) k y)
 
 -- the rule that a row may go without, and then takes nothing: what it repeats, what a list begins with, what stands between items
 abbrev pub option_of : Row → Option ℕ

@@ -15,6 +15,7 @@
 #![tactic(auto)]
 
 pub mod ahead;
+mod parts;
 pub mod row;
 pub mod source;
 pub mod starts;

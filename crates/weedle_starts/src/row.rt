@@ -3,52 +3,18 @@
 //! The `row_of` of `weedle_grammar` is for a rule that the compiler knows: of any other it compares
 //! numbers until it finds the row, which takes longer than what is done with it.
 
-ghost use Rattle.std.specs.Prelude.{◌≡◌, IsTrue};
+ghost use Rattle.std.specs.Prelude.{◌≡◌, IsTrue, slice_range};
 ghost use Rattle.weedle_grammar.specs.Entry.{are_rules};
 ghost use Rattle.weedle_grammar.specs.written.Table.{row_of as the_row_of};
-ghost use Rattle.weedle_starts.specs.View.{row_view};
-ghost use Rattle.weedle_starts.specs.Ways.{IsWay};
+ghost use Rattle.weedle_starts.specs.View.{numbers_of, row_view};
+ghost use Rattle.weedle_starts.specs.Ways.{AreBytes, AreNumbers, IsWay};
 
-use crate::way::{Numbers, Way, Word, way_of};
+pub use crate::parts::Parts;
+use crate::parts::parts_of;
+use crate::way::{Span, Way, way_of};
+use crate::written::bytes::BYTES;
+use crate::written::numbers::NUMBERS;
 use weedle_grammar::{Class, Rule, rule_of};
-
-/// The rules that a row reads one after another, or of which it takes the first that fits.
-#[derive(Clone, Copy, Debug)]
-pub struct Parts {
-    numbers: &'static [u16],
-    ghost in_range: { IsTrue (are_rules numbers.now) },
-}
-
-impl Parts {
-    ghost use Rattle.std.specs.Prelude.{◌≡◌, ◌<◌, ◌↔◌, IsTrue, length, slice_index};
-    ghost use Rattle.weedle_grammar.specs.written.Bound.{rule_count};
-    ghost use Rattle.weedle_starts.specs.View.{numbers_of};
-
-    /// How many there are. It takes no memory.
-    #[inline(always)]
-    pub fn len(&self) -> usize
-        ensures { result ≡ length (numbers_of self.now) }
-    {
-        self.numbers.len()
-    }
-
-    /// Whether there is none. It takes no memory.
-    pub fn is_empty(&self) -> bool
-        ensures { IsTrue result ↔ (length (numbers_of self.now) ≡ 0) }
-    {
-        self.numbers.is_empty()
-    }
-
-    /// The rule at a place before the end, counted from 0. It takes no memory.
-    #[inline(always)]
-    pub fn rule(&self, i: usize) -> Rule
-        requires { i < length (numbers_of self.now) }
-        ensures value { result ≡ slice_index (numbers_of self.now) i }
-        ensures low { result < rule_count }
-    {
-        rule_of(self.numbers[i])
-    }
-}
 
 /// What a rule reads at a place of a text, as `Row` of `weedle_grammar` says it.
 #[derive(Clone, Copy, Debug)]
@@ -81,26 +47,44 @@ pub enum Row {
     If(Parts, usize, Rule),
 }
 
+/// The bytes that stand there.
+#[inline(always)]
+fn bytes_at(span: Span) -> &'static [u8]
+    requires { AreBytes span }
+    ensures { result.now ≡ slice_range BYTES span.0 span.1 }
+{
+    &BYTES[span.0 as usize..span.1 as usize]
+}
+
+/// The parts whose numbers stand there.
+#[inline(always)]
+fn parts_at(span: Span) -> Parts
+    requires { AreNumbers span }
+    ensures { numbers_of result ≡ slice_range NUMBERS span.0 span.1 }
+{
+    parts_of(&NUMBERS[span.0 as usize..span.1 as usize])
+}
+
 /// The row that the table has so.
 #[inline(always)]
-fn row_by(way: Way<Word, Numbers>, rule: Rule) -> Row
+fn row_by(way: Way, rule: Rule) -> Row
     requires { IsWay way (the_row_of rule) }
     ensures { row_view result ≡ the_row_of rule }
 {
     match way {
-        Way::Bytes(word) => Row::Bytes(word.0),
+        Way::Bytes(span) => Row::Bytes(bytes_at(span)),
         Way::OneOf(class) => Row::OneOf(class),
         Way::NotNext(class) => Row::NotNext(class),
         Way::Run(class) => Row::Run(class),
-        Way::Past(word) => Row::Past(word.0),
-        Way::Seq(parts) => Row::Seq(Parts { numbers: parts.0 }),
-        Way::First(parts) => Row::First(Parts { numbers: parts.0 }),
+        Way::Past(span) => Row::Past(bytes_at(span)),
+        Way::Seq(span) => Row::Seq(parts_at(span)),
+        Way::First(span) => Row::First(parts_at(span)),
         Way::Opt(item) => Row::Opt(rule_of(item)),
         Way::Many(item) => Row::Many(rule_of(item)),
         Way::List(item, tail) => Row::List(rule_of(item), rule_of(tail)),
         Way::List1(item, tail) => Row::List1(rule_of(item), rule_of(tail)),
         Way::Tail(item, separator) => Row::Tail(rule_of(item), rule_of(separator)),
-        Way::If(parts, k, last) => Row::If(Parts { numbers: parts.0 }, k, rule_of(last)),
+        Way::If(span, k, last) => Row::If(parts_at(span), k, rule_of(last)),
     }
 }
 

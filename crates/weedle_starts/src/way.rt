@@ -7,37 +7,31 @@ ghost use Rattle.weedle_starts.specs.Ways.{IsWay};
 use crate::written::ways::WAYS;
 use weedle_grammar::{Class, Rule};
 
-/// The bytes of a row.
+/// Where the bytes or the numbers of a row stand among those of all: from one place up to another.
 #[derive(Clone, Copy)]
-pub(crate) struct Word(pub(crate) &'static [u8]);
+pub(crate) struct Span(pub(crate) u16, pub(crate) u16);
 
-/// The numbers of the rules of a row.
+/// A row, with rules as numbers. It holds no reference, as a static wants it.
 #[derive(Clone, Copy)]
-pub(crate) struct Numbers(pub(crate) &'static [u16]);
-
-/// A row, with rules as numbers.
-///
-/// Bytes and numbers are type arguments, since the borrow checker takes no enum in an array else.
-#[derive(Clone, Copy)]
-pub(crate) enum Way<W, N> {
-    Bytes(W),
+pub(crate) enum Way {
+    Bytes(Span),
     OneOf(Class),
     NotNext(Class),
     Run(Class),
-    Past(W),
-    Seq(N),
-    First(N),
+    Past(Span),
+    Seq(Span),
+    First(Span),
     Opt(u16),
     Many(u16),
     List(u16, u16),
     List1(u16, u16),
     Tail(u16, u16),
-    If(N, usize, u16),
+    If(Span, usize, u16),
 }
 
 /// The row of a rule, as the table has it.
 #[inline(always)]
-pub(crate) fn way_of(rule: Rule) -> Way<Word, Numbers>
+pub(crate) fn way_of(rule: Rule) -> Way
     ensures { IsWay result (the_row_of rule) }
 {
     WAYS[rule.number() as usize]
