@@ -5,7 +5,8 @@ is worked out once at a place, and only where it is asked for, so what is known 
 it, as docs/GRAMMAR.md has that.
 """
 
-from table_reader import ADDED, CHANGED, CLASSES
+from description.classes import CLASSES
+from table_reader import ADDED, CHANGED
 from description import webidl as grammar
 
 # What is known of a rule that fails.

@@ -11,6 +11,7 @@ import re
 from pathlib import Path
 
 from description import webidl as grammar
+from description.classes import CLASSES
 from description.names import upper
 from description.readings import IDL, LEAVES, TYPES
 from tree_json import Held, Struct, Unit
@@ -32,15 +33,6 @@ CHANGED = {
 }
 ADDED = {"ONE_OF_ALNUM": ("OneOf", "Alnum")}
 
-DIGITS = set(b"0123456789")
-LETTERS = set(b"abcdefghijklmnopqrstuvwxyzABCDEFGHIJKLMNOPQRSTUVWXYZ")
-EVERY = set(range(256))
-CLASSES = {
-    "Blank": set(b" \t\r\n"), "Digit": DIGITS, "OneToNine": DIGITS - set(b"0"), "Octal": set(b"01234567"),
-    "Hex": DIGITS | set(b"abcdefABCDEF"), "Letter": LETTERS, "Alnum": DIGITS | LETTERS, "Name": DIGITS | LETTERS | set(b"_-"),
-    "Slash": set(b"/"), "XLetter": set(b"xX"), "ELetter": set(b"eE"), "Sign": set(b"+-"), "NotQuote": EVERY - set(b'"'),
-    "NotLineFeed": EVERY - set(b"\n"), "Any": EVERY,
-}
 BRACKETS = {
     ("OPEN_PAREN", "CLOSE_PAREN"): ("Parenthesized", ("open_paren", "body", "close_paren")),
     ("OPEN_BRACKET", "CLOSE_BRACKET"): ("Bracketed", ("open_bracket", "body", "close_bracket")),

@@ -35,7 +35,7 @@ HEAD = re.compile(r'/\*(?:.|\n)*?\*/|"""(?:.|\n)*?"""|(?:(?://!|--).*\n)*')
 BESIDE = ("include/*.h", "python/weedle/*.py", "rust/src/*.rs", "js/lib/written/*.js", "js/lib/written/*.ts")
 # The scripts that write, each behind those whose files it reads; and how one is run, which refuses it by hand.
 WRITERS = (
-    "grammar terminals idl_proofs builds spellings prints impls orders c_header python_types rust_types javascript_types"
+    "grammar starts terminals idl_proofs builds spellings prints impls orders c_header python_types rust_types javascript_types"
 ).split()
 RUN = "import runpy, sys; sys.path.insert(0, 'tools'); sys.exit(runpy.run_path(f'tools/{sys.argv[1]}.py', run_name=sys.argv[1])['main']())"
 # The scripts that write pages of docs/ and of man/ from the sources, and print what they changed.

@@ -34,12 +34,13 @@ FOLDERS = """
 # How the names of files begin that stand below the module whose types they are of, whatever it is.
 BELOW = "from_"
 # Proofs that stand without the folder: only their heads say that they are written. Those of functions by hand stand
-# where the prover looks for them. Takes stands so since other crates name it, and a crate doesn't hand on the folder
-# `written` of its proofs where its code has one too.
+# where the prover looks for them. Takes and Words stand so since a crate whose code has a folder `written` right in src
+# can't have one right in proofs.
 FIXED = """
     weedle_grammar/proofs/Takes
     weedle_idl/proofs/definition
     weedle_interfaces/proofs/member
+    weedle_starts/proofs/Words
 """.split()
 
 

@@ -18,16 +18,17 @@ ghost use Rattle.std.specs.Prelude.{
   if◌then◌else◌,
 };
 ghost use Rattle.weedle_grammar.specs.Rows.{Seq, First, Opt, Many, ListOf, List1, Tail, If};
-ghost use Rattle.weedle_grammar.specs.View.{numbers_of};
 ghost use Rattle.weedle_grammar.specs.written.Bound.{rule_count};
 ghost use Rattle.weedle_grammar.specs.written.Table.{row_of as the_row_of};
 ghost use Rattle.weedle_rules.specs.Cells.{HasEnd};
 ghost use Rattle.weedle_starts.specs.Tries.{TriesHere};
+ghost use Rattle.weedle_starts.specs.View.{numbers_of};
 ghost use Rattle.weedle_syntax.specs.Steps.{RowSteps, Spends, Steps};
 ghost use Rattle.weedle_diagnose.specs.Noted.{IsUnmetIn, Notes};
 
 use crate::noted::Furthest;
-use weedle_grammar::{Parts, Row, Rule, row_of};
+use weedle_grammar::Rule;
+use weedle_starts::row::{Parts, Row};
 use weedle_starts::source::Source;
 
 /// The descent gave up: it would have to try more rules than it may, or deeper in one another.
@@ -59,7 +60,7 @@ pub(crate) fn read(
         return Ok(None);
     }
     let below = step(left, depth)?;
-    match row_of(rule) {
+    match text.row(rule) {
         Row::Bytes(bytes) => Ok(furthest.unless(text.end_of_bytes(bytes, place), rule, place)),
         Row::OneOf(class) => Ok(furthest.unless(text.end_of_one(class, place), rule, place)),
         Row::NotNext(class) => {

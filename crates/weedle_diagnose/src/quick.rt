@@ -10,7 +10,6 @@ use crate::opened::furthest_from;
 use std::alloc::{AllocError, Global};
 use weedle_rules::Ends;
 use weedle_starts::source::Source;
-use weedle_starts::starts::starts;
 use weedle_syntax::Limits;
 
 /// How many rules descent may try for each byte of the text from the place on. Of what people write
@@ -78,8 +77,7 @@ pub fn diagnose_within(
     ensures steps { IfOk result (λ found. IfSome found
         (λ d. Spends (DescentSteps text.now start d.place) limits.old.steps limits.new.steps)) }
 {
-    let starts = starts();
-    let source = Source::new(text.as_bytes(), &starts);
+    let source = Source::new(text.as_bytes());
     let depth = limits.depth;
     match furthest_from(&source, start, &mut limits.steps, depth) {
         Ok(furthest) => {

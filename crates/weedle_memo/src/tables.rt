@@ -2,13 +2,12 @@
 
 ghost use Rattle.std.specs.Prelude.{◌≡◌, ◌≤◌, length, slice_index_or};
 ghost use Rattle.weedle_grammar.specs.written.Table.{row_of as the_row_of};
-ghost use Rattle.weedle_starts.specs.Starts.{AreStarts};
 ghost use Rattle.weedle_memo.specs.Tables.{IsWay, IsWord, IsPassed};
 
 use crate::frame::Look;
 use std::marker::Model;
 use weedle_grammar::{Class, Parts, RULES, Row, Rule, row_of, rule_of};
-use weedle_starts::starts::{Starts, starts};
+use weedle_starts::starts::first_set;
 
 /// The bytes of a row.
 #[derive(Clone, Copy)]
@@ -87,16 +86,15 @@ fn way_of(rule: Rule) -> Way<Word, Parts>
 
 /// The ASCII bytes at which a rule isn't passed over: those that it can begin with; of an option, a
 /// repetition or a list those that what it may go without can begin with.
-fn word_of(starts: &Starts, rule: Rule) -> u128
-    requires { AreStarts starts.now }
+fn word_of(rule: Rule) -> u128
     ensures { IsWord result rule }
 {
     match row_of(rule) {
-        Row::Opt(item) => starts.word(item),
-        Row::Many(item) => starts.word(item),
-        Row::List(item, _) => starts.word(item),
-        Row::Tail(_, separator) => starts.word(separator),
-        _ => starts.word(rule),
+        Row::Opt(item) => first_set(item),
+        Row::Many(item) => first_set(item),
+        Row::List(item, _) => first_set(item),
+        Row::Tail(_, separator) => first_set(separator),
+        _ => first_set(rule),
     }
 }
 
@@ -112,13 +110,12 @@ impl Tables {
     /// The tables of all rules. They are the same for every text, so one that reads many makes
     /// them once.
     pub fn new() -> Tables {
-        let starts = starts();
         let mut ways = [Way::NotNext(Class::Any); RULES];
         let mut words: Words = [0; RULES];
         for number in 0..RULES {
             let rule = rule_of(number as u16);
             ways[number] = way_of(rule);
-            words[number] = word_of(&starts, rule);
+            words[number] = word_of(rule);
         }
         Tables { ways, words }
     }

@@ -5,7 +5,6 @@ ghost use Rattle.weedle_recovery.specs.Stops.{IsReadAt};
 ghost use Rattle.weedle_grammar.specs.Rows.{run_length, begins as begins_with_bytes};
 ghost use Rattle.weedle_rules.specs.Cells.{HasEnd};
 ghost use Rattle.weedle_rules.specs.Outcomes.{FailsAt};
-ghost use Rattle.weedle_starts.specs.Starts.{AreStarts};
 ghost use Rattle.weedle_syntax.specs.Laid.{LaysNode};
 
 use std::alloc::{AllocError, Global};
@@ -14,7 +13,6 @@ use weedle_grammar::scan::run;
 use weedle_grammar::{Class, Rule, leaf_ends};
 use weedle_rules::Ends;
 use weedle_starts::source::Source;
-use weedle_starts::starts::Starts;
 use weedle_syntax::{Limits, Node, lay_by_descent, lay_over_table};
 
 /// A text that is read at any place: by descent or, where it has one, over its table of ends.
@@ -38,26 +36,24 @@ impl<'t> Model for Reading<'t> {
 
 impl<'t> Reading<'t> {
     /// A text that is read by descent.
-    pub(crate) fn by_descent(bytes: &'t [u8], starts: &'t Starts) -> Reading<'t>
-        requires { AreStarts starts.now }
+    pub(crate) fn by_descent(bytes: &'t [u8]) -> Reading<'t>
         ensures { result ≡ bytes.now }
     {
         Reading {
             bytes,
-            source: Source::new(bytes, starts),
+            source: Source::new(bytes),
             ends: None,
         }
     }
 
     /// A text that is read over its table of ends.
-    pub(crate) fn over_table(bytes: &'t [u8], starts: &'t Starts, ends: &'t Ends<'t>) -> Reading<'t>
-        requires starts { AreStarts starts.now }
-        requires same { ends.now.text ≡ bytes.now }
+    pub(crate) fn over_table(bytes: &'t [u8], ends: &'t Ends<'t>) -> Reading<'t>
+        requires { ends.now.text ≡ bytes.now }
         ensures { result ≡ bytes.now }
     {
         Reading {
             bytes,
-            source: Source::new(bytes, starts),
+            source: Source::new(bytes),
             ends: Some(ends),
         }
     }

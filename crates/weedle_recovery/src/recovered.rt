@@ -10,7 +10,6 @@ use crate::reading::Reading;
 use std::alloc::{AllocError, Global};
 use weedle_grammar::Rule;
 use weedle_rules::Ends;
-use weedle_starts::starts::starts;
 use weedle_syntax::{Limits, Node};
 
 /// The parts of a text, and the nodes of those that are read.
@@ -47,15 +46,14 @@ pub fn recover(alloc: Global, raw: &str) -> Result<Recovered, AllocError>
     ensures cover { IfOk result (λ f. AreParts raw.now 0 (length raw.now) f.parts.items) }
     ensures nodes { IfOk result (λ f. AreTrees raw.now (roots_of f.parts.items) f.nodes.items) }
 {
-    let starts = starts();
     let bytes = raw.as_bytes();
-    let text = Reading::by_descent(bytes, &starts);
+    let text = Reading::by_descent(bytes);
     match divided(alloc, &text, Limits::of_length(raw.len())) {
         Ok(found) => return Ok(found),
         Err(_) => {}
     }
     let ends = Ends::new(alloc, raw)?;
-    let text = Reading::over_table(bytes, &starts, &ends);
+    let text = Reading::over_table(bytes, &ends);
     let found = divided(alloc, &text, Limits::of_length(0))?;
     Ok(found)
 }

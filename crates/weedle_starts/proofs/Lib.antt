@@ -1,9 +1,10 @@
 pub mod BoolFacts
 pub mod ReadFacts
 pub mod LaterFacts
-pub mod WordFacts
 pub mod BeginFacts
 pub mod TriedFacts
+pub mod WordTests
 pub mod StartedFacts
 pub mod StartFacts
 pub mod WayFacts
+pub mod Words

@@ -1,25 +1,37 @@
 -- A rule whose word lacks the bit of the byte that stands at a place fails there, and tries all there.
-use Rattle.std.proofs.Common.{◌≡◌, ℕ, ◌+◌, ◌/◌, ◌^◌, ◌<◌, List, length, drop, get_or, None, refl, sym, ◌∙◌, ap, arith}
+use Rattle.std.proofs.Common.{◌≡◌, ℕ, ◌+◌, ◌/◌, ◌^◌, ◌<◌, List, length, drop, get_or, Some, None, refl, sym, subst, ◌∙◌, arith}
 use Rattle.std.specs.Prelude.{bit_and}
 use Rattle.std.specs.Int.{bit_at}
 use Rattle.std.proofs.lemmas.List.{drop_more}
 use Rattle.std.proofs.lemmas.Nat.Bits.{shr_and_one}
 use Rattle.weedle_grammar.specs.Trees.{Fails}
-use Rattle.weedle_grammar.specs.written.Bound.{rule_count}
+use Rattle.weedle_grammar.specs.written.Table.{row_of}
 use Rattle.weedle_rules.specs.Cells.{HasEnd}
-use Rattle.weedle_rules.specs.Outcomes.{FailsAt}
 use Rattle.weedle_starts.specs.Tries.{TriesHere}
-use Rattle.weedle_starts.specs.Starts.{AreStarts}
+use Rattle.weedle_starts.specs.Starts.{CoversStarts}
+use Rattle.weedle_starts.specs.Ways.{option_of, IsGateOf, IsGate, IsPassedOver, GoesWithout}
 
-module _ (text words : List ℕ) (r p : ℕ) (are : AreStarts words) (low : r < rule_count) (fits : p < length text) (number : ℕ) (same : number ≡ r) (ascii : get_or text p 0 < 128) where
-  lacking : bit_and (get_or words number 0 / 2 ^ get_or text p 0) 1 ≡ 0 → FailsAt text r p × TriesHere text r p
-  lacking z = are r low text p (get_or text p 0) (drop (p + 1) text) (drop_more text p 0 fits) ascii (λ h. (
-      let set : bit_at (get_or words r 0) (get_or text p 0) ≡ 1 = h in
-      let unset : bit_at (get_or words r 0) (get_or text p 0) ≡ 0 = ap (λ k. bit_at (get_or words k 0) (get_or text p 0)) (sym same) ∙ sym (shr_and_one (get_or words number 0) (get_or text p 0)) ∙ z in
-      absurd (omega arith)))
+module _ (text : List ℕ) (p : ℕ) (fits : p < length text) (ascii : get_or text p 0 < 128) (word : ℕ) where
+  passed_over : {r : ℕ} → CoversStarts word r → (bit_at word (get_or text p 0) ≡ 1 → ⊥) → IsPassedOver text r p
+  passed_over covers lacks = covers text p (get_or text p 0) (drop (p + 1) text) (drop_more text p 0 fits) ascii lacks
 
-  pub refused : bit_and (get_or words number 0 / 2 ^ get_or text p 0) 1 ≡ 0 → HasEnd text r p None
-  refused z = record { outcome = Fails; reads = (lacking z).0; is = refl }
+  module _ (unset : bit_and (word / 2 ^ get_or text p 0) 1 ≡ 0) where
+    lacks : bit_at word (get_or text p 0) ≡ 1 → ⊥
+    lacks h = let z : bit_at word (get_or text p 0) ≡ 0 = sym (shr_and_one word (get_or text p 0)) ∙ unset in absurd (omega (arith, h))
 
-  pub tries_here : bit_and (get_or words number 0 / 2 ^ get_or text p 0) 1 ≡ 0 → TriesHere text r p
-  tries_here z = (lacking z).1
+    pub refused : {r : ℕ} → CoversStarts word r → HasEnd text r p None
+    refused covers = record { outcome = Fails; reads = (passed_over covers lacks).0; is = refl }
+
+    pub tries_here : {r : ℕ} → CoversStarts word r → TriesHere text r p
+    tries_here covers = (passed_over covers lacks).1
+
+  -- where the gate of rule r lacks the byte
+  module _ (shut : bit_and (word / 2 ^ get_or text p 0) 1 ≡ 1 → ⊥) (r : ℕ) (gate : IsGate word r) where
+    shut_out : bit_at word (get_or text p 0) ≡ 1 → ⊥
+    shut_out h = shut (shr_and_one word (get_or text p 0) ∙ h)
+
+    pub goes_without : {y : ℕ} → option_of (row_of r) ≡ Some y → GoesWithout text r p
+    goes_without {y} e = (y, e, passed_over (subst (λ o. IsGateOf word r o) e gate) shut_out)
+
+    pub it_fails : option_of (row_of r) ≡ None → IsPassedOver text r p
+    it_fails e = passed_over (subst (λ o. IsGateOf word r o) e gate) shut_out

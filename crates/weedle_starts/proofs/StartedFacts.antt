@@ -1,25 +1,55 @@
--- How far words and flags are written.
-use Rattle.std.proofs.Common.{◌^◌, ◌-◌, ◌≡◌, inl, inr, ℕ, ◌+◌, ◌<◌, ◌≤◌, List, length, set, replicate, Bool, true, false, refl, sym, subst, ◌∙◌, ap, arith, length-set}
+-- The first sets of all rules: the table has them.
+use Rattle.std.proofs.Common.{◌^◌, ◌-◌, ◌≡◌, inl, inr, ℕ, zero, suc, ◌+◌, ◌<◌, ◌≤◌, List, [], ◌∷◌, length, Bool, true, false, refl, sym, subst, ◌∙◌, ap, arith}
 use Rattle.std.specs.Prelude.{if◌then◌else◌, slice_index}
 use Rattle.std.specs.Int.{bit_at}
 use Rattle.std.proofs.lemmas.Bool.{cases_lt}
-use Rattle.std.proofs.lemmas.List.{get_or-set_same, get_or-set_other, length-replicate}
 use Rattle.std.proofs.lemmas.Nat.Bits.{bit_at_ones}
+use Rattle.weedle_grammar.specs.Entry.{Entry}
 use Rattle.weedle_grammar.specs.Trees.{Tree, Outcome, Fails, Gives}
-use Rattle.weedle_grammar.specs.written.Table.{webidl, row_of, Reads}
+use Rattle.weedle_grammar.specs.written.Bound.{rule_count}
+use Rattle.weedle_grammar.specs.written.Table.{table, webidl, row_of, Reads}
+use Rattle.weedle_grammar.proofs.Entries.{all_pass, passes}
 use Rattle.weedle_grammar.proofs.Takes.{takes}
 use Rattle.weedle_grammar.proofs.Checked.{rank, ranked}
 use Rattle.weedle_grammar.proofs.Exists.{advances}
 use Rattle.weedle_grammar.proofs.GrammarFacts.{one}
 use Rattle.weedle_rules.specs.Outcomes.{FailsAt}
-use Rattle.weedle_starts.specs.Starts.{CoversStarts, Begins, always_takes}
-use Rattle.weedle_starts.proofs.BeginFacts.{CoversTaken, AreTaken, AreFlags, rule_flagged, none_taken, none_flagged, word_covers, word_known, flag_known}
-use Rattle.weedle_starts.proofs.TriedFacts.{CoversTried, AreTriedHere, stands_in, none_tried, word_tried, tried_known}
+use Rattle.weedle_starts.specs.Starts.{CoversStarts}
+use Rattle.weedle_starts.specs.declared.written.first_sets.TheConstants.{FIRST_SETS}
+use Rattle.weedle_starts.proofs.BeginFacts.{Begins, CoversTaken, AreTaken, word_covers}
+use Rattle.weedle_starts.proofs.TriedFacts.{CoversTried, AreTriedHere, stands_in, word_tried}
+use Rattle.weedle_starts.proofs.WordTests.{has_begins, it_begins}
+use Rattle.weedle_starts.proofs.Words.{words}
 
--- the words so far of what each rule can begin with
-abbrev pub AreStarted : List ℕ → ℕ → Type 0
-AreStarted starts n = (x : ℕ) → x < n → CoversStarts (slice_index starts x) x
+-- each rule has its word: the test is computed here
+abbrev has_word : ℕ → Entry → Bool
+has_word r e = has_begins words e.row (slice_index words r)
 
+words_here : all_pass has_word 0 table ≡ true
+words_here = refl
+
+begun : (r : ℕ) → Begins words (row_of r) (slice_index words r)
+begun r = it_begins words (row_of r) (slice_index words r) (passes has_word (λ n k. refl) words_here r)
+
+-- so each word has the bytes with which its rule begins, and those that make it try something further on
+known : (n : ℕ) → n ≤ rule_count → AreTaken words n × AreTriedHere words n
+known zero l = (λ x k. absurd (omega arith), λ x k. absurd (omega arith))
+known (suc n) l =
+    let before = known n (omega arith) in
+    let here = begun n in
+    let covers : CoversTaken (slice_index words n) n = word_covers words n (slice_index words n) before.0 here in
+    let stays : CoversTried (slice_index words n) n = word_tried words n (slice_index words n) before.0 before.1 (omega arith) here in (
+      λ x k. elim (cases_lt x n) [
+        | inl m ↦ before.0 x m
+        | inr m ↦ (let same : n ≡ x = omega arith in subst (λ z. CoversTaken (slice_index words z) z) same covers)
+      ],
+      λ x k. elim (cases_lt x n) [
+        | inl m ↦ before.1 x m
+        | inr m ↦ (let same : n ≡ x = omega arith in subst (λ z. CoversTried (slice_index words z) z) same stays)
+      ],
+    )
+
+-- a rule fails where it gives nothing
 fails_at : (text : List ℕ) (r p : ℕ) → p ≤ length text → ((ts : List Tree) (q : ℕ) → Reads text r p (Gives ts q) → ⊥) → FailsAt text r p
 fails_at text r p fits n = let o = one text r p fits in by_outcome o.0 o.1
   where
@@ -27,59 +57,37 @@ fails_at text r p fits n = let o = one text r p fits in by_outcome o.0 o.1
     by_outcome Fails d = d
     by_outcome (Gives ts q) d = absurd (n ts q d)
 
-start_covers : (flags : List Bool) (n word start : ℕ) (always : Bool) → AreFlags flags → CoversTaken word n → CoversTried word n → always ≡ always_takes flags (row_of n) → start ≡ (if always then word else (2 ^ 128 - 1)) → CoversStarts start n
-start_covers flags n word start true flagged w t a e text p b rest is ascii lacks =
-    let takes_it = rule_flagged flags flagged n (sym a) in
-    let none : bit_at word b ≡ 1 → ⊥ = λ h. lacks (ap (λ z. bit_at z b) e ∙ h) in (
-      fails_at text n p (stands_in text p b rest is) (λ ts q d. none (w text p q b rest (ts, d) (advances webidl text rank takes ranked d takes_it) is ascii)),
-      t text p b rest is ascii none,
-    )
-start_covers flags n word start false flagged w t a e text p b rest is ascii lacks = absurd (lacks (ap (λ z. bit_at z b) e ∙ bit_at_ones 128 b ascii))
+-- the first set of a rule: its word, or each byte where the rule may take none
+abbrev set_of : Bool → ℕ → ℕ
+set_of always word = if always then word else 2 ^ 128 - 1
 
-pub start_known : (starts new : List ℕ) (flags : List Bool) (n word start : ℕ) (always : Bool) → AreStarted starts n → n < length starts → new ≡ set starts n start → AreFlags flags → CoversTaken word n → CoversTried word n → always ≡ always_takes flags (row_of n)
-    → start ≡ (if always then word else (2 ^ 128 - 1)) → AreStarted new (n + 1)
-start_known starts new flags n word start always known fits e flagged w t a is x l = subst (λ z. CoversStarts (slice_index z x) x) (sym e) (elim (cases_lt x n) [
-  | inl m ↦ subst (λ z. CoversStarts z x) (sym (get_or-set_other starts n x start 0 (λ k. absurd (omega arith)))) (known x m)
-  | inr m ↦ (
-      let same : n ≡ x = omega arith in
-      subst (λ z. CoversStarts (slice_index (set starts n start) z) z) same (subst (λ z. CoversStarts z n) (sym (get_or-set_same starts n start 0 fits)) (start_covers flags n word start always flagged w t a is)))
-])
+set_covers : (n word : ℕ) (always : Bool) → takes n ≡ always → CoversTaken word n → CoversTried word n → CoversStarts (set_of always word) n
+set_covers n word true t w h text p b rest is ascii lacks = (
+  fails_at text n p (stands_in text p b rest is) (λ ts q d. lacks (w text p q b rest (ts, d) (advances webidl text rank takes ranked d t) is ascii)),
+  h text p b rest is ascii lacks,
+)
+set_covers n word false t w h text p b rest is ascii lacks = absurd (lacks (bit_at_ones 128 b ascii))
 
--- how far the words are written: those of the rules below n
-pub record IsStarting (words : List ℕ) (flags : List Bool) (starts : List ℕ) (n : ℕ) : Type 0 where
-  pub known : AreTaken words n
-  pub tried : AreTriedHere words n
-  pub flagged : AreFlags flags
-  pub started : AreStarted starts n
-  pub words_long : length words ≡ 386
-  pub flags_long : length flags ≡ 386
-  pub starts_long : length starts ≡ 386
+-- the table has them: it is compared here
+abbrev sets_from : ℕ → List ℕ → List ℕ
+sets_from k [] = []
+sets_from k (w ∷ ws) = set_of (takes k) w ∷ sets_from (suc k) ws
 
-pub starting : IsStarting (replicate 386 0) (replicate 386 false) (replicate 386 0) 0
-starting = record {
-  known = none_taken (replicate 386 0);
-  tried = none_tried (replicate 386 0);
-  flagged = none_flagged (replicate 386 false) 386 refl;
-  started = λ x l. absurd (omega arith);
-  words_long = length-replicate {A = ℕ} 386 0;
-  flags_long = length-replicate {A = Bool} 386 false;
-  starts_long = length-replicate {A = ℕ} 386 0;
-}
+sets_here : FIRST_SETS ≡ sets_from 0 words
+sets_here = refl
 
-pub start_on : (words : List ℕ) (flags : List Bool) (starts : List ℕ) (n word start : ℕ) (always : Bool) → IsStarting words flags starts n → n < 386 → Begins words flags (row_of n) word → always ≡ always_takes flags (row_of n)
-    → start ≡ (if always then word else (2 ^ 128 - 1)) → IsStarting (set words n word) (set flags n always) (set starts n start) (n + 1)
-start_on words flags starts n word start always s l begins a is =
-    let covers = word_covers words flags n word s.known s.flagged begins in
-    let here = word_tried words flags n word s.known s.flagged s.tried l begins in
-    let words_long = s.words_long in
-    let flags_long = s.flags_long in
-    let starts_long = s.starts_long in
-    record {
-      known = word_known words (set words n word) n word s.known (omega arith) refl covers;
-      tried = tried_known words (set words n word) n word s.tried (omega arith) refl here;
-      flagged = flag_known flags (set flags n always) n always s.flagged (omega arith) refl a;
-      started = start_known starts (set starts n start) flags n word start always s.started (omega arith) refl s.flagged covers here a is;
-      words_long = length-set words n word ∙ s.words_long;
-      flags_long = length-set flags n always ∙ s.flags_long;
-      starts_long = length-set starts n start ∙ s.starts_long;
-    }
+set_at : (ws : List ℕ) (k i : ℕ) → i < length ws → slice_index (sets_from k ws) i ≡ set_of (takes (k + i)) (slice_index ws i)
+set_at [] k i l = absurd (omega arith)
+set_at (w ∷ ws) k zero l = let q : k ≡ k + 0 = omega arith in ap (λ z. set_of (takes z) w) q
+set_at (w ∷ ws) k (suc i) l =
+    let q : suc k + i ≡ k + suc i = omega arith in
+    set_at ws (suc k) i (omega arith) ∙ ap (λ z. set_of (takes z) (slice_index ws i)) q
+
+words_long : length words ≡ rule_count
+words_long = refl
+
+pub sets_cover : (r : ℕ) → r < rule_count → CoversStarts (slice_index FIRST_SETS r) r
+sets_cover r l =
+    let all = known rule_count (omega arith) in
+    let is : slice_index FIRST_SETS r ≡ set_of (takes r) (slice_index words r) = ap (λ z. slice_index z r) sets_here ∙ set_at words 0 r (omega (arith, words_long)) ∙ ap (λ z. set_of (takes z) (slice_index words r)) (let q : 0 + r ≡ r = omega arith in q) in
+    subst (λ z. CoversStarts z r) (sym is) (set_covers r (slice_index words r) (takes r) refl (all.0 r l) (all.1 r l))

@@ -1,3 +1,4 @@
 pub mod Tries
 pub mod Starts
+pub mod View
 pub mod Ways

@@ -1,9 +1,7 @@
--- Rows in an array, and what the byte at a place says of a rule.
-use Rattle.std.specs.Prelude.{◌≡◌, ◌<◌, ℕ, List, Option, Some, None, slice_index}
-use Rattle.std.proofs.Common.{get_or}
+-- Rows in the table, and what the byte at a place says of a rule.
+use Rattle.std.specs.Prelude.{◌≡◌, ◌<◌, ◌≤◌, ℕ, List, length, slice_range, Option, Some, None, IsTrue}
+use Rattle.weedle_grammar.specs.Entry.{are_rules}
 use Rattle.weedle_grammar.specs.Rows.{Row, Bytes, OneOf, NotNext, Run, Past, Seq, First, Opt, Many, ListOf, List1, Tail, If}
-use Rattle.weedle_grammar.specs.View.{numbers_of}
-use Rattle.weedle_grammar.specs.declared.row.Parts.{Parts}
 use Rattle.weedle_grammar.specs.written.Bound.{rule_count}
 use Rattle.weedle_grammar.specs.written.Table.{row_of}
 use Rattle.weedle_rules.specs.Outcomes.{FailsAt}
@@ -11,25 +9,34 @@ use Rattle.weedle_starts.specs.Starts.{CoversStarts}
 use Rattle.weedle_starts.specs.Tries.{TriesHere}
 use Rattle.weedle_starts.specs.declared.ahead.Ahead.{Ahead}
 use Rattle.weedle_starts.specs.declared.ahead.Ahead.TheVariants.{Fails, Empty, Open}
-use Rattle.weedle_starts.specs.declared.way.Word.{Word}
+use Rattle.weedle_starts.specs.declared.way.Span.{Span}
 use Rattle.weedle_starts.specs.declared.way.Way.{Way}
 use Rattle.weedle_starts.specs.declared.way.Way.TheVariants as way
+use Rattle.weedle_starts.specs.declared.written.bytes.TheConstants.{BYTES}
+use Rattle.weedle_starts.specs.declared.written.numbers.TheConstants.{NUMBERS}
+
+-- bytes of the table stand there, and numbers of rules
+abbrev pub AreBytes : Span → Type 0
+AreBytes s = (s.0 ≤ s.1) × (s.1 ≤ length BYTES)
+
+abbrev pub AreNumbers : Span → Type 0
+AreNumbers s = (s.0 ≤ s.1) × (s.1 ≤ length NUMBERS) × IsTrue (are_rules (slice_range NUMBERS s.0 s.1))
 
 -- the way is that of the row, and its numbers are rules'
-abbrev pub IsWay : Way Word Parts → Row → Type 0
-IsWay (way.Bytes word) row = row ≡ Bytes word.bytes.now
+abbrev pub IsWay : Way → Row → Type 0
+IsWay (way.Bytes s) row = AreBytes s × (row ≡ Bytes (slice_range BYTES s.0 s.1))
 IsWay (way.OneOf c) row = row ≡ OneOf c
 IsWay (way.NotNext c) row = row ≡ NotNext c
 IsWay (way.Run c) row = row ≡ Run c
-IsWay (way.Past word) row = row ≡ Past word.bytes.now
-IsWay (way.Seq parts) row = row ≡ Seq (numbers_of parts)
-IsWay (way.First parts) row = row ≡ First (numbers_of parts)
+IsWay (way.Past s) row = AreBytes s × (row ≡ Past (slice_range BYTES s.0 s.1))
+IsWay (way.Seq s) row = AreNumbers s × (row ≡ Seq (slice_range NUMBERS s.0 s.1))
+IsWay (way.First s) row = AreNumbers s × (row ≡ First (slice_range NUMBERS s.0 s.1))
 IsWay (way.Opt x) row = (x < rule_count) × (row ≡ Opt x)
 IsWay (way.Many x) row = (x < rule_count) × (row ≡ Many x)
 IsWay (way.List x t) row = (x < rule_count) × (t < rule_count) × (row ≡ ListOf x t)
 IsWay (way.List1 x t) row = (x < rule_count) × (t < rule_count) × (row ≡ List1 x t)
-IsWay (way.Tail x s) row = (x < rule_count) × (s < rule_count) × (row ≡ Tail x s)
-IsWay (way.If parts k y) row = (y < rule_count) × (row ≡ If (numbers_of parts) k y)
+IsWay (way.Tail x t) row = (x < rule_count) × (t < rule_count) × (row ≡ Tail x t)
+IsWay (way.If s k y) row = AreNumbers s × (y < rule_count) × (row ≡ If (slice_range NUMBERS s.0 s.1) k y)
 
 -- the rule that a row may go without, and then takes nothing: what it repeats, what a list begins with, what stands between items
 abbrev pub option_of : Row → Option ℕ
@@ -46,13 +53,6 @@ IsGateOf word r None = CoversStarts word r
 
 abbrev pub IsGate : ℕ → ℕ → Type 0
 IsGate word r = IsGateOf word r (option_of (row_of r))
-
--- the ways and the gates of all rules
-abbrev pub AreWays : List (Way Word Parts) → Type 0
-AreWays ways = (r : ℕ) → r < rule_count → (d : Way Word Parts) → IsWay (get_or ways r d) (row_of r)
-
-abbrev pub AreGates : List ℕ → Type 0
-AreGates gates = (r : ℕ) → r < rule_count → IsGate (slice_index gates r) r
 
 -- rule r fails at p, and all that it tries is tried there
 abbrev pub IsPassedOver : List ℕ → ℕ → ℕ → Type 0

@@ -1,4 +1,4 @@
-//! A text that is read by descent, with what its rules can begin with.
+//! A text that is read by descent.
 
 ghost use Rattle.std.specs.Prelude.{◌≡◌, ◌≤◌, ◌<◌, ◌+◌, None, length, drop, option_map};
 ghost use Rattle.std.specs.Bool.{OnTrue};
@@ -9,44 +9,39 @@ ghost use Rattle.weedle_grammar.specs.Rows.{
   run_length as the_run_length,
   take_past as the_take_past,
 };
-ghost use Rattle.weedle_grammar.specs.View.{row_view};
 ghost use Rattle.weedle_grammar.specs.written.Bound.{rule_count};
 ghost use Rattle.weedle_grammar.specs.written.Table.{row_of as the_row_of};
 ghost use Rattle.weedle_rules.specs.Cells.{HasEnd};
-ghost use Rattle.weedle_starts.specs.Starts.{AreStarts};
 ghost use Rattle.weedle_starts.specs.Tries.{TriesHere};
+ghost use Rattle.weedle_starts.specs.View.{row_view};
 ghost use Rattle.weedle_starts.specs.Ways.{IsAhead};
 
 use crate::ahead::Ahead;
-use crate::starts::Starts;
+use crate::row::{Row, row_of};
+use crate::starts::{first_set, gate};
 use std::marker::Model;
-use weedle_grammar::{Class, Row, Rule, holds, leaf_ends};
+use weedle_grammar::{Class, Rule, holds, leaf_ends};
 
-/// A text, and the bytes that each rule can begin with.
+/// A text that is read by descent.
 #[derive(Drop)]
 pub struct Source<'t> {
     text: &'t [u8],
-    starts: &'t Starts,
 }
 
 impl<'t> Model for Source<'t> {
     ghost use Rattle.std.specs.Prelude.{ℕ, List};
-    ghost use Rattle.weedle_starts.specs.Starts.{AreStarts};
 
     ghost Value = { List ℕ };
 
     ghost view = { λ s. s.text.now };
-
-    ghost invariant = { λ s. AreStarts s.starts.now };
 }
 
 impl<'t> Source<'t> {
-    /// A text with the words of all rules.
-    pub fn new(text: &'t [u8], starts: &'t Starts) -> Source<'t>
-        requires { AreStarts starts.now }
+    /// A text. Nothing is worked out, and no memory is taken.
+    pub fn new(text: &'t [u8]) -> Source<'t>
         ensures { result ≡ text.now }
     {
-        Source { text, starts }
+        Source { text }
     }
 
     /// How many bytes the text has.
@@ -71,7 +66,7 @@ impl<'t> Source<'t> {
         if byte >= 128 {
             return false;
         }
-        if (self.starts.word(rule) >> byte) & 1 == 0 {
+        if (first_set(rule) >> byte) & 1 == 0 {
             return true;
         }
         false
@@ -83,7 +78,23 @@ impl<'t> Source<'t> {
         requires { place ≤ length self.now }
         ensures { IsAhead self.now rule place result }
     {
-        self.starts.ahead(self.text, rule, place)
+        if place >= self.text.len() {
+            return Ahead::Open;
+        }
+        let byte = self.text[place];
+        if byte >= 128 {
+            return Ahead::Open;
+        }
+        if (gate(rule) >> byte) & 1 == 1 {
+            return Ahead::Open;
+        }
+        match row_of(rule) {
+            Row::Opt(_) => Ahead::Empty,
+            Row::Many(_) => Ahead::Empty,
+            Row::List(_, _) => Ahead::Empty,
+            Row::Tail(_, _) => Ahead::Empty,
+            _ => Ahead::Fails,
+        }
     }
 
     /// What the rule reads.
@@ -91,7 +102,7 @@ impl<'t> Source<'t> {
     pub fn row(&self, rule: Rule) -> Row
         ensures { row_view result ≡ the_row_of rule }
     {
-        self.starts.row(rule)
+        row_of(rule)
     }
 
     /// Where these bytes end, which stand at a place.

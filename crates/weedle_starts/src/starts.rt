@@ -1,38 +1,28 @@
-//! What is laid out of the rules before a text is read, for the text.
+//! The bytes that a rule can begin with, by a table of all rules.
 
-ghost use Rattle.weedle_starts.specs.Starts.{AreStarts};
+ghost use Rattle.weedle_starts.specs.Starts.{CoversStarts};
+ghost use Rattle.weedle_starts.specs.Ways.{IsGate};
 
-pub use crate::laid::Starts;
-use crate::laid::starts_by;
-use crate::words::{any_words, words};
+use crate::written::first_sets::FIRST_SETS;
+use crate::written::gates::GATES;
 use weedle_grammar::Rule;
 
-/// The words of all rules.
-pub fn starts() -> Starts
-    ensures { AreStarts result }
+/// The ASCII bytes that a rule can begin with, as the bits of a word: all of them, where the rule
+/// may take nothing.
+///
+/// Of `Rule::ENUM` it has the bits of `e`, of blanks and of `/`. It takes no memory.
+#[inline(always)]
+pub fn first_set(rule: Rule) -> u128
+    ensures { CoversStarts result rule }
 {
-    starts_by(words())
+    FIRST_SETS[rule.number() as usize]
 }
 
-/// Words that let each rule be tried anywhere: for what is read so quickly that finding the words
-/// takes longer.
-pub fn no_starts() -> Starts
-    ensures { AreStarts result }
+/// The ASCII bytes at which a rule isn't passed over: those that it can begin with; of an option, a
+/// repetition or a list those that what it may go without can begin with.
+#[inline(always)]
+pub(crate) fn gate(rule: Rule) -> u128
+    ensures { IsGate result rule }
 {
-    starts_by(any_words())
-}
-
-/// How long a text is at least that is worth finding the words for.
-const LONG: usize = 400;
-
-/// The words for a rule and a text: those of all rules, or for a leaf or a short text words that
-/// let each rule be tried.
-pub fn starts_for(rule: Rule, text: &[u8]) -> Starts
-    ensures { AreStarts result }
-{
-    if text.len() < LONG || rule.number() < Rule::DOC_LINE.number() {
-        no_starts()
-    } else {
-        starts()
-    }
+    GATES[rule.number() as usize]
 }

@@ -5,11 +5,11 @@
 
 ghost use Rattle.std.specs.Prelude.{◌≡◌, ◌≤◌, ◌<◌, ◌+◌, length, IfOk, OnOk};
 ghost use Rattle.weedle_grammar.specs.Rows.{Seq, First, Opt, Many, ListOf, List1, Tail, If};
-ghost use Rattle.weedle_grammar.specs.View.{numbers_of};
 ghost use Rattle.weedle_grammar.specs.written.Bound.{rule_count};
 ghost use Rattle.weedle_grammar.specs.written.Table.{row_of as the_row_of};
 ghost use Rattle.weedle_grammar.specs.written.Table.Trivia.{TRIVIA};
 ghost use Rattle.weedle_rules.specs.Cells.{HasEnd};
+ghost use Rattle.weedle_starts.specs.View.{numbers_of};
 ghost use Rattle.weedle_syntax.specs.Laid.{LaysNode, LaysParts};
 ghost use Rattle.weedle_syntax.specs.Steps.{RowSteps, Spends, Steps};
 
@@ -19,8 +19,9 @@ use crate::narrow::{Narrow, lay, packed};
 use crate::token::{choose, read_blanks, read_name};
 use crate::trivia::{blanks_alone, lay_blanks};
 use std::alloc::AllocError;
-use weedle_grammar::{Parts, Row, Rule};
+use weedle_grammar::Rule;
 use weedle_starts::ahead::Ahead;
+use weedle_starts::row::{Parts, Row};
 use weedle_starts::source::Source;
 
 /// Lays down the rule's node and all below it, and says where it ends; nothing where it fails.

@@ -15,7 +15,6 @@ use crate::node::Node;
 use std::alloc::{AllocError, Global};
 use weedle_grammar::Rule;
 use weedle_starts::source::Source;
-use weedle_starts::starts::{starts, starts_for};
 
 /// Lays down the nodes of a rule that is read at a place, behind those that stand there, and says
 /// where it ends; where it fails, nothing is laid down.
@@ -56,8 +55,7 @@ pub(crate) fn front_by_descent(
     ensures are { IfOk result (λ end. IsSyntaxTo raw.now end nodes.new.items) }
 {
     limits.allow(raw.len())?;
-    let starts = starts();
-    let text = Source::new(raw.as_bytes(), &starts);
+    let text = Source::new(raw.as_bytes());
     match read(nodes, &text, Rule::DEFINITIONS, 0, 0, limits)? {
         Some(end) => Ok(end),
         None => unreachable!(),
@@ -80,8 +78,7 @@ pub(crate) fn rule_by_descent(
         (Spends (Steps raw.now rule 0) limits.old.steps limits.new.steps) }
 {
     limits.allow(raw.len())?;
-    let starts = starts_for(rule, raw.as_bytes());
-    let text = Source::new(raw.as_bytes(), &starts);
+    let text = Source::new(raw.as_bytes());
     let mut nodes = Vec::new(alloc);
     match read(&mut nodes, &text, rule, 0, 0, limits)? {
         Some(_) => Ok(Some(nodes)),

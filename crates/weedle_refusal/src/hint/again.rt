@@ -9,7 +9,6 @@ use std::alloc::{AllocError, Global};
 use weedle_diagnose::diagnose_within;
 use weedle_grammar::Rule;
 use weedle_starts::source::Source;
-use weedle_starts::starts::starts;
 use weedle_syntax::{Limits, lay_by_descent};
 
 /// How many rules are tried for each byte of a definition, with all its changes together. Of what
@@ -49,8 +48,7 @@ impl Trials {
     pub(crate) fn is_whole(&mut self, text: &str) -> Result<bool, AllocError>
         ensures { IfOk result (λ whole. IsTrue whole → IsWhole text.now) }
     {
-        let starts = starts();
-        let source = Source::new(text.as_bytes(), &starts);
+        let source = Source::new(text.as_bytes());
         let mut limits = Limits {
             steps: self.left,
             depth: DEPTH,

@@ -3,7 +3,7 @@ use Rattle.std.proofs.lemmas.Result.{on_ok_weaker}
 use Rattle.weedle_grammar.specs.written.Table.{webidl}
 use Rattle.weedle_grammar.specs.Trees.{Gives}
 use Rattle.weedle_grammar.specs.Meaning.{is_present, ReadsBy}
-use Rattle.weedle_grammar.specs.View.{numbers_of}
+use Rattle.weedle_starts.specs.View.{numbers_of}
 use Rattle.weedle_grammar.proofs.Takes.{takes}
 use Rattle.weedle_grammar.proofs.Checked.{ranked}
 use Rattle.weedle_rules.proofs.ConditionEnds.{if_step, present, note_more, note_high, note_low, chosen_here, chosen_other}

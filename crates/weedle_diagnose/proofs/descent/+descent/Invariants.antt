@@ -1,6 +1,6 @@
 use Rattle.std.proofs.Common.{◌+◌, ◌-◌, ◌*◌, length, drop}
 use Rattle.weedle_grammar.specs.Rows.{Many, Tail}
-use Rattle.weedle_grammar.specs.View.{numbers_of}
+use Rattle.weedle_starts.specs.View.{numbers_of}
 use Rattle.weedle_grammar.specs.written.Table.{row_of}
 use Rattle.weedle_rules.specs.Cells.{cell_number}
 use Rattle.weedle_rules.proofs.ConditionEnds.{note_at}

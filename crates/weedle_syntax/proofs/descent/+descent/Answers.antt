@@ -7,7 +7,7 @@ use Rattle.weedle_grammar.proofs.Checked.{ranked}
 use Rattle.weedle_rules.proofs.ConditionEnds.{if_step, present, note_more, note_high, note_low, chosen_here, chosen_other}
 use Rattle.weedle_rules.proofs.FewReads.{if_switch}
 use Rattle.weedle_rules.proofs.RowEnds.{rule_ends, bytes_ends, one_ends, not_next_ends, run_ends, past_ends}
-use Rattle.weedle_grammar.specs.View.{numbers_of}
+use Rattle.weedle_starts.specs.View.{numbers_of}
 use Rattle.weedle_rules.proofs.ListFrom.{next_part, no_part}
 use Rattle.weedle_syntax.specs.Laid.{node, LaysNode, LaysParts}
 use Rattle.weedle_syntax.proofs.DescentFacts.{has_now, added_length, node_laid, leaf_laid, reading_start, reading_step, reading_fails, reading_end, reading_laid, picking_start, picking_step, picked_end, picked_laid, none_picked}
