@@ -17,7 +17,7 @@ room=$(mktemp -d)
 trap 'rm -rf "$room"; "$top/rust/pack.sh" --clean' EXIT
 registry=/usr/share/cargo/registry
 WEEDLE_LIBRARY=$top/c/out
-[ -f "$WEEDLE_LIBRARY/libweedle.a" ] || WEEDLE_LIBRARY=$top/prebuilt/x86_64-linux
+[ -f "$WEEDLE_LIBRARY/libweedle.a" ] || WEEDLE_LIBRARY=$top/prebuilt/$(uname -m)-linux
 CARGO_TARGET_DIR=$top/rust/target
 RUSTDOCFLAGS="-D warnings"
 export WEEDLE_LIBRARY CARGO_TARGET_DIR RUSTDOCFLAGS

@@ -3,10 +3,11 @@
 #
 #     tools/release.sh [--draft] [FOLDER]
 #
-# FOLDER, or else dist/, is made anew. It gets the wheel and the sources of the Python package, the Rust package as `cargo
-# package` has it, the Node package as `npm pack` has it, the library for C as c/pack.sh has it, the programs weedle_check and
-# weedle_format with man pages, stripped, as the gate built them in crates/NAME/out, CHANGES.md and SUMS. The same files and
-# the same tools give the same bytes. Then tools/try_release.sh installs and runs all of it, in empty folders.
+# FOLDER, or else dist/, is made anew. It gets the sources of the Python package, for each target of prebuilt/ a wheel and the
+# library for C as c/pack.sh has it, the Rust package as `cargo package` has it and the Node package as `npm pack` has it, both
+# for all targets, the programs weedle_check and weedle_format for x86-64 with man pages, stripped, as the gate built them in
+# crates/NAME/out, CHANGES.md and SUMS. The same files and the same tools give the same bytes. Then tools/try_release.sh
+# installs and runs all of it, in empty folders.
 #
 # Nothing is downloaded: Cargo has nom from Debian's librust-nom-dev, or from the folder that NOM_REGISTRY names. What the
 # machine lacks a tool for is left out, and a line says so. tools/next_version.py has to agree with the version's number; with
@@ -50,14 +51,13 @@ copy_sources() {
     mkdir "$copy"
     (cd "$top" && tar -cf - --exclude=target --exclude=node_modules --exclude=__pycache__ --exclude=.mypy_cache \
         --exclude=python/weedle/libweedle.so --exclude=js/weedle.node --exclude=rust/native --exclude=rust/LICENSE \
-        --exclude=js/LICENSE --exclude='js/native/libweedle.a' --exclude='js/native/weedle.*' --exclude=Cargo.lock \
+        --exclude=js/LICENSE --exclude='js/native/*-linux' --exclude='js/native/weedle.*' --exclude=Cargo.lock \
         LICENSE include man prebuilt python rust js) | tar -C "$copy" -xf -
 }
 
+# Has the backend make something of the Python package: `pack_python WHAT [SHARED_OBJECT]`.
 pack_python() {
-    for what in build_wheel build_sdist; do
-        (cd "$copy/python" && python3 -c "import build_backend as it; print(it.$what('$out'))")
-    done
+    (cd "$copy/python" && WEEDLE_SO=${2:-} python3 -c "import build_backend as it; print(it.$1('$out'))")
 }
 
 pack_rust() {
@@ -115,12 +115,16 @@ version=$(sed -n 's/^# weedle //p' "$built/SUMS")
 rm -rf "$out"
 mkdir -p "$out"
 copy_sources
-pack_python
+pack_python build_sdist
 pack_rust
 pack_node
-"$top/c/pack.sh" "$out"
+for folder in "$top"/prebuilt/*-linux; do
+    target=$(basename "$folder")
+    pack_python build_wheel "$folder/libweedle.so"
+    "$top/c/pack.sh" --target "$target" "$out"
+done
 pack_programs
-python3 "$top/tools/release_texts.py" "$out" "$built/libweedle.so" "$built/weedle.node" \
+python3 "$top/tools/release_texts.py" "$out" "$top"/prebuilt/*-linux/libweedle.so "$top"/prebuilt/*-linux/weedle.node \
     $(find "$room/$programs/bin" -type f | sort)
 "$top/tools/try_release.sh" "$out"
 echo "made $out"
