@@ -39,10 +39,10 @@ command -v rt >/dev/null || {
     echo "prove.sh: the toolchain's command rt isn't on PATH" >&2
     exit 1
 }
-if [ -z "${ALONE:-}" ]; then
+if [ -z "${ALONE:-}" ] && [ ! -d "$top/crates/weedle_refusal/out/rlib" ]; then
     tar -C "$top" --exclude=out -cf - HANDLES crates.txt crates | tar -C "$copy" -xf -
     COPY=$copy setsid sh -c '
-        for name in weedle_base weedle_diagnose weedle_refusal; do
+        for name in weedle_diagnose weedle_refusal; do
             cd "$COPY/crates/$name" && rt lib "$@" || exit
         done' prove.sh "$@" >/dev/null 2>&1 </dev/null &
     beside=$!

@@ -4,9 +4,9 @@
 #
 #     c/run_tests.sh [--target TARGET]
 #
-# The header is compiled by each standard; the tests run as they are, with sanitizers, and under valgrind. A compiler
-# that is missing is an error, said in a line. CC, CXX and VALGRIND may name other commands. The large texts of
-# the tests take 2 GB of memory and some seconds.
+# The header is compiled by each standard; the tests run as they are, with sanitizers, and under valgrind, and with sanitizers
+# over c/heap.c in the place of the toolchain's part that asks for memory. A compiler that is missing is an error, said in a
+# line. CC, CXX and VALGRIND may name other commands. The large texts of the tests take 2 GB of memory and some seconds.
 #
 # TARGET is that of this machine's processor, as x86_64-linux, where none is named. What is for another one is compiled by
 # Debian's compilers for it, as aarch64-linux-gnu-gcc, and run by qemu's user mode, as qemu-aarch64-static, with small texts
@@ -88,6 +88,9 @@ else
     echo "the tests, with sanitizers"
     build_tests -g -O1 -fsanitize=address,undefined -fno-sanitize-recover=all
     run_tests env WEEDLE_SMALL=1 ASAN_OPTIONS=allocator_may_return_null=1
+    echo "the tests over c/heap.c, with sanitizers"
+    build_tests -g -O1 -fsanitize=address,undefined -fno-sanitize-recover=all "$top/c/heap.c"
+    WEEDLE_SMALL=1 ASAN_OPTIONS=allocator_may_return_null=1 "$out/test_weedle"
     echo "the tests"
     build_tests -O2
     run_tests env

@@ -81,7 +81,7 @@ echo "the package as it is packed"
 (unset WEEDLE_LIBRARY && cargo_in "$top/rust" package --allow-dirty)
 "$top/rust/pack.sh" --clean
 packed=$(tar -tzf "$CARGO_TARGET_DIR"/package/weedle2-*.crate)
-for file in LICENSE README.md native/x86_64-linux/libweedle.a; do
+for file in LICENSE README.md $(cd "$top/prebuilt" && ls -d *-linux | sed 's|.*|native/&/libweedle.a|'); do
     case $packed in
     *"/$file"*) ;;
     *) failed "the package has no $file" ;;
