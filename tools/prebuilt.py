@@ -196,7 +196,7 @@ def make(top: Path, archive: Path, found: str | None, target: str = FIRST) -> No
     if not found:
         raise Unfit("the toolchain's command rt isn't on PATH")
     if not shutil.which(compiler):
-        raise Unfit(f"there is no {compiler} to link what is for {target}")
+        raise Unfit(f"there is no {compiler} to link what is for {target}; --target makes others alone")
     folder = top / folder_of(target)
     folder.mkdir(parents=True, exist_ok=True)
     shutil.copyfile(archive, folder / ARCHIVE)
