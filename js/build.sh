@@ -4,9 +4,9 @@
 #     js/build.sh [--if-needed] [ARCHIVE [OUT]]
 #
 # ARCHIVE is the library, and OUT the addon: where none is named js/weedle.node, which the package takes in place of the
-# prebuilt one. The library is then the first of these that is there: native/libweedle.a, as a published package has it,
-# c/out/libweedle.a, which c/build.sh builds, and prebuilt/x86_64-linux/libweedle.a. With --if-needed nothing is done
-# where an addon is there that this Node can load. It needs a C compiler (cc, or what CC names), and Node with its
+# prebuilt one. The library is then the first of these that is there, for this machine's processor: the one in native/, as a
+# published package has it, the one in c/out/, which c/build.sh builds, and the one in prebuilt/. With --if-needed nothing is
+# done where an addon is there that this Node can load. It needs a C compiler (cc, or what CC names), and Node with its
 # headers, beside it or where NODE_INCLUDE says.
 set -eu
 [ "${1:-}" != --help ] || { sed -n '2,${/^#/!q;s/^# \{0,1\}//p}' "$0"; exit; }
@@ -31,8 +31,10 @@ first_of() {
     failed "there is no $*"
 }
 
-archive=${1:-$(first_of "$here/native/libweedle.a" "$here/../c/out/libweedle.a" \
-    "$here/../prebuilt/x86_64-linux/libweedle.a")}
+target=$(uname -m)-linux
+built=$here/../c/out/$target
+[ "$target" != x86_64-linux ] || built=$here/../c/out
+archive=${1:-$(first_of "$here/native/$target/libweedle.a" "$built/libweedle.a" "$here/../prebuilt/$target/libweedle.a")}
 out=${2:-$here/weedle.node}
 header=$(first_of "$here/native/weedle.h" "$here/../include/weedle.h")
 headers=${NODE_INCLUDE:-$(node -p "require('path').resolve(process.execPath, '../../include/node')")}

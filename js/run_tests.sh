@@ -19,7 +19,7 @@ command -v node >/dev/null || {
 }
 if [ "${1:-}" = --build ]; then
     archive=$here/../c/out/libweedle.a
-    [ -f "$archive" ] || archive=$here/../prebuilt/x86_64-linux/libweedle.a
+    [ -f "$archive" ] || archive=$here/../prebuilt/$(uname -m)-linux/libweedle.a
     "$here/build.sh" "$archive" "$room/weedle.node"
     export WEEDLE_NODE="$room/weedle.node"
 fi

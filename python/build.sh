@@ -10,6 +10,6 @@ set -eu
 [ "${1:-}" != --help ] || { sed -n '2,${/^#/!q;s/^# \{0,1\}//p}' "$0"; exit; }
 
 top=$(cd "$(dirname "$0")/.." && pwd)
-"$top/c/build.sh" "$@"
+"$top/c/build.sh" --target x86_64-linux "$@"
 "$top/c/link_shared.sh" "$top/c/out/libweedle.a" "$top/python/weedle/libweedle.so"
 echo "built $top/python/weedle/libweedle.so"

@@ -1,9 +1,11 @@
 """Makes the wheel of the package, and the sources of one, with the standard library alone.
 
 pip calls `build_wheel`, and for `pip install -e` `build_editable`. A wheel holds a shared object,
-so it is for Linux on x86-64: the one that the variable WEEDLE_SO names, or else that beside the
-package, or else the one in prebuilt/ of the repository, as `import weedle` takes them. Its tag has
-the oldest glibc that serves. The same files give the same bytes, whenever they are packed.
+so it is for Linux on one processor: the object that the variable WEEDLE_SO names, or else that
+beside the package, or else the one in prebuilt/ for this machine's processor, as `import weedle`
+takes them. Its tag has that processor, and the oldest glibc that serves. The sources hold the object
+that a wheel would, and where that is of prebuilt/ those for other processors too. The same files
+give the same bytes, whenever they are packed.
 """
 
 from __future__ import annotations
@@ -24,8 +26,10 @@ from shared_object import SharedObject
 HOME = Path(__file__).resolve().parent
 PACKAGE = HOME / "weedle"
 LIBRARY = "weedle/libweedle.so"
-PREBUILT = "prebuilt/x86_64-linux/libweedle.so"
-# What a source distribution holds beside the package and the LICENSE.
+# At the top of the repository; in the sources of the package those for other processors alone.
+PREBUILT = f"prebuilt/{os.uname().machine}-linux/libweedle.so"
+ALL_PREBUILT = "prebuilt/*/libweedle.so"
+# What a source distribution holds beside the package, the shared objects and the LICENSE.
 SOURCES = ("pyproject.toml", "README.md", "build_backend.py", "shared_object.py")
 # Those of its tests that want nothing of the repository.
 TESTS = (
@@ -81,13 +85,15 @@ def man_pages() -> Iterator[Tuple[str, bytes]]:
         yield path.name, path.read_bytes()
 
 
-def library() -> bytes:
-    """The shared object that `import weedle` would take."""
+def library_place() -> Path:
+    """Where the shared object is that `import weedle` would take."""
     named = os.environ.get("WEEDLE_SO")
-    places = [Path(named)] if named else [HOME / LIBRARY, HOME.parent / PREBUILT]
+    places = [HOME / PREBUILT, HOME / LIBRARY, HOME.parent / PREBUILT]
+    if named:
+        places = [Path(named)]
     for place in places:
         if place.exists():
-            return place.read_bytes()
+            return place
     raise SystemExit(
         f"there is no {' and no '.join(map(str, places))}: python/build.sh of the repository makes "
         "one. "
@@ -95,17 +101,31 @@ def library() -> bytes:
     )
 
 
+def library() -> bytes:
+    """That shared object."""
+    return library_place().read_bytes()
+
+
+def others_prebuilt() -> Dict[str, bytes]:
+    """The shared objects of prebuilt/ for other processors, where this one's is taken of there."""
+    top = HOME.parent
+    if library_place() != top / PREBUILT:
+        return {}
+    names = (it.relative_to(top).as_posix() for it in sorted(top.glob(ALL_PREBUILT)))
+    return {name: (top / name).read_bytes() for name in names if name != PREBUILT}
+
+
 def tag(shared: bytes) -> str:
     """What a wheel with this shared object is for: the oldest glibc that has what it wants."""
-    wanted = SharedObject(shared).wants()
+    file = SharedObject(shared)
     versions = [OLDEST]
-    for name in (it for names in wanted.values() for it in names):
+    for name in (it for names in file.wants().values() for it in names):
         found = re.fullmatch(r"GLIBC_(\d+)\.(\d+)(?:\.\d+)?", name)
         if not found:
-            return "py3-none-linux_x86_64"
+            return f"py3-none-linux_{file.processor()}"
         versions.append((int(found[1]), int(found[2])))
     major, minor = max(versions)
-    return f"py3-none-manylinux_{major}_{minor}_x86_64"
+    return f"py3-none-manylinux_{major}_{minor}_{file.processor()}"
 
 
 def about() -> bytes:
@@ -184,10 +204,11 @@ def build_editable(
 
 
 def build_sdist(sdist_directory: str, config_settings: Optional[dict] = None) -> str:
-    """Writes the sources: the package, tests, and the shared object as it was built."""
+    """Writes the sources: the package, tests, and the shared objects as they were built."""
     names = [*SOURCES, *(f"tests/{name}" for name in TESTS)]
     files = {name: (HOME / name).read_bytes() for name in names}
     files.update(modules())
+    files.update(others_prebuilt())
     files.update({LIBRARY: library(), "LICENSE": license_(), "PKG-INFO": about()})
     files.update({f"man/{name}": data for name, data in man_pages()})
     packed = io.BytesIO()

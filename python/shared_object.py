@@ -1,7 +1,7 @@
-"""What a shared object says of itself: its name, what it exports, and what it wants of others.
+"""What a shared object says of itself: its processor, its name, what it exports, and what it wants.
 
 It reads the tables of an ELF file for 64 bits whose numbers begin with their least byte, as on
-x86-64.
+x86-64 and aarch64.
 """
 
 from __future__ import annotations
@@ -10,6 +10,8 @@ import struct
 from typing import Dict, Iterator, NamedTuple, Optional, Set, Tuple
 
 MAGIC = b"\x7fELF\x02\x01"
+# The numbers of processors, with their names as `uname -m` has them.
+PROCESSORS = {62: "x86_64", 183: "aarch64"}
 # The kinds of sections that are read, and the tag of the row that has the name.
 DYNAMIC, DYNAMIC_SYMBOLS, NEEDED_VERSIONS = 6, 11, 0x6FFFFFFE
 SONAME = 14
@@ -50,6 +52,11 @@ class SharedObject:
     def _text(self, section: Section, place: int) -> str:
         start = self.sections[section.texts].start + place
         return self.data[start:self.data.index(b"\0", start)].decode()
+
+    def processor(self) -> str:
+        """The processor that it is for, as `uname -m` names it, or else its number."""
+        number, = struct.unpack_from("<H", self.data, 0x12)
+        return PROCESSORS.get(number, str(number))
 
     def soname(self) -> Optional[str]:
         """The name by which the programs that are linked with it load it, where it has one."""

@@ -3,8 +3,8 @@
 #
 #     rust/pack.sh [--clean]
 #
-# These are LICENSE, and in native/x86_64-linux the archive libweedle.a: that of c/out/, where it is there, or else that of
-# prebuilt/.
+# These are LICENSE, and in native/ for each target of prebuilt/ a folder with its archive libweedle.a: for x86_64-linux that
+# of c/out/, where it is there, or else that of prebuilt/.
 set -eu
 [ "${1:-}" != --help ] || { sed -n '2,${/^#/!q;s/^# \{0,1\}//p}' "$0"; exit; }
 
@@ -13,8 +13,14 @@ top=$(dirname "$here")
 rm -rf "$here/LICENSE" "$here/native"
 [ "${1:-}" != --clean ] || exit 0
 
-archive=$top/c/out/libweedle.a
-[ -f "$archive" ] || archive=$top/prebuilt/x86_64-linux/libweedle.a
-mkdir -p "$here/native/x86_64-linux"
+mkdir -p "$here/native"
 cp "$top/LICENSE" "$here/LICENSE"
-cp "$archive" "$here/native/x86_64-linux/libweedle.a"
+for prebuilt in "$top"/prebuilt/*-linux; do
+    target=$(basename "$prebuilt")
+    archive=$prebuilt/libweedle.a
+    if [ "$target" = x86_64-linux ] && [ -f "$top/c/out/libweedle.a" ]; then
+        archive=$top/c/out/libweedle.a
+    fi
+    mkdir "$here/native/$target"
+    cp "$archive" "$here/native/$target/libweedle.a"
+done

@@ -17,7 +17,7 @@ room=$(mktemp -d)
 trap 'rm -rf "$room"; "$top/rust/pack.sh" --clean' EXIT
 registry=/usr/share/cargo/registry
 WEEDLE_LIBRARY=$top/c/out
-[ -f "$WEEDLE_LIBRARY/libweedle.a" ] || WEEDLE_LIBRARY=$top/prebuilt/x86_64-linux
+[ -f "$WEEDLE_LIBRARY/libweedle.a" ] || WEEDLE_LIBRARY=$top/prebuilt/$(uname -m)-linux
 CARGO_TARGET_DIR=$top/rust/target
 RUSTDOCFLAGS="-D warnings"
 export WEEDLE_LIBRARY CARGO_TARGET_DIR RUSTDOCFLAGS
@@ -81,7 +81,7 @@ echo "the package as it is packed"
 (unset WEEDLE_LIBRARY && cargo_in "$top/rust" package --allow-dirty)
 "$top/rust/pack.sh" --clean
 packed=$(tar -tzf "$CARGO_TARGET_DIR"/package/weedle2-*.crate)
-for file in LICENSE README.md native/x86_64-linux/libweedle.a; do
+for file in LICENSE README.md $(cd "$top/prebuilt" && ls -d *-linux | sed 's|.*|native/&/libweedle.a|'); do
     case $packed in
     *"/$file"*) ;;
     *) failed "the package has no $file" ;;

@@ -16,8 +16,8 @@ else the layout of all sources is looked at, which `rt ci` does crate by crate: 
 proved.
 
 With --library the static library of the crate weedle_c is built as FILE, for any x86-64 processor, over the libraries
-as `rt ci` has just proved and built them. Where that fails what was said is printed, and there is no FILE; the status
-is the same.
+as `rt ci` has just proved and built them, and behind it for any aarch64 processor, as FILE with `aarch64-linux` before its
+last ending. Where one of them fails what was said is printed, and there is no such file; the status is the same.
 
 Where `rt` has another scheduler than the one that is known here, or can't be read as Python, it is plain `rt ci`,
 there is no FILE, and a line says so. The status is that of `rt ci`. `rt ci` itself gives the same verdict, later.
@@ -59,8 +59,11 @@ SPARE = 1.1
 # further job. As seen: 1.3 GB of the first, 4 to 5.5 of the others, 8 of the types themselves by one job and 11 by four.
 OF_A_SMALL_CHECK, OF_A_CHECK, MOST, OF_A_JOB = 0.5, 1.4, 5_500_000_000, 0.3
 TYPES = "weedle_types"
-# The crate of the static library, and the processor that it is built for.
-LIBRARY, CPU = "weedle_c", "x86-64"
+# The crate of the static library, and what it is built for: the compiler's name of each, its processor, and what the name
+# of the file has of it.
+LIBRARY = "weedle_c"
+FIRST = ("x86_64-unknown-linux-gnu", "x86-64", "")
+TARGETS = (FIRST, ("aarch64-unknown-linux-gnu", "generic", ".aarch64-linux"))
 
 
 class Task:
@@ -207,16 +210,23 @@ def run_all(order):
     return given
 
 
-def build_library(rt, crate, file, jobs):
-    """Builds the static library over the libraries as they stand; whether that went well."""
-    words = crate.words(["--jobs", str(jobs), "--cpu", CPU], keeps=False)
+def build_library(rt, crate, file, jobs, target=FIRST):
+    """Builds the static library for a target over the libraries as they stand; whether that went well."""
+    triple, cpu, _ = target
+    words = crate.words(["--jobs", str(jobs), "--target", triple, "--cpu", cpu], keeps=False)
     toolchain = ["--toolchain", f"{rt.KIT}/toolchain", "--backend", "llvm"]
     command = [*rt.rtlib.guarded(), rt.rtlib.RATTLE, "build", *words, *toolchain, "-o", str(file)]
     how = {"stdin": subprocess.DEVNULL, "stdout": subprocess.PIPE, "stderr": subprocess.STDOUT, "errors": "replace"}
     ran = subprocess.run(command, cwd=crate.folder, check=False, **how)
     if ran.returncode:
-        print(f"{ran.stdout}gate.py: {LIBRARY} isn't built over what is proved", flush=True)
+        print(f"{ran.stdout}gate.py: {LIBRARY} isn't built over what is proved, for {triple}", flush=True)
     return not ran.returncode
+
+
+def build_libraries(rt, crate, file, jobs):
+    """Builds the static library for each target; whether all went well."""
+    files = [file.with_suffix(f"{more}{file.suffix}") for _, _, more in TARGETS]
+    return all([build_library(rt, crate, it, jobs, target) for it, target in zip(files, TARGETS)])
 
 
 def crates_of(rt):
@@ -241,7 +251,7 @@ def with_library(tasks, rt, file):
 
     def call(given, jobs):
         try:
-            return given[proof] and build_library(rt, crate, file, jobs)
+            return given[proof] and build_libraries(rt, crate, file, jobs)
         except (AttributeError, OSError, SystemExit, TypeError) as why:
             print(f"gate.py: {LIBRARY} isn't built over what is proved: {why!r}", flush=True)
             return False

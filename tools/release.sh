@@ -3,14 +3,16 @@
 #
 #     tools/release.sh [--draft] [FOLDER]
 #
-# FOLDER, or else dist/, is made anew. It gets the wheel and the sources of the Python package, the Rust package as `cargo
-# package` has it, the Node package as `npm pack` has it, the library for C as c/pack.sh has it, the programs weedle_check and
-# weedle_format with man pages, stripped, as the gate built them in crates/NAME/out, CHANGES.md and SUMS. The same files and
-# the same tools give the same bytes. Then tools/try_release.sh installs and runs all of it, in empty folders.
+# FOLDER, or else dist/, is made anew. It gets the sources of the Python package, for each target of prebuilt/ a wheel and the
+# library for C as c/pack.sh has it, the Rust package as `cargo package` has it and the Node package as `npm pack` has it, both
+# for all targets, the programs weedle_check and weedle_format for x86-64 with man pages, stripped, as the gate built them in
+# crates/NAME/out, CHANGES.md and SUMS. The same files and the same tools give the same bytes. Then tools/try_release.sh
+# installs and runs all of it, in empty folders.
 #
-# Nothing is downloaded: Cargo has nom from Debian's librust-nom-dev, or from the folder that NOM_REGISTRY names. What the
-# machine lacks a tool for is left out, and a line says so. tools/next_version.py has to agree with the version's number; with
-# --draft it only says what the number has to become. The status is 0 where all that was made passes.
+# Nothing is downloaded: Cargo has nom from Debian's librust-nom-dev, or from the folder that NOM_REGISTRY names. A release has
+# all of these, and tools/next_version.py has to agree with the version's number. With --draft it only says what the number has
+# to become, and what the machine lacks a tool for is left out, and a line says so. The status is 0 where all that was made
+# passes.
 set -eu
 [ "${1:-}" != --help ] || { sed -n '2,${/^#/!q;s/^# \{0,1\}//p}' "$0"; exit; }
 
@@ -37,10 +39,16 @@ system=x86_64-linux
 export NOM_REGISTRY
 unset WEEDLE_SO WEEDLE_NODE WEEDLE_LIBRARY PYTHONPATH
 
+# Says what is left out of a draft, and why; a release has all.
+leave_out() {
+    [ -n "$is_draft" ] || failed "no release without $1: $2; --draft makes one"
+    echo "left out: $1 of the release, since $2"
+}
+
 # Whether there is a command; a line says what is left out where there isn't.
 has() {
     command -v "$1" >/dev/null || {
-        echo "left out: $2 of the release, since there is no $1"
+        leave_out "$2" "there is no $1"
         return 1
     }
 }
@@ -50,20 +58,19 @@ copy_sources() {
     mkdir "$copy"
     (cd "$top" && tar -cf - --exclude=target --exclude=node_modules --exclude=__pycache__ --exclude=.mypy_cache \
         --exclude=python/weedle/libweedle.so --exclude=js/weedle.node --exclude=rust/native --exclude=rust/LICENSE \
-        --exclude=js/LICENSE --exclude='js/native/libweedle.a' --exclude='js/native/weedle.*' --exclude=Cargo.lock \
+        --exclude=js/LICENSE --exclude='js/native/*-linux' --exclude='js/native/weedle.*' --exclude=Cargo.lock \
         LICENSE include man prebuilt python rust js) | tar -C "$copy" -xf -
 }
 
+# Has the backend make something of the Python package: `pack_python WHAT [SHARED_OBJECT]`.
 pack_python() {
-    for what in build_wheel build_sdist; do
-        (cd "$copy/python" && python3 -c "import build_backend as it; print(it.$what('$out'))")
-    done
+    (cd "$copy/python" && WEEDLE_SO=${2:-} python3 -c "import build_backend as it; print(it.$1('$out'))")
 }
 
 pack_rust() {
     has cargo "the Rust package" || return 0
     if ! ls -d "$NOM_REGISTRY"/nom-7.* >/dev/null 2>&1; then
-        echo "left out: the Rust package of the release, since there is no nom in $NOM_REGISTRY"
+        leave_out "the Rust package" "there is no nom in $NOM_REGISTRY"
         return 0
     fi
     printf '[source.crates-io]\nreplace-with = "here"\n[source.here]\ndirectory = "%s"\n' "$NOM_REGISTRY" >"$room/nom.toml"
@@ -82,7 +89,7 @@ pack_node() {
 take_program() {
     program=$top/crates/$1/out/$1
     if [ ! -f "$program" ]; then
-        echo "left out: $1 of the release, since the gate hasn't built $program"
+        leave_out "$1" "the gate hasn't built $program"
         return 0
     fi
     strip -o "$room/$programs/bin/$1" "$program"
@@ -114,13 +121,19 @@ python3 "$top/tools/next_version.py" || {
 version=$(sed -n 's/^# weedle //p' "$built/SUMS")
 rm -rf "$out"
 mkdir -p "$out"
+# So that a run which fails is no other thing for the next one.
+: >"$out/SUMS"
 copy_sources
-pack_python
+pack_python build_sdist
 pack_rust
 pack_node
-"$top/c/pack.sh" "$out"
+for folder in "$top"/prebuilt/*-linux; do
+    target=$(basename "$folder")
+    pack_python build_wheel "$folder/libweedle.so"
+    "$top/c/pack.sh" --target "$target" "$out"
+done
 pack_programs
-python3 "$top/tools/release_texts.py" "$out" "$built/libweedle.so" "$built/weedle.node" \
+python3 "$top/tools/release_texts.py" "$out" "$top"/prebuilt/*-linux/libweedle.so "$top"/prebuilt/*-linux/weedle.node \
     $(find "$room/$programs/bin" -type f | sort)
 "$top/tools/try_release.sh" "$out"
 echo "made $out"

@@ -22,8 +22,9 @@ from prebuilt import FOLDER, HEADER, SUMS, TOP, SharedObject, read_sums, sum_of,
 CHANGES = "CHANGES.md"
 LINK = re.compile(r"\[([^\[\]]+)\]\((?!https?:)[^()]+\)")
 GLIBC = re.compile(r"GLIBC_(\d+)\.(\d+)(?:\.\d+)?")
-# What the library is built for, and what a program is that `rt` builds with no word on that.
-ANY_PROCESSOR, PROGRAMS_PROCESSOR = "x86-64", "x86-64-v2"
+# What is said of a processor: what a library for it runs on, and what a program does that `rt` builds with no word on that.
+LIBRARY_PROCESSORS = {"x86_64": "x86-64", "aarch64": "aarch64"}
+PROGRAMS_PROCESSOR = "x86-64-v2"
 
 
 def section_of(changelog: str, version: str) -> str:
@@ -51,7 +52,7 @@ def wants_of(place: Path) -> str:
     file = SharedObject(place.read_bytes())
     is_library = place.suffix in (".so", ".node")
     glibc = glibc_of(file)
-    processor = ANY_PROCESSOR if is_library else PROGRAMS_PROCESSOR
+    processor = LIBRARY_PROCESSORS[file.processor()] if is_library else PROGRAMS_PROCESSOR
     return f"{place.name}: Linux, {processor}, {f'glibc {glibc} or later' if glibc else 'no glibc'}"
 
 

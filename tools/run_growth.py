@@ -15,6 +15,7 @@ last line is `N passed, M failed`; the status is 0 where none failed and one at 
 """
 
 import os
+import platform
 import re
 import shutil
 import subprocess
@@ -80,7 +81,7 @@ class Runner:
         self.program = self.room / "growth"
         folder = TOP / "c/out"
         if not (folder / "libweedle.a").is_file():
-            folder = TOP / "prebuilt/x86_64-linux"
+            folder = TOP / f"prebuilt/{platform.machine()}-linux"
         flags = ["-O2", f"-I{TOP / 'include'}", "-Wl,--wrap=malloc,--wrap=realloc"]
         source, archive = str(TOP / "c/tests/growth.c"), str(folder / "libweedle.a")
         subprocess.run(["cc", *flags, "-o", str(self.program), source, archive], check=True)

@@ -180,6 +180,7 @@ class Library(unittest.TestCase):
         room = tempfile.TemporaryDirectory()
         self.addCleanup(room.cleanup)
         self.file = Path(room.name, "libweedle_c.a")
+        self.other = Path(room.name, "libweedle_c.aarch64-linux.a")
         self.words = ["-c", "import sys; open(sys.argv[-1], 'w').write(sys.argv[1])"]
         crate = types.SimpleNamespace(name="weedle_c", folder=room.name, words=lambda flags, keeps: flags)
         lib = types.SimpleNamespace(guarded=lambda: [sys.executable, *self.words], RATTLE="rattle")
@@ -195,14 +196,26 @@ class Library(unittest.TestCase):
     def test_it_is_built_behind_the_proof(self):
         self.assertEqual(self.build(), (True, ""))
         self.assertEqual(self.file.read_text(), "rattle")
+        self.assertEqual(self.other.read_text(), "rattle")
+
+    def test_what_each_is_built_for(self):
+        self.words = ["-c", "import sys; open(sys.argv[-1], 'w').write(' '.join(sys.argv[3:]))"]
+        self.assertEqual(self.build(), (True, ""))
+        for file, wanted in (
+            (self.file, "--target x86_64-unknown-linux-gnu --cpu x86-64 "),
+            (self.other, "--target aarch64-unknown-linux-gnu --cpu generic "),
+        ):
+            self.assertIn(wanted, file.read_text())
 
     def test_what_is_not_proved_is_not_built(self):
         self.assertEqual(self.build(is_proved=False), (False, ""))
         self.assertFalse(self.file.exists())
+        self.assertFalse(self.other.exists())
 
     def test_where_building_fails_it_is_said(self):
         self.words = ["-c", "print('no'); raise SystemExit(1)"]
-        self.assertEqual(self.build(), (False, "no\ngate.py: weedle_c isn't built over what is proved\n"))
+        said = "no\ngate.py: weedle_c isn't built over what is proved, for {}-unknown-linux-gnu\n"
+        self.assertEqual(self.build(), (False, said.format("x86_64") + said.format("aarch64")))
 
     def test_another_rt_goes_on_without_it(self):
         with redirect_stdout(StringIO()) as said:

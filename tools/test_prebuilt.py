@@ -7,16 +7,19 @@
 import contextlib
 import io
 import os
+import platform
 import shutil
 import subprocess
 import tempfile
 import unittest
 from pathlib import Path
+from unittest import mock
 
 import prebuilt
 from crates import Unfit
-from prebuilt import ADDON, ARCHIVE, ASKED, FOLDER, HEADER, SHARED, SUMS, TOP
+from prebuilt import ADDON, ARCHIVE, ASKED, FOLDER, HEADER, PREBUILT, SHARED, SUMS, TOP
 
+OTHER = "aarch64-linux"
 COMPILER = shutil.which(os.environ.get("CC", "cc"))
 ARCHIVER = shutil.which("ar")
 KIT, OTHER_KIT = "rattle-kit-1 logic 0a", "rattle-kit-2 logic 0b"
@@ -151,6 +154,14 @@ class Looked(PrebuiltTest):
         shutil.copy(folder / SHARED, folder / ADDON)
         self.assertIn(f"{FOLDER}/{ADDON} exports no napi_register_module_v1", self.found())
 
+    def test_files_for_another_processor(self):
+        shutil.copytree(self.made(), self.top / PREBUILT / OTHER)
+        machine = platform.machine()
+        found = [*prebuilt.faults(self.top, OTHER)]
+        self.assertEqual([it.partition(":")[0] for it in found], [
+            f"{PREBUILT}/{OTHER}/{SHARED} is for {machine}", f"{PREBUILT}/{OTHER}/{ADDON} is for {machine}",
+        ])
+
     def test_a_call_that_is_not_exported(self):
         self.made()
         self.declare(more="uint32_t weedle_format(void);\n")
@@ -186,6 +197,38 @@ class Compared(PrebuiltTest):
         self.made()
         found, _ = self.compared(self.top / "none.a", KIT)
         self.assertIn("to compare with: c/build.sh builds it", found[0])
+
+
+class Targets(PrebuiltTest):
+    """What is built for other processors."""
+
+    def test_those_that_have_a_folder(self):
+        self.assertEqual(prebuilt.targets_in(self.top), ["x86_64-linux"])
+        (self.top / PREBUILT / OTHER).mkdir(parents=True)
+        (self.top / PREBUILT / "sparc-linux").mkdir()
+        self.assertEqual(prebuilt.targets_in(self.top), ["x86_64-linux", OTHER])
+
+    def test_where_each_is_built(self):
+        self.assertEqual(prebuilt.archive_of("x86_64-linux"), "c/out/libweedle.a")
+        self.assertEqual(prebuilt.archive_of(OTHER), "c/out/aarch64-linux/libweedle.a")
+
+    def test_the_compiler(self):
+        for machine, wanted in (("x86_64", "aarch64-linux-gnu-gcc"), ("aarch64", "mycc")):
+            with mock.patch("platform.machine", lambda it=machine: it), mock.patch.dict(os.environ, {"CC": "mycc"}):
+                self.assertEqual(prebuilt.compiler_for(OTHER), wanted)
+
+    def test_a_compiler_that_is_not_there(self):
+        with mock.patch("prebuilt.compiler_for", lambda _: "aarch64-none-gcc"):
+            with self.assertRaises(Unfit) as caught:
+                prebuilt.make(self.top, self.archive, KIT, OTHER)
+        self.assertIn("there is no aarch64-none-gcc to link what is for aarch64-linux; ", str(caught.exception))
+        self.assertFalse((self.top / PREBUILT / OTHER).exists())
+
+    def test_another_archive(self):
+        shutil.copytree(self.made(), self.top / PREBUILT / OTHER)
+        found = [*prebuilt.compared(self.top, self.built("other.a", 3), KIT, OTHER)]
+        self.assertEqual(len(found), 1)
+        self.assertIn(f"isn't {PREBUILT}/{OTHER}/{ARCHIVE}, which has to be built anew", found[0])
 
 
 class Headers(unittest.TestCase):

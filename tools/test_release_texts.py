@@ -51,6 +51,11 @@ class Texts(unittest.TestCase):
                 file = SharedObject((TOP / FOLDER / SHARED).read_bytes())
                 self.assertEqual(release_texts.glibc_of(file), wanted)
 
+    def test_which_processor_is_wanted(self):
+        for processor, wanted in (("x86_64", "x86-64"), ("aarch64", "aarch64")):
+            with mock.patch.object(SharedObject, "processor", lambda _, it=processor: it):
+                self.assertIn(f": Linux, {wanted}, glibc ", release_texts.wants_of(TOP / FOLDER / SHARED))
+
     def test_the_sums(self):
         with tempfile.TemporaryDirectory() as room:
             folder = Path(room)

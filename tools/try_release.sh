@@ -5,9 +5,10 @@
 #
 # The sums have to be those of SUMS. The wheel and the sources are each installed into a virtual environment, the Rust package
 # is a dependency of a new Cargo project, the Node package of a new project, the library for C is found by pkg-config, unpacked
-# and installed, and the programs run: each reads a text, and refuses another. Where the release or the machine lacks
-# something a line says what was left out. NOM_REGISTRY may name another folder of nom than Debian's. The status is 0 where all
-# that was tried passes.
+# and installed, and the programs run: each reads a text, and refuses another. The library for C for another processor is
+# compiled by Debian's compiler for it, and run by qemu's user mode; of a wheel for one it is looked that pip takes it. Where
+# the release or the machine lacks something a line says what was left out. NOM_REGISTRY may name another folder of nom than
+# Debian's. The status is 0 where all that was tried passes.
 set -eu
 [ "${1:-}" != --help ] || { sed -n '2,${/^#/!q;s/^# \{0,1\}//p}' "$0"; exit; }
 
@@ -21,6 +22,7 @@ room=$(mktemp -d)
 trap 'rm -rf "$room"' EXIT
 cp -r "$1" "$room/dist"
 : "${NOM_REGISTRY:=/usr/share/cargo/registry}"
+machine=$(uname -m)
 unset WEEDLE_SO WEEDLE_NODE WEEDLE_LIBRARY PYTHONPATH PKG_CONFIG_PATH
 
 # Makes an empty folder and goes there.
@@ -83,6 +85,21 @@ try_python() {
     echo "tried $1"
 }
 
+# Has pip put the wheels for other processors into a folder, which runs nothing of them.
+try_other_wheels() {
+    for wheel in $(file_of 'weedle-*.whl'); do
+        platform=${wheel##*-none-}
+        case $platform in
+        *"_$machine.whl") continue ;;
+        esac
+        begin "wheel for ${platform%.whl}"
+        python3 -m pip install --quiet --no-index --disable-pip-version-check --no-deps --only-binary=:all: \
+            --platform "${platform%.whl}" --target there "$wheel"
+        [ -f there/weedle/libweedle.so ] || failed "$wheel has no shared object"
+        echo "tried that pip takes the wheel for ${platform%.whl}"
+    done
+}
+
 try_rust() {
     crate=$(file_of 'weedle2-*.crate')
     [ -n "$crate" ] && has cargo "the Rust package" || return 0
@@ -123,36 +140,49 @@ END
     echo "tried node"
 }
 
-# Builds an example by pkg-config with a shared object and with the archive, and runs both.
+# Builds an example by pkg-config with a shared object and with the archive, and runs both: `try_c_in FOLDER`. $compiler
+# compiles, and $emulator runs what isn't for this machine.
 try_c_in() {
     export PKG_CONFIG_PATH=$1/lib/pkgconfig
-    gives "0: $(basename "$package" -x86_64-linux.tar.gz | sed 's/^libweedle-//')" pkg-config --modversion weedle
-    source=$room/c/$(basename "$package" .tar.gz)/examples/count_interfaces.c
-    "${CC:-cc}" -o shared "$source" $(pkg-config --cflags --libs weedle)
-    "${CC:-cc}" -o whole "$source" $(pkg-config --cflags weedle) $(pkg-config --variable=archive weedle)
+    gives "0: $(basename "$package" "-$target.tar.gz" | sed 's/^libweedle-//')" pkg-config --modversion weedle
+    source=$unpacked/examples/count_interfaces.c
+    "$compiler" -o shared "$source" $(pkg-config --cflags --libs weedle)
+    "$compiler" -o whole "$source" $(pkg-config --cflags weedle) $(pkg-config --variable=archive weedle)
     gives "0: Window
-1 interfaces" env LD_LIBRARY_PATH="$1/lib" ./shared good.webidl
+1 interfaces" env LD_LIBRARY_PATH="$1/lib" $emulator ./shared good.webidl
     gives "0: Window
-1 interfaces" ./whole good.webidl
+1 interfaces" $emulator ./whole good.webidl
 }
 
+# Tries one package of the library for C.
 try_c() {
-    package=$(file_of 'libweedle-*.tar.gz')
-    [ -n "$package" ] && has "${CC:-cc}" "the library for C" && has pkg-config "the library for C" || return 0
-    begin c
+    package=$1
+    target=$(basename "$package" .tar.gz | sed 's/^libweedle-[0-9.]*-//')
+    compiler=${CC:-cc} emulator=
+    if [ "$target" != "$machine-linux" ]; then
+        compiler=${target%-linux}-linux-gnu-gcc emulator=qemu-${target%-linux}-static
+        # Where the loader and the C library for that processor are.
+        export QEMU_LD_PREFIX="/usr/${target%-linux}-linux-gnu"
+        has "$emulator" "the library for C for $target" || return 0
+    fi
+    has "$compiler" "the library for C for $target" && has pkg-config "the library for C" || return 0
+    begin "c for $target"
     tar -xzf "$package"
-    unpacked=$PWD/$(basename "$package" .tar.gz)
+    unpacked=$room/c
+    mv "$(basename "$package" .tar.gz)" "$unpacked"
     try_c_in "$unpacked"
-    echo "tried c"
+    echo "tried c for $target"
     has make "the library for C by make install" || return 0
-    make -s -C "$unpacked" install PREFIX="$room/c/there"
-    try_c_in "$room/c/there"
-    make -s -C "$unpacked" install PREFIX=/usr LIBDIR=/usr/lib/x86_64-linux-gnu DESTDIR="$room/c/staged"
-    grep -q '^libdir=/usr/lib/x86_64-linux-gnu$' "$room/c/staged/usr/lib/x86_64-linux-gnu/pkgconfig/weedle.pc" ||
+    there=$room/there
+    make -s -C "$unpacked" install PREFIX="$there"
+    try_c_in "$there"
+    make -s -C "$unpacked" install PREFIX=/usr LIBDIR="/usr/lib/$target-gnu" DESTDIR="$room/staged"
+    grep -q "^libdir=/usr/lib/$target-gnu\$" "$room/staged/usr/lib/$target-gnu/pkgconfig/weedle.pc" ||
         failed "weedle.pc doesn't name LIBDIR"
-    make -s -C "$unpacked" uninstall PREFIX="$room/c/there"
-    [ -z "$(find there -type f -o -type l)" ] || failed "make uninstall leaves $(find there -type f -o -type l)"
-    echo "tried c as make installs it"
+    make -s -C "$unpacked" uninstall PREFIX="$there"
+    [ -z "$(find "$there" -type f -o -type l)" ] || failed "make uninstall leaves $(find "$there" -type f -o -type l)"
+    echo "tried c for $target as make installs it"
+    rm -rf "$unpacked"
 }
 
 try_programs() {
@@ -176,10 +206,13 @@ try_programs() {
 if python3 -m pip --python /nowhere --version 2>&1 | grep -q 'no such option'; then
     echo "left out: the Python package as it is installed, since there is no pip from 22.3 on"
 elif has python3 "the Python package"; then
-    try_python wheel "$(file_of 'weedle-*.whl')"
+    try_python wheel "$(file_of "weedle-*_$machine.whl")"
+    try_other_wheels
     try_python sources "$(file_of 'weedle-[0-9]*.[0-9]*.[0-9]*.tar.gz')"
 fi
 try_rust
 try_node
-try_c
+for package in $(file_of 'libweedle-*.tar.gz'); do
+    try_c "$package"
+done
 try_programs

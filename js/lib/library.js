@@ -13,11 +13,13 @@ const { RULES, VERSION } = require("./written/grammar.js");
 /** The variable that names another addon. */
 const VARIABLE = "WEEDLE_NODE";
 const HOME = path.resolve(__dirname, "..");
+/** This Node's processor and system, with the names that the folders of what is built have. */
+const TARGET = `${{ x64: "x86_64", arm64: "aarch64" }[process.arch] ?? process.arch}-${process.platform}`;
 /**
  * Where one is looked for otherwise: the one that was built here, the one that the package brought, and the one in the
  * repository that the package stands in.
  */
-const PLACES = ["weedle.node", "native/weedle.node", "../prebuilt/x86_64-linux/weedle.node"].map((it) =>
+const PLACES = ["weedle.node", `native/${TARGET}/weedle.node`, `../prebuilt/${TARGET}/weedle.node`].map((it) =>
   path.join(HOME, it),
 );
 

@@ -6,7 +6,7 @@ import path from "node:path";
 import test from "node:test";
 
 import * as weedle from "../index.mjs";
-import { ADDON, HOME, TOP, inRoom, python, run, wanting } from "./support.mjs";
+import { ADDON, HOME, TARGET, TOP, inRoom, python, run, wanting } from "./support.mjs";
 
 const skip = wanting("npm", "sh", "tar");
 const TEXT = "interface Window { readonly attribute Storage store; };";
@@ -95,7 +95,7 @@ test("types of an installed package", { skip: skip || wanting("tsc") }, () => {
 
 test("built anew by a C compiler where the addon doesn't load", { skip: skip || wanting("cc") }, () => {
   inProject((room) => {
-    const addon = path.join(room, "node_modules/weedle/native/weedle.node");
+    const addon = path.join(room, `node_modules/weedle/native/${TARGET}/weedle.node`);
     fs.writeFileSync(addon, "none");
     const done = run(process.execPath, ["-e", 'require("weedle")'], { cwd: room });
     assert.match(done.err, /weedle can't load .*weedle\.node .*builds it by a C compiler/);
@@ -112,7 +112,7 @@ test("an addon that isn't there, or is of another version", { skip: wanting("sh"
     const grammar = path.join(room, "lib/written/grammar.js");
     fs.writeFileSync(grammar, fs.readFileSync(grammar, "utf8").replace(/VERSION = 0x\w+/, "VERSION = 0x010203"));
     assert.match(load(room, { WEEDLE_NODE: ADDON }).err, /has version 0x\w{6} and \d+ rules, and this package 0x010203/);
-    ["weedle.node", "native/weedle.node"].forEach((it) => fs.rmSync(path.join(room, it), { force: true }));
+    ["weedle.node", `native/${TARGET}/weedle.node`].forEach((it) => fs.rmSync(path.join(room, it), { force: true }));
     assert.match(load(room, {}).err, /weedle finds no addon: it looked for .*weedle\.node, .*prebuilt/);
   });
 });

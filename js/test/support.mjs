@@ -13,9 +13,13 @@ export const PROGRAM = path.join(HOME, "bin/weedle.js");
 /** What a program may write at most. */
 const MOST_OUTPUT = 1 << 30;
 
+/** The folder of what is built for this Node's processor. */
+export const TARGET = `${process.arch === "arm64" ? "aarch64" : "x86_64"}-linux`;
+
 /** The addon that the package takes. */
 export const ADDON = [
-  process.env.WEEDLE_NODE, `${HOME}/weedle.node`, `${HOME}/native/weedle.node`, `${TOP}/prebuilt/x86_64-linux/weedle.node`,
+  process.env.WEEDLE_NODE, `${HOME}/weedle.node`, `${HOME}/native/${TARGET}/weedle.node`,
+  `${TOP}/prebuilt/${TARGET}/weedle.node`,
 ].find((it) => it && fs.existsSync(it));
 
 /** Whether a command is there. */

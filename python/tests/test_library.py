@@ -63,7 +63,7 @@ class Found(unittest.TestCase):
             done = run(WORDS, WEEDLE_SO=str(other))
         last = done.stderr.splitlines()[-1]
         self.assertTrue(last.startswith(f"ImportError: weedle can't load {other}, "), last)
-        self.assertIn("Linux on x86-64", last)
+        self.assertIn(f"Linux on {os.uname().machine}", last)
 
     @unittest.skipUnless(COMPILER, "there is no C compiler")
     def test_another_library(self):
@@ -97,7 +97,7 @@ class Looked(unittest.TestCase):
         self.addCleanup(room.cleanup)
         self.home = Path(room.name, "python")
         self.own = self.home / "weedle/libweedle.so"
-        self.prebuilt = Path(room.name, "prebuilt/x86_64-linux/libweedle.so")
+        self.prebuilt = Path(room.name, f"prebuilt/{os.uname().machine}-linux/libweedle.so")
         shutil.copytree(HOME / "weedle", self.own.parent, ignore=shutil.ignore_patterns("*.so", "__pycache__"))
 
     def lay(self, file):
@@ -113,6 +113,10 @@ class Looked(unittest.TestCase):
         self.lay(self.prebuilt)
         self.assertEqual(run(WORDS, self.home).stdout, "1\n")
         self.assertEqual(run(PLACES, self.home).stdout, f"{self.prebuilt}\n")
+
+    def test_one_for_another_processor_is_none(self):
+        self.lay(self.prebuilt.parents[1] / "other-linux/libweedle.so")
+        self.assertIn("weedle finds no shared object", run(WORDS, self.home).stderr)
 
     def test_the_own_one_comes_before_it(self):
         self.lay(self.prebuilt)

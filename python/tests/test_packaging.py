@@ -34,6 +34,10 @@ OWNERS = (
     "Copyright (c) 2015 Andrew Gallant",
 )
 READELF = shutil.which("readelf")
+MACHINE = os.uname().machine
+PREBUILT = f"prebuilt/{MACHINE}-linux/libweedle.so"
+# Where the head of an ELF file has the number of its processor, and the one of 64 bits of ARM.
+PROCESSOR, ARM = slice(0x12, 0x14), b"\xb7\0"
 
 
 def others():
@@ -78,7 +82,7 @@ class InRoom(unittest.TestCase):
 class Built(InRoom):
     def test_a_wheel(self):
         name = build_backend.build_wheel(self.room)
-        self.assertRegex(name, rf"^weedle-{VERSION}-py3-none-manylinux_2_\d+_x86_64\.whl$")
+        self.assertRegex(name, rf"^weedle-{VERSION}-py3-none-manylinux_2_\d+_{MACHINE}\.whl$")
         with zipfile.ZipFile(self.room / name) as wheel:
             self.assertEqual(wheel.read("weedle/libweedle.so"), place().read_bytes())
             info = f"weedle-{VERSION}.dist-info"
@@ -129,24 +133,48 @@ class Built(InRoom):
             with self.assertRaises(SystemExit) as caught:
                 build_backend.library()
             self.assertIn("here/weedle/libweedle.so", str(caught.exception))
-            self.assertIn("prebuilt/x86_64-linux/libweedle.so", str(caught.exception))
-            prebuilt = self.room / "prebuilt/x86_64-linux/libweedle.so"
-            prebuilt.parent.mkdir(parents=True)
-            prebuilt.write_bytes(b"prebuilt")
+            self.assertIn(PREBUILT, str(caught.exception))
+            self.lay(PREBUILT, b"prebuilt")
             self.assertEqual(build_backend.library(), b"prebuilt")
+
+    def lay(self, name, data):
+        """Lays a file into the room."""
+        (self.room / name).parent.mkdir(parents=True, exist_ok=True)
+        (self.room / name).write_bytes(data)
+
+    def test_the_sources_have_those_for_other_processors(self):
+        other = "prebuilt/other-linux/libweedle.so"
+        with mock.patch.dict(os.environ, {VARIABLE: ""}), mock.patch.object(build_backend, "HOME", self.room / "here"):
+            self.lay(PREBUILT, b"this")
+            self.lay(other, b"other")
+            self.assertEqual(build_backend.others_prebuilt(), {other: b"other"})
+            self.lay("here/weedle/libweedle.so", b"own")
+            self.assertEqual(build_backend.others_prebuilt(), {})
+            # As it is in unpacked sources, on such a processor.
+            self.lay(f"here/{PREBUILT}", b"theirs")
+            self.assertEqual(build_backend.library(), b"theirs")
 
 
 class Tags(unittest.TestCase):
     def assert_tag(self, wanted, *names):
         """The tag of a shared object that wants these versions."""
         with mock.patch.object(SharedObject, "wants", lambda _: {"libc.so.6": set(names)}):
-            self.assertEqual(build_backend.tag(place().read_bytes()), f"py3-none-{wanted}_x86_64")
+            self.assertEqual(build_backend.tag(place().read_bytes()), f"py3-none-{wanted}_{MACHINE}")
 
     def test_the_newest_version_that_is_wanted(self):
         self.assert_tag("manylinux_2_14", "GLIBC_2.2.5", "GLIBC_2.14")
         self.assert_tag("manylinux_2_34", "GLIBC_2.34", "GLIBC_2.4", "GLIBC_2.14")
         self.assert_tag("manylinux_2_5", "GLIBC_2.2.5")
         self.assert_tag("linux", "GLIBC_2.14", "GCC_3.0")
+
+    def test_the_processor(self):
+        data = bytearray(place().read_bytes())
+        self.assertEqual(SharedObject(bytes(data)).processor(), MACHINE)
+        data[PROCESSOR] = ARM
+        with mock.patch.object(SharedObject, "wants", lambda _: {"libc.so.6": {"GLIBC_2.17"}}):
+            self.assertEqual(build_backend.tag(bytes(data)), "py3-none-manylinux_2_17_aarch64")
+        data[PROCESSOR] = b"\x07\x01"
+        self.assertEqual(SharedObject(bytes(data)).processor(), "263")
 
     def test_what_is_no_shared_object(self):
         for data in (b"", b"!<arch>\n", b"\x7fELF\x01\x01" + bytes(60)):

@@ -12,11 +12,12 @@ from typing import Any, Callable, List, NamedTuple, Optional, Tuple, Union
 from weedle.grammar import RULES, VERSION
 
 # The variable that names another shared object, and where one is looked for where it isn't set:
-# beside the package, and in the repository that the package stands in.
+# beside the package, and in the repository that the package stands in, for this processor.
 VARIABLE = "WEEDLE_SO"
 HOME = Path(__file__).resolve().parent
 OWN = HOME / "libweedle.so"
-PREBUILT = HOME.parents[1] / "prebuilt/x86_64-linux/libweedle.so"
+MACHINE = os.uname().machine
+PREBUILT = HOME.parents[1] / f"prebuilt/{MACHINE}-linux/libweedle.so"
 
 # The type of a node's numbers, FORMAT as a memoryview names it, and their order.
 NUMBER, FORMAT = c_uint32, "I"
@@ -163,7 +164,7 @@ def _unloaded(path: Path, fault: OSError) -> str:
     else:
         where = f"{OWN} and {PREBUILT} ({VARIABLE} isn't set)"
     if path.exists():
-        said = f"can't load {where}. It has to be for Linux on x86-64, as this Python"
+        said = f"can't load {where}. It has to be for Linux on {MACHINE}, as this Python"
     else:
         said = f"finds no shared object: it looked for {where}"
     return f"weedle {said}. python/build.sh of the repository makes it. ({fault})"
