@@ -1,5 +1,4 @@
-use Rattle.std.proofs.Common.{◌<◌, sym, subst, get_or}
-use Rattle.weedle_grammar.specs.written.Bound.{rule_count}
+use Rattle.std.proofs.Common.{subst, get_or}
 use Rattle.weedle_grammar.specs.written.Table.{row_of}
 use Rattle.weedle_starts.specs.Ways.{IsWay}
 use Rattle.weedle_starts.specs.declared.written.ways.TheConstants.{WAYS}
