@@ -9,6 +9,10 @@ times at the most, and so may the instructions of the C library's calls, where v
 are of READ_LENGTHS for the bytes, and of RUN_LENGTHS for the instructions; where these don't go the same way, as where
 the longer one nests too deep for descent, the next longer pair decides.
 
+The text of OPEN is of 163 kB and lacks two `]`: a call that took the table of ends for it would ask for 1,544 bytes a byte, and
+take some 2,500 ns. Of that text, and of a random one that lacks as many, each call may ask for MOST_BYTES a byte at the most,
+and take MOST_RUN instructions a byte, which is 200 ns where 2.5 GHz do three of them at once.
+
 PROGRAM is crates/weedle_table/out/weedle_table where none is named; where it isn't built, a line says that it is left
 out. The library is c/out/libweedle.a, or else the one in prebuilt/. Of each that grows more a line says how much. The
 last line is `N passed, M failed`; the status is 0 where none failed and one at least passed, 1 where one failed.
@@ -25,6 +29,7 @@ from concurrent.futures import ThreadPoolExecutor
 from pathlib import Path
 from typing import Callable, Iterator, NamedTuple
 
+import sown_errors
 from asked_memory import built_library
 from command_line import parser_of
 from families import Family, families
@@ -38,6 +43,10 @@ READ_LENGTHS, RUN_LENGTHS = (40_000, 160_000), (4_000, 16_000)
 FIXED_BYTES, FIXED_INSTRUCTIONS = 4_096, 300_000
 # A piece that stands fewer times than this in a family stands as often in each text of it.
 FEW = 50
+# The family whose whole text is held to bounds of its own, and a random text of its length: how many bytes a byte of it a call
+# may ask for, and how many instructions it may take.
+OPEN, SEED = "two attributes that stay open in a long text", 3
+MOST_BYTES, MOST_RUN = 600, 1_500
 CALLS = "syntax", "explain", "recover", "format"
 WORDS = "places", "names"
 
@@ -52,6 +61,33 @@ class Tried(NamedTuple):
 
     def line(self) -> str:
         return f"{self.family}, {self.call}: {self.growth:.1f} times the {self.what} for four times the text"
+
+
+class Cost(NamedTuple):
+    """What a call takes of a text, for each of its bytes."""
+
+    text: str
+    call: str
+    what: str
+    each: float
+    most: int
+
+    @property
+    def is_within(self) -> bool:
+        return self.each <= self.most
+
+    def line(self) -> str:
+        return f"{self.text}, {self.call}: {self.each:.0f} {self.what} a byte, where {self.most} are the most"
+
+
+def texts_with_two_open() -> dict[str, bytes]:
+    """Texts in which two `[` aren't closed, by their names."""
+    text = next(family.text() for family in families() if family.name == OPEN)
+    random_text = sown_errors.joined(sown_errors.Maker(SEED).text(len(text)))
+    closing = [place for place, sign in enumerate(random_text) if sign == "]"]
+    first, second = closing[len(closing) // 3], closing[2 * len(closing) // 3]
+    dropped = random_text[:first] + random_text[first + 1:second] + random_text[second + 1:]
+    return {OPEN: text, "a random text without two `]`": dropped.encode()}
 
 
 def text_of(family: Family, length: int) -> bytes:
@@ -121,6 +157,13 @@ class Runner:
             raise RuntimeError(f"{self.table.name} {word}: its requests weren't counted")
         return int(found[1])
 
+    def costs(self, name: str, text: bytes) -> Iterator[Cost]:
+        """What each call takes of a text."""
+        for call in CALLS:
+            yield Cost(name, f"weedle_{call}", "bytes", self.asked(call, text) / len(text), MOST_BYTES)
+            if shutil.which("valgrind"):
+                yield Cost(name, f"weedle_{call}", "instructions", self.instructions(call, text) / len(text), MOST_RUN)
+
     def tries(self, family: Family) -> Iterator[Tried]:
         """All that is measured of a family."""
         for call in CALLS:
@@ -147,10 +190,12 @@ def main(words: list[str] | None = None) -> int:
     with tempfile.TemporaryDirectory() as room, ThreadPoolExecutor(os.cpu_count()) as pool:
         runner = Runner(room, program)
         found = [it for tries in pool.map(lambda family: [*runner.tries(family)], families()) for it in tries]
-    failed = [it for it in found if it.growth > MOST]
-    for it in failed:
-        print(it.line())
-    print(f"{len(found) - len(failed)} passed, {len(failed)} failed")
+        costs = [cost for name, text in texts_with_two_open().items() for cost in runner.costs(name, text)]
+    failed = [it.line() for it in found if it.growth > MOST] + [it.line() for it in costs if not it.is_within]
+    for line in failed:
+        print(line)
+    tried = len(found) + len(costs)
+    print(f"{tried - len(failed)} passed, {len(failed)} failed")
     return 0 if found and not failed else 1
 
 

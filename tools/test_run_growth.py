@@ -40,7 +40,21 @@ class Growth(unittest.TestCase):
         self.assertLess(growth(lambda text: 10 + len(text) ** 2 // 10**7, MANY, LENGTHS, 10**4), MOST)
 
 
+class Open(unittest.TestCase):
+    def test_each_text_is_long_and_lacks_two_brackets(self):
+        for text in run_growth.texts_with_two_open().values():
+            self.assertGreater(len(text), 160_000)
+            self.assertEqual(text.count(b"["), text.count(b"]") + 2)
+
+    def test_a_table_would_ask_for_too_much(self):
+        self.assertFalse(run_growth.Cost("a", "weedle_syntax", "bytes", 1_544, run_growth.MOST_BYTES).is_within)
+
+
 class Told(unittest.TestCase):
+    def test_a_line_says_what_is_too_much_for_a_byte(self):
+        line = run_growth.Cost("a text", "weedle_format", "bytes", 1_544.4, 600).line()
+        self.assertEqual(line, "a text, weedle_format: 1544 bytes a byte, where 600 are the most")
+
     def test_a_line_says_what_grows_how_much(self):
         line = run_growth.Tried("quotes", "weedle_explain", "bytes", 15.96).line()
         self.assertEqual(line, "quotes, weedle_explain: 16.0 times the bytes for four times the text")

@@ -31,6 +31,15 @@ LONG = [
     ),
 ]
 
+# Texts that aren't read whole, and what is laid out of them, by hand.
+PARTS = [
+    ("A  includes B;\n\n\n\nbroken\n\n\n\nC  includes D;", "A includes B;\n\n\n\nbroken\n\n\n\nC includes D;\n"),
+    ("typedef ;  A  includes B ;  C includes D;", "typedef ;  A includes B;\nC includes D;\n"),
+    ("interface A{long x;};typedef  long B;", "interface A{long x;};typedef long B;\n"),
+    ("enum E{\"a\"};x", 'enum E { "a" };x'),
+    ("broken ", "broken "),
+]
+
 # Texts of whitespace and comments alone, and texts that only look so.
 BLANK = [
     "", " ", "\n\n", "\t\r\n", "// a", "// a\n", "/* a */", "/**/", "/***/", " /* a\n */ // b\n//\n", "// \u00e9 */",
@@ -65,6 +74,14 @@ class Formatting(unittest.TestCase):
                 self.assertEqual(weedle.format(text), wanted)
                 self.assertEqual(weedle.format(wanted), wanted)
                 self.assertEqual(weedle.format(text.encode()), wanted.encode())
+
+    def test_what_is_read_of_a_text(self):
+        for text, wanted in PARTS:
+            with self.subTest(text):
+                self.assertRaises(weedle.Refused, weedle.format, text)
+                self.assertEqual(weedle.format(text, partial=True), wanted)
+                self.assertEqual(weedle.format(text.encode(), partial=True), wanted.encode())
+        self.assertEqual(weedle.format("A  includes B;", partial=True), "A includes B;\n")
 
     def test_long_texts(self):
         for text, wanted in LONG:

@@ -1,6 +1,6 @@
 """Reads files of WebIDL, and writes what stands in them.
 
-    weedle [--json | --syntax | --format [--check | --write]] [--errors N] [FILE..]
+    weedle [--json | --syntax | --format [--check | --write] [--partial]] [--errors N] [FILE..]
     weedle lint [--json] [--ignore CODE].. [--known FILE].. FILE..
     weedle lsp
 
@@ -13,13 +13,15 @@ the `file` and the `definition`. With `--syntax` it writes each node on a line, 
 depth, with `--format` the text laid out; what is refused, and why, it then says on standard error.
 With none of them it says that on standard output, and last how many files were read and refused, as
 weedle_check does. Of each file it says the first N errors, 20 where no number is given, and how many
-more there are; where files have more errors than one, the last line has their number. With
+more there are; where files have more errors than one, the last line has their number. With 1 no
+others are looked for. With
 `--format --check` it names the files whose layout would change, and with `--format --write` it
 replaces each of them at once; both say on standard output what is refused, of each file the first
-error, and how many there were, as weedle_format does. The status is 0 where all is read, 1 where
-something is refused or would change, 2 where a file can't be read or isn't UTF-8, 3 where memory ran
-out, 4 where a file or the output can't be written, and 5 where the arguments are others; of several
-the greatest.
+error, and how many there were, as weedle_format does. With `--partial` beside `--format` the
+definitions that are read of a file that is refused are laid out too, and all else of it stays byte
+for byte. The status is 0 where all is read, 1 where something is refused or would change, 2 where a
+file can't be read or isn't UTF-8, 3 where memory ran out, 4 where a file or the output can't be
+written, and 5 where the arguments are others; of several the greatest.
 """
 
 from __future__ import annotations
@@ -33,6 +35,7 @@ import sys
 import tempfile
 from contextlib import suppress
 from enum import IntEnum
+from functools import partial
 from typing import BinaryIO, Callable, Dict, NoReturn, Optional, Sequence, Tuple
 
 from weedle import Refused, __version__, format, lint, parse, recover, syntax
@@ -100,22 +103,34 @@ def write_syntax(data: bytes, out: BinaryIO, name: Optional[str]) -> None:
         out.write(f"{said}\n".encode())
 
 
-def write_format(data: bytes, out: BinaryIO, name: Optional[str]) -> None:
+def format_partly(data: bytes) -> bytes:
+    """The text of which the definitions that are read are laid out."""
+    return format(data, partial=True)
+
+
+def write_format(
+    data: bytes, out: BinaryIO, name: Optional[str], lay: Callable[[bytes], bytes] = format
+) -> bool:
     """Writes the text laid out."""
-    out.write(format(data))
+    out.write(lay(data))
+    return False
 
 
-def write_name(data: bytes, out: BinaryIO, name: Optional[str]) -> bool:
+def write_name(
+    data: bytes, out: BinaryIO, name: Optional[str], lay: Callable[[bytes], bytes] = format
+) -> bool:
     """Writes the file's name where its layout would change."""
-    changes = format(data) != data
+    changes = lay(data) != data
     if changes:
         out.write(os.fsencode(f"{name}\n"))
     return changes
 
 
-def write_file(data: bytes, out: BinaryIO, name: Optional[str]) -> bool:
+def write_file(
+    data: bytes, out: BinaryIO, name: Optional[str], lay: Callable[[bytes], bytes] = format
+) -> bool:
     """Replaces the file by what was laid out, and writes its name, where that changes it."""
-    laid_out = format(data)
+    laid_out = lay(data)
     changes = laid_out != data
     if changes:
         replace(os.path.realpath(name or ""), laid_out)
@@ -149,6 +164,12 @@ def write_nothing(data: bytes, out: BinaryIO, name: Optional[str]) -> None:
 COUNTS: Dict[Write, str] = {
     write_nothing: "", write_name: "to be laid out", write_file: "laid out",
 }
+# What writes the layout of a file that is refused, by what writes that of others.
+PARTLY: Dict[Write, Write] = {
+    write_format: partial(write_format, lay=format_partly),
+    write_name: partial(write_name, lay=format_partly),
+    write_file: partial(write_file, lay=format_partly),
+}
 
 
 def bytes_of(word: str) -> bytes:
@@ -165,10 +186,14 @@ class Run:
     """A run of the program over some files, each written by the same function.
 
     The function is told the name of the file where there are several, or where it is laid out.
+    Of a file that is refused another one may write what is read of it.
     """
 
-    def __init__(self, write: Write, out: BinaryIO, is_named: bool, most: int = MOST_ERRORS) -> None:
-        self.write, self.out, self.most = write, out, most
+    def __init__(
+        self, write: Write, out: BinaryIO, is_named: bool, most: int = MOST_ERRORS,
+        partly: Optional[Write] = None,
+    ) -> None:
+        self.write, self.out, self.most, self.partly = write, out, most, partly
         self.is_named = is_named or bool(COUNTS.get(write))
         self.files = self.refused = self.unread = self.changed = self.errors = 0
 
@@ -181,14 +206,10 @@ class Run:
             why = f"{fault.strerror} (os error {fault.errno})"
             return self.complain(name, f"cannot read input: {why}", Status.UNREADABLE)
         try:
-            changes = bool(self.write(data, self.out, name if self.is_named else None))
-        except Refused as refused:
-            if COUNTS.get(self.write):
-                self.tell(f"{name}:{refused}")
-            else:
-                self.tell_all(name, data, refused)
-            self.files, self.refused = self.files + 1, self.refused + 1
-            return Status.REFUSED
+            try:
+                changes = bool(self.write(data, self.out, name if self.is_named else None))
+            except Refused as refused:
+                return self.refuse(name, data, refused)
         except UnicodeDecodeError:
             return self.complain(name, "input is not UTF-8", Status.UNREADABLE)
         except MemoryError:
@@ -198,10 +219,21 @@ class Run:
         self.files, self.changed = self.files + 1, self.changed + changes
         return Status.REFUSED if changes and self.write is write_name else Status.READ
 
+    def refuse(self, name: str, data: bytes, refused: Refused) -> Status:
+        """Writes what is read of a file that is refused, where that is asked for, and says why it is."""
+        if self.partly:
+            self.changed += bool(self.partly(data, self.out, name))
+        if COUNTS.get(self.write):
+            self.tell(f"{name}:{refused}")
+        else:
+            self.tell_all(name, data, refused)
+        self.files, self.refused = self.files + 1, self.refused + 1
+        return Status.REFUSED
+
     def tell_all(self, name: str, data: bytes, refused: Refused) -> None:
         """Says all errors of a file: the first as `parse` has it, the others part by part."""
         try:
-            others = recover(data).errors[1:]
+            others = recover(data).errors[1:] if self.most > 1 else []
         except MemoryError:
             others = []
         self.errors += 1 + len(others)
@@ -277,8 +309,12 @@ def parser_of_words() -> Parser:
         for option, write, words in options:
             group.add_argument(option, dest=place, action="store_const", const=write, help=words)
     parser.add_argument(
+        "--partial", action="store_true",
+        help="with --format: lay out what is read of files that are refused",
+    )
+    parser.add_argument(
         "--errors", metavar="N", type=number, default=MOST_ERRORS,
-        help=f"say so many errors of each file at most ({MOST_ERRORS})",
+        help=f"say so many errors of each file at most ({MOST_ERRORS}); with 1 look for no others",
     )
     parser.add_argument("--version", action="version", version=f"%(prog)s {__version__}")
     parser.add_argument(
@@ -295,7 +331,10 @@ def arguments(words: Optional[Sequence[str]]) -> argparse.Namespace:
         parser.error("--check and --write go with --format")
     if wanted.changes is write_file and (not wanted.files or DASH in wanted.files):
         parser.error("--write replaces files, and no standard input")
+    if wanted.partial and wanted.write is not write_format:
+        parser.error("--partial goes with --format")
     wanted.write = wanted.changes or wanted.write or write_nothing
+    wanted.partly = PARTLY[wanted.write] if wanted.partial else None
     return wanted
 
 
@@ -317,7 +356,7 @@ def main(words: Optional[Sequence[str]] = None) -> int:
     try:
         if is_lint:
             return lint.main(words[1:], out)
-        return Run(wanted.write, out, len(files) > 1, wanted.errors).read_all(files)
+        return Run(wanted.write, out, len(files) > 1, wanted.errors, wanted.partly).read_all(files)
     except OSError as fault:
         # what waits is let go of: Python 3.13 says of a buffer that it can't flush it
         with suppress(OSError):

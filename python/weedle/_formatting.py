@@ -3,15 +3,19 @@
 from __future__ import annotations
 
 import re
+from itertools import groupby
 from typing import TypeVar
 
 from weedle import _library
 from weedle._reading import fault_of
 from weedle._text import Text
+from weedle.errors import Refused
+from weedle.recovery import Part, recover
 
 Given = TypeVar("Given", str, bytes)
 
 # Whitespace, or a comment: `///` begins a docstring.
+BLANKS = b" \t\n\f\r"
 TRIVIA = re.compile(rb"[ \t\r\n]+|//(?!/)[^\n]*|/\*.*?\*/", re.DOTALL)
 
 
@@ -24,7 +28,9 @@ def is_blank(data: bytes) -> bool:
     return place == len(data)
 
 
-def format(text: Given) -> Given:  # the name that every formatter has, though Python has one of it
+def format(  # the name that every formatter has, though Python has one of it
+    text: Given, *, partial: bool = False
+) -> Given:
     """The text laid out anew, of the type that it has.
 
     >>> print(format("interface Window{readonly attribute long x;};"), end="")
@@ -35,8 +41,20 @@ def format(text: Given) -> Given:  # the name that every formatter has, though P
     Blanks are moved, and nothing else changes: the answer is read by the same rules, with the same
     words, strings and comments. A text of whitespace and comments alone stays as it stands. It
     raises what `weedle.parse` raises.
+
+    With `partial` it raises no `Refused`: of a text that isn't read whole the definitions that are
+    read are laid out, those one behind another together, and all else stays byte for byte.
+
+    >>> format("A   includes B ;  typedef ;", partial=True)
+    'A includes B;  typedef ;'
     """
-    made = _laid_out(Text(text))
+    given = Text(text)
+    try:
+        made = _laid_out(given)
+    except Refused:
+        if not partial:
+            raise
+        made = _laid_out_partly(given.data)
     return made.decode() if isinstance(text, str) else made
 
 
@@ -49,3 +67,28 @@ def _laid_out(given: Text) -> bytes:
         return _library.lay_out(given.data)
     except _library.Unread as unread:
         raise fault_of(given, unread.status, unread.rest) from None
+
+
+def _laid_out_partly(data: bytes) -> bytes:
+    """The bytes of a text in which the definitions that are read are laid out."""
+    made = []
+    for is_read, run in groupby(recover(data).parts, _is_definition):
+        spans = [it.span for it in run]
+        start, end = spans[0].start, spans[-1].end
+        stretch = data[start:end]
+        made.append(_run(stretch, start == 0, end == len(data)) if is_read else stretch)
+    return b"".join(made)
+
+
+def _is_definition(part: Part) -> bool:
+    return part.is_read and part.rule == "definition"
+
+
+def _run(data: bytes, is_first: bool, is_last: bool) -> bytes:
+    """Definitions laid out; the blanks around them stay, where the text goes on there."""
+    inner = data.lstrip(BLANKS)
+    front = b"" if is_first else data[:len(data) - len(inner)]
+    if is_last:
+        return front + _library.lay_out(inner)
+    body = inner.rstrip(BLANKS)
+    return front + _library.lay_out(body).rstrip(BLANKS) + inner[len(body):]
