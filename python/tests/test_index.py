@@ -70,6 +70,10 @@ class Indexed(unittest.TestCase):
         self.assertEqual([it.name for it in self.index["Loop"].ancestors()], ["Ring"])
         self.assertEqual([it.name for it in self.index["Options"].ancestors()], ["Base"])
 
+    def test_what_nothing_defines_is_no_ancestor(self):
+        self.index.add("interface Some : Parts {}; partial interface Parts { attribute long x; };")
+        self.assertEqual(self.index["Some"].ancestors(), [])
+
     def test_members_of_all_lists(self):
         found = [(it.kind, it.name) for it in self.index["Node"].members()]
         self.assertEqual(found, [

@@ -34,6 +34,7 @@ class Part:
         # the parts of a class, in the order of its fields, and those that are the same words always
         own = vars(owner)
         owner._names = (*own.get("_names", ()), name)
+        owner._split = owner._names[:-1], name
         owner._words = (*own.get("_words", ()), *[name] * self.is_word)
 
     def __get__(self, value: Any, owner: Any = None) -> Any:
@@ -66,8 +67,10 @@ class Value(Placed):
 
     # Whether each part has a node: a default that may only follow `optional` can lack it.
     _is_whole: ClassVar[bool] = True
-    # The names of fields, and their names in JSON, where they are others.
+    # The names of fields, the same but for the last and the last, and their names in JSON, where they
+    # are others.
     _names: ClassVar[Tuple[str, ...]] = ()
+    _split: ClassVar[Tuple[Tuple[str, ...], str]] = ((), "")
     _words: ClassVar[Tuple[str, ...]] = ()
     _renamed: ClassVar[Dict[str, str]] = {}
 
@@ -167,21 +170,24 @@ class Value(Placed):
         if levels is None or not self._is_whole:
             return self._fill_slowly()
         find, below = levels.find, levels[node]
-        *names, last = self._names
+        firsts, last = self._split
         # most parts are words and names, which are made here without a call
-        for name in names:
-            rule, behind = rules[node], find(below, node + 1)
+        for name in firsts:
+            rule = rules[node]
             kind = kinds[rule]
             if kind:
                 value = new(kind)
                 set_tree(value, tree)
                 set_node(value, node)
                 keep(self, name, value)
-            elif behind == node + 1 and rule in OPTIONS:
+            elif rule in OPTIONS and levels[node + 1] == below:
+                # nothing stands below what is absent, and another part follows
                 keep(self, name, None)
+                node += 1
+                continue
             else:
                 keep(self, name, MAKE[rule](tree, node))
-            node = behind
+            node = find(below, node + 1)
         keep(self, last, MAKE[rules[node]](tree, node))
         return None
 

@@ -4,17 +4,25 @@ from __future__ import annotations
 
 from typing import Any, Iterator, Optional
 
-from weedle._making import MAKE_VALUE, Variants, MAKERS, rules_of
+from weedle._making import KINDS, MAKE_VALUE, MAKERS, Variants, rules_of
 from weedle._tree import Tree
 
 
 def values_in(tree: Tree, node: int) -> Iterator[Any]:
     """The values of a node and of all nodes below it, in preorder."""
-    makes = MAKE_VALUE
+    from weedle._values import new, set_node, set_tree  # they stand above
+
+    kinds, makes = KINDS, MAKE_VALUE
     for at, rule in enumerate(tree.rules[node:tree.behind(node)], node):
-        make = makes[rule]
-        if make:
-            yield make(tree, at)
+        kind = kinds[rule]
+        # most values are of one class, and made here without a call
+        if kind:
+            value = new(kind)
+            set_tree(value, tree)
+            set_node(value, at)
+            yield value
+        elif makes[rule]:
+            yield makes[rule](tree, at)
 
 
 def values_of(tree: Tree, node: int, kind: type) -> Iterator[Any]:

@@ -179,7 +179,7 @@ class Entry:
         name = self.inherited
         while name and name.value in self._index:
             above = self._index[name.value]
-            if above is self or above in found:
+            if not above.definitions or above is self or above in found:
                 break
             found.append(above)
             name = above.inherited
