@@ -27,10 +27,12 @@ static int takes(size_t size) {
     return is_refused;
 }
 
-/* Whether the call gives up at once: past 50 kB, or where a table for 1 to 20 kB is refused. */
+/* Whether the call gives up at once: past 50 kB, or where a table for 1 to 20 kB is refused, or memory for the pieces. */
 static int gives_up(const char *call, size_t length) {
     if (is(call, "gives-up"))
         return length > LONG;
+    if (is(call, "pieces"))
+        return takes(PIECES * length);
     return is(call, "table") && length >= SHORT && length <= MIDDLE && takes(TABLE * (length + 1));
 }
 
@@ -47,8 +49,11 @@ static uint32_t told(const char *call, uint32_t status, char *message, size_t ro
     return status;
 }
 
-/* A call under its own name, and the library's; then what is done where it is turned. */
-#define CALL(name, parameters, arguments, answer, then)                         \
+/*
+ * A call under its own name, and the library's. Where it is made twice, the first has no room; `then` is what becomes of
+ * its status.
+ */
+#define CALL(name, parameters, arguments, no_room, answer, then)                \
     uint32_t __real_weedle_##name parameters;                                   \
     uint32_t __wrap_weedle_##name parameters;                                   \
     uint32_t __wrap_weedle_##name parameters {                                  \
@@ -57,46 +62,48 @@ static uint32_t told(const char *call, uint32_t status, char *message, size_t ro
             memset(answer, 0, sizeof *answer);                                  \
             return WEEDLE_STATUS_NO_MEMORY;                                     \
         }                                                                       \
+        if (is(call, "twice") && __real_weedle_##name no_room == WEEDLE_STATUS_NO_MEMORY) \
+            return WEEDLE_STATUS_NO_MEMORY;                                     \
         uint32_t status = __real_weedle_##name arguments;                       \
-        if (is(call, "twice") && status != WEEDLE_STATUS_NO_MEMORY)             \
-            status = __real_weedle_##name arguments;                            \
         return then;                                                            \
     }
 
 CALL(syntax,
      (const char *text, size_t length, struct weedle_node *nodes, size_t room, struct weedle_answer *answer),
-     (text, length, nodes, room, answer), answer, status)
+     (text, length, nodes, room, answer), (text, length, nodes, 0, answer), answer, status)
 CALL(syntax_of,
      (uint32_t rule, const char *text, size_t length, struct weedle_node *nodes, size_t room,
       struct weedle_answer *answer),
-     (rule, text, length, nodes, room, answer), answer, status)
+     (rule, text, length, nodes, room, answer), (rule, text, length, nodes, 0, answer), answer, status)
 CALL(explain, (const char *text, size_t length, char *message, size_t room, struct weedle_refusal *refusal),
-     (text, length, message, room, refusal), refusal, told(call, status, message, room, refusal))
+     (text, length, message, room, refusal), (text, length, message, 0, refusal), refusal,
+     told(call, status, message, room, refusal))
 CALL(explain_from,
      (const char *text, size_t length, size_t start, char *message, size_t room, struct weedle_refusal *refusal),
-     (text, length, start, message, room, refusal), refusal, told(call, status, message, room, refusal))
+     (text, length, start, message, room, refusal), (text, length, start, message, 0, refusal), refusal,
+     told(call, status, message, room, refusal))
 CALL(explain_part,
      (const char *text, size_t length, const struct weedle_part *part, char *message, size_t room,
       struct weedle_refusal *refusal),
-     (text, length, part, message, room, refusal), refusal, told(call, status, message, room, refusal))
+     (text, length, part, message, room, refusal), (text, length, part, message, 0, refusal), refusal,
+     told(call, status, message, room, refusal))
 CALL(expected,
      (const char *text, size_t length, size_t start, char *words, size_t room,
       struct weedle_expected_words *expected),
-     (text, length, start, words, room, expected), expected, status)
+     (text, length, start, words, room, expected), (text, length, start, words, 0, expected), expected, status)
 CALL(expected_part,
      (const char *text, size_t length, const struct weedle_part *part, char *words, size_t room,
       struct weedle_expected_words *expected),
-     (text, length, part, words, room, expected), expected, status)
+     (text, length, part, words, room, expected), (text, length, part, words, 0, expected), expected, status)
 CALL(recover,
      (const char *text, size_t length, struct weedle_part *parts, size_t part_room, struct weedle_node *nodes,
       size_t room, struct weedle_recovered *recovered),
-     (text, length, parts, part_room, nodes, room, recovered), recovered, status)
+     (text, length, parts, part_room, nodes, room, recovered), (text, length, parts, 0, nodes, 0, recovered),
+     recovered, status)
 
-/* A layout that asks for eight times the pieces, or leaves a long text as it stood. */
+/* A long text that stays as it stood, as if its layout said something else. */
 static uint32_t laid(const char *text, size_t length, char *out, size_t room, struct weedle_formatted *it, uint32_t status) {
     int is_done = status == WEEDLE_STATUS_READ || status == WEEDLE_STATUS_NO_ROOM;
-    if (is("format", "pieces") && takes(PIECES * length))
-        return WEEDLE_STATUS_NO_MEMORY;
     if (!is("format", "stands") || !is_done || length <= LONG)
         return status;
     it->length = length, it->is_laid_out = 0;
@@ -107,4 +114,5 @@ static uint32_t laid(const char *text, size_t length, char *out, size_t room, st
 }
 
 CALL(format, (const char *text, size_t length, char *out, size_t room, struct weedle_formatted *formatted),
-     (text, length, out, room, formatted), formatted, laid(text, length, out, room, formatted, status))
+     (text, length, out, room, formatted), (text, length, out, 0, formatted), formatted,
+     laid(text, length, out, room, formatted, status))
