@@ -335,5 +335,31 @@ class Programs(TryEditsTest):
         self.assertEqual(self.found([False, False], [False], []), (0, 3))
 
 
+class LibraryTest(unittest.TestCase):
+    """The library for C: its tests in C say whether a wrong body is found."""
+
+    def test_the_tests_in_c_find_one(self):
+        with mock.patch.object(wrong_programs.asked_memory, "built_library", lambda room: ""), \
+             mock.patch.object(wrong_programs, "built_by_lib", lambda crate, room: room / "libweedle.a"), \
+             mock.patch.object(wrong_programs, "failing_tests", lambda archive, room: [True, False, False]):
+            self.assertEqual(wrong_programs.Runs(Path("room")).failures_of(Path("crates/weedle_c"), True), (1, 3))
+
+    def test_a_test_that_fails_and_one_that_ends_its_program(self):
+        def run(words, **_):
+            is_weedle = str(words[0]).endswith("test_weedle")
+            said = "  a call: at most 3 bytes\nroom: ok\nhints: FAILED\n1 passed, 1 failed\n" if is_weedle else "parts: ok\n"
+            return subprocess.CompletedProcess(words, 1 if is_weedle else -11, said, "")
+
+        with mock.patch.object(wrong_programs.subprocess, "run", run):
+            found = wrong_programs.failing_tests(Path("libweedle.a"), Path("room"))
+        self.assertEqual(found, [False, True, False, True, False, True])
+
+    def test_a_library_that_is_not_proved(self):
+        with tempfile.TemporaryDirectory() as folder, self.assertRaises(wrong_programs.NotBuilt):
+            refused = subprocess.CompletedProcess([], 1, "logic=not-proved", "")
+            with mock.patch.object(wrong_programs.subprocess, "run", lambda words, **_: refused):
+                wrong_programs.built_by_lib(Path(folder, "weedle_c"), Path(folder))
+
+
 if __name__ == "__main__":
     unittest.main()

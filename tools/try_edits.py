@@ -17,6 +17,8 @@ Those that no contract refuses are tests/wrong_programs/*.edit, with two lines m
     program: NAME    which program is built with it (tools/wrong_programs.py says how, and what it is run by)
     build: run       that is proved and built by `rt run`, which takes minutes; else `rt try` builds it with checks
 
+Where the program is weedle_c, it is the library for C, which `rt lib` proves and builds: its tests in C have to find the edit.
+
 First it looks whether each edit applies: whether each old text stands in its file exactly once.
 With --check that is all. Else it copies the repository to a temporary folder, without .git but
 with what `rt check` kept of these crates and those below them. There it checks the functions of a

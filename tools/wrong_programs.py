@@ -1,5 +1,7 @@
 """Builds programs with wrong bodies, and says how many runs of tests/ find one, for tools/try_edits.py --programs.
 
+The library for C is built so too, and its tests in C are run.
+
 A program runs by tests/runs.toml; where none fails, by tests/memory.toml, of which a program with checks is given the
 shorter texts; and where none of these fails, weedle_check reads the texts of the folder `tests`, and weedle_format is run
 over files (tools/layout_runs.py).
@@ -20,8 +22,12 @@ from case_programs import Built, compared
 from case_runs import runs
 from run_cases import TRIED_TEXT, check_texts
 
+TOP = Path(__file__).resolve().parent.parent
+
 # How often it is looked whether a program is built, and for how many seconds one is built at most.
 MOMENT, PATIENCE = 0.05, 3_600
+# The crate of the library for C, and its tests.
+LIBRARY, TESTS_IN_C = "weedle_c", ("test_weedle", "test_recovery", "test_hostile")
 # Over how many texts a program is run by `rt try`.
 CASES = 40
 
@@ -83,6 +89,31 @@ def built_by_run(crate: Path) -> Path:
     return program
 
 
+def built_by_lib(crate: Path, room: Path) -> Path:
+    """The library for C, of the archive that `rt lib` proves and builds of its crate."""
+    archive, whole = crate / "out" / f"lib{crate.name}.a", room / "libweedle.a"
+    archive.unlink(missing_ok=True)
+    ran = subprocess.run(["rt", "lib", "--cpu", "x86-64"], cwd=crate, stdin=subprocess.DEVNULL, stdout=subprocess.PIPE,
+                         stderr=subprocess.STDOUT, text=True, timeout=PATIENCE, check=False)
+    if not archive.is_file():
+        raise NotBuilt(f"rt lib gave no archive: {ran.stdout[-400:]}")
+    subprocess.run([TOP / "c/join.sh", archive, whole], check=True)
+    return whole
+
+
+def failing_tests(archive: Path, room: Path) -> list[bool]:
+    """Of each test in C of a library whether it fails; one that ends its program is the last."""
+    found = []
+    for name in TESTS_IN_C:
+        wraps = [] if name == "test_hostile" else ["-Wl,--wrap=malloc,--wrap=realloc"]
+        words = ["cc", "-std=c11", "-O2", f"-I{TOP / 'include'}", "-o", room / name, TOP / f"c/tests/{name}.c", archive]
+        subprocess.run([*words, "-pthread", *wraps], check=True)
+        ran = subprocess.run([room / name, TOP / "tests/families.txt"], capture_output=True, text=True, check=False)
+        ends = [row.rpartition(": ")[2] for row in ran.stdout.splitlines()]
+        found += [end == "FAILED" for end in ends if end in ("ok", "FAILED")] + [True] * (ran.returncode < 0)
+    return found
+
+
 def failing_runs(program: str, name: str) -> list[bool]:
     """Of each run of tests/runs.toml whether it fails."""
     left_out = asked_memory.has_checks(program)
@@ -114,6 +145,9 @@ class Runs:
 
     def failures_of(self, crate: Path, is_proved: bool) -> tuple[int, int]:
         """Of the program of a crate, how many fail of what finds something first, and how many there are; or none of all."""
+        if crate.name == LIBRARY:
+            found = failing_tests(built_by_lib(crate, self.room), self.room)
+            return sum(found), len(found)
         program = str(built_by_run(crate) if is_proved else built_by_try(crate, self.room))
         return failures_in(program, crate.name, self.library)
 

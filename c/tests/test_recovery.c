@@ -45,17 +45,17 @@ enum { COUNT = sizeof EXPECTED / sizeof *EXPECTED };
 /* What each unread part of it says. */
 static const struct {
     size_t number;
-    const char *message, *words;
+    const char *message, *words, *line;
     enum weedle_hint hint;
 } SAID[] = {
     {6, "1:21: expected `(`\ninterface A { long x; }; enum E { \"a\" \"b\" };\n                    ^\n", "`(`\n",
-     WEEDLE_HINT_NONE},
+     "", WEEDLE_HINT_NONE},
     {13,
      "1:39: expected `}` or `,`\ninterface A { long x; }; enum E { \"a\" \"b\" };\n                                      ^\n"
      "1:38: `,` missing here?\n",
-     "`}`\n`,`\n", WEEDLE_HINT_MISSING},
+     "`}`\n`,`\n", "1:38: `,` missing here?\n", WEEDLE_HINT_MISSING},
     {22, "3:16: expected `;`\ninterface B { }\n               ^\n3:16: `;` missing here?\n", "`;`\n",
-     WEEDLE_HINT_MISSING},
+     "3:16: `;` missing here?\n", WEEDLE_HINT_MISSING},
 };
 
 static struct weedle_part parts[PARTS];
@@ -140,12 +140,33 @@ static void test_why_parts_are_unread(void) {
         const struct weedle_part *part = &EXPECTED[SAID[i].number];
         struct weedle_refusal refusal;
         struct weedle_expected_words expected;
-        char message[1024], words[256];
+        char message[1024], words[256], front[32];
         CHECK(weedle_explain_part(TEXT, strlen(TEXT), part, message, sizeof message, &refusal) == WEEDLE_STATUS_REFUSED);
         CHECK(strcmp(message, SAID[i].message) == 0 && refusal.length == strlen(message));
+        CHECK(strcmp(message + refusal.hint_offset, SAID[i].line) == 0);
+        snprintf(front, sizeof front, "%zu:%zu: ", refusal.line, refusal.column);
+        CHECK(strncmp(message, front, strlen(front)) == 0);
         CHECK(refusal.start == part->start && refusal.hint == SAID[i].hint);
         CHECK(weedle_expected_part(TEXT, strlen(TEXT), part, words, sizeof words - 1, &expected) == WEEDLE_STATUS_READ);
         CHECK(strcmp(in_lines(words, expected.length), SAID[i].words) == 0 && expected.place == refusal.place);
+    }
+}
+
+/* In each room a message has as much as there is room for, and a zero behind it. */
+static void test_messages_that_are_cut(void) {
+    const char *whole = SAID[1].message;
+    const struct weedle_part *part = &EXPECTED[SAID[1].number];
+    for (size_t room = 1; room <= strlen(whole) + 2; room++) {
+        size_t fits = room <= strlen(whole) ? room - 1 : strlen(whole);
+        char ends[2][256];
+        struct weedle_refusal refusal;
+        memset(ends, 'x', sizeof ends);
+        CHECK(weedle_explain_part(TEXT, strlen(TEXT), part, ends[0], room, &refusal) == WEEDLE_STATUS_REFUSED);
+        CHECK(weedle_explain_from(TEXT, strlen(TEXT), part->definition, ends[1], room, &refusal) ==
+              WEEDLE_STATUS_REFUSED);
+        CHECK(refusal.length == strlen(whole));
+        for (int i = 0; i < 2; i++)
+            CHECK(memcmp(ends[i], whole, fits) == 0 && ends[i][fits] == 0 && ends[i][fits + 1] == 'x');
     }
 }
 
@@ -288,37 +309,97 @@ static void test_memory_that_is_refused(void) {
     }
 }
 
-/* What a call asks for of a text, in bytes. */
-static size_t asked_by(int call, const char *text, size_t length, size_t start) {
+/* What a call asks for of a text whose definition at `start` isn't read, in bytes; its status goes to `status`. */
+static size_t asked_by(int call, const char *text, size_t length, size_t start, uint32_t *status) {
+    const struct weedle_part part = {WEEDLE_DEFINITION, 0, (uint32_t)start, (uint32_t)length, (uint32_t)start};
     struct weedle_recovered found;
     struct weedle_refusal refusal;
     struct weedle_expected_words expected;
     char out;
     asked = 0;
     if (call == 0)
-        weedle_recover(text, length, parts, 0, nodes, 0, &found);
+        *status = weedle_recover(text, length, parts, 0, nodes, 0, &found);
     else if (call == 1)
-        weedle_explain_from(text, length, start, &out, 0, &refusal);
+        *status = weedle_explain_from(text, length, start, &out, 0, &refusal);
+    else if (call == 2)
+        *status = weedle_explain_part(text, length, &part, &out, 0, &refusal);
+    else if (call == 3)
+        *status = weedle_expected(text, length, start, &out, 0, &expected);
     else
-        weedle_expected(text, length, start, &out, 0, &expected);
+        *status = weedle_expected_part(text, length, &part, &out, 0, &expected);
     return asked;
 }
 
-/* Texts of 1 to 300 kB, with an error or none: no table, and from the rest on no more than the last definition needs. */
+/*
+ * A call, what it comes to where a definition isn't read and there is no room, and for how many bytes it asks at the most:
+ * for each byte of a dense text with an error at its end, more for a text behind whose last definition it begins, and for
+ * each byte of a definition, with members that have extended attributes. They are what was measured, and a tenth more.
+ */
+static const struct {
+    const char *name;
+    enum weedle_status status;
+    size_t of_text, more, of_definition;
+} ASKING[] = {
+    {"weedle_recover", WEEDLE_STATUS_NO_ROOM, 630, 0, 715},
+    {"weedle_explain_from", WEEDLE_STATUS_REFUSED, 0, 23600, 1110},
+    {"weedle_explain_part", WEEDLE_STATUS_REFUSED, 0, 20600, 990},
+    {"weedle_expected", WEEDLE_STATUS_NO_ROOM, 0, 194, 0},
+    {"weedle_expected_part", WEEDLE_STATUS_NO_ROOM, 0, 20300, 990},
+};
+
+enum { CALLS = sizeof ASKING / sizeof *ASKING };
+
+/* Texts of 1 to 300 kB with an error: no table, and from the rest on no more than the last definition needs. */
 static void test_bytes_that_are_asked_for(void) {
     static const char member[] = "[A] interface A { [B] attribute long x; };\n";
-    static const char *const ends[] = {"", "foo", "[A interface B {};", "interface B { long x; };"};
-    for (size_t times = 24; times < 7200; times *= 6) {
-        for (int i = 0; i < 4; i++) {
+    static const char *const ends[] = {"foo", "[A interface B {};", "interface B { long x; };"};
+    for (int call = 0; call < CALLS; call++) {
+        size_t most = 0;
+        for (size_t times = 24; times < 7200; times *= 6) {
+            for (int i = 0; i < 3; i++) {
+                size_t length, start = times * strlen(member);
+                uint32_t status;
+                char *text = repeated("", member, times, ends[i], &length);
+                size_t all = asked_by(call, text, length, start, &status);
+                CHECK(all <= ASKING[call].of_text * length + ASKING[call].more && status == ASKING[call].status);
+                all = ASKING[call].of_text ? all / length : all;
+                most = all > most ? all : most;
+                free(text);
+            }
+        }
+        printf("  %s: at most %zu bytes%s\n", ASKING[call].name, most, ASKING[call].of_text ? " for each byte" : "");
+    }
+}
+
+/* A definition of 1 to 300 kB that isn't read asks for no table, which has 1,544 bytes for each byte of it. */
+static void test_bytes_for_a_definition(void) {
+    static const char member[] = "[B] attribute sequence<long> x;\n";
+    for (int call = 0; call < CALLS; call++) {
+        size_t most = 0;
+        for (size_t times = 30; times < 10000; times *= 6) {
             size_t length;
-            char *text = repeated("", member, times, ends[i], &length);
-            CHECK(asked_by(0, text, length, 0) < 600 * length);
-            CHECK(asked_by(1, text, length, 0) < 400 * length);
-            CHECK(asked_by(1, text, length, times * strlen(member)) < 40000);
-            CHECK(asked_by(2, text, length, times * strlen(member)) < 20000);
+            uint32_t status;
+            char *text = repeated("interface A {", member, times, "long x; };", &length);
+            size_t each = asked_by(call, text, length, 0, &status) / length;
+            CHECK(status == ASKING[call].status);
+            most = each > most ? each : most;
             free(text);
         }
+        printf("  %s: at most %zu bytes for each byte\n", ASKING[call].name, most);
+        CHECK(most <= ASKING[call].of_definition);
     }
+}
+
+/* What is read asks for no more: there is nothing to say, and all of it are parts that are read. */
+static void test_bytes_for_what_is_read(void) {
+    static const char member[] = "[A] interface A { [B] attribute long x; };\n";
+    size_t length;
+    uint32_t status;
+    char *text = repeated("", member, large(4000), "", &length);
+    CHECK(asked_by(0, text, length, 0, &status) <= ASKING[0].of_text * length && status == WEEDLE_STATUS_NO_ROOM);
+    CHECK(asked_by(1, text, length, 0, &status) <= 255 * length && status == WEEDLE_STATUS_READ);
+    CHECK(asked_by(3, text, length, 0, &status) <= 255 * length && status == WEEDLE_STATUS_NO_ROOM);
+    free(text);
 }
 
 /* An error in each line of 160 kB: each is a part, and no table is taken. */
@@ -327,7 +408,8 @@ static void test_many_errors(void) {
     size_t length, times = large(2500);
     char *text = repeated("", lines, times, "", &length);
     struct weedle_recovered found;
-    CHECK(asked_by(0, text, length, 0) < 1200 * length);
+    uint32_t status;
+    CHECK(asked_by(0, text, length, 0, &status) < 1200 * length && status == WEEDLE_STATUS_NO_ROOM);
     CHECK(weedle_recover(text, length, parts, 0, nodes, 0, &found) == WEEDLE_STATUS_NO_ROOM);
     CHECK(found.unread == 2 * times);
     free(text);
@@ -339,12 +421,15 @@ static const struct test TESTS[] = {
     {"a text that is read", test_a_text_that_is_read},
     {"rooms", test_rooms},
     {"why parts are unread", test_why_parts_are_unread},
+    {"messages that are cut", test_messages_that_are_cut},
     {"parts that are none", test_parts_that_are_none},
     {"from a place on", test_from_a_place_on},
     {"words that are expected", test_words_that_are_expected},
     {"what isn't UTF-8", test_what_is_not_utf8},
     {"memory that is refused", test_memory_that_is_refused},
     {"bytes that are asked for", test_bytes_that_are_asked_for},
+    {"bytes for a definition", test_bytes_for_a_definition},
+    {"bytes for what is read", test_bytes_for_what_is_read},
     {"many errors", test_many_errors},
 };
 

@@ -360,8 +360,8 @@ static void test_memory_of_a_layout_that_is_refused(void) {
     CHECK(memcmp(out, whole, ample.length) == 0);
 }
 
-/* What a call asks for of a text, in bytes. */
-static size_t asked_by(int call, const char *text, size_t length) {
+/* What a call asks for of a text, in bytes; its status goes to `status`. */
+static size_t asked_by(int call, const char *text, size_t length, uint32_t *status) {
     struct weedle_node node;
     struct weedle_answer answer;
     struct weedle_refusal refusal;
@@ -369,37 +369,56 @@ static size_t asked_by(int call, const char *text, size_t length) {
     char out;
     asked = 0;
     if (call == 0)
-        weedle_syntax(text, length, &node, 0, &answer);
+        *status = weedle_syntax(text, length, &node, 0, &answer);
     else if (call == 1)
-        weedle_syntax_of(WEEDLE_DEFINITIONS, text, length, &node, 0, &answer);
+        *status = weedle_syntax_of(WEEDLE_DEFINITIONS, text, length, &node, 0, &answer);
     else if (call == 2)
-        weedle_explain(text, length, &out, 0, &refusal);
+        *status = weedle_explain(text, length, &out, 0, &refusal);
     else
-        weedle_format(text, length, &out, 0, &formatted);
+        *status = weedle_format(text, length, &out, 0, &formatted);
     return asked;
 }
+
+/*
+ * A call, what it comes to where there is no room, of what is read and of what isn't, and for how many bytes it asks at
+ * the most for each byte of a dense text: weedle_syntax for a list of 16 bytes a byte, for one twice as long and one four
+ * times as long, as the header says; the others for what was measured, and a tenth more.
+ */
+static const struct {
+    const char *name;
+    enum weedle_status read, refused;
+    size_t most;
+} ASKING[] = {
+    {"weedle_syntax", WEEDLE_STATUS_NO_ROOM, WEEDLE_STATUS_REFUSED, 16 * (1 + 2 + 4)},
+    {"weedle_syntax_of", WEEDLE_STATUS_NO_ROOM, WEEDLE_STATUS_NO_ROOM, 140},
+    {"weedle_explain", WEEDLE_STATUS_READ, WEEDLE_STATUS_REFUSED, 255},
+    {"weedle_format", WEEDLE_STATUS_NO_ROOM, WEEDLE_STATUS_REFUSED, 515},
+};
+
+enum { CALLS = sizeof ASKING / sizeof *ASKING };
 
 /*
  * Texts of 1 to 300 kB ask for what their nodes need, each time that the list of them grows, and for no table of ends,
  * which has 1,544 bytes for each byte of them. A layout is read once more.
  */
 static void test_bytes_that_are_asked_for(void) {
-    static const char *const names[] = {"weedle_syntax", "weedle_syntax_of", "weedle_explain", "weedle_format"};
     static const char member[] = "[A] interface A { [B] attribute long x; };\n";
     static const char *const ends[] = {"", "foo", "[A interface B {};"};
-    for (int call = 0; call < 4; call++) {
+    for (int call = 0; call < CALLS; call++) {
         size_t most = 0;
         for (size_t times = 24; times < 7200; times *= 2) {
             for (int i = 0; i < 3; i++) {
                 size_t length;
+                uint32_t status;
                 char *text = repeated("", member, times, ends[i], &length);
-                size_t each = asked_by(call, text, length) / length;
+                size_t each = asked_by(call, text, length, &status) / length;
+                CHECK(status == (i == 0 ? ASKING[call].read : ASKING[call].refused));
                 most = each > most ? each : most;
                 free(text);
             }
         }
-        printf("  %s: at most %zu bytes for each byte\n", names[call], most);
-        CHECK(most < (call == 3 ? 800 : 400));
+        printf("  %s: at most %zu bytes for each byte\n", ASKING[call].name, most);
+        CHECK(most <= ASKING[call].most);
     }
 }
 
@@ -428,6 +447,34 @@ static void test_memory_that_is_given_back(void) {
     free(text);
 }
 
+/* What is laid out already isn't read again: it asks for half as much as what isn't. */
+static void test_bytes_for_what_is_laid_out(void) {
+    static const char member[] = "[A]\ninterface A {\n  [B] attribute long x;\n};\n\n";
+    size_t length;
+    uint32_t status;
+    char *text = repeated("", member, 1000, "", &length);
+    CHECK(asked_by(3, text, length - 1, &status) <= 256 * length && status == WEEDLE_STATUS_NO_ROOM);
+    free(text);
+}
+
+/* Half a megabyte is laid out as a line of it is, and what it gives stands there already. */
+static void test_a_long_layout(void) {
+    static const char member[] = "interface A{attribute long x;};", wanted[] = "interface A {\n  attribute long x;\n};\n\n";
+    size_t times = large(16000), length, laid_out_length;
+    char *text = repeated("", member, times, "", &length), *out = malloc(2 * length);
+    char *laid_out = repeated("", wanted, times, "", &laid_out_length);
+    struct weedle_formatted formatted;
+    for (int i = 0; i < 2; i++) {
+        CHECK(weedle_format(i ? laid_out : text, i ? laid_out_length - 1 : length, out, 2 * length, &formatted) ==
+              WEEDLE_STATUS_READ);
+        CHECK(formatted.length == laid_out_length - 1 && formatted.is_laid_out == 1);
+        CHECK(memcmp(out, laid_out, laid_out_length - 1) == 0);
+    }
+    free(laid_out);
+    free(out);
+    free(text);
+}
+
 /* Two extended attributes that aren't closed, before most of 160 kB: brackets that are open for all that follows. */
 static void test_brackets_that_are_not_closed(void) {
     static const char member[] = "[A] interface A { [B] attribute long x; };\n";
@@ -438,8 +485,11 @@ static void test_brackets_that_are_not_closed(void) {
     struct weedle_answer answer;
     CHECK(length > 160000);
     CHECK(counted(text, length, &answer) == WEEDLE_STATUS_REFUSED && answer.rest == 100 * strlen(member));
-    for (int call = 0; call < 4; call++)
-        CHECK(asked_by(call, text, length) < 400 * length);
+    for (int call = 0; call < CALLS; call++) {
+        uint32_t status;
+        CHECK(asked_by(call, text, length, &status) <= ASKING[call].most * length);
+        CHECK(status == ASKING[call].refused);
+    }
     free(text);
     free(front);
 }
@@ -501,6 +551,8 @@ static const struct test TESTS[] = {
     {"memory of a layout that is refused", test_memory_of_a_layout_that_is_refused},
     {"bytes that are asked for", test_bytes_that_are_asked_for},
     {"memory that is given back", test_memory_that_is_given_back},
+    {"bytes for what is laid out", test_bytes_for_what_is_laid_out},
+    {"a long layout", test_a_long_layout},
     {"brackets that aren't closed", test_brackets_that_are_not_closed},
     {"two threads", test_two_threads},
 };
