@@ -8,6 +8,7 @@ use Rattle.weedle_grammar.specs.written.Bound.{rule_count}
 use Rattle.weedle_grammar.specs.written.Table.{table, row_of}
 use Rattle.weedle_grammar.proofs.Leaves.{both}
 use Rattle.weedle_rules.proofs.PartEnds.{below}
+use Rattle.weedle_starts.specs.Starts.{CoversStarts}
 use Rattle.weedle_starts.specs.View.{row_view}
 use Rattle.weedle_starts.specs.Ways.{AreNumbers, IsWay, option_of, IsGateOf, IsGate}
 use Rattle.weedle_starts.specs.declared.row.Row as rows

@@ -1,4 +1,5 @@
-use Rattle.std.proofs.Common.{subst, get_or}
+use Rattle.std.proofs.Common.{◌<◌, sym, subst, get_or}
+use Rattle.weedle_grammar.specs.written.Bound.{rule_count}
 use Rattle.weedle_grammar.specs.written.Table.{row_of}
 use Rattle.weedle_starts.specs.Ways.{IsWay}
 use Rattle.weedle_starts.specs.declared.written.ways.TheConstants.{WAYS}
