@@ -45,7 +45,7 @@ if [ -n "$is_foreign" ]; then
     emulator=qemu-$processor-static
     command -v "$emulator" >/dev/null || lacks "$emulator"
     # Where the loader and the C library for that processor are.
-    export QEMU_LD_PREFIX="/usr/$processor-linux-gnu"
+    export QEMU_LD_PREFIX="/usr/$processor-linux-gnu" WEEDLE_EMULATED=1
 fi
 [ -f "$library" ] || lacks "$library, and none in $out; c/build.sh builds it"
 mkdir -p "$out"
