@@ -95,12 +95,12 @@ struct weedle_refusal {
                            WEEDLE_STATUS_NOT_UTF8: the byte up to which the text is UTF-8 */
     size_t line;        /* the line of that place, from 1 on */
     size_t column;      /* its column, in characters, from 1 on */
-    size_t length;      /* how many bytes the whole message has, without the zero behind it (tested) */
+    size_t length;      /* how many bytes the whole message has, without the zero behind it */
     size_t hint;        /* an enum weedle_hint */
     size_t hint_place;  /* where the hint is; 0 where there is none */
     size_t hint_length; /* how many bytes stand there that it speaks of: the word, the sign, both words and what stands
                            between them, the lines of the docstring, the quote or the mark; 0 where something is missing */
-    size_t hint_offset; /* where the hint's line begins in the message, which is `length` where there is none (tested) */
+    size_t hint_offset; /* where the hint's line begins in the message, which is `length` where there is none */
 };
 
 /* What weedle_expected and weedle_expected_part say beside their status. */
@@ -152,11 +152,12 @@ struct weedle_formatted {
  * Only with WEEDLE_STATUS_READ is anything written to `nodes`.
  *
  * Most texts have 0.8 to 1.6 nodes a byte. A list of them takes 16 bytes of memory for each byte of the text while it
- * is read, twice as much where that isn't enough, and so on. Where it is longer than 4 MB it is given back while its
- * nodes are written to `nodes`, a quarter of what is left at a time (tested): so both take up to a quarter more than the
- * list alone, or 4 MB more. Descent tries at most 16 rules for each byte and 4,096 more, 400 nodes deep; what people
- * write takes two, some 60 deep. Where that isn't enough it reads over a memo of what the reading tries, with no
- * recursion: texts that nest 100,000 deep took 130 to 300 bytes for each byte, and 0.4 to 1 microseconds.
+ * is read, twice as much where that isn't enough, and so on. Where its nodes take more than 32 MB, as of a text of 2.6 MB
+ * with 0.8 nodes a byte, it is given back while they are written to `nodes`, a quarter of what is left at a time (tested):
+ * so both take up to a quarter more than the list alone, or 32 MB more. Descent tries at most 16 rules for each byte and
+ * 4,096 more, 400 nodes deep; what people write takes two, some 60 deep. Where that isn't enough it reads over a memo of
+ * what the reading tries, with no recursion: texts that nest 100,000 deep took 130 to 300 bytes for each byte, and 0.4 to
+ * 1 microseconds.
  *
  * Dense texts, as those of names of a letter, have more: 9.3 nodes a byte are the most that was found. To read no text
  * twice, give a room of 12 nodes for each byte and 64 more, and map a large one without a reserve (on Linux mmap with
@@ -194,11 +195,11 @@ uint32_t weedle_syntax_of(
  * Says of a text that is refused where and why, and writes a message.
  *
  * WEEDLE_STATUS_READ: the grammar reads the whole text; there is nothing to say.
- * WEEDLE_STATUS_REFUSED: it doesn't, and `refusal` says where. The message is written to `message` (tested), as
+ * WEEDLE_STATUS_REFUSED: it doesn't, and `refusal` says where. The message is written to `message`, as
  *     `weedle_check` prints it behind the name of a file: line, column and what would have been read there, the line
  *     of the text, a mark below the place, and, where it is known, what would mend the text, with a line and a column.
  *     It is cut behind the last character that there is room for, and ended by a zero; so it needs a room of
- *     `length` + 1 (tested). 1,024 bytes hold any (tested). With a room of 0 nothing is written.
+ *     `length` + 1. 1,024 bytes hold any (tested). With a room of 0 nothing is written.
  * WEEDLE_STATUS_NOT_UTF8: exactly where the bytes aren't UTF-8.
  * WEEDLE_STATUS_NO_MEMORY: memory was refused (tested).
  * Only with WEEDLE_STATUS_REFUSED is anything written to `message`.
@@ -282,7 +283,7 @@ uint32_t weedle_recover(
  * sign is missing, and the part has no byte, the sign alone is expected. What stands elsewhere in the text isn't looked
  * at.
  *
- * WEEDLE_STATUS_REFUSED: `refusal` says where, and the message is written to `message` (tested), cut and ended as that
+ * WEEDLE_STATUS_REFUSED: `refusal` says where, and the message is written to `message`, cut and ended as that
  *     of weedle_explain.
  * WEEDLE_STATUS_NOT_UTF8: exactly where the bytes aren't UTF-8.
  * WEEDLE_STATUS_NO_MEMORY: memory was refused (tested).

@@ -74,7 +74,7 @@ cargo_in "$top/examples/rust" test
 echo "the texts of tests/ through compare/ over the package"
 cp -r "$top/compare/Cargo.toml" "$top/compare/src" "$room"
 cargo_in "$room" build --release --config "patch.crates-io.weedle2.path=\"$top/rust\""
-python3 "$top/tools/run_rust_cases.py" "$CARGO_TARGET_DIR/release/compare"
+python3 "$top/tools/run" rust "$CARGO_TARGET_DIR/release/compare"
 
 echo "the package as it is packed"
 "$top/rust/pack.sh"

@@ -3,22 +3,20 @@
 
     python3 tools/check.py
 
-In a copy of the repository all that scripts write is written anew, and each crate is laid out, as
-tools/write.py does it. Then the copy has to hold the very files of the repository.
-Beside that it is looked whether the types are declared as the grammar has them (tools/unmatched.py), whether anything that no proof would miss was forgotten of a new type or file
-(tools/forgotten.py), what still has the old name of what was renamed since the last commit
-(tools/renamed.py), whether docs/CALLING.md is as the crates are (tools/calling.py --check),
-whether each wrong body that is tried by hand, or that tests have to find, still applies
-(tools/try_edits.py --check, and with --programs), whether
-each link of the pages leads somewhere, what they name of the repository is there and what they count is
-so, and each public field and variant has a doc line (tools/pages.py), whether the cases of tests/ are those that are listed, of the texts that are
-made now (tools/make_cases.py --check), whether the table of docs/GATE.md is that of the times that
-were measured last (tools/gate_page.py --check), whether docs/SLIPS.md says what the rows say of the
-slips of tests/ (tools/run_slips.py --page --check), whether the pieces of Rust in README.md and
-docs/USING.md stand where the gate proves and runs them and what the programs of README and of the
-worked pages name is there (tools/try_pages.py --no-run), whether the
-built library in prebuilt/ is the one of its sums and of this version (tools/prebuilt.py --check), and
-whether the man pages are what the commands say with --help (tools/man_pages.py --check).
+In a copy of the repository all that scripts write is written anew, and each crate is formatted, as
+tools/write.py does it. The copy then has to hold the very files of the repository. Beside that these
+scripts look, each at what its --help says:
+
+    unmatched.py                   types that aren't declared as the grammar has them
+    forgotten.py                   what was forgotten of a new type or file, and no proof misses
+    renamed.py                     what still has the old name of what was renamed since the last commit
+    calling.py, man_pages.py       CALLING and man pages that aren't as the sources are
+    slips.py                       SLIPS, where the rows say otherwise
+    try_edits.py                   wrong bodies that don't apply any more, also --programs
+    pages.py                       links, names, counts and kits of the pages; fields without a doc line
+    make_cases.py                  archives of tests/ that aren't those that are listed
+    try_pages.py                   pieces of Rust and programs of pages that stand nowhere
+    prebuilt.py                    the built library, where it isn't that of its sums and of this version
 
 It prints a line for each file that is stale, for each that no script writes though it says so, and
 for whatever else was found. It changes nothing. It needs the toolchain's command `rt` on PATH, and
@@ -45,8 +43,7 @@ LOOKS = (
     ["try_edits.py", "--programs", "--check"],
     ["pages.py"],
     ["make_cases.py", "--check"],
-    ["gate_page.py", "--check"],
-    ["run_slips.py", "--page", "--check"],
+    ["slips.py", "--check"],
     ["try_pages.py", "--no-run"],
     ["prebuilt.py", "--check"],
     ["man_pages.py", "--check"],

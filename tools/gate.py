@@ -1,7 +1,7 @@
 #!/usr/bin/env python3
 """Runs `rt ci`, with an order of its own: long proofs that all others wait for get more than one processor.
 
-    python3 tools/gate.py [--library FILE]
+    python3 tools/gate.py [--library FILE] [--programs]
 
 What is proved, built and run is rt's own, and so is what is printed: this loads the command `rt` as a module, puts a
 function in the place of its scheduler, and calls its `ci`. By rt's order a proof gets a second processor only where
@@ -17,7 +17,9 @@ proved.
 
 With --library the static library of the crate weedle_c is built as FILE, for any x86-64 processor, over the libraries
 as `rt ci` has just proved and built them, and behind it for any aarch64 processor, as FILE with `aarch64-linux` before its
-last ending. Where one of them fails what was said is printed, and there is no such file; the status is the same.
+last ending. With --programs the programs of a release are built so too, once they are proved: each as NAME.x86-64 beside
+the program that the gate runs. Where one of all these fails what was said is printed, and there is no such file; the status
+is the same.
 
 Where `rt` has another scheduler than the one that is known here, or can't be read as Python, it is plain `rt ci`,
 there is no FILE, and a line says so. The status is that of `rt ci`. `rt ci` itself gives the same verdict, later.
@@ -64,6 +66,8 @@ TYPES = "weedle_types"
 LIBRARY = "weedle_c"
 FIRST = ("x86_64-unknown-linux-gnu", "x86-64", "")
 TARGETS = (FIRST, ("aarch64-unknown-linux-gnu", "generic", ".aarch64-linux"))
+# The programs of a release, which are built for the first of these, and how the names of their files end.
+PROGRAMS, ENDING = ("weedle_check", "weedle_format"), ".x86-64"
 
 
 class Task:
@@ -210,23 +214,36 @@ def run_all(order):
     return given
 
 
-def build_library(rt, crate, file, jobs, target=FIRST):
-    """Builds the static library for a target over the libraries as they stand; whether that went well."""
+def ran_well(rt, crate, command, triple):
+    """Runs a command in a crate's folder; whether that went well. Where it didn't what it said is printed."""
+    how = {"stdin": subprocess.DEVNULL, "stdout": subprocess.PIPE, "stderr": subprocess.STDOUT, "errors": "replace"}
+    ran = subprocess.run([*rt.rtlib.guarded(), *command], cwd=crate.folder, check=False, **how)
+    if ran.returncode:
+        print(f"{ran.stdout}gate.py: {crate.name} isn't built over what is proved, for {triple}", flush=True)
+    return not ran.returncode
+
+
+def build(rt, crate, file, jobs, target=FIRST):
+    """Builds the static library, or the object file of a program, over the libraries as they stand; whether that went well."""
     triple, cpu, _ = target
     words = crate.words(["--jobs", str(jobs), "--target", triple, "--cpu", cpu], keeps=False)
     toolchain = ["--toolchain", f"{rt.KIT}/toolchain", "--backend", "llvm"]
-    command = [*rt.rtlib.guarded(), rt.rtlib.RATTLE, "build", *words, *toolchain, "-o", str(file)]
-    how = {"stdin": subprocess.DEVNULL, "stdout": subprocess.PIPE, "stderr": subprocess.STDOUT, "errors": "replace"}
-    ran = subprocess.run(command, cwd=crate.folder, check=False, **how)
-    if ran.returncode:
-        print(f"{ran.stdout}gate.py: {LIBRARY} isn't built over what is proved, for {triple}", flush=True)
-    return not ran.returncode
+    return ran_well(rt, crate, [rt.rtlib.RATTLE, "build", *words, *toolchain, "-o", str(file)], triple)
 
 
 def build_libraries(rt, crate, file, jobs):
     """Builds the static library for each target; whether all went well."""
     files = [file.with_suffix(f"{more}{file.suffix}") for _, _, more in TARGETS]
-    return all([build_library(rt, crate, it, jobs, target) for it, target in zip(files, TARGETS)])
+    return all([build(rt, crate, it, jobs, target) for it, target in zip(files, TARGETS)])
+
+
+def build_program(rt, crate, jobs):
+    """Builds a program as a release has it; whether that went well."""
+    program, triple = Path(crate.folder, "out", f"{crate.name}{ENDING}"), FIRST[0]
+    made = f"{program}.o"
+    link = [f"{rt.KIT}/bin/rattle-link", "--target", triple, "--toolchain", f"{rt.KIT}/toolchain", "-o", str(program), made]
+    of_c = [f"{rt.KIT}/c/libos_c.a", f"{rt.KIT}/c/liblibc_c.a"]
+    return build(rt, crate, made, jobs) and ran_well(rt, crate, [*link, *of_c], triple)
 
 
 def crates_of(rt):
@@ -237,34 +254,42 @@ def crates_of(rt):
     return rt.crates_of(top)
 
 
-def with_library(tasks, rt, file):
-    """The tasks, and behind the proof of the static library one that builds it. It is for whoever comes after `rt ci`,
-    so nothing that goes wrong here ends that."""
-    proof = LIBRARY, "proof"
+def with_built(tasks, rt, library=None, programs=()):
+    """The tasks, and behind the proofs of the static library and of programs those that build them. They are for whoever
+    comes after `rt ci`, so nothing that goes wrong here ends that."""
+    calls = {name: build_program for name in programs}
+    if library:
+        calls[LIBRARY] = lambda rt, crate, jobs: build_libraries(rt, crate, library, jobs)
     try:
         # While nothing runs, since this looks through the folders that crates are built in.
-        crate = next(it for it in crates_of(rt) if it.name == LIBRARY)
-        waits, lines, needs, _ = tasks[proof]
-    except (AttributeError, KeyError, StopIteration) as why:
-        print(f"gate.py: {LIBRARY} can't be built over what is proved: {why!r}", flush=True)
+        crates = {it.name: it for it in crates_of(rt)}
+        return {**tasks, **{(name, "library"): built(tasks, rt, crates[name], call) for name, call in calls.items()}}
+    except (AttributeError, KeyError) as why:
+        print(f"gate.py: {' '.join(calls)} can't be built over what is proved: {why!r}", flush=True)
         return tasks
+
+
+def built(tasks, rt, crate, build_it):
+    """The task that builds something of a crate, behind its proof."""
+    proof = crate.name, "proof"
+    _, lines, needs, _ = tasks[proof]
 
     def call(given, jobs):
         try:
-            return given[proof] and build_libraries(rt, crate, file, jobs)
+            return given[proof] and build_it(rt, crate, jobs)
         except (AttributeError, OSError, SystemExit, TypeError) as why:
-            print(f"gate.py: {LIBRARY} isn't built over what is proved: {why!r}", flush=True)
+            print(f"gate.py: {crate.name} isn't built over what is proved: {why!r}", flush=True)
             return False
 
-    return {**tasks, (LIBRARY, "library"): ([proof], lines, needs, call)}
+    return [proof], lines, needs, call
 
 
-def scheduler(rt, times, peaks=None, library=None):
+def scheduler(rt, times, peaks=None, library=None, programs=()):
     """What stands in the place of rt's `in_lanes`."""
 
     def in_lanes(tasks):
-        if library:
-            tasks = with_library(tasks, rt, library)
+        if library or programs:
+            tasks = with_built(tasks, rt, library, programs)
         # Where wrong bodies are tasks of their own, what they begin with is removed in the end.
         with getattr(rt, "ending", nullcontext)():
             return run_all(Order(known(tasks, times, peaks), rt.processors(), ROOM * rt.free()))
@@ -298,7 +323,8 @@ def main():
         description=__doc__, formatter_class=argparse.RawDescriptionHelpFormatter
     )
     parser.add_argument("--library", type=Path, metavar="FILE")
-    library = parser.parse_args().library
+    parser.add_argument("--programs", action="store_true")
+    said = parser.parse_args()
     path = toolchain.command()
     if path is None:
         print("gate.py: there is no command rt on PATH", file=sys.stderr)
@@ -314,7 +340,8 @@ def main():
         return 1
     gate_edits.replace(rt)
     times = times_in(TIMES)
-    rt.in_lanes = scheduler(rt, measured(times), remembered(times), library and library.resolve())
+    library, programs = said.library and said.library.resolve(), PROGRAMS if said.programs else ()
+    rt.in_lanes = scheduler(rt, measured(times), remembered(times), library, programs)
     return rt.main(["ci"])
 
 

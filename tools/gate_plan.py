@@ -8,18 +8,17 @@ TIMES is a file of JSON that tools/gate_times.py wrote. The layout of the crates
 crates.txt, so one that is only thought of can be tried in a copy.
 
 The gate is simulated in the order of tools/gate.py, by the times and the memory that it knows: a task for each proof,
-for each crate's tests, for each wrong body and for the static library (`library`). Times are those of one job; by
-two, three or four jobs a proof takes SPEED of them, and where more jobs run than there are processors, they share
-them. With --memory so many GB are free when it begins, of which gate.py uses 85 hundredths. With --slower the machine
+for each crate's tests, for each wrong body, for the static library and for each program of a release (`library`). Times
+are those of one job; by two, three or four jobs a proof takes SPEED of them, and where more jobs run than there are
+processors, they share them. With --memory so many GB are free when it begins, of which gate.py uses 85 hundredths. With --slower the machine
 takes F times as long. It prints, for each N (4 and 2 where none is given), the minutes by the clock and of processor
 time; with --show when each task that takes a minute or more begins and ends.
 
-Where a crate has several wrong bodies, what they begin with is a task (`seed`), each is one, and the check at
-their end is one (`sound`); one alone is tried from nothing. Where each names the function that it turns, `seed`
-is a check of these functions, as long as a try, and there is no `sound`.
+The wrong bodies of a crate begin with a check of the functions that they turn (`seed`), which takes as long as a try of
+one.
 
-With --costs it prints a row for each CRATE: how many crates stand above it, the minutes of processor
-time of all of these and its own, and those of the longest chain among them.
+With --costs it prints a row for each CRATE: how many crates stand above it, the minutes of processor time of all of these
+and its own, and those of the longest chain among them: what a change of it costs, though only of a body.
 
 The status is 0, or 2 where TIMES holds no such times or a CRATE isn't there.
 """
@@ -31,15 +30,11 @@ import sys
 from pathlib import Path
 
 import gate
-import gate_edits
 from crates import closure, files_of, read_lines
 
 TOP = Path(__file__).resolve().parent.parent
 # How much faster a proof is by so many jobs, as measured over the types.
 SPEED = {1: 1.0, 2: 1.8, 3: 2.4, 4: 2.9}
-# Where a crate has several wrong bodies: what part of their time is the check that they begin
-# with, and what part the one at their end.
-FIRST, LAST = 0.35, 0.2
 # What part of the memory a check takes that begins with what another one proved.
 OVER = 0.7
 # The kinds of tasks whose times tools/gate.py knows.
@@ -65,8 +60,8 @@ class Gate:
 
     def __init__(self, root, times):
         self.root, self.rows = Path(root), read_lines(root)
-        self.proof = {**times["proof"]}
-        for name, seconds in times.get("programs", {}).items():
+        self.proof, self.programs = {**times["proof"]}, times.get("programs", {})
+        for name, seconds in self.programs.items():
             self.proof[name] = self.proof.get(name, 0) + seconds
         self.tests, self.edits = times["tests"], times["edits"]
         self.library, self.peaks = times.get("library", {}), gate.remembered(times)
@@ -99,38 +94,23 @@ class Gate:
             found[name, "proof"] = Task(waits, lines, self.proof.get(name, 0), needs)
             found[name, "tests"] = Task(waits, lines * (tests > 0), tests, needs)
             found.update(self.wrong_bodies(name, waits, lines, needs))
-        return self.with_library(found)
+        return {**found, **dict(self.built(found))}
 
-    def with_library(self, tasks):
-        """The tasks, with that of the static library."""
-        proof = gate.LIBRARY, "proof"
-        if proof not in tasks:
-            return tasks
-        seconds = self.library.get(gate.LIBRARY, SECONDS_OF_A_LIBRARY)
-        task = Task([proof], tasks[proof].lines, seconds, tasks[proof].needs)
-        return {**tasks, (gate.LIBRARY, "library"): task}
-
-    def by_functions(self, name):
-        """Whether the wrong bodies of a crate are tried by the functions that they turn."""
-        edits = [*(self.root / "crates" / name / "must-fail").glob("*.edit")]
-        return bool(edits) and all(map(gate_edits.functions_of, edits))
+    def built(self, tasks):
+        """The tasks that build the static library and the programs of a release."""
+        expected = {gate.LIBRARY: SECONDS_OF_A_LIBRARY, **{it: self.programs.get(it, 0) for it in gate.PROGRAMS}}
+        for name, seconds in expected.items():
+            proof = tasks.get((name, "proof"))
+            if proof:
+                yield (name, "library"), Task([(name, "proof")], proof.lines, self.library.get(name, seconds), proof.needs)
 
     def wrong_bodies(self, name, waits, lines, needs):
         count, whole = self.edits.get(name, (0, 0))
         if not count:
             return {}
-        well = [(name, "proof"), (name, "tests")]
-        if self.by_functions(name):
-            seed, needs, each = (name, "seed"), OVER * needs, whole / (count + 1)
-            one = Task([*well, seed], lines, each, needs)
-            return {seed: Task(waits, 0, each, needs), **{(name, "edits", at): one for at in range(count)}}
-        if count == 1:
-            return {(name, "edits", 0): Task(well, lines, whole, needs)}
-        first, last, seed = min(self.proof[name], FIRST * whole), LAST * whole, (name, "seed")
-        one = Task([*well, seed], lines, (whole - first - last) / count, OVER * needs)
-        each = {(name, "edits", at): one for at in range(count)}
-        sound = Task([*each, seed], 0, last, OVER * needs)
-        return {seed: Task(waits, 0, first, needs), **each, (name, "sound"): sound}
+        seed, needs, each = (name, "seed"), OVER * needs, whole / (count + 1)
+        one = Task([(name, "proof"), (name, "tests"), seed], lines, each, needs)
+        return {seed: Task(waits, 0, each, needs), **{(name, "edits", at): one for at in range(count)}}
 
     def longest_chain(self, name):
         """The seconds of the longest chain of proofs from a crate up, with what ends it."""
@@ -165,18 +145,14 @@ def minutes(seconds):
     return f"{seconds / 60:.0f}"
 
 
-def cost_of(crates, name):
-    """How many crates stand on one, and the minutes of a change of it: in all, and along a chain."""
-    above = crates.above(name)
-    whole = sum(map(crates.seconds, [name, *above]))
-    return str(len(above)), str(minutes(whole)), str(minutes(crates.longest_chain(name)))
-
-
 def costs(crates, names):
+    """A row for each crate: how many stand on it, and the minutes of a change of it, in all and along a chain."""
     yield "| A change in | Crates above | Minutes of one processor | Longest chain |"
     yield "|---|---|---|---|"
     for name in names:
-        yield f"| `{name}` | {' | '.join(cost_of(crates, name))} |"
+        above = crates.above(name)
+        whole = sum(map(crates.seconds, [name, *above]))
+        yield f"| `{name}` | {len(above)} | {minutes(whole)} | {minutes(crates.longest_chain(name))} |"
 
 
 def plan(crates, processors, said):

@@ -11,8 +11,8 @@ static library, the most memory that one of these took in GB, when its proof beg
 took by the clock; then the sums. What the command itself takes, and what no crate is named for, stands
 in the row `the rest`.
 
---json writes the times in seconds in the form that tools/gate_plan.py and tools/gate_page.py take:
-`proof`, `tests`, `programs` and `library` by crate, `edits` as how many there are and what they take
+--json writes the times in seconds in the form that tools/gate_plan.py takes:
+`proof`, `tests`, `programs` and `library` (what is built for others) by crate, `edits` as how many there are and what they take
 in all, `clock`, what each proof took by the clock; `memory`, by kind and crate the most GB that a task
 took at one time, by one job (of several, what tools/gate.py expects each further one to take is left
 out); the date and the machine.
@@ -33,7 +33,7 @@ import sys
 import time
 from pathlib import Path
 
-from gate import LIBRARY, OF_A_JOB
+from gate import FIRST, LIBRARY, OF_A_JOB, PROGRAMS
 
 TOP = Path(__file__).resolve().parent.parent
 
@@ -168,6 +168,8 @@ def kind_of(entry):
         return "tests"
     if crate_of(entry) == LIBRARY and ("build" in entry["words"] or "clang" in words):
         return "library"
+    if crate_of(entry) in PROGRAMS and f"--cpu {FIRST[1]} " in words:
+        return "library"
     if "src/main.rt" in entry["words"] or "clang" in words:
         return "programs"
     return "proof"
@@ -251,7 +253,7 @@ def machine(said=None):
 
 
 def cells_of(seconds):
-    """The minutes of each kind; a static library's stand with those of programs."""
+    """The minutes of each kind; those of what is built for others stand with those of programs."""
     made = {**seconds, "programs": seconds["programs"] + seconds["library"]}
     return [minutes(made[kind]) for kind in KINDS if kind != "library"]
 

@@ -1,35 +1,22 @@
 #!/usr/bin/env python3
-"""Measures readers, bindings, refusals and depth: the figures of docs/COMPARED.md and docs/PROVED.md.
+"""Measures readers, bindings and refusals: the figures of docs/COMPARED.md.
 
-    python3 tools/measure.py readers|bindings [--seed N] [--size BYTES] [--folder FOLDER].. [--rounds N] [--weedle2 PATH]
-    python3 tools/measure.py refusals [--size BYTES] [--rounds N]
-    python3 tools/measure.py depth [--direct] PROGRAM [-- ARGUMENT..]
-    python3 tools/measure.py text [--seed N] [--size BYTES]
-    python3 tools/measure.py machine
+    python3 tools/measure.py readers|bindings|refusals|text|machine [--size BYTES] [--rounds N] [--seed N] [--folder FOLDER]..
 
-`readers` wants weedle_check and weedle_list (`rt run` in their crates), `bindings` and `refusals` want
-python/weedle/libweedle.so. weedle2's lines want the program of compare/ (its README.md says how), and are left out where it
-isn't built. Texts are one of mixed definitions (mixed_text.py), and of each FOLDER, which wants that program too, its files
-that weedle2 reads whole, joined.
+Texts are one of mixed definitions (mixed_text.py), and of each FOLDER its files that weedle2 reads whole, joined. weedle2's
+lines require the program of compare/ (its README.md says how), and are left out where it isn't built.
 
-- `readers`: nanoseconds a byte of weedle2 and of each of the port's readers; instructions a byte, by callgrind where it
-  is on PATH, with the freeing of the list, of the port's of a tenth of the text, and of weedle_list with the writing of
-  the list; and the kB that a process held at most, by GNU time.
-- `bindings`: nanoseconds of processor time a byte, the median of N, through C and in each way through Python; and the
-  kB that a process held at most, above one that only holds the text.
-- `refusals`: of texts of one definition that is refused at its end, nanoseconds a byte, the least of N: to read it; beyond
-  that to say how far the reading comes; and that with the changes that are tried. Last a slip in front of many.
-- `depth`: how deep a program that reads standard input reads each family of texts that nest, and whether it then dies of
-  8 MB of stack or refuses. One that reads by descent, with --direct, isn't given extended attributes: each level of them
-  takes such a reader up to three times as long.
-- `text`: writes the mixed text.
-- `machine`: the processor time of `rt selftest`, by which machines are compared.
-
-Other work on the machine makes times longer, and leaves instructions and memory as they are. The status is 0, or 2
-where something that is wanted isn't there.
+- `readers`, over weedle_check and weedle_list: nanoseconds a byte of weedle2 and of each of the port's readers; instructions
+  a byte, by callgrind where it is on PATH, with the freeing of the list; the kB that a process held at most, by GNU time.
+- `bindings`, over python/weedle/libweedle.so: nanoseconds of processor time a byte, the median of N, through C and in each
+  way through Python; and the kB that a process held at most, above one that only holds the text.
+- `refusals`, over the same: of texts of one definition that is refused at its end, nanoseconds a byte, the least of N: to
+  read it, to say how far the reading comes, and that with the changes that are tried. Last a mistake in front of many.
+- `text` writes the mixed text; `machine` says what `rt selftest` takes. The status is 0, or 2 where something is missing.
 """
 
 import argparse
+import contextlib
 import dataclasses
 import functools
 import re
@@ -43,11 +30,10 @@ import time
 from pathlib import Path
 
 from command_line import parser_of
-from compare_with_weedle2 import LIST, PORT, WEEDLE2, NoUse, files_of, output_of
+from compare_with_weedle2 import LIST, PORT, WEEDLE2, NoUse, Weedle2, files_of, output_of
 from mixed_text import Mixed
 
-TOP = Path(__file__).resolve().parent.parent
-MORE, PART, STACK, MOST = 10, 10, 8 << 20, 1 << 20
+MORE, PART = 10, 10
 # The function of weedle_check that times a reader, its readers, of which `parse_quick` is a look and descent, and what frees.
 TIMED, LETTING_GO = "weedle_check::timing::time_reader", "weedle_idl::definition::Definition::drop"
 DESCENT, TABLE = "weedle_front::descent::parse_by_descent", "weedle_front::reader::parse"
@@ -61,12 +47,7 @@ REFUSED = {
     "an enum": ("enum A {\n", '  "value{}",\n', "  ,\n};\n"),
     "a callback": ("callback A = undefined (\n", "  optional (long or Node) argument{},\n", "  long\n);\n"),
 }
-MARK = "\ufeff"
 WHOLE, SLIP = "interface A{} {{ attribute long x; void f(long y, long z); }};\n", "interface B { atribute long x; };\n"
-NESTED = {
-    "sequences": ("sequence<", ">"), "promises": ("Promise<", ">"), "keys of records": ("record<", ", long>"),
-    "unions, each the first member": ("(", " or a)"), "unions, each the last member": ("(a or ", ")"),
-}
 
 
 def instructions(words, text=""):
@@ -103,13 +84,6 @@ def of_weedle2(wanted, file):
     return output_of([wanted.weedle2, "--time", str(wanted.rounds), str(file)]).rpartition(f"{file}: ")[2].strip()
 
 
-def instructions_of_weedle2(wanted, file, length):
-    """Prints how many instructions a byte weedle2 takes, where its program is built."""
-    if shutil.which(wanted.weedle2):
-        one, more = (instructions([wanted.weedle2, "--time", str(count), str(file)])[0] for count in (1, 1 + MORE))
-        print(f"  weedle2: {(more - one) / MORE / length:.0f} instructions a byte")
-
-
 def of_readers(name, text, short, wanted):
     """Prints what weedle2 and the port's readers take."""
     data, room = text.encode(), wanted.room
@@ -126,7 +100,9 @@ def of_readers(name, text, short, wanted):
             print(f"  port: {held.split()[-1].decode()} kB held{how}")
     if not shutil.which("valgrind"):
         return
-    instructions_of_weedle2(wanted, file, len(data))
+    if shutil.which(wanted.weedle2):
+        one, more = (instructions([wanted.weedle2, "--time", str(count), str(file)])[0] for count in (1, 1 + MORE))
+        print(f"  weedle2: {(more - one) / MORE / len(data):.0f} instructions a byte")
     listed = (instructions([LIST], text)[0] - instructions([LIST])[0]) / len(data)
     calls = calls_of(instructions([PORT, "--time", part])[1])
     taken = {it: calls.get((TIMED, it), (1, 0)) for it in (DESCENT, LOOK, TABLE, LETTING_GO)}
@@ -161,7 +137,7 @@ def each_field(found):
 
 def ways():
     """The ways to read a text, by their names."""
-    sys.path.insert(0, str(TOP / "python"))
+    sys.path.insert(0, str(Path(__file__).resolve().parent.parent / "python"))
     try:
         import weedle
         from weedle import _library
@@ -209,63 +185,36 @@ def tell_held(file, way):
 
 def of_refusals(wanted):
     library = ways()[0]
+    explain = functools.partial(library.explain, start=0)
 
     def least(call, data):
         return min(nanoseconds(call, data, wanted.rounds))
 
     def read(data):
-        try:
+        with contextlib.suppress(library.Unread):
             library.read_nodes(data)
-        except library.Unread:
-            pass
+
     for name, (front, part, end) in REFUSED.items():
         whole = front + "".join(part.replace("{}", str(number + 1)) for number in range(wanted.size // len(part)))
-        marked, slipped = f"{whole}{MARK}".encode(), f"{whole}{end}".encode()
-        plain, diagnosed, hinted = least(read, marked), least(library.explain, marked), least(library.explain, slipped)
+        marked, slipped = f"{whole}\ufeff".encode(), f"{whole}{end}".encode()
+        plain, diagnosed, hinted = least(read, marked), least(explain, marked), least(explain, slipped)
         print(f"{name}, {len(marked)} bytes: read {plain:.0f} ns a byte, diagnosed {diagnosed - plain:.0f}, with hints {hinted - plain:.0f}")
     many = (SLIP + "".join(WHOLE.format(number) for number in range(wanted.size // 40))).encode()
-    print(f"a slip in front of {len(many)} bytes: {least(library.explain, many) * len(many) / 1e6:.2f} ms")
-
-
-def became(words, text):
-    """What becomes of a text: it is read or refused, or the program dies."""
-    def limit():
-        resource.setrlimit(resource.RLIMIT_STACK, (STACK, STACK))
-        resource.setrlimit(resource.RLIMIT_CORE, (0, 0))
-    status = subprocess.run(words, input=text.encode(), preexec_fn=limit, capture_output=True).returncode
-    if status == 3:
-        raise NoUse("memory is wanted")
-    return {0: "read", 1: "refused"}.get(status, "dies")
-
-
-def of_depth(wanted):
-    families = {name: (lambda n, it=it: f"typedef {it[0] * n}long{it[1] * n} x;") for name, it in NESTED.items()}
-    if not wanted.direct:
-        families["arguments in extended attributes"] = lambda n: "[A(" * (n + 1) + "a... b" + ")] a... b" * n + ")] interface I {};"
-    for name, text_of in families.items():
-        read, unread, end = 0, 1, "read"
-        while unread < MOST and (end := became(wanted.words, text_of(unread))) == "read":
-            read, unread = unread, unread * 2
-        while end != "read" and unread - read > max(1, read // 200):
-            middle = (read + unread) // 2
-            found = became(wanted.words, text_of(middle))
-            read, unread, end = (middle, unread, end) if found == "read" else (read, middle, found)
-        print(f"{name}: {read}{' and more' if end == 'read' else f', a deeper one: {end}'}", flush=True)
+    print(f"a slip in front of {len(many)} bytes: {least(explain, many) * len(many) / 1e6:.2f} ms")
 
 
 def of_machine():
-    before = resource.getrusage(resource.RUSAGE_CHILDREN)
     output_of(["rt", "selftest"])
-    after = resource.getrusage(resource.RUSAGE_CHILDREN)
-    print(f"rt selftest: {after.ru_utime + after.ru_stime - before.ru_utime - before.ru_stime:.0f} s of processor time")
+    taken = resource.getrusage(resource.RUSAGE_CHILDREN)
+    print(f"rt selftest: {taken.ru_utime + taken.ru_stime:.0f} s of processor time")
 
 
 def of_texts(wanted, measured):
     """Measures the mixed text and the files of each folder."""
     def whole(folder):
         files = files_of(folder)
-        answers = re.split(r"^== .*\n", output_of([wanted.weedle2, *map(str, files)]), flags=re.M)[1:]
-        return [file for file, answer in zip(files, answers) if answer.splitlines()[-1].startswith("definitions ")]
+        answers = Weedle2(wanted.weedle2).answers([*map(str, files)])
+        return [file for file, answer in zip(files, answers) if answer.values is not None]
 
     with tempfile.TemporaryDirectory() as room:
         wanted.room, texts = Path(room), [Mixed(wanted.seed).text(size) for size in (wanted.size, wanted.size // PART)]
@@ -277,29 +226,20 @@ def of_texts(wanted, measured):
 
 def main():
     parser = parser_of(__doc__)
-    parser.add_argument("what", choices=("readers", "bindings", "refusals", "depth", "text", "machine"))
-    parser.add_argument("words", nargs="*", metavar="PROGRAM", help="a program, and behind -- what it is given")
-    parser.add_argument("--direct", action="store_true", help="the program reads by descent")
+    parser.add_argument("what", choices=("readers", "bindings", "refusals", "text", "machine"))
     for name, number in (("seed", 7), ("size", None), ("rounds", None)):
         parser.add_argument(f"--{name}", type=int, default=number)
     parser.add_argument("--folder", action="append", default=[])
     parser.add_argument("--weedle2", default=str(WEEDLE2))
     parser.add_argument("--held", nargs=2, help=argparse.SUPPRESS)
     wanted = parser.parse_args()
-    if wanted.what == "depth" and not shutil.which(program := (wanted.words or ["nothing"])[0]):
-        parser.error(f"{program} is no program that can be run")
     wanted.size = wanted.size or (100_000 if wanted.what == "refusals" else 1_000_000)
     wanted.rounds = wanted.rounds or (5 if wanted.what == "bindings" else 15)
-    if wanted.held:
-        tell_held(*wanted.held)
-    elif wanted.what == "text":
-        print(Mixed(wanted.seed).text(wanted.size), end="")
-    elif wanted.what == "machine":
-        of_machine()
-    elif wanted.what in ("readers", "bindings"):
-        of_texts(wanted, of_readers if wanted.what == "readers" else of_bindings)
-    else:
-        of_refusals(wanted) if wanted.what == "refusals" else of_depth(wanted)
+    measures = {
+        "readers": lambda: of_texts(wanted, of_readers), "bindings": lambda: of_texts(wanted, of_bindings), "machine": of_machine,
+        "refusals": lambda: of_refusals(wanted), "text": lambda: print(Mixed(wanted.seed).text(wanted.size), end=""),
+    }
+    tell_held(*wanted.held) if wanted.held else measures[wanted.what]()
 
 
 if __name__ == "__main__":

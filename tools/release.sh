@@ -5,8 +5,8 @@
 #
 # FOLDER, or else dist/, is made anew. It gets the sources of the Python package, for each target of prebuilt/ a wheel and the
 # library for C as c/pack.sh has it, the Rust package as `cargo package` has it and the Node package as `npm pack` has it, both
-# for all targets, the programs weedle_check and weedle_format for x86-64 with man pages, stripped, as the gate built them in
-# crates/NAME/out, CHANGES.md and SUMS. The same files and the same tools give the same bytes. Then tools/try_release.sh
+# for all targets, the programs weedle_check and weedle_format with man pages, stripped, as the gate built them for any x86-64
+# processor (crates/NAME/out/NAME.x86-64), CHANGES.md and SUMS. The same files and the same tools give the same bytes. Then tools/try_release.sh
 # installs and runs all of it, in empty folders.
 #
 # Nothing is downloaded: Cargo has nom from Debian's librust-nom-dev, or from the folder that NOM_REGISTRY names. A release has
@@ -87,11 +87,13 @@ pack_node() {
 
 # Strips a program into the folder that is packed, where the gate has built it.
 take_program() {
-    program=$top/crates/$1/out/$1
+    program=$top/crates/$1/out/$1.x86-64
     if [ ! -f "$program" ]; then
         leave_out "$1" "the gate hasn't built $program"
         return 0
     fi
+    # What is built for newer processors asks glibc for this as it starts.
+    ! grep -q __x86_get_cpuid_feature_leaf "$program" || failed "$program isn't for every x86-64 processor"
     strip -o "$room/$programs/bin/$1" "$program"
     chmod 755 "$room/$programs/bin/$1"
     cp "$top/man/$1.1" "$room/$programs/share/man/man1"

@@ -22,9 +22,8 @@ from prebuilt import FOLDER, HEADER, SUMS, TOP, SharedObject, read_sums, sum_of,
 CHANGES = "CHANGES.md"
 LINK = re.compile(r"\[([^\[\]]+)\]\((?!https?:)[^()]+\)")
 GLIBC = re.compile(r"GLIBC_(\d+)\.(\d+)(?:\.\d+)?")
-# What is said of a processor: what a library for it runs on, and what a program does that `rt` builds with no word on that.
-LIBRARY_PROCESSORS = {"x86_64": "x86-64", "aarch64": "aarch64"}
-PROGRAMS_PROCESSOR = "x86-64-v2"
+# What is said of a processor.
+PROCESSORS = {"x86_64": "x86-64", "aarch64": "aarch64"}
 
 
 def section_of(changelog: str, version: str) -> str:
@@ -50,10 +49,8 @@ def glibc_of(file: SharedObject) -> str | None:
 def wants_of(place: Path) -> str:
     """A line on which processors and which glibc a built file wants."""
     file = SharedObject(place.read_bytes())
-    is_library = place.suffix in (".so", ".node")
     glibc = glibc_of(file)
-    processor = LIBRARY_PROCESSORS[file.processor()] if is_library else PROGRAMS_PROCESSOR
-    return f"{place.name}: Linux, {processor}, {f'glibc {glibc} or later' if glibc else 'no glibc'}"
+    return f"{place.name}: Linux, {PROCESSORS[file.processor()]}, {f'glibc {glibc} or later' if glibc else 'no glibc'}"
 
 
 def sums_of(folder: Path, top: Path, built: list[Path]) -> str:

@@ -11,7 +11,6 @@ from unittest import mock
 
 import builds
 from crates import Unfit
-from written_places import in_logic, place
 
 LINES = """weedle_base:
 low: weedle_base
@@ -129,87 +128,6 @@ TEXTS = {
     "crates/high/specs/Trees.antt": "abbrev pub definition_tree : Definition → Tree\n",
     "crates/build_high/src/lib.rt": "",
 }
-DEFAULTS_WRITTEN = """//! Defaults.
-//!
-//! Written by tools/builds.py, and not edited by hand.
-#![tactic(auto, using(weedle_build_base::proofs::Finding::own_steps))]
-
-ghost use Rattle.std.specs.Prelude.{◌≡◌};
-ghost use TABLE.Literals.{DEFAULT};
-ghost use Rattle.low.specs.Trees.{default_tree};
-
-use crate::part::LowPart;
-use low::Default;
-use low::mixin::DecLit;
-use std::alloc::Global;
-use weedle_base::term::Assign;
-use weedle_build_base::{At, Build, BuildResult, two_fields};
-use weedle_rules::{Ends, Rule};
-
-impl<'a> Build<'a> for LowPart<Default<'a>> {
-    type Value = Default<'a>;
-
-    ghost fits = { λ r. r ≡ DEFAULT };
-
-    ghost tree = { default_tree };
-
-    fn build(alloc: Global, table: &Ends<'a>, _rule: Rule, at: At) -> BuildResult<Default<'a>> {
-        let ((assign, value), at) =
-            two_fields::<Assign, LowPart<DecLit<'a>>>(alloc, table, Rule::DEFAULT, at)?;
-        Ok((Default { assign, value }, at))
-    }
-}
-"""
-BRACED = """
-    ghost fits = { λ r. r ≡ INTERFACE_MIXIN_DEFINITION };
-
-    ghost tree = { definition_tree };
-
-    fn build(alloc: Global, table: &Ends<'a>, _rule: Rule, at: At) -> BuildResult<InterfaceMixinDefinition<'a>> {
-        let ((assign, members), at) = two_fields::<Assign, Braced<Vec<LowPart<MixinMember<'a>>>>>(alloc, \
-table, Rule::INTERFACE_MIXIN_DEFINITION, at)?;
-        Ok((InterfaceMixinDefinition { assign, members }, at))
-    }
-}
-"""
-CHOICE = """
-        let rule = Rule::MIXIN_MEMBER;
-        match choice(table, rule, at.place) {
-            0 => {
-                let (member, at) = alternative::<Pairs<'a>>(alloc, table, rule, 0, at)?;
-                Ok((MixinMember::Const(member), at))
-            }
-            1 => {
-                let (member, at) = alternative::<LowPart<DecLit<'a>>>(alloc, table, rule, 1, at)?;
-                Ok((MixinMember::Number(member), at))
-            }
-            _ => unreachable!(),
-        }
-"""
-FLAG = """
-            0 => {
-                let (_, at) = alternative::<True>(alloc, table, rule, 0, at)?;
-                Ok((BooleanLit(true), at))
-            }
-"""
-ANY = """
-use build_low::LowPart;
-use high::{Default, Definition};
-use std::alloc::Global;
-use weedle_build_base::{At, Build, BuildResult, alternative, choice};
-use weedle_rules::{Ends, Rule};
-
-/// How a definition is built.
-pub(crate) struct AnyDefinition;
-
-impl<'a> Build<'a> for AnyDefinition {
-    type Value = Definition<'a>;
-"""
-
-
-def flat(text):
-    """A text as it is whatever its layout."""
-    return " ".join(text.split())
 
 
 class BuildsTest(unittest.TestCase):
@@ -232,49 +150,6 @@ class BuildsTest(unittest.TestCase):
         path = self.root / path
         path.parent.mkdir(parents=True, exist_ok=True)
         path.write_text(text)
-
-    def written(self, path):
-        builds.run(self.root)
-        return flat((self.root / place(path)).read_text())
-
-    def test_the_crates_that_have_files(self):
-        self.assertEqual(builds.run(self.root), ["build_high", "build_low"])
-
-    def test_a_struct_is_built_by_one_call(self):
-        text = DEFAULTS_WRITTEN.replace("TABLE", in_logic("weedle_grammar.specs.Table"))
-        self.assertEqual(self.written("build_low/src/defaults.rt"), flat(text))
-
-    def test_members_in_braces_are_built_by_the_generic_part(self):
-        text = self.written("build_low/src/low.rt")
-        self.assertIn(flat(BRACED), text)
-        self.assertIn("use weedle_base::term::{Assign, Braced, False, True};", text)
-
-    def test_an_enum_is_built_by_its_alternatives(self):
-        self.assertIn(flat(CHOICE), self.written("build_low/src/low.rt"))
-
-    def test_a_bool_is_built_by_the_words_for_it(self):
-        self.assertIn(flat(FLAG), self.written("build_low/src/low.rt"))
-
-    def test_a_type_that_keeps_its_text_is_left_out(self):
-        self.assertNotIn("for LowPart<DecLit<'a>>", self.written("build_low/src/low.rt"))
-
-    def test_rules_are_in_the_order_of_the_grammar(self):
-        text = self.written("build_low/src/low.rt")
-        names = ("Boolean", "MixinMember", "InterfaceMixin")
-        places = [text.index(f"Build<'a> for LowPart<{name}") for name in names]
-        self.assertEqual(places, sorted(places))
-
-    def test_a_crate_without_a_part_has_a_struct_for_its_type(self):
-        self.assertIn(flat(ANY), self.written("build_high/src/high.rt"))
-
-    def test_a_type_of_the_base_is_its_own_value(self):
-        files, all_built = {"weedle_build_base/own": ("Own.", "low::default")}, lambda files: []
-        with mock.patch.multiple(builds, FILES=files, unbuilt=all_built, lacking=lambda *_: None):
-            text = self.written("weedle_build_base/src/own.rt")
-        self.assertIn("using(crate::proofs::", text)
-        self.assertIn("use crate::structs::two_fields;", text)
-        self.assertIn("for Default<'a> { type Value = Self;", text)
-        self.assertIn("two_fields::<Assign, DecLit>(", text)
 
     def test_a_module_without_types_is_refused(self):
         with mock.patch.dict(builds.FILES, {"build_low/low": ("What is low.", "low::none")}):

@@ -69,12 +69,6 @@ class Scripts(unittest.TestCase):
             self.assertEqual((status, out), (2, ""), name)
             self.assertTrue(err.startswith(f"{name}.py: nothing is written. `python3 tools/write.py` runs "), err)
 
-    def test_a_program_that_is_not_there(self):
-        for words in (("measure", "depth"), ("run_layouts",)):
-            status, out, err = run_script(*words, "./no-such-program")
-            self.assertEqual((status, out), (2, ""), words)
-            self.assertIn("./no-such-program is no program that can be run", err)
-
 
 class Programs(unittest.TestCase):
     def test_one_that_is_there(self):

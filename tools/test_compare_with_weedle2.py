@@ -12,8 +12,7 @@ import unittest
 from pathlib import Path
 
 import compare_with_weedle2 as comparing
-from compare_with_weedle2 import Answer, Comparison, answer_by_rows, explanation, renamed, unescaped
-from random_texts import Maker
+from compare_with_weedle2 import Answer, Comparison, answer_by_rows, explanation, renamed
 from table_reader import CHANGED, Table
 from tree_json import Held, debug, read
 
@@ -97,29 +96,6 @@ class Names(unittest.TestCase):
         now = "Type(RecordType { record: Record, body: (A, B), args: Parenthesized { list: [A] } })"
         self.assertEqual(renamed(read(was)), read(now))
         self.assertEqual(renamed(Held("Some", [None])), Held("Some", [None]))
-
-    def test_strings_of_rust(self):
-        self.assertEqual(unescaped(r'a\n\"\\\u{feff}' + "\\\n    b"), 'a\n"\\\ufeffb')
-
-
-class Texts(unittest.TestCase):
-    def test_a_seed_gives_the_same_texts(self):
-        one, other = Maker(3), Maker(3)
-        self.assertEqual([one.near(one.text()) for _ in range(20)], [other.near(other.text()) for _ in range(20)])
-        self.assertNotEqual([Maker(3).text() for _ in range(3)], [Maker(4).text() for _ in range(3)])
-
-    def test_most_are_read_whole(self):
-        maker = Maker(1)
-        texts = [maker.text() for _ in range(30)]
-        whole = [text for text in texts if Table().read(text)[0] == len(text.encode())]
-        self.assertGreater(len(whole), 25)
-
-    def test_one_character_is_changed(self):
-        maker = Maker(1)
-        for text in ["", "abc", "aéa", "é"]:
-            changed = maker.with_a_byte_changed(text)
-            self.assertEqual(len(changed.encode()), len(text.encode()))
-            self.assertLessEqual(sum(a != b for a, b in zip(text, changed)), 1)
 
 
 class Compared(unittest.TestCase):

@@ -14,7 +14,7 @@ from io import StringIO
 from pathlib import Path
 
 import toolchain
-from gate import Order, is_known, known, measured, out_of_layout, remembered, run_all, scheduler, with_library
+from gate import Order, is_known, known, measured, out_of_layout, remembered, run_all, scheduler, with_built
 
 GB = 10**9
 TIMES = {("low", "proof"): 60, ("long", "proof"): 2400, ("side", "proof"): 500, ("top", "proof"): 300}
@@ -188,7 +188,7 @@ class Library(unittest.TestCase):
         self.tasks = {("weedle_c", "proof"): ([], 7, GB, lambda given, jobs: True)}
 
     def build(self, is_proved=True):
-        waits, *_, call = with_library(self.tasks, self.rt, self.file)["weedle_c", "library"]
+        waits, *_, call = with_built(self.tasks, self.rt, self.file)["weedle_c", "library"]
         self.assertEqual(waits, [("weedle_c", "proof")])
         with redirect_stdout(StringIO()) as said:
             return call({("weedle_c", "proof"): is_proved}, 1), said.getvalue()
@@ -219,8 +219,47 @@ class Library(unittest.TestCase):
 
     def test_another_rt_goes_on_without_it(self):
         with redirect_stdout(StringIO()) as said:
-            self.assertEqual(with_library(self.tasks, types.SimpleNamespace(), self.file), self.tasks)
+            self.assertEqual(with_built(self.tasks, types.SimpleNamespace(), self.file), self.tasks)
         self.assertIn("can't be built", said.getvalue())
+
+
+class Programs(unittest.TestCase):
+    """The programs of a release, as tasks behind their proofs."""
+
+    def setUp(self):
+        room = tempfile.TemporaryDirectory()
+        self.addCleanup(room.cleanup)
+        self.out = Path(room.name, "out")
+        self.out.mkdir()
+        # What stands for both commands writes its words into the file that is named behind -o.
+        self.words = ["-c", "import sys; it = sys.argv[1:]; open(it[it.index('-o') + 1], 'w').write(' '.join(it))"]
+        crate = types.SimpleNamespace(name="weedle_check", folder=room.name, words=lambda flags, keeps: flags)
+        lib = types.SimpleNamespace(guarded=lambda: [sys.executable, *self.words], RATTLE="rattle")
+        self.rt = types.SimpleNamespace(crates_of=lambda root: [crate], rtlib=lib, KIT="/kit")
+        self.tasks = {("weedle_check", "proof"): ([], 7, GB, lambda given, jobs: True)}
+
+    def build(self, is_proved=True):
+        tasks = with_built(self.tasks, self.rt, programs=["weedle_check"])
+        self.assertEqual(set(tasks), {("weedle_check", "proof"), ("weedle_check", "library")})
+        with redirect_stdout(StringIO()) as said:
+            return tasks["weedle_check", "library"][3]({("weedle_check", "proof"): is_proved}, 1), said.getvalue()
+
+    def test_one_is_built_and_linked_behind_its_proof_for_any_processor(self):
+        self.assertEqual(self.build(), (True, ""))
+        made, program = Path(self.out, "weedle_check.x86-64.o"), Path(self.out, "weedle_check.x86-64")
+        self.assertIn("rattle build --jobs 1 --target x86_64-unknown-linux-gnu --cpu x86-64 ", made.read_text())
+        linked = program.read_text()
+        self.assertTrue(linked.startswith("/kit/bin/rattle-link --target x86_64-unknown-linux-gnu "), linked)
+        self.assertIn(f" {made} ", linked)
+
+    def test_what_is_not_proved_is_not_built(self):
+        self.assertEqual(self.build(is_proved=False), (False, ""))
+        self.assertEqual([*self.out.iterdir()], [])
+
+    def test_where_building_fails_it_is_said_and_nothing_is_linked(self):
+        self.words = ["-c", "print('no'); raise SystemExit(1)"]
+        said = "no\ngate.py: weedle_check isn't built over what is proved, for x86_64-unknown-linux-gnu\n"
+        self.assertEqual(self.build(), (False, said))
 
 
 class Known(unittest.TestCase):

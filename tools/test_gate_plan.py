@@ -70,19 +70,7 @@ class Planned(unittest.TestCase):
             for key, task in tasks.items():
                 self.assertTrue(all(log[it][1] <= log[key][0] for it in task.waits), (processors, key))
 
-    def test_several_wrong_bodies_have_a_beginning_and_an_end(self):
-        tasks = self.gate.tasks()
-        of_low = {key[1:]: task for key, task in tasks.items() if key[0] == "low" and key[1] not in ("proof", "tests")}
-        self.assertEqual([*of_low], [("seed",), ("edits", 0), ("edits", 1), ("sound",)])
-        self.assertEqual(sum(it.seconds for it in of_low.values()), 100)
-        self.assertIn(("low", "seed"), of_low["edits", 1].waits)
-        self.assertEqual(of_low["edits", 0].needs, gate_plan.OVER * of_low[("seed",)].needs)
-
-    def test_wrong_bodies_that_name_their_functions_begin_with_a_check_of_these(self):
-        for name in ("one", "two"):
-            edit = Path(self.gate.root, "crates/low/must-fail", f"{name}.edit")
-            edit.parent.mkdir(exist_ok=True)
-            edit.write_text("# only: f\nfile: src/lib.rt\n")
+    def test_wrong_bodies_begin_with_a_check_of_their_functions(self):
         self.gate.edits = {"low": [2, 90]}
         seconds = {key[1:]: it.seconds for key, it in self.gate.tasks().items() if key[0] == "low"}
         self.assertEqual(seconds, {("proof",): 60, ("tests",): 0, ("seed",): 30, ("edits", 0): 30, ("edits", 1): 30})
@@ -105,11 +93,6 @@ class Planned(unittest.TestCase):
             said = argparse.Namespace(**{**vars(SAID), "memory": free})
             self.gate.edits, self.gate.tests = {}, {}
             self.assertIn(f" {minutes} minutes", [*plan(self.gate, 2, said)][0])
-
-    def test_one_wrong_body_is_tried_from_nothing(self):
-        self.gate.edits = {"low": [1, 40]}
-        keys = [key for key in self.gate.tasks() if key[0] == "low"]
-        self.assertEqual(keys, [("low", "proof"), ("low", "tests"), ("low", "edits", 0)])
 
     def test_crates_side_by_side_get_one_job_each(self):
         log = simulated(self.gate.tasks(), 2)

@@ -1,5 +1,5 @@
 #!/usr/bin/env python3
-"""Tests run_cases.py and case_runs.py, with no built program, in some seconds.
+"""Tests `run cases` and run/worked_runs.py, with no built program, in some seconds.
 
     python3 tools/test_run_cases.py
 
@@ -15,15 +15,15 @@ import unittest
 from pathlib import Path
 from unittest import mock
 
-import case_programs
-import case_runs
-import run_cases
 import row_hints
 from case_files import archive_of, numbered, packed
 from compare_with_weedle2 import BETWEEN, answer_by_rows
 from make_cases import excerpt, wanted_of
 from row_nodes import nodes_of, shown
 from row_words import position, refusal
+from run import cases as run_cases
+from run import programs, worked_runs
+from run.__main__ import main
 from table_reader import Table
 from tree_json import debug
 
@@ -35,7 +35,7 @@ with open({answers!r}, encoding="utf-8") as it:
 """
 # The programs, by answers that are made before. weedle_check:
 CHECK = """
-files, refused = [word for word in sys.argv[1:] if word[:2] != "--"], 0
+files, refused = [word for word in sys.argv[1:] if word[:2] != "--" and not word.isdigit()], 0
 for file in files:
     with open(file, encoding="utf-8", newline="") as it:
         answer = answers[it.read()]
@@ -128,16 +128,14 @@ class Cases(unittest.TestCase):
         program = self.program("weedle_check_itself", wrong)
         script.write_text(TRIED.format(python=sys.executable, calls=str(calls), program=program), encoding="utf-8")
         script.chmod(0o755)
-        with mock.patch.object(case_programs, "TRY", (str(script),)):
+        with mock.patch.object(programs, "TRY", (str(script),)):
             said = self.ended("--try", str(crate), *words)
         return *said, len(calls.read_text().splitlines()) if calls.exists() else 0
 
     def ended(self, *words):
         """The status, and what is printed on both outputs."""
-        argv = ["run_cases.py", *words, "--tests", str(self.room)]
-        with mock.patch.object(sys, "argv", argv), contextlib.redirect_stdout(io.StringIO()) as out, \
-                contextlib.redirect_stderr(io.StringIO()) as err:
-            return run_cases.main(run_cases.arguments()), out.getvalue(), err.getvalue()
+        with contextlib.redirect_stdout(io.StringIO()) as out, contextlib.redirect_stderr(io.StringIO()) as err:
+            return main(["cases", *words, "--tests", str(self.room)]), out.getvalue(), err.getvalue()
 
     def test_all_pass(self):
         said = self.ended(self.program("weedle_check"), "some")
@@ -192,7 +190,7 @@ class Cases(unittest.TestCase):
                       ["--try", str(self.room)]):
             status, out, err = self.ended(*words)
             self.assertEqual((status, out), (2, ""), words)
-            self.assertTrue(err.startswith("run_cases: "), words)
+            self.assertTrue(err.startswith("run cases: "), words)
 
     def test_all_folders_in_one_run_of_a_program_that_is_tried(self):
         cases = numbered((text, wanted_of(text, None)) for text in TEXTS[:2])
@@ -206,7 +204,7 @@ class Cases(unittest.TestCase):
 
     def test_what_is_not_for_a_program_that_is_tried(self):
         said = self.tried("runs")
-        self.assertEqual(said, (2, "", "run_cases: runs is run with a program that is built\n", 0))
+        self.assertEqual(said, (2, "", "run cases: runs is run with a program that is built\n", 0))
 
     def test_some_bytes_of_all(self):
         _, out, _ = self.ended(self.program("weedle_check"), "some", "--most", "40")
@@ -214,33 +212,11 @@ class Cases(unittest.TestCase):
         self.assertLess(int(out.split()[-4]), 5)
 
 
-class Parts(unittest.TestCase):
-    def test_taken(self):
-        self.assertEqual(run_cases.taken(list(range(10)), 0.3), [3, 6, 9])
-        self.assertEqual(run_cases.taken([1, 2], 1), [1, 2])
-
-    def test_parts_by_name(self):
-        out = "a:1:2: x\nline\n^\nb:3:4: y\na:b:\n^\n2 files, 2 refused\n"
-        parts = run_cases.parts_by_name(out, ["a", "b", "c"], "2 files, 2 refused\n")
-        self.assertEqual(parts, {"a": "a:1:2: x\nline\n^\n", "b": "b:3:4: y\na:b:\n^\n", "c": ""})
-        self.assertIsNone(run_cases.parts_by_name(out, ["a", "b"], "2 files, 1 refused\n"))
-        self.assertIsNone(run_cases.parts_by_name("x\n" + out, ["a", "b"], "2 files, 2 refused\n"))
-
-    def test_parts_between(self):
-        between = '1:1 Typedef(x: Identifier("between_two_texts"))\n'
-        self.assertEqual(run_cases.parts_between(f"1:1 A(x)\n{between}{between}end\n", "end\n"), ["1:1 A(x)\n", ""])
-        self.assertIsNone(run_cases.parts_between(f"{between}1:1 A(x)\nend\n", "end\n"))
-        self.assertIsNone(run_cases.parts_between(between, "end\n"))
-
-    def test_a_line_that_is_no_tree(self):
-        self.assertEqual(run_cases.trees_in("1:1 A(B)\nfoo\n"), [{"at": "1:1", "value": {"A": "B"}}, "foo"])
-
-
 class Runs(unittest.TestCase):
-    """case_runs.py, with programs of the system."""
+    """run/worked_runs.py, with programs of the system."""
 
     def came(self, program, **keys):
-        run = case_runs.Run({"what": "w", "program": "p", "status": 0, **keys})
+        run = worked_runs.Run({"what": "w", "program": "p", "status": 0, **keys})
         return run.wanted(), run.came(program)
 
     def assert_right(self, program, **keys):
@@ -273,7 +249,7 @@ class Runs(unittest.TestCase):
         with tempfile.TemporaryDirectory() as room:
             for content, is_checked in ((b"\0__asan_init\0", True), (b"\0", False)):
                 (Path(room) / "p").write_bytes(content)
-                run = case_runs.Run({"what": "w", "program": "p", "status": 0, "memory": 5 << 20})
+                run = worked_runs.Run({"what": "w", "program": "p", "status": 0, "memory": 5 << 20})
                 how = run.limits(f"{room}/p", room)
                 self.assertEqual(("preexec_fn" in how, "env" in how), (not is_checked, is_checked))
                 self.assertTrue(not is_checked or "max_allocation_size_mb=5:" in how["env"]["ASAN_OPTIONS"])
@@ -284,13 +260,13 @@ class Runs(unittest.TestCase):
         self.assertNotEqual(*self.came("cat", input="x", stdout_like="y+"))
 
     def test_keys(self):
-        self.assertRaises(ValueError, case_runs.Run, {"what": "w", "program": "p", "status": 0, "stdot": ""})
+        self.assertRaises(ValueError, worked_runs.Run, {"what": "w", "program": "p", "status": 0, "stdot": ""})
 
     def test_those_of_this_repository(self):
-        runs = case_runs.runs()
+        runs = worked_runs.runs()
         self.assertEqual({run.program for run in runs}, set(run_cases.PROGRAMS))
         self.assertEqual(len(runs), len({(run.program, run.what) for run in runs}))
-        self.assertEqual(len(runs), 133)
+        self.assertEqual(len(runs), 140)
 
 
 if __name__ == "__main__":

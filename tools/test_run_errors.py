@@ -1,10 +1,10 @@
-"""Tests of sown_errors.py and run_errors.py, with parts that are written by hand."""
+"""Tests of sown_errors.py and `run errors`, with parts that are written by hand."""
 
 import random
 import unittest
 
-import run_errors
 import sown_errors
+from run import errors as run_errors
 
 TEXT = "interface A {\n  long x;\n};\n\n"
 

@@ -1,14 +1,14 @@
 #!/usr/bin/env python3
-"""Tests run_growth.py with made-up costs, in a second.
+"""Tests `run growth` with made-up costs, in a second.
 
     python3 tools/test_run_growth.py
 """
 
 import unittest
 
-import run_growth
 from families import Family
-from run_growth import FEW, MOST, growth, text_of
+from run import growth as run_growth
+from run.growth import FEW, MOST, growth, text_of
 
 MANY = Family("many", "refused", "", f'"a" {10 * FEW}*"bc"')
 LENGTHS = (4_000, 16_000)

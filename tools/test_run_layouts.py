@@ -1,11 +1,11 @@
-"""Tests of run_layouts.py."""
+"""Tests of `run layouts`."""
 
 import random
 import tomllib
 import unittest
 
-from layout_runs import WORKED
-from run_layouts import SEEDS, has_blanks_at_end, pieces_of, sown
+from run.layout_runs import WORKED
+from run.layouts import SEEDS, has_blanks_at_end, pieces_of, sown
 
 
 class Pieces(unittest.TestCase):

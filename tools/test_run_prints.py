@@ -1,5 +1,5 @@
 #!/usr/bin/env python3
-"""Tests of run_prints.py, over programs that are made up.
+"""Tests of `run prints`, over programs that are made up.
 
     python3 tools/test_run_prints.py
 """
@@ -9,8 +9,10 @@ import unittest
 from pathlib import Path
 
 from compare_with_weedle2 import Answer, NoUse
-from run_layouts import has_blanks_at_end
-from run_prints import BETWEEN, Programs, failures_of, failures_of_worked, one_wrong, other_values, worked
+from run import texts
+from run.layouts import has_blanks_at_end
+from run.prints import BETWEEN, Programs, failures_of_worked, one_wrong, worked, wrong_of
+from run.programs import Built
 from table_reader import Table
 
 WORD = "between_two_texts"
@@ -20,13 +22,12 @@ class Fake(Programs):
     """A checker of texts whose definitions are lines: it reads those that end in `;`."""
 
     def __init__(self, changed: dict[str, str] | tuple = (), laid_out: bool = True, weedle2: object = None) -> None:
-        super().__init__("check", "format", weedle2)
+        super().__init__(Built("check"), Built("format"), weedle2)
         self.changed, self.is_laid_out = dict(changed), laid_out
 
-    def output(self, words: list[str], room: Path) -> str:
-        program, *names = words
-        option = names.pop(0) if names and names[0].startswith("--") else None
-        if program == "format":
+    def output(self, program: Built, words: list[str], names: list[str], room: Path) -> str:
+        option = words[0] if words else None
+        if program is self.layout:
             return "" if self.is_laid_out else "".join(f"{name}\n" for name in names)
         parts = [self.answer(option, name, (room / name).read_text()) for name in names]
         count = "" if option == "--print" else f"{len(names)} files, 0 refused\n"
@@ -57,6 +58,13 @@ class Asked:
         return [Answer([], Path(file).read_text().replace(";", " ;").split()) for file in files]
 
 
+def failures_of(fake: Fake, given: list[str]) -> tuple[int, list[tuple[str, str]]]:
+    """How many texts are read, and those of which something is wrong."""
+    with tempfile.TemporaryDirectory() as room:
+        found = wrong_of(fake, given, Path(room))
+    return len(found), [it for it in found if it[1]]
+
+
 class Failures(unittest.TestCase):
     def test_what_is_not_read_is_left_out(self) -> None:
         self.assertEqual(failures_of(Fake(), ["a  b;\n", "a b\n", "c;\nd;\n", ""]), (3, []))
@@ -79,8 +87,15 @@ class Failures(unittest.TestCase):
 
     def test_values_of_weedle2(self) -> None:
         self.assertEqual(failures_of(Fake(weedle2=Asked()), ["a  b;\n"]), (1, []))
-        self.assertIsNone(other_values(None, ["a"], "a"))
-        self.assertEqual(other_values(["a"], ["b"], "b"), "weedle2 reads other values: b")
+        self.assertEqual(one_wrong("T", "T", "b", "b", False, True), "weedle2 reads other values: b")
+
+    def test_only_of_what_weedle2_reads_other_values_fail(self) -> None:
+        class Some:
+            def answers(self, files):
+                return [Answer([], None if Path(it).name == "u" else [Path(it).name]) for it in files]
+
+        self.assertEqual(texts.other_values(Some(), ["a", "u", "b"], ["a", "b", "c"], Path()), {2})
+        self.assertEqual(texts.other_values(None, ["a"], ["b"], Path()), set())
 
 
 class Worked(unittest.TestCase):

@@ -1,5 +1,5 @@
 #!/usr/bin/env python3
-"""Tests run_slips.py with no program, in a second.
+"""Tests slips.py and `run slips` with no program, in a second.
 
     python3 tools/test_run_slips.py
 """
@@ -8,10 +8,14 @@ import contextlib
 import io
 import subprocess
 import unittest
+from argparse import Namespace
+from unittest import mock
 
-import run_slips
-from run_cases import last_line
-from run_slips import Slip, Told, run, slips
+import slips as slips_page
+from run import slips as run_slips
+from run.cases import last_line
+from run.report import Report
+from slips import Slip, Told, slips
 
 
 class ByRows:
@@ -29,9 +33,10 @@ class ByRows:
 
 
 def status_and_last(program):
-    with contextlib.redirect_stdout(io.StringIO()) as out:
-        status = run(program)
-    return status, out.getvalue().split("\n")[-2]
+    report = Report()
+    with contextlib.redirect_stdout(io.StringIO()) as out, mock.patch.object(run_slips, "meant", lambda *_: program):
+        run_slips.run(Namespace(program="", is_tried=False), report)
+    return int(report.failed > 0), out.getvalue().split("\n")[-2]
 
 
 class Slips(unittest.TestCase):
@@ -41,8 +46,8 @@ class Slips(unittest.TestCase):
 
     def test_each_is_marked_once(self):
         for slip in slips():
-            self.assertEqual(slip.line.count(run_slips.MARK), 1, slip.line)
-            self.assertNotIn(run_slips.MARK, slip.text)
+            self.assertEqual(slip.line.count(slips_page.MARK), 1, slip.line)
+            self.assertNotIn(slips_page.MARK, slip.text)
 
     def test_what_points_at_a_slip(self):
         slip = Slip("a b\u2038 /* c */ // d\\n e")
@@ -52,7 +57,7 @@ class Slips(unittest.TestCase):
     def test_what_is_counted(self):
         status, last = status_and_last(ByRows())
         self.assertEqual(status, 0)
-        self.assertRegex(last, r"^\d+ hints, \d+ of \d+ changes mend, \d+ of 155 within a line of the slip$")
+        self.assertRegex(last, r"^.*: 155 slips, \d+ hints, \d+ of \d+ changes mend, \d+ pointed at$")
 
     def test_what_is_enough(self):
         for counts, is_so in (((100, 95, 100, 97), True), ((100, 94, 100, 97), False), ((100, 95, 100, 96), False), ((0, 0, 0, 0), True)):
@@ -68,7 +73,7 @@ class Slips(unittest.TestCase):
         self.assertEqual(status_and_last(ByRows("1:1: expected `;`\nx\n^\n"))[0], 1)
 
     def test_the_page(self):
-        self.assertEqual(run_slips.page(), run_slips.PAGE.read_text(encoding="utf-8"))
+        self.assertEqual(slips_page.page(), slips_page.PAGE.read_text(encoding="utf-8"))
 
 
 if __name__ == "__main__":

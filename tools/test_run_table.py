@@ -1,10 +1,10 @@
-"""Tests of run_table.py, by a program that answers as weedle_table does."""
+"""Tests of `run table`, by a program that answers as weedle_table does."""
 
 import subprocess
 import tomllib
 import unittest
 
-from run_table import WORKED, Table, diagnosis_by_rows, parts_by_rows, wrong_of_rows, wrong_of_worked
+from run.table import WORKED, Table, diagnosis_by_rows, parts_by_rows, wrong_of_rows, wrong_of_worked
 
 TEXT = "enum _E { /* c */ \"a\" };\n"
 PLACES = "definition 0..25 0..24 0..0 5..7\n  value 18..22 18..21 9..18 -\n1 definition\n"

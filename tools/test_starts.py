@@ -8,7 +8,7 @@ import unittest
 
 from description.webidl import RULES
 from row_ends import FAILS, ROWS, Ends
-from starts import EVERY, NUMBER, TAKES, WORDS, Joined, begins, first_set, gate, way, word_of
+from starts import EVERY, WORDS, first_set, gate, word_of
 
 BY_NAME = {it.name: it for it in RULES}
 BLANKS, LETTERS = b" \t\r\n/", b"abcdefghijklmnopqrstuvwxyzABCDEFGHIJKLMNOPQRSTUVWXYZ"
@@ -27,18 +27,6 @@ class TestFirstSets(unittest.TestCase):
     def test_of_what_may_take_nothing(self):
         for name in ("TRIVIA", "DEFINITIONS", "OPT_OPTIONAL", "RUN_DIGIT"):
             self.assertEqual(first_set(name), EVERY, name)
-
-    def test_of_a_sequence_up_to_the_part_that_takes_a_byte(self):
-        words = {"A": 1, "B": 2, "C": 4}
-        TAKES.update(A=False, B=True, C=True)
-        try:
-            self.assertEqual(begins(("Seq", ("A", "B", "C")), words), 3)
-            self.assertEqual(begins(("If", ("A", "B"), 0, "C"), words), 7)
-            self.assertEqual(begins(("Tail", "A", "B"), words), 2)
-            self.assertEqual(begins(("List1", "A", "C"), words), 5)
-        finally:
-            for name in words:
-                del TAKES[name]
 
     def test_no_rule_takes_what_its_word_lacks(self):
         ends = Ends(ROWS)
@@ -60,20 +48,6 @@ class TestGates(unittest.TestCase):
 
     def test_of_another_rule(self):
         self.assertEqual(gate(BY_NAME["ENUM"]), first_set("ENUM"))
-
-
-class TestWays(unittest.TestCase):
-    def test_rows_in_code(self):
-        numbers, texts = Joined([]), Joined("")
-        trivia, blanks = NUMBER["TRIVIA"], NUMBER["BLANKS"]
-        rows = [("Bytes", "ab"), ("Past", "b"), ("Run", "Digit"), ("Opt", "TRIVIA"), ("First", ("TRIVIA", "BLANKS")),
-                ("Seq", ("BLANKS", "TRIVIA")), ("If", ("TRIVIA", "BLANKS"), 1, "BLANKS")]
-        self.assertEqual([way(it, numbers, texts) for it in rows], [
-            "Way::Bytes(Span(0, 2))", "Way::Past(Span(1, 2))", "Way::Run(Class::Digit)", f"Way::Opt({trivia})",
-            "Way::First(Span(0, 2))", "Way::Seq(Span(2, 4))", f"Way::If(Span(0, 2), 1, {blanks})",
-        ])
-        self.assertEqual(numbers.all, [trivia, blanks, blanks, trivia])
-        self.assertEqual(texts.all, "ab")
 
 
 if __name__ == "__main__":

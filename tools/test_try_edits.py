@@ -65,17 +65,6 @@ class Misfits(TryEditsTest):
     def misfit(self, text):
         return try_edits.misfit_of(text, self.root / "crates/low")
 
-    def test_an_edit_whose_old_text_stands_once_applies(self):
-        self.assertEqual(self.misfit(ONE), "")
-
-    def test_a_pair_applies_to_what_the_earlier_ones_made(self):
-        text = "file: src/lib.rt\nold: Some(x)\nnew: None\nold: Some(\nnew: Fine(\n"
-        self.assertEqual(self.misfit(text), "")
-
-    def test_spaces_at_the_front_of_an_old_text_count(self):
-        write(self.root, {"crates/low/src/lib.rt": "x,\n    x,\n"})
-        self.assertEqual(self.misfit("file: src/lib.rt\nold:   x,\nnew: y,\n"), "")
-
     def test_an_old_text_that_stands_twice_or_never(self):
         twice = "file: src/lib.rt\nold: Some(\nnew: None\n"
         self.assertEqual(self.misfit(twice), "src/lib.rt has 2 times: Some(")
@@ -85,9 +74,6 @@ class Misfits(TryEditsTest):
     def test_a_file_that_is_not_there_or_elsewhere(self):
         self.assertEqual(self.misfit("file: src/no.rt\n"), "there is no file src/no.rt")
         self.assertEqual(self.misfit("file: out/kept\n"), "there is no file out/kept")
-
-    def test_a_new_text_without_an_old_one(self):
-        self.assertIn("no `old:`", self.misfit("file: src/lib.rt\nnew: None\n"))
 
     def test_a_line_that_rt_would_not_read(self):
         self.assertEqual(self.misfit(f"{ONE}and more\n"), "a line isn't read: and more")
@@ -161,6 +147,14 @@ class Functions(TryEditsTest):
 
     def test_what_changes_a_definition_has_none(self):
         self.assertEqual(self.functions("specs/Rows.antt", "1"), [])
+
+
+class Hints(unittest.TestCase):
+    def test_the_verdict_is_the_last_line(self):
+        said = "rt: chose --jobs 1 for low\nonly=2 proved=1\nrt: rt check --start less\nrt: rt lemma WORD..\n"
+        with mock.patch.object(try_edits.subprocess, "run", return_value=mock.Mock(returncode=1, stdout=said)):
+            answer = try_edits.run_rt(Path("low"), ["less"])
+        self.assertEqual(answer, (1, "rt: chose --jobs 1 for low\nonly=2 proved=1\n"))
 
 
 class Tries(TryEditsTest):
@@ -282,7 +276,7 @@ class Programs(TryEditsTest):
             self.seen.append((name, subprocess.check_output([program], text=True).strip()))
             return found
         path = mock.patch.dict(os.environ, {"PATH": f"{self.root.parent}/bin:{os.environ['PATH']}"})
-        library = mock.patch.object(wrong_programs.asked_memory, "built_library", lambda room: "")
+        library = mock.patch.object(wrong_programs.memory, "built_library", lambda room: "")
         with path, library, mock.patch.object(wrong_programs, "failures_in", failures_in):
             return self.run_main("--programs", *words)
 
@@ -339,7 +333,7 @@ class LibraryTest(unittest.TestCase):
     """The library for C: its tests in C say whether a wrong body is found."""
 
     def test_the_tests_in_c_find_one(self):
-        with mock.patch.object(wrong_programs.asked_memory, "built_library", lambda room: ""), \
+        with mock.patch.object(wrong_programs.memory, "built_library", lambda room: ""), \
              mock.patch.object(wrong_programs, "built_by_lib", lambda crate, room: room / "libweedle.a"), \
              mock.patch.object(wrong_programs, "failing_tests", lambda archive, room: [True, False, False]):
             self.assertEqual(wrong_programs.Runs(Path("room")).failures_of(Path("crates/weedle_c"), True), (1, 3))

@@ -5,7 +5,6 @@
 """
 
 import os
-import subprocess
 import tempfile
 import unittest
 from pathlib import Path
@@ -161,32 +160,6 @@ pub fn one() -> u8 {
 }
 """
 HIGH = "//! High.\n//!\n//! ```rust\n//! fn main(rt: HostRuntime) -> u8 {\n//!     weedle_low::one()\n//! }\n//! ```\n"
-FIRST = """//! crates/weedle_low/src/lib.rt:4
-
-use std::test::Fail;
-use low::one;
-
-#[test]
-fn holds(rt: HostRuntime) -> Result<(), Fail> {
-    let rt = &rt;
-    // Of one.
-    assert_eq!(rt; one(), 1);
-    Ok(())
-}
-"""
-SECOND = """//! crates/weedle_low/src/lib.rt:17
-
-use std::test::Fail;
-fn made() {}
-
-#[test]
-fn holds(rt: HostRuntime) -> Result<(), Fail> {
-    let rt = &rt;
-    let it = made();
-    it
-}
-"""
-THIRD = "//! crates/high/src/lib.rt:4\n\n\nfn main(rt: HostRuntime) -> u8 {\n    weedle_low::one()\n}\n"
 AROUND = doc_examples.AROUND
 NOWHERE = "README.md:4: no file with tests and no doc comment has this block"
 
@@ -341,22 +314,6 @@ class Examples(Repository):
         self.write("crates/other/src/lib.rt", "//! Other.\n")
         with self.assertRaisesRegex(Unfit, "other has no example"):
             self.found("high", "other")
-
-    def test_the_modules_and_the_repository_in_which_they_are_tried(self):
-        seen = {}
-
-        def run(words, cwd, **_):
-            room = cwd.parent.parent
-            seen.update({it.relative_to(room).as_posix(): it.read_text() for it in room.rglob("*") if it.is_file()})
-            return subprocess.CompletedProcess(words, 1)
-
-        with mock.patch("subprocess.run", run):
-            self.assertEqual(try_pages.try_examples(self.root, self.found("high", "weedle_low")), 1)
-        self.assertEqual(seen["crates.txt"], "weedle_low:\nhigh: weedle_low\nexamples: high weedle_low\n")
-        self.assertIn("mod high_lib_1;\nmod weedle_low_lib_1;\nmod weedle_low_lib_2;\n", seen["crates/examples/src/lib.rt"])
-        code = [seen[f"crates/examples/src/{it}.rt"] for it in ("weedle_low_lib_1", "weedle_low_lib_2", "high_lib_1")]
-        self.assertEqual(code, [FIRST, SECOND, THIRD])
-        self.assertNotIn("crates/other/src/lib.rt", seen)
 
     def test_what_stands_around_is_that_of_examples(self):
         found = doc_examples.examples_of(try_pages.TOP, ())

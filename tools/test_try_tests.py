@@ -39,7 +39,7 @@ class Runs(unittest.TestCase):
         (self.room / "tools").mkdir()
         for name in PARTS:
             shutil.copy(TOOLS / name, self.room / "tools")
-        (self.room / "tools/run_cases.py").write_text(CASES)
+        (self.room / "tools/run").write_text(CASES)
         (self.room / "bin").mkdir()
         (self.room / "bin/rt").write_text(RT)
         (self.room / "bin/rt").chmod(0o755)

@@ -118,29 +118,9 @@ class Layouts(unittest.TestCase):
         self.assertEqual(found, {**files, **laid})
         self.assertEqual(calls, 1)
 
-    def test_several_crates_take_no_more_calls_than_there_are_processors(self):
-        anew = {f"crates/{it}/src/lib.rt": b"x\n" for it in "abc"}
-        with mock.patch("os.cpu_count", return_value=2):
-            found, calls = self.laid_out({}, anew)
-        self.assertEqual(found, {path: b"x\nlaid\n" for path in anew})
-        self.assertEqual(calls, 2)
-
     def test_nothing_is_laid_out_where_nothing_differs(self):
         files = {"crates/a/src/lib.rt": b"x\n"}
         self.assertEqual(self.laid_out(files, files), (files, 0))
-
-    def test_the_size_of_a_crate_is_that_of_its_code(self):
-        files = {"crates/a/src/b.rt": b"12", "crates/a/specs/B.antt": b"3", "crates/c/src/d.rt": b""}
-        anew = {**files, "crates/a/specs/B.antt": b"456"}
-        self.assertEqual(write.sizes_of(files, anew), {"a": 2})
-
-    def test_what_is_no_crates_has_no_size(self):
-        self.assertEqual(write.sizes_of({}, {"include/a.h": b"x"}), {})
-
-    def test_shares_are_of_about_the_same_size(self):
-        found = write.shares({"a": 1, "b": 5, "c": 3, "d": 2}, 2)
-        self.assertEqual(found, [["b", "a"], ["c", "d"]])
-        self.assertEqual(write.shares({"a": 0}, 4), [["a"]])
 
 
 class Writers(unittest.TestCase):

@@ -70,6 +70,8 @@ UNREAD = re.compile(
 )
 # The head of a function in a source file, with what stands before it.
 FUNCTION = re.compile(r"^( *)(?:pub(?:\([a-z]+\))? )?(?:unsafe )?(?:extern \"C\" )?fn (\w+)", re.MULTILINE)
+# rt's own hints, which stand behind the last line of a check.
+HINTS = re.compile(r"(^rt: .*\n)+\Z", re.MULTILINE)
 # What is said of a proof that names what an edit took away.
 NAME_GONE = re.compile(r"(\./)?proofs/.*(has no field|is not in scope|has no `|was not admitted)")
 
@@ -212,7 +214,7 @@ def run_rt(crate, functions):
     how = {"stdin": subprocess.DEVNULL, "stdout": subprocess.PIPE, "stderr": subprocess.STDOUT}
     words = ["rt", "check", *gate_edits.words_of(functions)]
     ran = subprocess.run(words, cwd=crate, text=True, errors="replace", **how)
-    return ran.returncode, ran.stdout
+    return ran.returncode, HINTS.sub("", ran.stdout)
 
 
 def outcome_of(status, said):

@@ -4,7 +4,7 @@ The library for C is built so too, and its tests in C are run.
 
 A program runs by tests/runs.toml; where none fails, by tests/memory.toml, of which a program with checks is given the
 shorter texts; and where none of these fails, weedle_check reads the texts of the folder `tests`, and weedle_format is run
-over files (tools/layout_runs.py).
+over files (tools/run/layout_runs.py).
 """
 
 import contextlib
@@ -15,12 +15,12 @@ import threading
 import time
 from pathlib import Path
 
-import asked_memory
-import layout_runs
 from case_files import cases_of
-from case_programs import Built, compared
-from case_runs import runs
-from run_cases import TRIED_TEXT, check_texts
+from run import layout_runs, memory
+from run.cases import TRIED_TEXT, check_texts
+from run.programs import Built
+from run.report import compared
+from run.worked_runs import has_checks, runs
 
 TOP = Path(__file__).resolve().parent.parent
 
@@ -116,14 +116,14 @@ def failing_tests(archive: Path, room: Path) -> list[bool]:
 
 def failing_runs(program: str, name: str) -> list[bool]:
     """Of each run of tests/runs.toml whether it fails."""
-    left_out = asked_memory.has_checks(program)
+    left_out = has_checks(program)
     return [bool(compared(run.what, run.wanted(), run.came(program))) for run in runs()
             if run.program == name and not (left_out and run.is_for_built)]
 
 
 def failing_memory(program: str, name: str, library: str) -> list[bool]:
     """Of each run of tests/memory.toml."""
-    return [bool(asked_memory.failure_of(run, program, library)[1]) for run in runs(asked_memory.RUNS) if run.program == name]
+    return [bool(memory.failure_of(run, program, library)[1]) for run in runs(memory.RUNS) if run.program == name]
 
 
 def failing_texts(program: str, name: str) -> list[bool]:
@@ -141,7 +141,7 @@ class Runs:
     """What finds a wrong body: the runs and texts of tests/. What is built lies in a folder."""
 
     def __init__(self, room: Path) -> None:
-        self.room, self.library = room, asked_memory.built_library(room)
+        self.room, self.library = room, memory.built_library(room)
 
     def failures_of(self, crate: Path, is_proved: bool) -> tuple[int, int]:
         """Of the program of a crate, how many fail of what finds something first, and how many there are; or none of all."""

@@ -4,7 +4,7 @@
  *     growth CALL FILE
  *
  * CALL is syntax, explain, recover or format. It is given no room, so all that it asks for is for itself, and prints how many
- * bytes malloc and realloc were asked for, together. tools/run_growth.py runs it over texts of two lengths, and under
+ * bytes malloc and realloc were asked for, together. tools/run growth runs it over texts of two lengths, and under
  * callgrind, which counts the instructions of the call. c/tests/growth.c is linked with --wrap=malloc,--wrap=realloc.
  */
 #include <stdio.h>

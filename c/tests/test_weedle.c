@@ -422,12 +422,12 @@ static void test_bytes_that_are_asked_for(void) {
     }
 }
 
-/* Of a text of 1.1 MB the list of nodes is given back while they are written, but for the last 4 MB. */
-static void test_memory_that_is_given_back(void) {
+/* Of a text with more than 32 MB of nodes their list is given back while they are written, but for the last 32 MB. */
+static void check_given_back(size_t times, int is_long) {
     static const char member[] = "[A] interface A { [B] attribute long x; };\n";
-    const size_t last = 262144 * sizeof(struct weedle_node);
+    const size_t last = 2097152 * sizeof(struct weedle_node);
     size_t length;
-    char *text = repeated("", member, large(25000), "", &length);
+    char *text = repeated("", member, times, "", &length);
     struct weedle_node none, *nodes = malloc(4 * length * sizeof *nodes);
     struct weedle_answer all, answer;
     CHECK(nodes != NULL);
@@ -440,11 +440,17 @@ static void test_memory_that_is_given_back(void) {
                        : weedle_syntax_of(WEEDLE_DEFINITIONS, text, length, nodes, 4 * length, &answer);
         CHECK(status == WEEDLE_STATUS_READ && answer.count == all.count);
         size_t bytes = answer.count * sizeof *nodes;
-        CHECK(bytes > 4 * last || getenv("WEEDLE_SMALL") != NULL);
-        CHECK(bytes > last ? given_back + last >= bytes : given_back == 0);
+        CHECK((bytes > last) == is_long);
+        CHECK(is_long ? given_back + last >= bytes : given_back == 0);
     }
     free(nodes);
     free(text);
+}
+
+/* Of texts of 0.4 and 1.1 MB, whose nodes take 23 and 57 MB. */
+static void test_memory_that_is_given_back(void) {
+    check_given_back(large(10000), 0);
+    check_given_back(large(25000), getenv("WEEDLE_SMALL") == NULL);
 }
 
 /* What is laid out already isn't read again: it asks for half as much as what isn't. */

@@ -14,21 +14,26 @@ const { library } = require("./library.js");
 const { syntax } = require("./nodes.js");
 const { Output } = require("./output.js");
 const { parse } = require("./parsing.js");
+const { recover } = require("./recovery.js");
 const { version } = require("../package.json");
 
-const USAGE = "usage: weedle [--help] [--json | --syntax | --format] [--version] [FILE ...]";
+/** How many errors of a file are said where no number is given. */
+const MOST_ERRORS = 20;
+const USAGE = "usage: weedle [--help] [--json | --syntax | --format] [--errors N] [--version] [FILE ...]";
 const HELP = `${USAGE}
 
 Reads files of WebIDL. Without a file it reads standard input, which \`-\` names too.
 
-  --json     write each definition as JSON on a line; of several files each line is an object with
-             the \`file\` and the \`definition\`
-  --syntax   write each node on a line, indented by its depth
-  --format   write the text laid out
-  --version  write the version
+  --json      write each definition as JSON on a line; of several files each line is an object with
+              the \`file\` and the \`definition\`
+  --syntax    write each node on a line, indented by its depth
+  --format    write the text laid out
+  --errors N  say so many errors of each file at most (${MOST_ERRORS}); with 1 look for no others
+  --version   write the version
 
-What is refused, and why, it then says on standard error. With none of these it says that on standard output, and last
-how many files were read and refused, as weedle_check does. The status is 0 where all is read, 1 where something is
+What is refused, and why, each error of it, it then says on standard error. With none of these it says that on standard
+output, and last how many files were read and refused, and how many errors there are where a file has more than one, as
+weedle_check does. The status is 0 where all is read, 1 where something is
 refused, 2 where a file can't be read or isn't UTF-8, 3 where memory ran out, 4 where the output can't be written, and 5
 where the arguments are others; of several the greatest.
 `;
@@ -67,14 +72,17 @@ class Run {
   #write;
   #out;
   #isNamed;
+  #most;
   #files = 0;
   #refused = 0;
+  #errors = 0;
   #unread = 0;
 
-  constructor(write, out, isNamed) {
+  constructor(write, out, isNamed, most) {
     this.#write = write;
     this.#out = out;
     this.#isNamed = isNamed;
+    this.#most = most;
   }
 
   /** Reads all files, and says how many there were where nothing else is written. */
@@ -99,16 +107,16 @@ class Run {
     try {
       this.#write ? this.#write(bytes, this.#out, this.#isNamed ? name : null) : parse(bytes);
     } catch (fault) {
-      return this.#faulty(name, fault);
+      return this.#faulty(name, bytes, fault);
     }
     this.#files += 1;
     return Status.READ;
   }
 
   /** What a file comes to that gives no tree. */
-  #faulty(name, fault) {
+  #faulty(name, bytes, fault) {
     if (fault instanceof Refused) {
-      this.#tell(`${name}:${fault.message}\n`);
+      this.#tellAll(name, bytes, fault);
       this.#files += 1;
       this.#refused += 1;
       return Status.REFUSED;
@@ -120,6 +128,34 @@ class Run {
       return this.#complain(name, "out of memory", Status.NO_MEMORY);
     }
     throw fault;
+  }
+
+  /** Says all errors of a file: the first as `parse` has it, the others part by part. */
+  #tellAll(name, bytes, refused) {
+    const all = [refused, ...this.#others(bytes)];
+    this.#errors += all.length;
+    for (const it of all.slice(0, this.#most)) {
+      this.#tell(`${name}:${it.message}\n`);
+    }
+    const left = all.length - this.#most;
+    if (left > 0) {
+      this.#tell(`${name}: ${left} more error${left === 1 ? "" : "s"}\n`);
+    }
+  }
+
+  /** The errors of a file behind its first; none where one is asked for, or where memory runs out. */
+  #others(bytes) {
+    if (this.#most === 1) {
+      return [];
+    }
+    try {
+      return recover(bytes).errors.slice(1);
+    } catch (fault) {
+      if (fault instanceof NoMemory) {
+        return [];
+      }
+      throw fault;
+    }
   }
 
   /** Says why a file is refused: where nothing else is written, there. */
@@ -141,8 +177,9 @@ class Run {
 
   /** How many files there were. */
   #summary() {
+    const errors = this.#errors > this.#refused ? `, ${this.#errors} errors` : "";
     const unread = this.#unread ? `, ${this.#unread} not read` : "";
-    return `${this.#files} file${this.#files === 1 ? "" : "s"}, ${this.#refused} refused${unread}`;
+    return `${this.#files} file${this.#files === 1 ? "" : "s"}, ${this.#refused} refused${errors}${unread}`;
   }
 }
 
@@ -162,7 +199,7 @@ const said = (fault) =>
 /** The arguments of a run, or null where they are others. */
 function wantedBy(words) {
   const names = [...Object.keys(WRITERS), "version", "help"];
-  const options = { ...Object.fromEntries(names.map((name) => [name, { type: "boolean" }])) };
+  const options = { ...Object.fromEntries(names.map((name) => [name, { type: "boolean" }])), errors: { type: "string" } };
   options.help.short = "h";
   try {
     const { values, positionals } = parseArgs({ args: words, options, allowPositionals: true });
@@ -170,7 +207,11 @@ function wantedBy(words) {
     if (ways.length > 1) {
       throw new TypeError(`--${ways[1]} isn't for use beside --${ways[0]}`);
     }
-    return { ...values, write: WRITERS[ways[0]], files: positionals.length ? positionals : [DASH] };
+    const most = Number(values.errors ?? MOST_ERRORS);
+    if (!Number.isSafeInteger(most) || most < 1) {
+      throw new TypeError("--errors needs a number from 1 on");
+    }
+    return { ...values, most, write: WRITERS[ways[0]], files: positionals.length ? positionals : [DASH] };
   } catch (fault) {
     complain(`${USAGE}\nweedle: ${fault.message}\n`);
     return null;
@@ -195,7 +236,7 @@ function main(words) {
     if (wanted.help || wanted.version) {
       return show(wanted.help ? HELP : `weedle ${version}\n`, out);
     }
-    return new Run(wanted.write, out, wanted.files.length > 1).readAll(wanted.files);
+    return new Run(wanted.write, out, wanted.files.length > 1, wanted.most).readAll(wanted.files);
   } catch (fault) {
     if (fault.syscall !== "write") {
       throw fault;

@@ -14,7 +14,7 @@ const INCLUDES =
 /** Runs the program over the runs of weedle_check that ask for nothing that it hasn't; prints what differs. */
 const AS_WEEDLE_CHECK = `
 import sys
-from case_runs import runs
+from run.worked_runs import runs
 
 def is_alike(run):
     has_options = any(it.startswith("-") and it != "-" for it in run.keys.get("arguments", ()))

@@ -1,7 +1,4 @@
-"""The program `python3 -m weedle` as weedle_check: the runs of that without an option, in tests/runs.toml.
-
-It says more than weedle_check where a file has more errors than one: each of them, and how many there are.
-"""
+"""The program `python3 -m weedle` as weedle_check: its runs in tests/runs.toml without an option but `--errors`."""
 
 import sys
 import tempfile
@@ -9,7 +6,10 @@ import unittest
 from pathlib import Path
 
 from support import HOME
-from case_runs import runs
+from run.worked_runs import runs
+
+# The standard input, and the option that both have.
+SHARED = ("-", "--errors")
 
 
 class AsWeedleCheck(unittest.TestCase):
@@ -23,18 +23,15 @@ class AsWeedleCheck(unittest.TestCase):
             program.chmod(0o755)
             for it in filter(is_for_python, runs()):
                 with self.subTest(it.what):
-                    came, wanted = it.came(str(program)), it.wanted()
-                    if " errors\n" in came:
-                        wanted = wanted[:wanted.index("1 file, 1 refused")]
-                        came = came[:len(wanted)]
-                    self.assertEqual(came, wanted)
+                    self.assertEqual(it.came(str(program)), it.wanted())
                 count += 1
         self.assertGreater(count, 20)
 
 
 def is_for_python(run_):
     """Whether the package answers as weedle_check has to."""
-    has_options = any(it.startswith("-") and it != "-" for it in run_.keys.get("arguments", ()))
+    words = run_.keys.get("arguments", ())
+    has_options = any(it.startswith("-") and it not in SHARED for it in words) or run_.keys["status"] == 5
     is_other = has_options or run_.memory or "input_folder" in run_.keys
     return run_.program == "weedle_check" and not is_other and "nests" not in run_.keys.get("stdout", "")
 

@@ -16,7 +16,8 @@ from weedle import _formatting
 
 FOLDERS = [name for name in folders() if name != "real"]
 # Texts, and how docs/LAYOUT.md lays them out; none where it isn't read whole.
-WORKED = loads((TOP / "tests/layouts.toml").read_text())["layout"]
+LAYOUTS = loads((TOP / "tests/layouts.toml").read_text())
+WORKED, PARTS = LAYOUTS["layout"], [(it["text"], it["laid_out"]) for it in LAYOUTS["partial"]]
 # Long texts, and their layouts.
 LONG = [
     ("typedef " + 1_001 * "sequence<" + "long" + 1_001 * ">" + " T;\n", None),
@@ -29,15 +30,6 @@ LONG = [
         "namespace N{undefined f(long a" + 14_300 * ",long a" + ");};",
         "namespace N {\n  undefined f(\n    long a" + 14_300 * ",\n    long a" + "\n  );\n};\n",
     ),
-]
-
-# Texts that aren't read whole, and what is laid out of them, by hand.
-PARTS = [
-    ("A  includes B;\n\n\n\nbroken\n\n\n\nC  includes D;", "A includes B;\n\n\n\nbroken\n\n\n\nC includes D;\n"),
-    ("typedef ;  A  includes B ;  C includes D;", "typedef ;  A includes B;\nC includes D;\n"),
-    ("interface A{long x;};typedef  long B;", "interface A{long x;};typedef long B;\n"),
-    ("enum E{\"a\"};x", 'enum E { "a" };x'),
-    ("broken ", "broken "),
 ]
 
 # Texts of whitespace and comments alone, and texts that only look so.

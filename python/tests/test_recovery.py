@@ -66,6 +66,18 @@ class Recovered(unittest.TestCase):
         self.assertEqual(len(found.errors), 4)
         self.assertEqual((found.errors[-1].line, found.errors[-1].start), (8, TEXT.encode().index(b"foo")))
 
+    def test_errors_where_they_stand(self):
+        """What is said of a part where its own stretch is read is what C says of it in the whole text."""
+        text = "\ufeffenum Kind { \"é\" \"b\" };\n" + TEXT * 3 + "interface A {\n  long x\n"
+        for it in weedle.recover(text).errors:
+            whole = _library.explain_part(text.encode(), it.args[1])
+            self.assertEqual((it.place, it.line, it.column), whole[:3])
+            self.assertEqual((it.message, it.hint or ""), (whole.message.rstrip("\n"), whole.hint))
+            found = it.hint_kind.value if it.hint_kind else 0, *(it.hint_span or (0, 0))
+            ends = (whole.kind, whole.hint_place, whole.hint_place + whole.hint_length)
+            self.assertEqual(found, ends if whole.kind else (0, 0, 0))
+            self.assertEqual(it.words, _library.expected_part(text.encode(), it.args[1]))
+
     def test_members_that_are_read(self):
         found = weedle.recover(TEXT)
         members = [it for it in found.parts if it.rule == "interface_member" and it.is_read]

@@ -2,15 +2,26 @@
 
 from __future__ import annotations
 
+import re
 from enum import Enum
 from functools import cached_property
-from typing import List, Optional
+from typing import List, Optional, Tuple
 
 from weedle import _library
 from weedle._text import Span, Text
+from weedle.grammar import NUMBERS
 
 # How many words a message has at most.
 SHOWN = 6
+# The rules of members.
+MEMBERS = frozenset(
+    NUMBERS[name]
+    for name in ("interface_member", "dictionary_member", "mixin_member", "namespace_member")
+)
+# So many bytes in front of a part are given with it: what stands at the front of a text may mean more.
+BEFORE = 8
+# A line and a column, in front of a hint.
+POSITION = re.compile(r"\d+:\d+: ")
 
 
 class Hint(Enum):
@@ -164,15 +175,53 @@ class RuleRefused(Refused):
 
 
 class PartRefused(Refused):
-    """An unread part of a text: why that part is unread, whatever stands elsewhere."""
+    """An unread part of a text: why that part is unread, whatever stands elsewhere.
+
+    Only what is read for that is looked at: a member alone, and else its definition up to its end. So
+    what it costs doesn't grow with the text, but for `message`.
+    """
 
     def __init__(self, text: Text, numbers: _library.Part) -> None:
         super().__init__(text, numbers.start)
         self.args = (text, numbers)
         self._numbers = numbers
 
+    @cached_property
+    def _stretch(self) -> Tuple[bytes, _library.Part, int]:
+        """What is read for it, the numbers of the part in that, and where it begins in the text."""
+        data, part = self._text.data, self._numbers
+        # a member is read as the only one of its definition
+        first = part.start if part.rule in MEMBERS else part.definition
+        at = max(first - BEFORE, 0)
+        while at > 0 and 0x80 <= data[at] < 0xC0:
+            at -= 1
+        moved = part._replace(start=part.start - at, end=part.end - at, definition=first - at)
+        return data[at:part.end], moved, at
+
     def _explain(self) -> _library.Explanation:
-        return _library.explain_part(self._text.data, self._numbers)
+        data, part, at = self._stretch
+        found = _library.explain_part(data, part)
+        hint_place = found.hint_place + at if found.kind else 0
+        hint = self._placed(found.hint, hint_place)
+        return found._replace(place=found.place + at, hint_place=hint_place, hint=hint)
+
+    def _placed(self, hint: str, place: int) -> str:
+        """A hint behind its line and column in the whole text."""
+        found = POSITION.match(hint)
+        if not found:
+            return hint
+        line, column = self._text.position(place)
+        return f"{line}:{column}: {hint[found.end():]}"
 
     def _expect(self) -> List[str]:
-        return _library.expected_part(self._text.data, self._numbers)
+        data, part, _ = self._stretch
+        return _library.expected_part(data, part)
+
+    @property
+    def message(self) -> str:
+        """Line, column and what was expected, the line of the text with a mark, and the hint."""
+        try:
+            found = _library.explain_part(self._text.data, self._numbers)
+        except MemoryError:
+            return super().message
+        return found.message.rstrip("\n")

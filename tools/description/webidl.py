@@ -282,5 +282,7 @@ SCANNED = (
     "ONE_OF_SIGN ONE_OF_X_LETTER RUN_DIGIT RUN_HEX RUN_OCTAL DEC_LIT_TEXT HEX_LIT_TEXT OCT_LIT_TEXT FLOAT_VALUE_LIT_TEXT"
 ).split()
 
+# These alone, whatever is added behind them.
+BY_NAME, BY_CONTENT, SECTIONS = {**BY_NAME}, {**BY_CONTENT}, [*SECTIONS]
 RULES = [r for s in SECTIONS for r in s.rules]
 NUMBER = {r.name: i for i, r in enumerate(RULES)}

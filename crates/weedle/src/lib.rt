@@ -107,11 +107,11 @@ pub use weedle_idl::{
     PartialDictionaryDefinition, PartialInterfaceDefinition, PartialInterfaceMixinDefinition,
     PartialNamespaceDefinition, TypedefDefinition, dictionary, interface, mixin, namespace,
 };
-pub use weedle_places::{MemberPlace, Name, Place, Role, Span, names, places};
+pub use weedle_places::{MemberPlace, Name, Place, Role, Span, names, places, references};
 pub use weedle_print_idl::{Nullable, PrintError, Reserved, Words, WriteIdl, write_list};
 pub use weedle_types::{argument, attribute};
 pub use weedle_view::{
-    MemberKind, MemberView, definition_named, docstring_of, extended_attributes_of, included_into,
-    inheritance_of, members_of, parts_named, type_names, type_names_of_arguments,
+    MemberKind, MemberView, ancestors, definition_named, docstring_of, extended_attributes_of,
+    included_into, inheritance_of, members_of, parts_named, type_names, type_names_of_arguments,
     type_names_of_attributes, type_names_of_return,
 };

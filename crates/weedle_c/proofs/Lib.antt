@@ -4,3 +4,4 @@ pub mod WordFacts
 pub mod TreeFacts
 pub mod RuleFacts
 mod FormatFacts
+pub mod MessageFacts

@@ -1,11 +1,14 @@
 -- What an answer says of a text that is refused.
-use Rattle.std.specs.Prelude.{◌≡◌, ◌≤◌, ◌<◌, ◌+◌, ◌-◌, ◌^◌, ℕ, List, Option, Some, None, length}
+use Rattle.std.specs.Prelude.{◌≡◌, ◌⊎◌, ◌≤◌, ◌<◌, ◌+◌, ◌-◌, ◌^◌, ℕ, true, List, [], ◌∷◌, ◌++◌, Option, Some, None, length, take, drop, slice_index}
 use Rattle.weedle_c.specs.Parts.{part_of}
 use Rattle.weedle_c.specs.declared.part.WeedlePart.{WeedlePart}
 use Rattle.weedle_c.specs.declared.told.WeedleRefusal.{WeedleRefusal}
 use Rattle.weedle_recovery.specs.Refusals.{IsPartRefusal}
-use Rattle.weedle_refusal.specs.Position.{IsPositionOf}
+use Rattle.weedle_refusal.specs.Excerpt.{message_text}
+use Rattle.weedle_refusal.specs.Position.{IsPositionOf, begins_character}
 use Rattle.weedle_refusal.specs.Refusal.{IsRefusal, IsRefusalBehind}
+use Rattle.weedle_refusal.specs.Said.{hint_line}
+use Rattle.weedle_refusal.specs.Texts.{refusal_text}
 use Rattle.weedle_refusal.specs.declared.hint.Hint.{Hint}
 use Rattle.weedle_refusal.specs.declared.hint.Hint.TheVariants as hint
 use Rattle.weedle_refusal.specs.declared.position.Position.{Position}
@@ -53,8 +56,35 @@ IsHintLength (Some (hint.SplitString at)) n = n ≡ 1
 IsHintLength (Some (hint.ByteOrderMark at)) n = n ≡ 3
 IsHintLength (Some hint.NoDefinitions) n = n ≡ 0
 
--- the answer has the numbers of a refusal: its places, with line and column, and its hint
-pub record IsTold (text : List ℕ) (refusal : Refusal) (answer : WeedleRefusal) : Type 0 where
+-- what a message begins with: the place, what would have been read there, and the line of the text with a mark below the place
+abbrev pub message_front : List ℕ → Refusal → List ℕ
+message_front text refusal = message_text text refusal.place (refusal_text refusal)
+
+-- the line of a hint, where there is one
+abbrev pub hint_said : List ℕ → Option Hint → List ℕ
+hint_said text None = []
+hint_said text (Some hint) = hint_line text hint
+
+-- the whole message, as `weedle_check` prints it behind the name of a file
+abbrev pub message_said : List ℕ → Refusal → List ℕ
+message_said text refusal = message_front text refusal ++ hint_said text refusal.hint
+
+-- a room has a message up to the end of a character, all of it where it fits, with a zero behind; what stood behind that stands
+pub record IsEnded (said old new : List ℕ) : Type 0 where
+  pub end : ℕ
+  pub within : end ≤ length said
+  pub room : end < length old
+  pub written : new ≡ take end said ++ 0 ∷ drop (end + 1) old
+  pub whole : length said < length old → end ≡ length said
+  pub character : (end ≡ length said) ⊎ (end ≡ 0) ⊎ (begins_character (slice_index said end) ≡ true)
+
+-- the same; where there is no room nothing is written
+pub record IsCut (said old new : List ℕ) : Type 0 where
+  pub empty : length old ≡ 0 → new ≡ old
+  pub ended : 0 < length old → IsEnded said old new
+
+-- the answer has the numbers of a refusal: its places, with line and column, its hint, and how long its message is, which stands in the room
+pub record IsTold (text : List ℕ) (refusal : Refusal) (old new : List ℕ) (answer : WeedleRefusal) : Type 0 where
   pub start : answer.start ≡ refusal.start
   pub place : answer.place ≡ refusal.place
   pub position : Position
@@ -64,24 +94,27 @@ pub record IsTold (text : List ℕ) (refusal : Refusal) (answer : WeedleRefusal)
   pub kind : answer.hint ≡ hint_kind refusal.hint
   pub at : answer.hint_place ≡ hint_place refusal.hint
   pub bytes : IsHintLength refusal.hint answer.hint_length
+  pub all : answer.length ≡ length (message_said text refusal)
+  pub offset : answer.hint_offset ≡ length (message_front text refusal)
+  pub message : IsCut (message_said text refusal) old new
 
--- the text isn't read whole, and the answer says where the unread rest begins, the furthest place, and the hint
-pub record IsExplained (text : List ℕ) (answer : WeedleRefusal) : Type 0 where
+-- the text isn't read whole, and the answer says where the unread rest begins, the furthest place, and the hint; the room has the message
+pub record IsExplained (text old new : List ℕ) (answer : WeedleRefusal) : Type 0 where
   pub refusal : Refusal
   pub is_refusal : IsRefusal text refusal
-  pub told : IsTold text refusal answer
+  pub told : IsTold text refusal old new answer
 
 -- the same of what stands from a place on
-pub record IsExplainedBehind (text : List ℕ) (start : ℕ) (answer : WeedleRefusal) : Type 0 where
+pub record IsExplainedBehind (text : List ℕ) (start : ℕ) (old new : List ℕ) (answer : WeedleRefusal) : Type 0 where
   pub refusal : Refusal
   pub is_refusal : IsRefusalBehind text start refusal
-  pub told : IsTold text refusal answer
+  pub told : IsTold text refusal old new answer
 
 -- the same of an unread part
-pub record IsPartExplained (text : List ℕ) (part : WeedlePart) (answer : WeedleRefusal) : Type 0 where
+pub record IsPartExplained (text : List ℕ) (part : WeedlePart) (old new : List ℕ) (answer : WeedleRefusal) : Type 0 where
   pub refusal : Refusal
   pub is_refusal : IsPartRefusal text (part_of part) refusal
-  pub told : IsTold text refusal answer
+  pub told : IsTold text refusal old new answer
 
 -- all numbers of the answer but its place are 0
 pub record IsSilent (answer : WeedleRefusal) : Type 0 where

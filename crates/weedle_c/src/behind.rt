@@ -21,7 +21,7 @@ pub(crate) fn explain_from(
 ) -> u32
     ensures known { result ≤ NO_PLACE }
     ensures read { result ≡ READ → IsWhole (drop start text.now) }
-    ensures refused { result ≡ REFUSED → IsExplainedBehind text.now start answer.new }
+    ensures refused { result ≡ REFUSED → IsExplainedBehind text.now start message.old message.new answer.new }
     ensures not_utf8 { (result ≡ NOT_UTF8) ↔ ¬ IsUtf8 text.now }
     ensures byte { result ≡ NOT_UTF8 → IsValidUpTo text.now answer.new.place }
     ensures no_place { IsUtf8 text.now
@@ -51,7 +51,7 @@ fn explain_text_from(
     requires { answer.old ≡ NOTHING }
     ensures known { (result ≤ NO_PLACE) × (result ≢ NOT_UTF8) }
     ensures read { result ≡ READ → IsWhole (drop start raw.now) }
-    ensures refused { result ≡ REFUSED → IsExplainedBehind raw.now start answer.new }
+    ensures refused { result ≡ REFUSED → IsExplainedBehind raw.now start message.old message.new answer.new }
     ensures no_place { (result ≡ NO_PLACE) ↔ ¬ IsCharBoundary raw.now start }
     ensures silent { result ≢ REFUSED → IsSilent answer.new }
     ensures placed { result ≢ REFUSED → answer.new.place ≡ 0 }

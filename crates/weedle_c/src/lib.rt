@@ -142,7 +142,7 @@ pub extern "C" fn weedle_explain(
 ) -> u32
     ensures known { result ≤ NO_MEMORY }
     ensures read { result ≡ READ → IsWhole text.now }
-    ensures refused { result ≡ REFUSED → IsExplained text.now answer.new }
+    ensures refused { result ≡ REFUSED → IsExplained text.now message.old message.new answer.new }
     ensures not_utf8 { (result ≡ NOT_UTF8) ↔ ¬ IsUtf8 text.now }
     ensures byte { result ≡ NOT_UTF8 → IsValidUpTo text.now answer.new.place }
     ensures silent { result ≢ REFUSED → IsSilent answer.new }
@@ -164,7 +164,7 @@ pub extern "C" fn weedle_explain_from(
 ) -> u32
     ensures known { result ≤ NO_PLACE }
     ensures read { result ≡ READ → IsWhole (drop start text.now) }
-    ensures refused { result ≡ REFUSED → IsExplainedBehind text.now start answer.new }
+    ensures refused { result ≡ REFUSED → IsExplainedBehind text.now start message.old message.new answer.new }
     ensures not_utf8 { (result ≡ NOT_UTF8) ↔ ¬ IsUtf8 text.now }
     ensures byte { result ≡ NOT_UTF8 → IsValidUpTo text.now answer.new.place }
     ensures no_place { IsUtf8 text.now
@@ -241,7 +241,7 @@ pub extern "C" fn weedle_explain_part(
     answer: &mut WeedleRefusal,
 ) -> u32
     ensures known { (result ≤ NO_PLACE) × (result ≢ READ) }
-    ensures refused { result ≡ REFUSED → IsPartExplained text.now part.now answer.new }
+    ensures refused { result ≡ REFUSED → IsPartExplained text.now part.now message.old message.new answer.new }
     ensures not_utf8 { (result ≡ NOT_UTF8) ↔ ¬ IsUtf8 text.now }
     ensures byte { result ≡ NOT_UTF8 → IsValidUpTo text.now answer.new.place }
     ensures no_place { result ≡ NO_PLACE → ¬ IsPart text.now part.now }

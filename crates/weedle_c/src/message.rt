@@ -20,7 +20,7 @@ pub(crate) fn explain(
 ) -> u32
     ensures known { result ≤ NO_MEMORY }
     ensures read { result ≡ READ → IsWhole text.now }
-    ensures refused { result ≡ REFUSED → IsExplained text.now answer.new }
+    ensures refused { result ≡ REFUSED → IsExplained text.now message.old message.new answer.new }
     ensures not_utf8 { (result ≡ NOT_UTF8) ↔ ¬ IsUtf8 text.now }
     ensures byte { result ≡ NOT_UTF8 → IsValidUpTo text.now answer.new.place }
     ensures silent { result ≢ REFUSED → IsSilent answer.new }
@@ -42,7 +42,7 @@ fn explain_text(alloc: Global, raw: &str, message: &mut [u8], answer: &mut Weedl
     requires { answer.old ≡ NOTHING }
     ensures known { (result ≤ NO_MEMORY) × (result ≢ NOT_UTF8) }
     ensures read { result ≡ READ → IsWhole raw.now }
-    ensures refused { result ≡ REFUSED → IsExplained raw.now answer.new }
+    ensures refused { result ≡ REFUSED → IsExplained raw.now message.old message.new answer.new }
     ensures silent { result ≢ REFUSED → IsSilent answer.new }
     ensures placed { result ≢ REFUSED → answer.new.place ≡ 0 }
     ensures unwritten { result ≢ REFUSED → message.new ≡ message.old }

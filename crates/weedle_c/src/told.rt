@@ -1,7 +1,8 @@
 //! The answer and the message of what is refused.
 
-ghost use Rattle.std.specs.Prelude.{◌≡◌, ◌≢◌, ◌≤◌, ◌⊎◌, length};
-ghost use Rattle.weedle_c.specs.Explained.{IsSilent, IsTold};
+ghost use Rattle.std.specs.Prelude.{◌≡◌, ◌≢◌, ◌==◌, ◌≤◌, ◌<◌, ◌⊎◌, IfOk, length, not};
+ghost use Rattle.weedle_c.specs.Explained.{IsCut, IsSilent, IsTold, message_front, message_said};
+ghost use Rattle.weedle_refusal.specs.Position.{begins_character};
 
 use crate::hint::{hint_of, length_of, place_of};
 use crate::status::{NO_MEMORY, REFUSED};
@@ -58,7 +59,7 @@ pub(crate) fn tell(
     requires nothing { answer.old ≡ NOTHING }
     requires within { refusal.now.place ≤ length raw.now }
     ensures known { (result ≡ REFUSED) ⊎ (result ≡ NO_MEMORY) }
-    ensures refused { result ≡ REFUSED → IsTold raw.now refusal.now answer.new }
+    ensures refused { result ≡ REFUSED → IsTold raw.now refusal.now message.old message.new answer.new }
     ensures silent { result ≢ REFUSED → IsSilent answer.new }
     ensures placed { result ≢ REFUSED → answer.new.place ≡ 0 }
     ensures unwritten { result ≢ REFUSED → message.new ≡ message.old }
@@ -84,7 +85,10 @@ pub(crate) fn tell(
 
 /// The message, as `weedle_check` prints it behind the name of a file, the hint below it; and where
 /// the hint begins in it.
-fn message_of(alloc: Global, raw: &str, refusal: &Refusal) -> io::Result<(Vec<u8>, usize)> {
+fn message_of(alloc: Global, raw: &str, refusal: &Refusal) -> io::Result<(Vec<u8>, usize)>
+    ensures said { IfOk result (λ r. r.0.items ≡ message_said raw.now refusal.now) }
+    ensures behind { IfOk result (λ r. r.1 ≡ length (message_front raw.now refusal.now)) }
+{
     let words = format!(in alloc; "{refusal}")?;
     let mut message = Vec::new(alloc);
     write_message(raw, refusal.place, &words, &mut message)?;
@@ -97,7 +101,9 @@ fn message_of(alloc: Global, raw: &str, refusal: &Refusal) -> io::Result<(Vec<u8
 
 /// Writes as many whole characters as there is room for, and a zero behind them. With no room it
 /// writes nothing.
-fn write_cut(said: &[u8], room: &mut [u8]) {
+fn write_cut(said: &[u8], room: &mut [u8])
+    ensures { IsCut said.now room.old room.new }
+{
     if room.is_empty() {
         return;
     }
@@ -110,6 +116,8 @@ fn write_cut(said: &[u8], room: &mut [u8]) {
 }
 
 /// Whether the byte continues a character.
-fn is_inner(byte: u8) -> bool {
+fn is_inner(byte: u8) -> bool
+    ensures { result ≡ not (begins_character byte) }
+{
     (128..192).contains(&byte)
 }

@@ -23,7 +23,7 @@ pub(crate) fn explain_part(
     answer: &mut WeedleRefusal,
 ) -> u32
     ensures known { (result ≤ NO_PLACE) × (result ≢ READ) }
-    ensures refused { result ≡ REFUSED → IsPartExplained text.now part.now answer.new }
+    ensures refused { result ≡ REFUSED → IsPartExplained text.now part.now message.old message.new answer.new }
     ensures not_utf8 { (result ≡ NOT_UTF8) ↔ ¬ IsUtf8 text.now }
     ensures byte { result ≡ NOT_UTF8 → IsValidUpTo text.now answer.new.place }
     ensures no_place { result ≡ NO_PLACE → ¬ IsPart text.now part.now }
@@ -51,7 +51,7 @@ fn explain_part_of(
 ) -> u32
     requires { answer.old ≡ NOTHING }
     ensures known { (result ≤ NO_PLACE) × (result ≢ NOT_UTF8) × (result ≢ READ) }
-    ensures refused { result ≡ REFUSED → IsPartExplained raw.now part.now answer.new }
+    ensures refused { result ≡ REFUSED → IsPartExplained raw.now part.now message.old message.new answer.new }
     ensures no_place { result ≡ NO_PLACE → ¬ IsPart raw.now part.now }
     ensures silent { result ≢ REFUSED → IsSilent answer.new }
     ensures placed { result ≢ REFUSED → answer.new.place ≡ 0 }

@@ -3,23 +3,36 @@
 use weedle_program::Request;
 
 /// What is said on standard error where the arguments ask for nothing that the program does.
-pub const USAGE: &str = "usage: weedle_check [--tree | --syntax | --print | --time] [FILE..]";
+pub const USAGE: &str =
+    "usage: weedle_check [--tree | --syntax | --print | --time] [--errors N] [FILE..]";
 
 /// What is said on standard output where help is asked for.
 pub const HELP: &str = "\
-usage: weedle_check [--tree | --syntax | --print | --time] [FILE..]
+usage: weedle_check [--tree | --syntax | --print | --time] [--errors N] [FILE..]
 
-Says of each file of Web IDL whether it is read whole, and if not, where and why.
+Says of each file of Web IDL whether it is read whole, and if not, each error, where and why.
 Without a file, or for `-`, it reads the standard input.
 
-  --tree    prints the definitions of what is read, as values
-  --syntax  prints the syntax tree of what is read, a node on a line
-  --print   writes what is read anew, as Web IDL, and counts no files
-  --time    prints how long each reader takes
-  --help    prints this
+  --tree      prints the definitions of what is read, as values
+  --syntax    prints the syntax tree of what is read, a node on a line
+  --print     writes what is read anew, as Web IDL, and counts no files
+  --time      prints how long each reader takes
+  --errors N  says so many errors of each file at most, 20 without it; with 1 it looks for no others
+  --help      prints this
 
 Status: 0 all is read, 1 something is refused, 2 a file can't be read or isn't UTF-8,
 3 out of memory, 4 the output can't be written, 5 other arguments than these.";
+
+/// The word behind which stands how many errors of a file are told.
+pub const ERRORS: &str = "--errors";
+
+/// How many errors of a file are told where no number is given.
+const MOST_ERRORS: usize = 20;
+
+/// How many errors of a file are told.
+pub fn most_errors(request: &Request) -> usize {
+    request.number.unwrap_or(MOST_ERRORS)
+}
 
 /// What is done with each text.
 #[derive(Clone, Copy, Debug, PartialEq, Eq)]

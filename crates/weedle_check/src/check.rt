@@ -2,6 +2,7 @@
 
 use crate::arguments::Task;
 use crate::depth::too_many_levels;
+use crate::errors::write_others;
 use crate::print::write_idl;
 use crate::slip::{slip_in, write_slip};
 use crate::syntax::write_syntax;
@@ -13,27 +14,47 @@ use std::rt::Clock;
 use weedle_nesting::suits_descent;
 use weedle_program::{Fault, Outcome};
 
-/// Checks a text, and prints what is asked for. Of a text that isn't read whole it writes where and
-/// why: that is an answer. It fails where memory is refused, and where the output can't be written.
+/// What the check of a text came to.
+#[derive(Clone, Copy)]
+pub struct Checked {
+    /// How it ended.
+    pub outcome: Outcome,
+    /// How many syntax errors the text has.
+    pub errors: usize,
+}
+
+/// What is to be done with each text.
+#[derive(Clone, Copy)]
+pub struct Wish {
+    /// What is printed of it.
+    pub task: Task,
+    /// How many of its errors are told.
+    pub most_errors: usize,
+}
+
+/// Checks a text, and prints what is asked for. Of a text that isn't read whole it writes each
+/// error, where and why: that is an answer. It fails where memory is refused, and where the output
+/// can't be written.
 pub fn check_text<C: Clock + AllocGlobal, W: Write>(
     rt: &C,
-    task: Task,
+    wish: Wish,
     name: &str,
     text: &str,
     out: &mut W,
-) -> Result<Outcome, Fault> {
+) -> Result<Checked, Fault> {
+    let task = wish.task;
     if let Some(levels) = too_many_levels(task, text) {
         writeln!(
             out,
             "{name}: nests {levels} levels deep, more than the stack holds"
         )?;
-        return Ok(Outcome::Refused);
+        return Ok(refused(1));
     }
     if is_written_at_once(rt.alloc(), task, text, out)? {
-        return Ok(Outcome::Success);
+        return Ok(READ);
     }
-    let outcome = judge(rt.alloc(), name, text, out)?;
-    if outcome == Outcome::Success {
+    let checked = judge(rt.alloc(), wish.most_errors, name, text, out)?;
+    if checked.outcome == Outcome::Success {
         match task {
             Task::Tree => write_tree(rt.alloc(), text, out)?,
             Task::Print => write_idl(rt.alloc(), text, out)?,
@@ -41,7 +62,21 @@ pub fn check_text<C: Clock + AllocGlobal, W: Write>(
             Task::Check | Task::Syntax => {}
         }
     }
-    Ok(outcome)
+    Ok(checked)
+}
+
+/// What the check of a text came to that is read whole.
+const READ: Checked = Checked {
+    outcome: Outcome::Success,
+    errors: 0,
+};
+
+/// What the check of a text came to that has so many errors.
+fn refused(errors: usize) -> Checked {
+    Checked {
+        outcome: Outcome::Refused,
+        errors,
+    }
 }
 
 /// Writes what is asked for of a text that is read whole, where it takes no check before, and says
@@ -59,13 +94,20 @@ fn is_written_at_once<W: Write>(
     }
 }
 
-/// Whether a text is read whole. Where it isn't, it writes where and why.
-fn judge<W: Write>(alloc: Global, name: &str, text: &str, out: &mut W) -> Result<Outcome, Fault> {
+/// Whether a text is read whole. Where it isn't, it writes so many of its errors, where and why.
+fn judge<W: Write>(
+    alloc: Global,
+    most: usize,
+    name: &str,
+    text: &str,
+    out: &mut W,
+) -> Result<Checked, Fault> {
     match slip_in(alloc, text)? {
-        None => Ok(Outcome::Success),
+        None => Ok(READ),
         Some(slip) => {
             write_slip(name, text, &slip, out)?;
-            Ok(Outcome::Refused)
+            let errors = write_others(alloc, name, text, most, out)?;
+            Ok(refused(errors))
         }
     }
 }

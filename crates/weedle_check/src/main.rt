@@ -1,13 +1,13 @@
 //! Checks Web IDL: says of each file whether it is read whole, and if not, where and why.
 //!
 //! ```text
-//! weedle_check [--tree | --syntax | --print | --time] [FILE..]
+//! weedle_check [--tree | --syntax | --print | --time] [--errors N] [FILE..]
 //! ```
 //!
 //! It reads the files that are named, or else the standard input, which `-` names too. Of each that
-//! isn't read whole it prints the line and the column of the slip, what would have been read there,
-//! the line of the text and a mark below the place; then how many files were read, and how many of
-//! them were refused:
+//! isn't read whole it prints of each error the line and the column, what would have been read
+//! there, the line of the text and a mark below the place; then how many files were read, and how
+//! many of them were refused:
 //!
 //! ```text
 //! a.webidl:3:1: expected `;`
@@ -15,6 +15,9 @@
 //! ^
 //! 1 file, 1 refused
 //! ```
+//!
+//! Of a file it prints 20 errors at most, or as many as `--errors` says, and how many more there
+//! are. Where files have more errors than one, the last line counts them too.
 //!
 //! With `--tree` it prints the definitions of what it reads, each on a line behind its line and
 //! column; with `--syntax` its syntax tree, a node on a line; with `--print` the definitions
@@ -31,7 +34,9 @@
 
 mod arguments;
 mod check;
+mod counts;
 mod depth;
+mod errors;
 mod print;
 mod program;
 mod slip;

@@ -1,10 +1,11 @@
 //! A run of the program.
 
-use crate::arguments::{HELP, Task, USAGE, task_of};
-use crate::check::check_text;
+use crate::arguments::{ERRORS, HELP, Task, USAGE, most_errors, task_of};
+use crate::check::{Checked, Wish, check_text};
+use crate::counts::Counts;
 use std::io::{self, BufWriter, Write};
 use std::rt::Runtime;
-use weedle_program::{Fault, Outcome, Request, Tally, ended, failed, name_of, text_in};
+use weedle_program::{Beside, Fault, Outcome, Request, ended, failed, name_of, text_in};
 
 /// Does what the arguments ask for, and says what it came to.
 ///
@@ -16,78 +17,68 @@ pub fn run<R: Runtime + AllocGlobal>(rt: &R) -> Outcome {
 
 /// Does what the arguments ask for, and says what it came to.
 fn carry_out<R: Runtime + AllocGlobal>(rt: &R) -> Result<Outcome, Fault> {
-    let request = Request::new(rt, USAGE)?;
+    let request = Request::with(rt, USAGE, Beside::Number(ERRORS))?;
     let Some(task) = task_of(&request) else {
         return Err(Fault::Usage(USAGE));
     };
+    let wish = Wish {
+        task,
+        most_errors: most_errors(&request),
+    };
     let mut out = BufWriter::new(rt.alloc(), io::writer(rt))?;
-    let mut tally = Tally::new();
+    let mut counts = Counts::new();
     if request.is_help {
         writeln!(out, "{HELP}")?;
     } else {
-        check_all(rt, task, &request.files, &mut tally, &mut out)?;
+        check_all(rt, wish, &request.files, &mut counts, &mut out)?;
         if task != Task::Print {
-            write_tally(&tally, &mut out)?;
+            counts.write(&mut out)?;
         }
     }
     out.flush()?;
-    Ok(tally.outcome)
-}
-
-/// Writes how many files there were, as `3 files, 1 refused`, and where some couldn't be read,
-/// `1 file, 0 refused, 2 not read`.
-fn write_tally<W: Write>(tally: &Tally, out: &mut W) -> io::Result<()> {
-    write!(
-        out,
-        "{} {}, {} refused",
-        tally.read,
-        tally.noun(),
-        tally.refused
-    )?;
-    if tally.failed > 0 {
-        write!(out, ", {} not read", tally.failed)?;
-    }
-    writeln!(out)
+    Ok(counts.tally.outcome)
 }
 
 /// Checks these files, or the standard input where there are none.
 fn check_all<R: Runtime + AllocGlobal, W: Write>(
     rt: &R,
-    task: Task,
+    wish: Wish,
     files: &[String],
-    tally: &mut Tally,
+    counts: &mut Counts,
     out: &mut W,
 ) -> Result<(), Fault> {
     if files.is_empty() {
-        tally.count(check_file(rt, task, "-", out)?);
+        check_file(rt, wish, "-", counts, out)?;
     }
     for file in files {
-        tally.count(check_file(rt, task, file.as_str(), out)?);
+        check_file(rt, wish, file.as_str(), counts, out)?;
     }
     Ok(())
 }
 
-/// Checks a file, and says on standard error why there is no answer. It fails where the output can't
-/// be written.
+/// Checks a file, counts it, and says on standard error why there is no answer. It fails where the
+/// output can't be written.
 fn check_file<R: Runtime + AllocGlobal, W: Write>(
     rt: &R,
-    task: Task,
+    wish: Wish,
     file: &str,
+    counts: &mut Counts,
     out: &mut W,
-) -> Result<Outcome, Fault> {
-    match read_and_check(rt, task, file, out) {
-        Ok(outcome) => Ok(outcome),
-        Err(fault) => failed(rt, name_of(file), fault),
+) -> Result<(), Fault> {
+    match read_and_check(rt, wish, file, out) {
+        Ok(checked) => counts.count(checked),
+        Err(fault) => counts.count_fault(failed(rt, name_of(file), fault)?),
     }
+    Ok(())
 }
 
 /// Reads a file to its end, checks its text and prints what is asked for.
 fn read_and_check<R: Runtime + AllocGlobal, W: Write>(
     rt: &R,
-    task: Task,
+    wish: Wish,
     file: &str,
     out: &mut W,
-) -> Result<Outcome, Fault> {
+) -> Result<Checked, Fault> {
     let text = text_in(rt, file)?;
-    check_text(rt, task, name_of(file), text.as_str(), out)
+    check_text(rt, wish, name_of(file), text.as_str(), out)
 }

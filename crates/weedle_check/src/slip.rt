@@ -30,7 +30,7 @@ pub fn slip_in(alloc: Global, text: &str) -> Result<Option<Slip>, AllocError> {
 }
 
 /// What is said of a refusal.
-fn explained(alloc: Global, refusal: Refusal) -> Slip {
+pub fn explained(alloc: Global, refusal: Refusal) -> Slip {
     match format!(in alloc; "{refusal}") {
         Ok(words) => Slip {
             place: refusal.place,

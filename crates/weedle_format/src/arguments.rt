@@ -3,23 +3,27 @@
 use weedle_program::Request;
 
 /// What is said on standard error where the arguments ask for nothing that the program does.
-pub const USAGE: &str = "usage: weedle_format [--check | --write] [FILE..]";
+pub const USAGE: &str = "usage: weedle_format [--check | --write] [--partial] [FILE..]";
 
 /// What is said on standard output where help is asked for.
 pub const HELP: &str = "\
-usage: weedle_format [--check | --write] [FILE..]
+usage: weedle_format [--check | --write] [--partial] [FILE..]
 
 Lays out files of Web IDL: moves blanks, and changes nothing else.
 Without a file, or for `-`, it reads the standard input.
 
-  --check  prints the names of the files that would change, and how many
-  --write  replaces each file by what was laid out
-  --help   prints this
+  --check    prints the names of the files that would change, and how many
+  --write    replaces each file by what was laid out
+  --partial  lays out what is read of a file that is refused, too, and leaves the rest as it is
+  --help     prints this
 
 Without an option it prints what was laid out.
 
 Status: 0 all is well, 1 something is refused or would change, 2 a file can't be read or isn't
 UTF-8, 3 out of memory, 4 a file or the output can't be written, 5 other arguments than these.";
+
+/// The word that may stand beside an option: what is read of a refused text is laid out, too.
+pub const PARTIAL: &str = "--partial";
 
 /// What is done with what was laid out.
 #[derive(Clone, Copy, Debug, PartialEq, Eq)]

@@ -1,7 +1,7 @@
 //! Lays out Web IDL: moves blanks, and changes nothing else.
 //!
 //! ```text
-//! weedle_format [--check | --write] [FILE..]
+//! weedle_format [--check | --write] [--partial] [FILE..]
 //! ```
 //!
 //! It reads the files that are named, or else the standard input, which `-` names too, and prints
@@ -18,18 +18,20 @@
 //!
 //! A file that isn't read whole is left as it is. It is said of it where and why, as `weedle_check`
 //! does, on standard output with `--check` and `--write`, and else on standard error; and the other
-//! files are done all the same.
+//! files are done all the same. With `--partial` the definitions that are read of such a file are
+//! laid out too, and all else of it stays byte for byte.
 //!
 //! The status is 0 where all is well, 1 where something is refused or would change, 2 where a file
 //! can't be read or isn't UTF-8, 3 where memory ran out, 4 where a file or the output can't be
 //! written, and 5 where the arguments ask for nothing that it does: the greatest of those that fit.
 //!
 //! It is proved that each function is safe and returns, and that what is laid out says the same as
-//! the text. What is written to files is only tested.
+//! the text. What is written to files is only tested, and so is what `--partial` leaves as it is.
 #![tactic(auto)]
 
 mod arguments;
 mod changes;
+mod partly;
 mod program;
 mod replace;
 mod slip;

@@ -1,11 +1,11 @@
 //! A run of the program.
 
-use crate::arguments::{HELP, Task, USAGE, task_of};
+use crate::arguments::{HELP, PARTIAL, Task, USAGE, task_of};
 use crate::changes::Changes;
-use crate::work::{Done, work_on};
+use crate::work::{Done, Wish, work_on};
 use std::io::{self, BufWriter, Write};
 use std::rt::Runtime;
-use weedle_program::{Fault, Outcome, Request, ended, failed, name_of, text_in};
+use weedle_program::{Beside, Fault, Outcome, Request, ended, failed, name_of, text_in};
 
 /// Does what the arguments ask for, and says what it came to.
 ///
@@ -17,16 +17,20 @@ pub fn run<R: Runtime + AllocGlobal>(rt: &R) -> Outcome {
 
 /// Does what the arguments ask for, and says what it came to.
 fn carry_out<R: Runtime + AllocGlobal>(rt: &R) -> Result<Outcome, Fault> {
-    let request = Request::new(rt, USAGE)?;
+    let request = Request::with(rt, USAGE, Beside::Flag(PARTIAL))?;
     let Some(task) = task_of(&request) else {
         return Err(Fault::Usage(USAGE));
+    };
+    let wish = Wish {
+        task,
+        is_partial: request.has_flag,
     };
     let mut out = BufWriter::new(rt.alloc(), io::writer(rt))?;
     let mut changes = Changes::new();
     if request.is_help {
         writeln!(out, "{HELP}")?;
     } else {
-        lay_out_all(rt, task, &request.files, &mut changes, &mut out)?;
+        lay_out_all(rt, wish, &request.files, &mut changes, &mut out)?;
         changes.write(task, &mut out)?;
     }
     out.flush()?;
@@ -36,16 +40,16 @@ fn carry_out<R: Runtime + AllocGlobal>(rt: &R) -> Result<Outcome, Fault> {
 /// Lays out these files, or the standard input where there are none.
 fn lay_out_all<R: Runtime + AllocGlobal, W: Write>(
     rt: &R,
-    task: Task,
+    wish: Wish,
     files: &[String],
     changes: &mut Changes,
     out: &mut W,
 ) -> Result<(), Fault> {
     if files.is_empty() {
-        changes.count(lay_out(rt, task, "-", out)?);
+        changes.count(lay_out(rt, wish, "-", out)?);
     }
     for file in files {
-        changes.count(lay_out(rt, task, file.as_str(), out)?);
+        changes.count(lay_out(rt, wish, file.as_str(), out)?);
     }
     Ok(())
 }
@@ -54,11 +58,11 @@ fn lay_out_all<R: Runtime + AllocGlobal, W: Write>(
 /// written.
 fn lay_out<R: Runtime + AllocGlobal, W: Write>(
     rt: &R,
-    task: Task,
+    wish: Wish,
     file: &str,
     out: &mut W,
 ) -> Result<Done, Fault> {
-    match do_task(rt, task, file, out) {
+    match do_task(rt, wish, file, out) {
         Ok(done) => Ok(done),
         Err(fault) => Ok(Done {
             outcome: failed(rt, name_of(file), fault)?,
@@ -70,14 +74,14 @@ fn lay_out<R: Runtime + AllocGlobal, W: Write>(
 /// Reads a file to its end, lays it out and does what is asked for.
 fn do_task<R: Runtime + AllocGlobal, W: Write>(
     rt: &R,
-    task: Task,
+    wish: Wish,
     file: &str,
     out: &mut W,
 ) -> Result<Done, Fault> {
     let text = text_in(rt, file)?;
     let mut said = Vec::new(rt.alloc());
-    let done = work_on(rt, task, name_of(file), text.as_str(), out, &mut said)?;
-    say(rt, task, &said, out)?;
+    let done = work_on(rt, wish, name_of(file), text.as_str(), out, &mut said)?;
+    say(rt, wish.task, &said, out)?;
     Ok(done)
 }
 

@@ -12,7 +12,7 @@ const MOST_NAMES: usize = 100;
 ///
 /// A link is followed, and the mode stays. It fails where memory is refused, and where the system
 /// refuses one of the steps: then the file is as it was, and the new one is gone.
-pub fn replace<R: Runtime + AllocGlobal>(rt: &R, name: &str, text: &str) -> Result<(), Fault> {
+pub fn replace<R: Runtime + AllocGlobal>(rt: &R, name: &str, text: &[u8]) -> Result<(), Fault> {
     let path = fs::canonicalize(rt, name).map_err(Fault::of_file)?;
     let path = path.as_path().as_str();
     let beside = write_beside(rt, path, text)?;
@@ -26,7 +26,11 @@ pub fn replace<R: Runtime + AllocGlobal>(rt: &R, name: &str, text: &str) -> Resu
 }
 
 /// Writes a text to a new file beside one, with its mode, and says what it is called.
-fn write_beside<R: Runtime + AllocGlobal>(rt: &R, path: &str, text: &str) -> Result<String, Fault> {
+fn write_beside<R: Runtime + AllocGlobal>(
+    rt: &R,
+    path: &str,
+    text: &[u8],
+) -> Result<String, Fault> {
     for number in 0..MOST_NAMES {
         let beside = format!(in rt.alloc(); "{path}.{number}.new")?;
         match File::create_new(rt, beside.as_str()) {
@@ -49,10 +53,10 @@ fn fill<R: Runtime + AllocGlobal, F: Write + OpenFile + Drop>(
     rt: &R,
     mut file: F,
     path: &str,
-    text: &str,
+    text: &[u8],
 ) -> io::Result<()> {
     let mode = fs::metadata(rt, path)?.permissions();
     file.set_permissions(mode)?;
-    file.write_all(text.as_bytes())?;
+    file.write_all(text)?;
     file.sync_all()
 }

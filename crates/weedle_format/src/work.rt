@@ -1,6 +1,7 @@
 //! The work on a text.
 
 use crate::arguments::Task;
+use crate::partly::lay_out_partly;
 use crate::replace::replace;
 use crate::slip::{slip_in, write_slip};
 use crate::trivia::is_trivia;
@@ -19,34 +20,40 @@ pub struct Done {
     pub changes: bool,
 }
 
+/// What is to be done with each text.
+#[derive(Clone, Copy)]
+pub struct Wish {
+    /// What is done with what was laid out.
+    pub task: Task,
+    /// What is read of a text that is refused is laid out, too.
+    pub is_partial: bool,
+}
+
 /// Lays out a text, and does with it what is asked for. A text of whitespace and comments alone is
-/// laid out as it stands. What is said of a text that isn't read whole is written to `said`, all else
-/// to `out`. It fails where memory is refused, and where the
-/// file can't be replaced or an output can't be written.
+/// laid out as it stands. What is said of a text that isn't read whole is written to `said`, all
+/// else to `out`. It fails where memory is refused, and where the file can't be replaced or an
+/// output can't be written.
 pub fn work_on<R: Runtime + AllocGlobal, W: Write, S: Write>(
     rt: &R,
-    task: Task,
+    wish: Wish,
     name: &str,
     text: &str,
     out: &mut W,
     said: &mut S,
 ) -> Result<Done, Fault> {
+    let task = wish.task;
     if is_trivia(text) {
-        let outcome = hand_out(rt, task, name, text, false, out)?;
+        let outcome = hand_out(rt, task, name, text.as_bytes(), false, out)?;
         return Ok(Done {
             outcome,
             changes: false,
         });
     }
     let Some(answer) = format(rt.alloc(), text)? else {
-        write_refusal(rt.alloc(), name, text, said)?;
-        return Ok(Done {
-            outcome: Outcome::Refused,
-            changes: false,
-        });
+        return refuse(rt, wish, name, text, out, said);
     };
     let changes = answer.text.as_str() != text;
-    let outcome = hand_out(rt, task, name, answer.text.as_str(), changes, out)?;
+    let outcome = hand_out(rt, task, name, answer.text.as_bytes(), changes, out)?;
     if answer.is_laid_out {
         return Ok(Done { outcome, changes });
     }
@@ -60,17 +67,39 @@ pub fn work_on<R: Runtime + AllocGlobal, W: Write, S: Write>(
     })
 }
 
+/// Says why a text is refused. What is read of it is laid out before, where that is asked for.
+fn refuse<R: Runtime + AllocGlobal, W: Write, S: Write>(
+    rt: &R,
+    wish: Wish,
+    name: &str,
+    text: &str,
+    out: &mut W,
+    said: &mut S,
+) -> Result<Done, Fault> {
+    let mut changes = false;
+    if wish.is_partial {
+        let laid_out = lay_out_partly(rt.alloc(), text)?;
+        changes = laid_out.as_slice() != text.as_bytes();
+        hand_out(rt, wish.task, name, &laid_out, changes, out)?;
+    }
+    write_refusal(rt.alloc(), name, text, said)?;
+    Ok(Done {
+        outcome: Outcome::Refused,
+        changes,
+    })
+}
+
 /// Does with what was laid out what is asked for.
 fn hand_out<R: Runtime + AllocGlobal, W: Write>(
     rt: &R,
     task: Task,
     name: &str,
-    text: &str,
+    text: &[u8],
     changes: bool,
     out: &mut W,
 ) -> Result<Outcome, Fault> {
     match task {
-        Task::Print => out.write_all(text.as_bytes())?,
+        Task::Print => out.write_all(text)?,
         Task::Check if changes => {
             writeln!(out, "{name}")?;
             return Ok(Outcome::Different);

@@ -22,6 +22,8 @@ mod nesting;
 #[cfg(test)]
 mod plain_types;
 #[cfg(test)]
+mod references;
+#[cfg(test)]
 mod requests;
 #[cfg(test)]
 mod scanners;

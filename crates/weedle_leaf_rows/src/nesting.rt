@@ -44,6 +44,25 @@ fn texts_that_nest_deep_are_not_for_descent(rt: HostRuntime) -> Result<(), Fail>
     }
     let text = repeated(alloc, "[A([A([A(", "(a or b)... c, ", 500, "")?;
     assert_nesting(&rt, &text, 3, 4, false);
+    // Behind a `;` no bracket is open that descent could read again.
+    let text = repeated(alloc, "[A(", "interface A { [A(long a) };", 30, "")?;
+    assert_nesting(&rt, &text, 31, 2, true);
+    let text = repeated(
+        alloc,
+        "[A([A([A([A(",
+        "interface A { attribute long x; };\n",
+        300,
+        "",
+    )?;
+    assert_nesting(&rt, &text, 4, 4, true);
+    let text = repeated(
+        alloc,
+        "[A([A([A([A(",
+        "interface A { \";\" /* ; */ }\n",
+        300,
+        "",
+    )?;
+    assert_nesting(&rt, &text, 4, 4, false);
     let nested = nested_attributes(alloc, 4)?;
     let text = repeated(alloc, &nested, "interface A {};\n", 6_250, "")?;
     assert_nesting(&rt, &text, 5, 5, true);

@@ -39,7 +39,8 @@ module _ (opens closes : ℕ → Bool) where
     plain_past : (b : ℕ) (text : List ℕ) (depth : ℕ) → is_mark b ≡ false
         → most_open_from opens closes depth (bare_from Words (b ∷ text)) ≡ most_open_from opens closes depth (bare_from Words text)
     plain_past b text depth e =
-        let p = neither (b == 34 || b == 47) (is_bracket b) e in
+        let z = neither (b == 34 || b == 47 || is_bracket b) (b == 59) e in
+        let p = neither (b == 34 || b == 47) (is_bracket b) z.0 in
         let q = neither (b == 34) (b == 47) p.0 in
         let no = of_brackets.no b p.1 in
         let more = least depth (bare_from Words text) in

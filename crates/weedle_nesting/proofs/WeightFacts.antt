@@ -1,13 +1,12 @@
 -- What the bytes up to the next mark weigh, and those of a string or a comment.
 use Rattle.std.proofs.Common.{◌≡◌, inl, inr, ◌+◌, ◌*◌, ◌-◌, ◌<◌, ◌≤◌, ℕ, zero, suc, Bool, true, false, List, [], ◌∷◌, length, Some, None, refl, ap, arith, if◌then◌else◌, ◌==◌, ◌||◌}
 use Rattle.std.proofs.Math.Nat.{mul-add, mul-suc}
-use Rattle.std.specs.Prelude.{◌^◌, min}
+use Rattle.std.specs.Prelude.{◌^◌, max, min}
 use Rattle.weedle_nesting.proofs.MarkFacts.{past_more, same}
 use Rattle.weedle_nesting.specs.Aside.{IsAside, IsBehind, times}
 use Rattle.weedle_nesting.specs.Bare.{Inside, Words, Slash, Line, Block, Asterisk, Quotes, behind_words}
 use Rattle.weedle_nesting.specs.Marks.{first_mark, is_bracket, is_mark, past}
-use Rattle.weedle_nesting.specs.Nesting.{attributes_behind}
-use Rattle.weedle_nesting.specs.Weights.{weights, weights_from}
+use Rattle.weedle_nesting.specs.Weights.{attributes_read, weights, weights_from}
 
 module _ (depth : ℕ) where
   -- nothing is left
@@ -88,7 +87,7 @@ slash_aside_end depth = at_end depth Slash
 pub record IsToMark (mark depth : ℕ) (text after : List ℕ) : Type 0 where
   pub count : ℕ
   pub bytes : length text ≡ count + suc (length after)
-  pub weigh : weights_from Words depth text ≡ times (suc count) (3 ^ depth) + weights_from (behind_words mark) (attributes_behind depth mark) after
+  pub weigh : weights_from Words depth text ≡ times (suc count) (3 ^ depth) + weights_from (behind_words mark) (attributes_read depth mark) after
 
 -- neither is true
 neither : (a b : Bool) → (a || b) ≡ false → (a ≡ false) × (b ≡ false)
@@ -98,24 +97,25 @@ neither false b e = (refl, e)
 -- a byte that is no mark opens and closes nothing
 plain : (depth b : ℕ) (text : List ℕ) → is_mark b ≡ false → weights_from Words depth (b ∷ text) ≡ 3 ^ depth + weights_from Words depth text
 plain depth b text e =
-    let p = neither (b == 34 || b == 47) (is_bracket b) e in
+    let z = neither (b == 34 || b == 47 || is_bracket b) (b == 59) e in
+    let p = neither (b == 34 || b == 47) (is_bracket b) z.0 in
     let q = neither (b == 34) (b == 47) p.0 in
     let r = neither (b == 91 || b == 93 || b == 40 || b == 41 || b == 60) (b == 62) p.1 in
     let s = neither (b == 91 || b == 93 || b == 40 || b == 41) (b == 60) r.0 in
     let t = neither (b == 91 || b == 93 || b == 40) (b == 41) s.0 in
     let u = neither (b == 91 || b == 93) (b == 40) t.0 in
     let v = neither (b == 91) (b == 93) u.0 in
-    rw (q.0, q.1, v.0, v.1) refl
+    rw (q.0, q.1, z.1, v.0, v.1) refl
 
 -- a mark counts as it stands among words
-mark_first : (depth mark : ℕ) (after : List ℕ) → weights_from Words depth (mark ∷ after) ≡ 3 ^ depth + weights_from (behind_words mark) (attributes_behind depth mark) after
+mark_first : (depth mark : ℕ) (after : List ℕ) → weights_from Words depth (mark ∷ after) ≡ 3 ^ depth + weights_from (behind_words mark) (attributes_read depth mark) after
 mark_first depth mark after = elim (same mark 34) [
   | inl e ↦ rw e refl
   | inr e ↦ by_slash (mark == 47) refl e.0
 ]
   where
     by_slash : (t : Bool) → (mark == 47) ≡ t → (mark == 34) ≡ false
-        → weights_from Words depth (mark ∷ after) ≡ 3 ^ depth + weights_from (behind_words mark) (attributes_behind depth mark) after
+        → weights_from Words depth (mark ∷ after) ≡ 3 ^ depth + weights_from (behind_words mark) (attributes_read depth mark) after
     by_slash true s q = rw (q, s) refl
     by_slash false s q = rw (q, s) refl
 
@@ -176,7 +176,7 @@ module _ (text rest : List ℕ) (depth weight work : ℕ) (h : IsWeighed text re
   pub record IsStep (mark : ℕ) (behind : List ℕ) (bytes : ℕ) : Type 0 where
     pub some : 0 < bytes
     pub shorter : length rest ≡ bytes + length behind
-    pub sum : weights text ≡ work + weight * bytes + weights_from Words (attributes_behind depth mark) behind
+    pub sum : weights text ≡ work + weight * bytes + weights_from Words (attributes_read depth mark) behind
 
   pub step : (mark : ℕ) (after behind : List ℕ) → first_mark rest ≡ Some (mark, after) → IsBehind mark depth after behind
       → IsStep mark behind (length rest - length behind)
@@ -215,8 +215,8 @@ module _ (text rest : List ℕ) (depth weight work : ℕ) (h : IsWeighed text re
     is_light l = omega (arith, l, is, lighter, fits)
 
     -- a mark more is seen
-    pub step_on : seen < most_of text → (new_depth new_weight : ℕ) → new_depth ≡ attributes_behind depth mark
-        → (weight ≡ 3 ^ depth → new_weight ≡ 3 ^ new_depth) → new_weight ≤ weight * 3 → new_depth ≤ depth + 1
+    pub step_on : seen < most_of text → (new_depth new_weight : ℕ) → new_depth ≡ attributes_read depth mark
+        → (weight ≡ 3 ^ depth → new_weight ≡ 3 ^ new_depth) → new_weight ≤ max (weight * 3) 1 → new_depth ≤ depth + 1
         → IsWeighed text behind new_depth new_weight seen
     step_on l new_depth new_weight d w light deeper = record {
       few = omega (arith, h.few, s.shorter, s.some, deeper);
@@ -227,10 +227,11 @@ module _ (text rest : List ℕ) (depth weight work : ℕ) (h : IsWeighed text re
     }
 
 -- a mark opens one at most
-pub one_deeper : (depth mark : ℕ) → attributes_behind depth mark ≤ depth + 1
-one_deeper depth mark = by_open (mark == 91) (mark == 93)
+pub one_deeper : (depth mark : ℕ) → attributes_read depth mark ≤ depth + 1
+one_deeper depth mark = by_open (mark == 59) (mark == 91) (mark == 93)
   where
-    by_open : (opening closing : Bool) → (if opening then depth + 1 else if closing then depth - 1 else depth) ≤ depth + 1
-    by_open true closing = omega arith
-    by_open false true = omega arith
-    by_open false false = omega arith
+    by_open : (ending opening closing : Bool) → (if ending then 0 else if opening then depth + 1 else if closing then depth - 1 else depth) ≤ depth + 1
+    by_open true opening closing = omega arith
+    by_open false true closing = omega arith
+    by_open false false true = omega arith
+    by_open false false false = omega arith

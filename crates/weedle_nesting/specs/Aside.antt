@@ -1,8 +1,7 @@
 -- What a string, a comment or a mark weighs: for the contracts of the functions that pass over them.
 use Rattle.std.specs.Prelude.{◌≡◌, ℕ, zero, suc, ◌+◌, ◌^◌, List, length}
 use Rattle.weedle_nesting.specs.Bare.{Inside, Words, behind_words}
-use Rattle.weedle_nesting.specs.Nesting.{attributes_behind}
-use Rattle.weedle_nesting.specs.Weights.{weights_from}
+use Rattle.weedle_nesting.specs.Weights.{attributes_read, weights_from}
 
 -- so many times a number
 abbrev pub times : ℕ → ℕ → ℕ
@@ -19,4 +18,4 @@ pub record IsAside (inside : Inside) (depth : ℕ) (text rest : List ℕ) : Type
 pub record IsBehind (mark depth : ℕ) (after rest : List ℕ) : Type 0 where
   pub count : ℕ
   pub bytes : length after ≡ count + length rest
-  pub weigh : weights_from (behind_words mark) (attributes_behind depth mark) after ≡ times count (3 ^ depth) + weights_from Words (attributes_behind depth mark) rest
+  pub weigh : weights_from (behind_words mark) (attributes_read depth mark) after ≡ times count (3 ^ depth) + weights_from Words (attributes_read depth mark) rest

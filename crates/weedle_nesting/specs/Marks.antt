@@ -1,4 +1,4 @@
--- The marks of a text: brackets, and what begins a string or a comment.
+-- The marks of a text: brackets, what begins a string or a comment, and a semicolon.
 use Rattle.std.specs.Prelude.{ℕ, List, [], ◌∷◌, Bool, ◌==◌, ◌||◌, drop, Option, Some, None, if◌then◌else◌}
 use Rattle.weedle_grammar.specs.Rows.{take_past}
 
@@ -6,9 +6,9 @@ use Rattle.weedle_grammar.specs.Rows.{take_past}
 abbrev pub is_bracket : ℕ → Bool
 is_bracket b = b == 91 || b == 93 || b == 40 || b == 41 || b == 60 || b == 62
 
--- a quote, a slash or a bracket
+-- a quote, a slash, a bracket or a semicolon
 abbrev pub is_mark : ℕ → Bool
-is_mark b = b == 34 || b == 47 || is_bracket b
+is_mark b = b == 34 || b == 47 || is_bracket b || b == 59
 
 -- the first mark of a text, and what follows it
 abbrev pub first_mark : List ℕ → Option (ℕ × List ℕ)

@@ -1,4 +1,4 @@
-//! The marks of a text: brackets, and what begins a string or a comment.
+//! The marks of a text: brackets, what begins a string or a comment, and a semicolon.
 
 ghost use Rattle.std.specs.Prelude.{◌≡◌, ℕ, ◌∷◌, ◌<◌, ◌≤◌, [], length, IfSome};
 ghost use Rattle.std.specs.Option.{option_map};
@@ -14,7 +14,11 @@ fn is_mark(byte: u8) -> bool
     ensures { result ≡ is_mark byte }
 {
     // Small letters, most of a text, need no more than the first test.
-    byte <= b']' && matches!(byte, b'"' | b'/' | b'[' | b']' | b'(' | b')' | b'<' | b'>')
+    byte <= b']'
+        && matches!(
+            byte,
+            b'"' | b'/' | b'[' | b']' | b'(' | b')' | b'<' | b'>' | b';'
+        )
 }
 
 /// The first mark, and what follows it. It is never inlined: alone its loop is as short as it can

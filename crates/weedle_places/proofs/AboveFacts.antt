@@ -1,9 +1,8 @@
 -- The nodes above the one that comes next, while nodes are gone through.
 use Rattle.std.proofs.Common.{◌≡◌, inl, inr, ℕ, zero, suc, ◌+◌, ◌<◌, ◌≤◌, Bool, true, false, List, [], ◌∷◌, ◌++◌, length, take, refl, sym, subst, ◌∙◌, ap, arith, length-append}
-use Rattle.std.specs.Prelude.{◌↔◌, IsTrue}
 use Rattle.std.proofs.lemmas.Bool.{cases_lt}
 use Rattle.weedle_syntax.specs.declared.node.Node.{Node}
-use Rattle.weedle_syntax.specs.Tree.{node_at, IsChild}
+use Rattle.weedle_syntax.specs.Tree.{IsChild}
 use Rattle.weedle_syntax.specs.Syntax.{IsFront}
 use Rattle.weedle_syntax.proofs.BelowFacts.{depth_at, below_reaches}
 use Rattle.weedle_syntax.proofs.StepFacts.{joined}

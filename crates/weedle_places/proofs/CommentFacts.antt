@@ -7,7 +7,6 @@ use Rattle.std.specs.List.Sorted.{IsNonDecreasingBy}
 use Rattle.std.proofs.lemmas.List.Sorted.{IsNonDecreasingBy-from_default}
 use Rattle.weedle_grammar.specs.written.Table.{row_of}
 use Rattle.weedle_syntax.specs.declared.node.Node.{Node}
-use Rattle.weedle_syntax.specs.Kinds.{is_comment}
 use Rattle.weedle_syntax.specs.Syntax.{IsFront, root_to}
 use Rattle.weedle_syntax.specs.Tree.{node_at, numbers_where}
 use Rattle.weedle_syntax.proofs.TreeFacts.{AreNodes, nodes_of}

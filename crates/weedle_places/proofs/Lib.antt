@@ -9,5 +9,6 @@ pub mod PlaceFacts
 pub mod ValueFacts
 pub mod RowFacts
 pub mod NameFacts
+pub mod ReferenceFacts
 pub mod OwnFacts
 pub mod AboveFacts

@@ -1,18 +1,17 @@
 -- Names: the parts of their nodes, and the names that are found one after another.
-use Rattle.std.proofs.Common.{◌≡◌, inl, inr, ℕ, zero, suc, ◌==◌, ◌+◌, ◌-◌, ◌<◌, ◌≤◌, Bool, true, false, List, [], ◌∷◌, ◌++◌, length, map, refl, sym, subst, ◌∙◌, ap, arith, eq-eqb, eqb-true, append-nil, Option, Some, get_or}
+use Rattle.std.proofs.Common.{◌≡◌, ℕ, zero, suc, ◌==◌, ◌+◌, ◌-◌, ◌<◌, ◌≤◌, Bool, true, false, List, [], ◌∷◌, ◌++◌, length, map, refl, sym, subst, ◌∙◌, ap, arith, eq-eqb, eqb-true, append-nil, Some, get_or}
 use Rattle.std.proofs.lemmas.List.{get_or_default}
 use Rattle.std.specs.Prelude.{cond}
 use Rattle.weedle_grammar.specs.Meaning.{between}
 use Rattle.weedle_grammar.specs.written.Table.{row_of}
 use Rattle.weedle_grammar.specs.written.Table.Trivia.{TRIVIA}
-use Rattle.weedle_grammar.specs.written.Table.Leaves.{OPT_BYTES_UNDERSCORE, IDENTIFIER_TEXT, IDENTIFIER}
+use Rattle.weedle_grammar.specs.written.Table.Leaves.{OPT_BYTES_UNDERSCORE, IDENTIFIER_TEXT}
 use Rattle.weedle_rules.specs.Outcomes.{EndsAt}
 use Rattle.weedle_syntax.specs.declared.node.Node.{Node}
-use Rattle.weedle_syntax.specs.Parts.{AreInTurn, AreParts, HasParts}
+use Rattle.weedle_syntax.specs.Parts.{AreInTurn, AreParts}
 use Rattle.weedle_syntax.specs.Syntax.{IsFront, root_to}
 use Rattle.weedle_syntax.specs.Tree.{node_at, below_of, numbers_where, children_of, IsChild}
 use Rattle.weedle_syntax.proofs.BelowFacts.{depth_at, below_within}
-use Rattle.weedle_syntax.proofs.ChildFacts.{Each}
 use Rattle.weedle_syntax.proofs.InnerFacts.{children_are_parts}
 use Rattle.weedle_syntax.proofs.StepFacts.{joined}
 use Rattle.weedle_places.specs.declared.name.Name.{Name}

@@ -1,5 +1,5 @@
 -- Definitions and members along the nodes of a syntax tree.
-use Rattle.std.proofs.Common.{◌≡◌, ◌⊎◌, inl, inr, ℕ, ◌+◌, ◌<◌, ◌≤◌, Bool, true, false, ◌&&◌, List, [], ◌∷◌, ◌++◌, length, map, Option, Some, None, refl, sym, subst, ◌∙◌, ap, arith, append_assoc, append-nil}
+use Rattle.std.proofs.Common.{◌≡◌, inl, inr, ℕ, ◌+◌, ◌<◌, Bool, true, false, ◌&&◌, List, [], ◌∷◌, ◌++◌, length, map, Some, None, refl, sym, subst, ◌∙◌, ap, append-nil}
 use Rattle.std.specs.Prelude.{All, MatchOption, Result, Ok, Err, IfOk}
 use Rattle.std.proofs.lemmas.List.Elements.{All-nil, All-cons, All-append}
 use Rattle.weedle_grammar.specs.Rows.{Row, Bytes, OneOf, NotNext, Run, Past, Seq, First, Opt, Many, ListOf, List1, Tail, If}
@@ -9,7 +9,7 @@ use Rattle.weedle_grammar.specs.written.Table.Definitions.{DEFINITION}
 use Rattle.weedle_grammar.proofs.Leaves.{both}
 use Rattle.weedle_rules.specs.Outcomes.{EndsAt}
 use Rattle.weedle_syntax.specs.declared.node.Node.{Node}
-use Rattle.weedle_syntax.specs.Parts.{IsNode, AreInTurn, IsFirst, AreParts, HasParts}
+use Rattle.weedle_syntax.specs.Parts.{IsNode, AreInTurn, IsFirst, AreParts}
 use Rattle.weedle_syntax.specs.Parts.{AreItems as AreItemNodes}
 use Rattle.weedle_syntax.specs.Syntax.{IsFront}
 use Rattle.weedle_syntax.specs.Tree.{node_at, children_of}
@@ -18,7 +18,6 @@ use Rattle.weedle_places.specs.declared.members.MemberPlace.{MemberPlace}
 use Rattle.weedle_places.specs.declared.span.Span.{Span}
 use Rattle.weedle_places.specs.Items.{AreItems}
 use Rattle.weedle_places.specs.Members.{member_of, AreMembers, FitsFirst, HasMembers, IsBehindBrace, choices_in, parts_in, spans_of}
-use Rattle.weedle_places.specs.Spans.{span_at}
 use Rattle.weedle_places.specs.Standing.{IsMemberAt, IsMemberOf}
 use Rattle.weedle_places.proofs.MemberFacts.{braced}
 use Rattle.weedle_places.proofs.NameFacts.{children_within}

@@ -1,5 +1,5 @@
 -- Definitions that are found one after another.
-use Rattle.std.proofs.Common.{◌≡◌, ℕ, ◌<◌, ◌≤◌, List, [], ◌∷◌, ◌++◌, length, map, refl, sym, subst, ◌∙◌, ap, append_assoc, append-nil}
+use Rattle.std.proofs.Common.{◌≡◌, ℕ, ◌<◌, List, [], ◌∷◌, ◌++◌, length, map, sym, subst, ◌∙◌, ap, append_assoc, append-nil}
 use Rattle.std.specs.Prelude.{All}
 use Rattle.weedle_grammar.specs.written.Table.Definitions.{DEFINITION}
 use Rattle.weedle_rules.specs.Outcomes.{EndsAt}

@@ -1,5 +1,5 @@
 -- Values that are found one after another.
-use Rattle.std.proofs.Common.{◌≡◌, ℕ, suc, ◌==◌, ◌+◌, ◌-◌, ◌<◌, ◌≤◌, Bool, true, false, List, [], ◌∷◌, ◌++◌, refl, sym, subst, ◌∙◌, ap, arith, append-nil}
+use Rattle.std.proofs.Common.{◌≡◌, ℕ, suc, ◌==◌, ◌+◌, ◌-◌, ◌≤◌, Bool, true, false, List, [], ◌∷◌, ◌++◌, sym, subst, ◌∙◌, ap, arith, append-nil}
 use Rattle.std.specs.Prelude.{cond}
 use Rattle.weedle_grammar.specs.written.Table.OtherMembers.{ENUM_VARIANT}
 use Rattle.weedle_syntax.specs.declared.node.Node.{Node}

@@ -5,6 +5,7 @@ pub mod Members
 pub mod Places
 pub mod Roles
 pub mod Names
+pub mod References
 pub mod Above
 pub mod Around
 pub mod Standing

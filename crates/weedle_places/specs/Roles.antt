@@ -1,5 +1,5 @@
 -- The roles of names, by the rules that read them.
-use Rattle.std.specs.Prelude.{◌==◌, ℕ, Bool, Option, Some, None, if◌then◌else◌}
+use Rattle.std.specs.Prelude.{◌==◌, ℕ, Bool, true, false, Option, Some, None, if◌then◌else◌}
 use Rattle.weedle_grammar.specs.written.Table.SimpleTypes.{IDENTIFIER_LIST, MAY_BE_NULL_IDENTIFIER, TAIL_IDENTIFIER_COMMA}
 use Rattle.weedle_grammar.specs.written.Table.Types.{EXTENDED_ATTRIBUTE_ARG_LIST, EXTENDED_ATTRIBUTE_IDENT, EXTENDED_ATTRIBUTE_IDENT_LIST, EXTENDED_ATTRIBUTE_NAMED_ARG_LIST, EXTENDED_ATTRIBUTE_NO_ARGS, IDENTIFIER_OR_STRING, SINGLE_ARGUMENT, VARIADIC_ARGUMENT}
 use Rattle.weedle_grammar.specs.written.Table.InterfaceMembers.{ATTRIBUTE_INTERFACE_MEMBER, CONST_MEMBER, INHERITANCE, OPT_IDENTIFIER}
@@ -71,3 +71,31 @@ first_role r = or_else (of_definition r) (or_else (of_member r) (of_part r))
 -- of a name, by the rule that reads it, and by whether that has read another before
 abbrev pub role_of : ℕ → Bool → Option Role
 role_of r later = if later then or_else (of_later r) (first_role r) else first_role r
+
+-- a name of this role speaks of a definition, and isn't where that has its name
+abbrev pub is_reference : Role → Bool
+is_reference role.Callback = false
+is_reference role.CallbackInterface = false
+is_reference role.Interface = false
+is_reference role.Mixin = false
+is_reference role.Namespace = false
+is_reference role.Dictionary = false
+is_reference role.PartialInterface = true
+is_reference role.PartialMixin = true
+is_reference role.PartialDictionary = true
+is_reference role.PartialNamespace = true
+is_reference role.Enum = false
+is_reference role.Typedef = false
+is_reference role.Includer = true
+is_reference role.Included = true
+is_reference role.Implementer = true
+is_reference role.Implemented = true
+is_reference role.Const = false
+is_reference role.Attribute = false
+is_reference role.Operation = false
+is_reference role.DictionaryMember = false
+is_reference role.Argument = false
+is_reference role.Type = true
+is_reference role.Inherited = true
+is_reference role.ExtendedAttribute = false
+is_reference role.ExtendedAttributeValue = false

@@ -1,5 +1,5 @@
 -- The spans of nodes and of members.
-use Rattle.std.specs.Prelude.{ℕ, List, map}
+use Rattle.std.specs.Prelude.{ℕ, List}
 use Rattle.weedle_syntax.specs.declared.node.Node.{Node}
 use Rattle.weedle_syntax.specs.Tree.{node_at}
 use Rattle.weedle_places.specs.declared.span.Span.{Span}

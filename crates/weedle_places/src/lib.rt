@@ -25,6 +25,7 @@ mod members;
 mod name;
 mod own;
 mod place;
+mod reference;
 mod role;
 mod span;
 
@@ -32,5 +33,6 @@ pub use comments::comments_in;
 pub use members::MemberPlace;
 pub use name::{Name, names, names_of};
 pub use place::{Place, places, places_in, places_of};
+pub use reference::{references, references_of};
 pub use role::Role;
 pub use span::Span;

@@ -51,7 +51,7 @@ pub(crate) fn word_at<'a>(syntax: &Syntax<'a>, i: usize) -> (Span, &'a str)
 }
 
 /// What is said of a node of the rule of names.
-fn name_at<'a>(syntax: &Syntax<'a>, i: usize, role: Role) -> Name<'a>
+pub(crate) fn name_at<'a>(syntax: &Syntax<'a>, i: usize, role: Role) -> Name<'a>
     requires within { i < length syntax.now.nodes }
     requires name { is_name syntax.now.nodes i ≡ true }
     requires role { HasRole syntax.now.nodes i role }

@@ -7,6 +7,7 @@ ghost use Rattle.weedle_places.specs.Roles.{
   of_part as the_of_part,
   of_later as the_of_later,
   role_of as the_role_of,
+  is_reference as the_is_reference,
 };
 
 use weedle_grammar::Rule;
@@ -86,6 +87,32 @@ pub enum Role {
     /// What stands behind the `=` of an extended attribute, as `Window` in `[Exposed=Window]` and
     /// in `[Exposed=(Window,Worker)]`, and `Image` in `[NamedConstructor=Image(long x)]`.
     ExtendedAttributeValue,
+}
+
+impl Role {
+    /// Whether a name with this role speaks of a definition and isn't where that has its name: as a
+    /// type, as what is inherited from, in a statement, or in a part, as the `A` of `attribute A
+    /// x;`, of `interface B : A {};`, of `A includes M;` and of `partial interface A {};`.
+    ///
+    /// Members, arguments and extended attributes aren't definitions, nor is what stands behind the
+    /// `=` of an extended attribute taken for one.
+    pub fn is_reference(self) -> bool
+        ensures { result ≡ the_is_reference self }
+    {
+        match self {
+            Role::PartialInterface
+            | Role::PartialMixin
+            | Role::PartialDictionary
+            | Role::PartialNamespace
+            | Role::Includer
+            | Role::Included
+            | Role::Implementer
+            | Role::Implemented
+            | Role::Inherited
+            | Role::Type => true,
+            _ => false,
+        }
+    }
 }
 
 /// The role of the first name that a definition's own rule reads; None of another rule.

@@ -27,7 +27,7 @@ mod outcome;
 mod run;
 mod tally;
 
-pub use arguments::Request;
+pub use arguments::{Beside, Request};
 pub use fault::Fault;
 pub use input::{name_of, text_in, text_of};
 pub use outcome::Outcome;

@@ -1,3 +1,4 @@
 pub mod DivisionFacts
 pub mod TokenFacts
 pub mod StopFacts
+pub mod CountFacts

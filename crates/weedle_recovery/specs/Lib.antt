@@ -1,4 +1,5 @@
 pub mod Tokens
 pub mod Stops
+pub mod Counts
 pub mod Recovery
 pub mod Refusals

@@ -1,6 +1,6 @@
 //! How definitions begin, and which rules stand in front of a body.
 
-ghost use Rattle.std.specs.Prelude.{◌≡◌, ◌≤◌, ◌<◌, true, false, length, IfOk, IfSome, IfNone};
+ghost use Rattle.std.specs.Prelude.{◌≡◌, ◌≤◌, ◌<◌, true, false, length, IfOk, OnOk, IfSome, IfNone};
 ghost use Rattle.std.specs.List.{slice_get};
 ghost use Rattle.weedle_grammar.specs.written.Table.{row_of as the_row_of};
 ghost use Rattle.weedle_grammar.specs.written.Table.Symbols.{OPEN_BRACE};
@@ -103,7 +103,8 @@ pub(crate) fn opened(
     place: usize,
     limits: &mut Limits,
 ) -> Result<Option<Rule>, AllocError>
-    requires { place ≤ length text.now }
+    requires { place ≤ length text.now.text }
+    ensures falls { OnOk result (limits.new.steps ≤ limits.old.steps) }
 {
     for definition in WITH_BODY {
         if opens(alloc, text, definition, place, limits)? {
@@ -122,7 +123,8 @@ fn opens(
     place: usize,
     limits: &mut Limits,
 ) -> Result<bool, AllocError>
-    requires { place ≤ length text.now }
+    requires { place ≤ length text.now.text }
+    ensures falls { OnOk result (limits.new.steps ≤ limits.old.steps) }
 {
     let mut at = place;
     for number in 0..MOST_PARTS {
@@ -149,9 +151,10 @@ pub(crate) fn begins(
     place: usize,
     limits: &mut Limits,
 ) -> Result<bool, AllocError>
-    requires { place ≤ length text.now }
-    ensures yes { IfOk result (λ is. is ≡ true → Begins text.now place) }
-    ensures no { IfOk result (λ is. is ≡ false → ¬ Begins text.now place) }
+    requires { place ≤ length text.now.text }
+    ensures yes { IfOk result (λ is. is ≡ true → Begins text.now.text place) }
+    ensures no { IfOk result (λ is. is ≡ false → ¬ Begins text.now.text place) }
+    ensures falls { OnOk result (limits.new.steps ≤ limits.old.steps) }
 {
     match begun(alloc, text, place, limits)? {
         Some(_) => Ok(true),
@@ -166,9 +169,10 @@ pub(crate) fn begun(
     place: usize,
     limits: &mut Limits,
 ) -> Result<Option<Rule>, AllocError>
-    requires { place ≤ length text.now }
-    ensures some { IfOk result (λ o. IfSome o (λ d. Begins text.now place)) }
-    ensures none { IfOk result (λ o. IfNone o (¬ Begins text.now place)) }
+    requires { place ≤ length text.now.text }
+    ensures some { IfOk result (λ o. IfSome o (λ d. Begins text.now.text place)) }
+    ensures none { IfOk result (λ o. IfNone o (¬ Begins text.now.text place)) }
+    ensures falls { OnOk result (limits.new.steps ≤ limits.old.steps) }
 {
     for number in 0..DEFINITIONS {
         let Some(front) = beginning(number) else {
@@ -190,9 +194,10 @@ fn front_reads(
     place: usize,
     limits: &mut Limits,
 ) -> Result<bool, AllocError>
-    requires { place ≤ length text.now }
-    ensures yes { IfOk result (λ is. is ≡ true → FrontReads text.now definition many place) }
-    ensures no { IfOk result (λ is. is ≡ false → ¬ FrontReads text.now definition many place) }
+    requires { place ≤ length text.now.text }
+    ensures yes { IfOk result (λ is. is ≡ true → FrontReads text.now.text definition many place) }
+    ensures no { IfOk result (λ is. is ≡ false → ¬ FrontReads text.now.text definition many place) }
+    ensures falls { OnOk result (limits.new.steps ≤ limits.old.steps) }
 {
     let mut at = place;
     for number in 0..many {
@@ -222,7 +227,8 @@ pub(crate) fn member_at(
     place: usize,
     limits: &mut Limits,
 ) -> Result<Option<Rule>, AllocError>
-    requires { place ≤ length text.now }
+    requires { place ≤ length text.now.text }
+    ensures falls { OnOk result (limits.new.steps ≤ limits.old.steps) }
 {
     for member in MEMBERS {
         if text.reads(alloc, member, place, limits)? {
@@ -239,11 +245,12 @@ pub(crate) fn member_behind(
     place: usize,
     limits: &mut Limits,
 ) -> Result<Option<(Rule, usize)>, AllocError>
-    requires { place ≤ length text.now }
+    requires { place ≤ length text.now.text }
     ensures after { IfOk result (λ o. IfSome o (λ found. place < found.1)) }
-    ensures within { IfOk result (λ o. IfSome o (λ found. found.1 ≤ length text.now)) }
+    ensures within { IfOk result (λ o. IfSome o (λ found. found.1 ≤ length text.now.text)) }
     ensures brace { IfOk result
-        (λ o. IfSome o (λ found. EndsAt text.now OPEN_BRACE place found.1)) }
+        (λ o. IfSome o (λ found. EndsAt text.now.text OPEN_BRACE place found.1)) }
+    ensures falls { OnOk result (limits.new.steps ≤ limits.old.steps) }
 {
     let Some(inside) = text.end_of(alloc, Rule::OPEN_BRACE, place, limits)? else {
         return Ok(None);
@@ -263,7 +270,8 @@ pub(crate) fn failing_place(
     place: usize,
     limits: &mut Limits,
 ) -> Result<usize, AllocError>
-    requires { place ≤ length text.now }
+    requires { place ≤ length text.now.text }
+    ensures falls { OnOk result (limits.new.steps ≤ limits.old.steps) }
 {
     let mut at = place;
     for number in 0..MOST_PARTS {
@@ -286,7 +294,8 @@ pub(crate) fn ends_body(
     place: usize,
     limits: &mut Limits,
 ) -> Result<bool, AllocError>
-    requires { place ≤ length text.now }
+    requires { place ≤ length text.now.text }
+    ensures falls { OnOk result (limits.new.steps ≤ limits.old.steps) }
 {
     match text.end_of(alloc, Rule::SEMI_COLON, place, limits)? {
         Some(end) => {

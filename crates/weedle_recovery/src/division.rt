@@ -1,4 +1,5 @@
 //! The parts of a text, one behind another.
+#![tactic(auto, using(crate::proofs::CountFacts::counted_still))]
 
 ghost use Rattle.std.specs.Prelude.{
   ◌≡◌,
@@ -8,12 +9,23 @@ ghost use Rattle.std.specs.Prelude.{
   ◌∷◌,
   [],
   true,
+  All,
   IfOk,
   IfSome,
   IfNone,
+  OnOk,
 };
-ghost use Rattle.weedle_recovery.specs.Recovery.{IsDivided, IsPassed, unread};
+ghost use Rattle.weedle_recovery.specs.Counts.{IsCounted};
+ghost use Rattle.weedle_recovery.specs.Recovery.{
+  AreParts,
+  IsDefinition,
+  IsDivided,
+  IsPassed,
+  roots_of,
+  unread,
+};
 ghost use Rattle.weedle_rules.specs.Outcomes.{EndsAt, FailsAt};
+ghost use Rattle.weedle_syntax.specs.Syntax.{AreTrees, IsWhole};
 
 use crate::part::Part;
 use crate::reading::Reading;
@@ -35,6 +47,32 @@ pub(crate) struct Division {
 }
 
 impl Division {
+    /// Divides a text whose front isn't divided yet.
+    pub(crate) fn divide(&mut self, alloc: Global, text: &Reading<'_>) -> Result<(), AllocError>
+        requires none { self.old.parts.items ≡ [] }
+        requires bare { self.old.nodes.items ≡ [] }
+        requires front { self.old.definition ≡ 0 }
+        requires most { self.old.limits.steps ≤ text.now.most }
+        ensures whole { IsWhole text.now.text
+            → OnOk result (All IsDefinition self.new.parts.items) }
+        ensures cover { OnOk result
+            (AreParts text.now.text 0 (length text.now.text) self.new.parts.items) }
+        ensures nodes { OnOk result
+            (AreTrees text.now.text (roots_of self.new.parts.items) self.new.nodes.items) }
+        ensures counted { OnOk result
+            (IsCounted text.now self.new.parts.items self.new.limits.steps) }
+    {
+        let mut at = 0;
+        while at < text.len() {
+            self.definition = at;
+            match self.take(alloc, text, Rule::DEFINITION, at)? {
+                Some(end) => at = end,
+                None => at = self.go_on(alloc, text, at)?,
+            }
+        }
+        Ok(())
+    }
+
     /// Reads a rule at a place, and says where it ends; where it fails, nothing is kept.
     pub(crate) fn take(
         &mut self,
@@ -43,13 +81,14 @@ impl Division {
         rule: Rule,
         place: usize,
     ) -> Result<Option<usize>, AllocError>
-        requires { IsDivided text.now self.old.parts.items self.old.nodes.items self.old.definition
-            place }
+        requires divided { IsDivided text.now.text self.old.parts.items self.old.nodes.items
+            self.old.definition place }
+        requires counted { IsCounted text.now self.old.parts.items self.old.limits.steps }
         ensures read { IfOk result
             (λ o. IfSome o
-            (λ end. EndsAt text.now rule place end
-            × IsDivided text.now self.new.parts.items self.new.nodes.items self.new.definition
-            end)) }
+            (λ end. EndsAt text.now.text rule place end
+            × IsDivided text.now.text self.new.parts.items self.new.nodes.items
+            self.new.definition end)) }
         ensures added { IfOk result
             (λ o. IfSome o
             (λ end. self.new.parts.items
@@ -64,12 +103,14 @@ impl Division {
             ∷ [])) }
         ensures not { IfOk result
             (λ o. IfNone o
-            (FailsAt text.now rule place
-            × IsDivided text.now self.new.parts.items self.new.nodes.items self.new.definition
-            place)) }
+            (FailsAt text.now.text rule place
+            × IsDivided text.now.text self.new.parts.items self.new.nodes.items
+            self.new.definition place)) }
         ensures after { IfOk result (λ o. IfSome o (λ end. place ≤ end)) }
-        ensures within { IfOk result (λ o. IfSome o (λ end. end ≤ length text.now)) }
+        ensures within { IfOk result (λ o. IfSome o (λ end. end ≤ length text.now.text)) }
         ensures same { self.new.definition ≡ self.old.definition }
+        ensures counted { OnOk result
+            (IsCounted text.now self.new.parts.items self.new.limits.steps) }
     {
         match text.lay(alloc, &mut self.nodes, rule, place, &mut self.limits)? {
             Some(end) => {
@@ -94,17 +135,20 @@ impl Division {
         start: usize,
         end: usize,
     ) -> Result<usize, AllocError>
-        requires divided { IsDivided text.now self.old.parts.items self.old.nodes.items
+        requires divided { IsDivided text.now.text self.old.parts.items self.old.nodes.items
             self.old.definition start }
-        requires fails { FailsAt text.now rule start }
+        requires fails { FailsAt text.now.text rule start }
         requires order { start ≤ end }
-        requires within { end ≤ length text.now }
-        requires passed { IsPassed text.now (unread rule start end self.old.definition) }
+        requires within { end ≤ length text.now.text }
+        requires passed { IsPassed text.now.text (unread rule start end self.old.definition) }
+        requires counted { IsCounted text.now self.old.parts.items self.old.limits.steps }
         ensures divided { IfOk result
-            (λ e. IsDivided text.now self.new.parts.items self.new.nodes.items self.new.definition
-            e) }
+            (λ e. IsDivided text.now.text self.new.parts.items self.new.nodes.items
+            self.new.definition e) }
         ensures end { IfOk result (λ e. e ≡ end) }
         ensures same { self.new.definition ≡ self.old.definition }
+        ensures counted { OnOk result
+            (IsCounted text.now self.new.parts.items self.new.limits.steps) }
     {
         let _ = text;
         self.parts.push(Part {

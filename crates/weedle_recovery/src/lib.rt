@@ -15,6 +15,7 @@
 //! ```
 #![tactic(auto)]
 
+mod counted;
 mod definitions;
 mod division;
 mod moved;
@@ -27,6 +28,7 @@ mod sign;
 mod stops;
 mod token;
 
+pub use counted::{Counted, recover_counted};
 pub use part::Part;
 pub use recovered::{Recovered, recover};
 pub use refusal::refusal_of_part;

@@ -1,15 +1,15 @@
 //! The parts of a whole text.
 
-ghost use Rattle.std.specs.Prelude.{◌≡◌, length, All, IfOk};
+ghost use Rattle.std.specs.Prelude.{◌≡◌, ◌≤◌, length, All, IfOk};
+ghost use Rattle.weedle_recovery.specs.Counts.{IsCounted};
 ghost use Rattle.weedle_recovery.specs.Recovery.{AreParts, roots_of, IsDefinition};
 ghost use Rattle.weedle_syntax.specs.Syntax.{AreTrees, IsWhole};
 
+use crate::counted::recover_counted;
 use crate::division::Division;
 use crate::part::Part;
 use crate::reading::Reading;
 use std::alloc::{AllocError, Global};
-use weedle_grammar::Rule;
-use weedle_rules::Ends;
 use weedle_syntax::{Limits, Node};
 
 /// The parts of a text, and the nodes of those that are read.
@@ -46,38 +46,33 @@ pub fn recover(alloc: Global, raw: &str) -> Result<Recovered, AllocError>
     ensures cover { IfOk result (λ f. AreParts raw.now 0 (length raw.now) f.parts.items) }
     ensures nodes { IfOk result (λ f. AreTrees raw.now (roots_of f.parts.items) f.nodes.items) }
 {
-    let bytes = raw.as_bytes();
-    let text = Reading::by_descent(bytes);
-    match divided(alloc, &text, Limits::of_length(raw.len())) {
-        Ok(found) => return Ok(found),
-        Err(_) => {}
-    }
-    let ends = Ends::new(alloc, raw)?;
-    let text = Reading::over_table(bytes, &ends);
-    let found = divided(alloc, &text, Limits::of_length(0))?;
-    Ok(found)
+    let counted = recover_counted(alloc, raw)?;
+    Ok(counted.found)
 }
 
 /// The parts of a text that is read by descent or over its table.
-fn divided(alloc: Global, text: &Reading<'_>, limits: Limits) -> Result<Recovered, AllocError>
-    ensures whole { IsWhole text.now → IfOk result (λ f. All IsDefinition f.parts.items) }
-    ensures cover { IfOk result (λ f. AreParts text.now 0 (length text.now) f.parts.items) }
-    ensures nodes { IfOk result (λ f. AreTrees text.now (roots_of f.parts.items) f.nodes.items) }
+pub(crate) fn divided(
+    alloc: Global,
+    text: &Reading<'_>,
+    limits: &mut Limits,
+) -> Result<Recovered, AllocError>
+    requires most { limits.old.steps ≤ text.now.most }
+    ensures whole { IsWhole text.now.text → IfOk result (λ f. All IsDefinition f.parts.items) }
+    ensures cover { IfOk result
+        (λ f. AreParts text.now.text 0 (length text.now.text) f.parts.items) }
+    ensures nodes { IfOk result
+        (λ f. AreTrees text.now.text (roots_of f.parts.items) f.nodes.items) }
+    ensures counted { IfOk result (λ f. IsCounted text.now f.parts.items limits.new.steps) }
 {
     let mut found = Division {
         parts: Vec::new(alloc),
         nodes: Vec::new(alloc),
         definition: 0,
-        limits,
+        limits: *limits,
     };
-    let mut at = 0;
-    while at < text.len() {
-        found.definition = at;
-        match found.take(alloc, text, Rule::DEFINITION, at)? {
-            Some(end) => at = end,
-            None => at = found.go_on(alloc, text, at)?,
-        }
-    }
+    let done = found.divide(alloc, text);
+    *limits = found.limits;
+    done?;
     Ok(Recovered {
         parts: found.parts,
         nodes: found.nodes,

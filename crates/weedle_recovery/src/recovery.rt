@@ -1,7 +1,9 @@
 //! Panic mode: how the reading goes on where no definition is read.
+#![tactic(auto, using(crate::proofs::CountFacts::counted_still))]
 
-ghost use Rattle.std.specs.Prelude.{◌≡◌, ◌≤◌, ◌<◌, length, IfOk, IfSome, IfNone};
+ghost use Rattle.std.specs.Prelude.{◌≡◌, ◌≤◌, ◌<◌, length, IfOk, OnOk, IfSome, IfNone};
 ghost use Rattle.weedle_grammar.specs.written.Table.Definitions.{DEFINITION};
+ghost use Rattle.weedle_recovery.specs.Counts.{IsCounted};
 ghost use Rattle.weedle_recovery.specs.Recovery.{DefinitionPasses, IsDivided};
 ghost use Rattle.weedle_rules.specs.Outcomes.{FailsAt};
 
@@ -23,15 +25,18 @@ impl Division {
         text: &Reading<'_>,
         place: usize,
     ) -> Result<usize, AllocError>
-        requires divided { IsDivided text.now self.old.parts.items self.old.nodes.items
+        requires divided { IsDivided text.now.text self.old.parts.items self.old.nodes.items
             self.old.definition place }
         requires definition { self.old.definition ≡ place }
-        requires fails { FailsAt text.now DEFINITION place }
-        requires unread { place < length text.now }
+        requires fails { FailsAt text.now.text DEFINITION place }
+        requires unread { place < length text.now.text }
+        requires counted { IsCounted text.now self.old.parts.items self.old.limits.steps }
         ensures divided { IfOk result
-            (λ e. IsDivided text.now self.new.parts.items self.new.nodes.items self.new.definition
-            e) }
+            (λ e. IsDivided text.now.text self.new.parts.items self.new.nodes.items
+            self.new.definition e) }
         ensures onward { IfOk result (λ e. place < e) }
+        ensures counted { OnOk result
+            (IsCounted text.now self.new.parts.items self.new.limits.steps) }
     {
         match opened(alloc, text, place, &mut self.limits)? {
             Some(definition) => self.go_inside(alloc, text, definition, place),
@@ -47,15 +52,18 @@ impl Division {
         definition: Rule,
         place: usize,
     ) -> Result<usize, AllocError>
-        requires divided { IsDivided text.now self.old.parts.items self.old.nodes.items
+        requires divided { IsDivided text.now.text self.old.parts.items self.old.nodes.items
             self.old.definition place }
         requires definition { self.old.definition ≡ place }
-        requires fails { FailsAt text.now DEFINITION place }
-        requires unread { place < length text.now }
+        requires fails { FailsAt text.now.text DEFINITION place }
+        requires unread { place < length text.now.text }
+        requires counted { IsCounted text.now self.old.parts.items self.old.limits.steps }
         ensures divided { IfOk result
-            (λ e. IsDivided text.now self.new.parts.items self.new.nodes.items self.new.definition
-            e) }
+            (λ e. IsDivided text.now.text self.new.parts.items self.new.nodes.items
+            self.new.definition e) }
         ensures onward { IfOk result (λ e. place < e) }
+        ensures counted { OnOk result
+            (IsCounted text.now self.new.parts.items self.new.limits.steps) }
     {
         let inside = self.open(alloc, text, definition, place)?;
         if inside > place {
@@ -67,15 +75,18 @@ impl Division {
 
     /// Passes over a definition whose front isn't read.
     fn pass(&mut self, alloc: Global, text: &Reading<'_>, place: usize) -> Result<usize, AllocError>
-        requires divided { IsDivided text.now self.old.parts.items self.old.nodes.items
+        requires divided { IsDivided text.now.text self.old.parts.items self.old.nodes.items
             self.old.definition place }
         requires definition { self.old.definition ≡ place }
-        requires fails { FailsAt text.now DEFINITION place }
-        requires unread { place < length text.now }
+        requires fails { FailsAt text.now.text DEFINITION place }
+        requires unread { place < length text.now.text }
+        requires counted { IsCounted text.now self.old.parts.items self.old.limits.steps }
         ensures divided { IfOk result
-            (λ e. IsDivided text.now self.new.parts.items self.new.nodes.items self.new.definition
-            e) }
+            (λ e. IsDivided text.now.text self.new.parts.items self.new.nodes.items
+            self.new.definition e) }
         ensures onward { IfOk result (λ e. place < e) }
+        ensures counted { OnOk result
+            (IsCounted text.now self.new.parts.items self.new.limits.steps) }
     {
         let brace = stop_behind(alloc, text, &Goal::Body, place, &mut self.limits)?;
         match member_behind(alloc, text, brace, &mut self.limits)? {
@@ -98,13 +109,16 @@ impl Division {
         definition: Rule,
         place: usize,
     ) -> Result<usize, AllocError>
-        requires { IsDivided text.now self.old.parts.items self.old.nodes.items self.old.definition
-            place }
+        requires divided { IsDivided text.now.text self.old.parts.items self.old.nodes.items
+            self.old.definition place }
+        requires counted { IsCounted text.now self.old.parts.items self.old.limits.steps }
         ensures divided { IfOk result
-            (λ e. IsDivided text.now self.new.parts.items self.new.nodes.items self.new.definition
-            e) }
+            (λ e. IsDivided text.now.text self.new.parts.items self.new.nodes.items
+            self.new.definition e) }
         ensures after { IfOk result (λ e. place ≤ e) }
         ensures same { IfOk result (λ e. self.new.definition ≡ self.old.definition) }
+        ensures counted { OnOk result
+            (IsCounted text.now self.new.parts.items self.new.limits.steps) }
     {
         let mut at = place;
         for number in 0..MOST_PARTS {
@@ -128,17 +142,20 @@ impl Division {
         place: usize,
         end: usize,
     ) -> Result<usize, AllocError>
-        requires divided { IsDivided text.now self.old.parts.items self.old.nodes.items
+        requires divided { IsDivided text.now.text self.old.parts.items self.old.nodes.items
             self.old.definition place }
-        requires fails { FailsAt text.now DEFINITION place }
+        requires fails { FailsAt text.now.text DEFINITION place }
         requires definition { self.old.definition ≡ place }
         requires onward { place < end }
-        requires within { end ≤ length text.now }
-        requires passes { DefinitionPasses text.now place end }
+        requires within { end ≤ length text.now.text }
+        requires passes { DefinitionPasses text.now.text place end }
+        requires counted { IsCounted text.now self.old.parts.items self.old.limits.steps }
         ensures divided { IfOk result
-            (λ e. IsDivided text.now self.new.parts.items self.new.nodes.items self.new.definition
-            e) }
+            (λ e. IsDivided text.now.text self.new.parts.items self.new.nodes.items
+            self.new.definition e) }
         ensures onward { IfOk result (λ e. place < e) }
+        ensures counted { OnOk result
+            (IsCounted text.now self.new.parts.items self.new.limits.steps) }
     {
         match begun(alloc, text, place, &mut self.limits)? {
             Some(definition) => self.leave_begun(alloc, text, definition, place, end),
@@ -156,17 +173,20 @@ impl Division {
         place: usize,
         end: usize,
     ) -> Result<usize, AllocError>
-        requires divided { IsDivided text.now self.old.parts.items self.old.nodes.items
+        requires divided { IsDivided text.now.text self.old.parts.items self.old.nodes.items
             self.old.definition place }
-        requires fails { FailsAt text.now DEFINITION place }
+        requires fails { FailsAt text.now.text DEFINITION place }
         requires definition { self.old.definition ≡ place }
         requires onward { place < end }
-        requires within { end ≤ length text.now }
-        requires passes { DefinitionPasses text.now place end }
+        requires within { end ≤ length text.now.text }
+        requires passes { DefinitionPasses text.now.text place end }
+        requires counted { IsCounted text.now self.old.parts.items self.old.limits.steps }
         ensures divided { IfOk result
-            (λ e. IsDivided text.now self.new.parts.items self.new.nodes.items self.new.definition
-            e) }
+            (λ e. IsDivided text.now.text self.new.parts.items self.new.nodes.items
+            self.new.definition e) }
         ensures onward { IfOk result (λ e. place < e) }
+        ensures counted { OnOk result
+            (IsCounted text.now self.new.parts.items self.new.limits.steps) }
     {
         let failing = failing_place(alloc, text, definition, place, &mut self.limits)?;
         if place < failing && failing <= end {
@@ -186,17 +206,20 @@ impl Division {
         place: usize,
         end: usize,
     ) -> Result<usize, AllocError>
-        requires divided { IsDivided text.now self.old.parts.items self.old.nodes.items
+        requires divided { IsDivided text.now.text self.old.parts.items self.old.nodes.items
             self.old.definition place }
-        requires fails { FailsAt text.now DEFINITION place }
+        requires fails { FailsAt text.now.text DEFINITION place }
         requires definition { self.old.definition ≡ place }
         requires onward { place < end }
-        requires within { end ≤ length text.now }
-        requires passes { DefinitionPasses text.now place end }
+        requires within { end ≤ length text.now.text }
+        requires passes { DefinitionPasses text.now.text place end }
+        requires counted { IsCounted text.now self.old.parts.items self.old.limits.steps }
         ensures divided { IfOk result
-            (λ e. IsDivided text.now self.new.parts.items self.new.nodes.items self.new.definition
-            e) }
+            (λ e. IsDivided text.now.text self.new.parts.items self.new.nodes.items
+            self.new.definition e) }
         ensures onward { IfOk result (λ e. place < e) }
+        ensures counted { OnOk result
+            (IsCounted text.now self.new.parts.items self.new.limits.steps) }
     {
         let mut at = place;
         for number in 0..MOST_PARTS {
@@ -223,15 +246,18 @@ impl Division {
         start: usize,
         end: usize,
     ) -> Result<usize, AllocError>
-        requires divided { IsDivided text.now self.old.parts.items self.old.nodes.items
+        requires divided { IsDivided text.now.text self.old.parts.items self.old.nodes.items
             self.old.definition start }
-        requires fails { FailsAt text.now rule start }
-        requires within { end ≤ length text.now }
-        requires passes { DefinitionPasses text.now self.old.definition end }
+        requires fails { FailsAt text.now.text rule start }
+        requires within { end ≤ length text.now.text }
+        requires passes { DefinitionPasses text.now.text self.old.definition end }
+        requires counted { IsCounted text.now self.old.parts.items self.old.limits.steps }
         ensures divided { IfOk result
-            (λ e. IsDivided text.now self.new.parts.items self.new.nodes.items self.new.definition
-            e) }
+            (λ e. IsDivided text.now.text self.new.parts.items self.new.nodes.items
+            self.new.definition e) }
         ensures after { IfOk result (λ e. end ≤ e) }
+        ensures counted { OnOk result
+            (IsCounted text.now self.new.parts.items self.new.limits.steps) }
     {
         if start < end {
             self.leave(text, rule, start, end)
@@ -248,12 +274,15 @@ impl Division {
         member: Rule,
         inside: usize,
     ) -> Result<usize, AllocError>
-        requires { IsDivided text.now self.old.parts.items self.old.nodes.items self.old.definition
-            inside }
+        requires divided { IsDivided text.now.text self.old.parts.items self.old.nodes.items
+            self.old.definition inside }
+        requires counted { IsCounted text.now self.old.parts.items self.old.limits.steps }
         ensures divided { IfOk result
-            (λ e. IsDivided text.now self.new.parts.items self.new.nodes.items self.new.definition
-            e) }
+            (λ e. IsDivided text.now.text self.new.parts.items self.new.nodes.items
+            self.new.definition e) }
         ensures after { IfOk result (λ e. inside ≤ e) }
+        ensures counted { OnOk result
+            (IsCounted text.now self.new.parts.items self.new.limits.steps) }
     {
         let mut at = inside;
         loop {
@@ -293,17 +322,20 @@ impl Division {
         text: &Reading<'_>,
         place: usize,
     ) -> Result<Option<usize>, AllocError>
-        requires { IsDivided text.now self.old.parts.items self.old.nodes.items self.old.definition
-            place }
+        requires divided { IsDivided text.now.text self.old.parts.items self.old.nodes.items
+            self.old.definition place }
+        requires counted { IsCounted text.now self.old.parts.items self.old.limits.steps }
         ensures ended { IfOk result
             (λ o. IfSome o
-            (λ e. IsDivided text.now self.new.parts.items self.new.nodes.items self.new.definition
-            e)) }
+            (λ e. IsDivided text.now.text self.new.parts.items self.new.nodes.items
+            self.new.definition e)) }
         ensures after { IfOk result (λ o. IfSome o (λ e. place ≤ e)) }
         ensures goes { IfOk result
             (λ o. IfNone o
-            (IsDivided text.now self.new.parts.items self.new.nodes.items self.new.definition
-            place)) }
+            (IsDivided text.now.text self.new.parts.items self.new.nodes.items
+            self.new.definition place)) }
+        ensures counted { OnOk result
+            (IsCounted text.now self.new.parts.items self.new.limits.steps) }
     {
         if let Some(end) = self.take(alloc, text, Rule::CLOSE_BRACE, place)? {
             let end = self.close(alloc, text, end)?;
@@ -328,12 +360,15 @@ impl Division {
         text: &Reading<'_>,
         place: usize,
     ) -> Result<usize, AllocError>
-        requires { IsDivided text.now self.old.parts.items self.old.nodes.items self.old.definition
-            place }
+        requires divided { IsDivided text.now.text self.old.parts.items self.old.nodes.items
+            self.old.definition place }
+        requires counted { IsCounted text.now self.old.parts.items self.old.limits.steps }
         ensures divided { IfOk result
-            (λ e. IsDivided text.now self.new.parts.items self.new.nodes.items self.new.definition
-            e) }
+            (λ e. IsDivided text.now.text self.new.parts.items self.new.nodes.items
+            self.new.definition e) }
         ensures after { IfOk result (λ e. place ≤ e) }
+        ensures counted { OnOk result
+            (IsCounted text.now self.new.parts.items self.new.limits.steps) }
     {
         match self.take(alloc, text, Rule::SEMI_COLON, place)? {
             Some(end) => Ok(end),

@@ -1,6 +1,17 @@
 //! Synchronisation points: where the reading goes on behind an unread part.
 
-ghost use Rattle.std.specs.Prelude.{◌≡◌, ◌⊎◌, ◌≤◌, ◌<◌, true, false, length, slice_index, IfOk};
+ghost use Rattle.std.specs.Prelude.{
+  ◌≡◌,
+  ◌⊎◌,
+  ◌≤◌,
+  ◌<◌,
+  true,
+  false,
+  length,
+  slice_index,
+  IfOk,
+  OnOk,
+};
 ghost use Rattle.weedle_recovery.specs.Stops.{
   Begins,
   EndsBefore,
@@ -39,11 +50,12 @@ pub(crate) fn stop_behind(
     place: usize,
     limits: &mut Limits,
 ) -> Result<usize, AllocError>
-    requires { place ≤ length text.now }
-    ensures passes { IfOk result (PassesTo text.now goal.now place) }
-    ensures within { IfOk result (λ end. end ≤ length text.now) }
+    requires { place ≤ length text.now.text }
+    ensures passes { IfOk result (PassesTo text.now.text goal.now place) }
+    ensures within { IfOk result (λ end. end ≤ length text.now.text) }
     ensures after { IfOk result (λ end. place ≤ end) }
-    ensures onward { IfOk result (λ end. place < length text.now → place < end) }
+    ensures onward { IfOk result (λ end. place < length text.now.text → place < end) }
+    ensures falls { OnOk result (limits.new.steps ≤ limits.old.steps) }
 {
     let first = Token::first(alloc, text, place, limits)?;
     if first.at >= text.len() {
@@ -68,9 +80,10 @@ fn is_reached(
     token: &Token,
     limits: &mut Limits,
 ) -> Result<bool, AllocError>
-    requires { token.now.at < length text.now }
-    ensures yes { IfOk result (λ is. is ≡ true → IsReached text.now goal.now token.now) }
-    ensures no { IfOk result (λ is. is ≡ false → ¬ IsReached text.now goal.now token.now) }
+    requires { token.now.at < length text.now.text }
+    ensures yes { IfOk result (λ is. is ≡ true → IsReached text.now.text goal.now token.now) }
+    ensures no { IfOk result (λ is. is ≡ false → ¬ IsReached text.now.text goal.now token.now) }
+    ensures falls { OnOk result (limits.new.steps ≤ limits.old.steps) }
 {
     if closes(text, goal, token) {
         return Ok(true);
@@ -83,8 +96,8 @@ fn is_reached(
 
 /// Whether a token reaches the goal whatever is read there.
 fn closes(text: &Reading<'_>, goal: &Goal, token: &Token) -> bool
-    requires { token.now.at < length text.now }
-    ensures { result ≡ is_closing goal.now token.now (slice_index text.now token.now.at) }
+    requires { token.now.at < length text.now.text }
+    ensures { result ≡ is_closing goal.now token.now (slice_index text.now.text token.now.at) }
 {
     let byte = text.byte(token.at);
     match *goal {
@@ -110,9 +123,10 @@ fn starts(
     place: usize,
     limits: &mut Limits,
 ) -> Result<bool, AllocError>
-    requires { place ≤ length text.now }
-    ensures yes { IfOk result (λ is. is ≡ true → Starts text.now goal.now place) }
-    ensures no { IfOk result (λ is. is ≡ false → ¬ Starts text.now goal.now place) }
+    requires { place ≤ length text.now.text }
+    ensures yes { IfOk result (λ is. is ≡ true → Starts text.now.text goal.now place) }
+    ensures no { IfOk result (λ is. is ≡ false → ¬ Starts text.now.text goal.now place) }
+    ensures falls { OnOk result (limits.new.steps ≤ limits.old.steps) }
 {
     match *goal {
         Goal::Member(member) => member_starts(alloc, text, member, place, limits),
@@ -129,11 +143,12 @@ fn member_starts(
     place: usize,
     limits: &mut Limits,
 ) -> Result<bool, AllocError>
-    requires { place ≤ length text.now }
+    requires { place ≤ length text.now.text }
     ensures yes { IfOk result
-        (λ is. is ≡ true → IsReadAt text.now member place ⊎ Begins text.now place) }
+        (λ is. is ≡ true → IsReadAt text.now.text member place ⊎ Begins text.now.text place) }
     ensures no { IfOk result
-        (λ is. is ≡ false → ¬ (IsReadAt text.now member place ⊎ Begins text.now place)) }
+        (λ is. is ≡ false → ¬ (IsReadAt text.now.text member place ⊎ Begins text.now.text place)) }
+    ensures falls { OnOk result (limits.new.steps ≤ limits.old.steps) }
 {
     if text.reads(alloc, member, place, limits)? {
         return Ok(true);
@@ -152,10 +167,11 @@ fn start_of(
     limits: &mut Limits,
 ) -> Result<usize, AllocError>
     requires line { token.now.line ≤ token.now.at }
-    requires within { token.now.at ≤ length text.now }
-    ensures ends { IfOk result (EndsBefore text.now goal.now token.now) }
+    requires within { token.now.at ≤ length text.now.text }
+    ensures ends { IfOk result (EndsBefore text.now.text goal.now token.now) }
     ensures after { IfOk result (λ end. token.now.line ≤ end) }
     ensures within { IfOk result (λ end. end ≤ token.now.at) }
+    ensures falls { OnOk result (limits.new.steps ≤ limits.old.steps) }
 {
     if starts(alloc, text, goal, token.line, limits)? {
         return Ok(token.line);

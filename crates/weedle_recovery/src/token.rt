@@ -1,6 +1,19 @@
 //! Tokens, as unread text is passed over.
 
-ghost use Rattle.std.specs.Prelude.{◌≡◌, ◌≤◌, ◌<◌, ◌+◌, ◌^◌, ◌==◌, ◌&&◌, length, drop, codes, IfOk};
+ghost use Rattle.std.specs.Prelude.{
+  ◌≡◌,
+  ◌≤◌,
+  ◌<◌,
+  ◌+◌,
+  ◌^◌,
+  ◌==◌,
+  ◌&&◌,
+  length,
+  drop,
+  codes,
+  IfOk,
+  OnOk,
+};
 ghost use Rattle.weedle_grammar.specs.Rows.{begins};
 ghost use Rattle.weedle_recovery.specs.Tokens.{
   IsFirstToken,
@@ -43,10 +56,11 @@ impl Token {
         place: usize,
         limits: &mut Limits,
     ) -> Result<Token, AllocError>
-        requires { place ≤ length text.now }
-        ensures is { IfOk result (IsFirstToken text.now place) }
+        requires { place ≤ length text.now.text }
+        ensures is { IfOk result (IsFirstToken text.now.text place) }
         ensures after { IfOk result (λ token. place ≤ token.at) }
-        ensures within { IfOk result (λ token. token.at ≤ length text.now) }
+        ensures within { IfOk result (λ token. token.at ≤ length text.now.text) }
+        ensures falls { OnOk result (limits.new.steps ≤ limits.old.steps) }
     {
         let at = trivia_end(alloc, text, place, limits)?;
         Ok(Token {
@@ -65,13 +79,14 @@ impl Token {
         text: &Reading<'_>,
         limits: &mut Limits,
     ) -> Result<Token, AllocError>
-        requires within { self.now.at < length text.now }
+        requires within { self.now.at < length text.now.text }
         requires shallow { self.now.depth ≤ self.now.at }
-        ensures is { IfOk result (IsNextToken text.now self.now) }
+        ensures is { IfOk result (IsNextToken text.now.text self.now) }
         ensures after { IfOk result (λ token. self.now.at < token.line) }
         ensures line { IfOk result (λ token. token.line ≤ token.at) }
-        ensures within { IfOk result (λ token. token.at ≤ length text.now) }
+        ensures within { IfOk result (λ token. token.at ≤ length text.now.text) }
         ensures shallow { IfOk result (λ token. token.depth ≤ token.at) }
+        ensures falls { OnOk result (limits.new.steps ≤ limits.old.steps) }
     {
         let before = text.byte(self.at);
         let past = token_end(text, self.at);
@@ -90,8 +105,8 @@ impl Token {
 
 /// Whether a docstring's line stands behind another one.
 fn are_docs(text: &Reading<'_>, before: u8, at: usize) -> bool
-    requires { at ≤ length text.now }
-    ensures { result ≡ (before == 47 && begins (codes "/") (drop at text.now)) }
+    requires { at ≤ length text.now.text }
+    ensures { result ≡ (before == 47 && begins (codes "/") (drop at text.now.text)) }
 {
     before == b'/' && text.stand_at(b"/", at)
 }
@@ -115,10 +130,11 @@ fn trivia_end(
     place: usize,
     limits: &mut Limits,
 ) -> Result<usize, AllocError>
-    requires { place ≤ length text.now }
-    ensures end { IfOk result (TriviaEnds text.now place) }
+    requires { place ≤ length text.now.text }
+    ensures end { IfOk result (TriviaEnds text.now.text place) }
     ensures after { IfOk result (λ end. place ≤ end) }
-    ensures within { IfOk result (λ end. end ≤ length text.now) }
+    ensures within { IfOk result (λ end. end ≤ length text.now.text) }
+    ensures falls { OnOk result (limits.new.steps ≤ limits.old.steps) }
 {
     match text.end_of(alloc, Rule::TRIVIA, place, limits)? {
         Some(end) => Ok(end),
@@ -129,8 +145,8 @@ fn trivia_end(
 /// Whether a line ends between two places.
 fn is_line(text: &Reading<'_>, place: usize, end: usize) -> bool
     requires order { place ≤ end }
-    requires within { end ≤ length text.now }
-    ensures { result ≡ is_line_between text.now place end }
+    requires within { end ≤ length text.now.text }
+    ensures { result ≡ is_line_between text.now.text place end }
 {
     text.run_between(Class::NotLineFeed, place, end) < end - place
 }
@@ -138,8 +154,8 @@ fn is_line(text: &Reading<'_>, place: usize, end: usize) -> bool
 /// Where the first line begins between two places, or the second of them where none does.
 fn line_in(text: &Reading<'_>, place: usize, end: usize) -> usize
     requires order { place ≤ end }
-    requires within { end ≤ length text.now }
-    ensures value { result ≡ line_between text.now place end }
+    requires within { end ≤ length text.now.text }
+    ensures value { result ≡ line_between text.now.text place end }
     ensures after { place ≤ result }
     ensures before { result ≤ end }
 {
@@ -153,10 +169,10 @@ fn line_in(text: &Reading<'_>, place: usize, end: usize) -> usize
 
 /// Where the token ends that begins at a place.
 fn token_end(text: &Reading<'_>, place: usize) -> usize
-    requires { place < length text.now }
-    ensures value { result ≡ the_token_end text.now place }
+    requires { place < length text.now.text }
+    ensures value { result ≡ the_token_end text.now.text place }
     ensures after { place < result }
-    ensures within { result ≤ length text.now }
+    ensures within { result ≤ length text.now.text }
 {
     let name = text.end_of_run(Class::Name, place);
     if name > place {
@@ -177,10 +193,10 @@ fn token_end(text: &Reading<'_>, place: usize) -> usize
 /// Where a string ends that begins at a place: behind its second quote, where that stands in the
 /// same line, and else behind the first.
 fn string_end(text: &Reading<'_>, place: usize) -> usize
-    requires { place < length text.now }
-    ensures value { result ≡ the_string_end text.now place }
+    requires { place < length text.now.text }
+    ensures value { result ≡ the_string_end text.now.text place }
     ensures after { place < result }
-    ensures within { result ≤ length text.now }
+    ensures within { result ≤ length text.now.text }
 {
     let inside = text.behind(place);
     let quote = text.end_of_run(Class::NotQuote, inside);
@@ -192,10 +208,10 @@ fn string_end(text: &Reading<'_>, place: usize) -> usize
 /// else at the first of them.
 fn closed_at(text: &Reading<'_>, inside: usize, quote: usize) -> usize
     requires order { inside ≤ quote }
-    requires within { quote ≤ length text.now }
-    ensures value { result ≡ string_end_at text.now inside quote }
+    requires within { quote ≤ length text.now.text }
+    ensures value { result ≡ string_end_at text.now.text inside quote }
     ensures after { inside ≤ result }
-    ensures within { result ≤ length text.now }
+    ensures within { result ≤ length text.now.text }
 {
     if quote < text.len() && !is_line(text, inside, quote) {
         quote + 1

@@ -74,6 +74,8 @@
 #![tactic(auto)]
 
 #[cfg(test)]
+mod ancestors;
+#[cfg(test)]
 mod lists;
 #[cfg(test)]
 mod outcomes;

@@ -1,4 +1,5 @@
 pub mod Definitions
 pub mod Members
 pub mod Parts
+pub mod Ancestry
 pub mod TypeNames

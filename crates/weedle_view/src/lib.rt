@@ -4,7 +4,8 @@
 //! [`extended_attributes_of`], [`docstring_of`] and [`inheritance_of`] are of a definition,
 //! [`MemberView`] of a member of any list, and [`members_of`] gives the views of all members of a
 //! definition. [`type_names`] and its like give the names that types speak of.
-//! [`definition_named`], [`parts_named`] and [`included_into`] say what belongs to a name.
+//! [`definition_named`], [`parts_named`], [`included_into`] and [`ancestors`] say what belongs to a
+//! name.
 //!
 //! ```rust
 //! use weedle_base::Parse;
@@ -21,6 +22,7 @@
 //! ```
 #![tactic(auto)]
 
+mod ancestry;
 mod definition;
 mod kind;
 mod member;
@@ -28,6 +30,7 @@ mod members;
 mod names;
 mod parts;
 
+pub use ancestry::ancestors;
 pub use definition::{docstring_of, extended_attributes_of, inheritance_of};
 pub use kind::MemberKind;
 pub use member::MemberView;

@@ -6,13 +6,12 @@ agree on bytes of UTF-8 or on characters.
 
 from __future__ import annotations
 
-import re
 from bisect import bisect_right
-from typing import Any, Callable, Dict, NamedTuple
+from itertools import accumulate
+from typing import Any, Callable, Dict, List, NamedTuple
 
 from weedle._text import Span
 
-LINE_END = re.compile(rb"\r\n?|\n")
 #: How many units a text has, by the name of an encoding.
 UNITS: Dict[str, Callable[[str], int]] = {
     "utf-8": lambda text: len(text.encode()),
@@ -34,12 +33,20 @@ def place_of(given: Any) -> Place:
     return Place(int(given["line"]), int(given["character"]))
 
 
+def line_starts(data: bytes) -> List[int]:
+    """Where the lines of a text begin: the first, and each behind the end of one."""
+    lines = data.splitlines(keepends=True)
+    if lines and not lines[-1].endswith((b"\n", b"\r")):
+        lines.pop()
+    return [0, *accumulate(map(len, lines))]
+
+
 class Lines:
     """Where the lines of a text begin."""
 
     def __init__(self, data: bytes, encoding: str = USUAL) -> None:
         self.data, self.encoding = data, encoding
-        self.starts = [0, *(it.end() for it in LINE_END.finditer(data))]
+        self.starts = line_starts(data)
         # of such a text each byte is a unit of each encoding
         self._is_bytes = encoding == "utf-8" or data.isascii()
 

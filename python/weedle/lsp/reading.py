@@ -6,6 +6,7 @@ This is the one place that asks the parser for them.
 from __future__ import annotations
 
 import re
+from functools import cached_property
 from itertools import groupby
 from typing import Iterator, List, NamedTuple, Optional, Sequence
 
@@ -78,21 +79,36 @@ class Broken(NamedTuple):
     doc: str
 
 
-class Reading(NamedTuple):
-    """A text as far as it is read."""
+class Reading:
+    """A text as far as it is read. What stands in it is found when it is asked for."""
 
-    definitions: Definitions
-    #: What is read of other definitions.
-    broken: List[Broken]
-    #: The nodes of the parts that are read, in the order of the text: definitions, and of others
-    #: the members and whatever else has names, but for the name itself.
-    roots: List[int]
-    problems: List[Problem]
+    def __init__(self, definitions: Definitions, problems: List[Problem], parts: Sequence[Part]) -> None:
+        self.definitions, self.problems = definitions, problems
+        self._parts = parts
 
     @property
     def is_whole(self) -> bool:
         """Whether all of it is read."""
         return not self.problems
+
+    @cached_property
+    def broken(self) -> List[Broken]:
+        """What is read of other definitions."""
+        return list(broken_in(self._parts))
+
+    @cached_property
+    def roots(self) -> List[int]:
+        """The nodes of the parts that are read, in the order of the text.
+
+        They are definitions, and of others the members and whatever else has names, but for the name
+        itself.
+        """
+        if self.is_whole:
+            return self.definitions._tree.children(0)
+        return [
+            it._node for it in self._parts
+            if it._node is not None and it.rule != IDENTIFIER and it.span.end > it.span.start
+        ]
 
 
 def read(data: bytes) -> Reading:
@@ -104,7 +120,7 @@ def read(data: bytes) -> Reading:
         definitions = parse(b"" if is_blank(data) else data)
     except Refused as refused:
         return recovered(data, refused)
-    return Reading(definitions, [], definitions._tree.children(0), [])
+    return Reading(definitions, [], [])
 
 
 def recovered(data: bytes, first: Refused) -> Reading:
@@ -114,11 +130,7 @@ def recovered(data: bytes, first: Refused) -> Reading:
     definitions: Definitions = listing(Definitions, found._tree, values)
     problems = [Problem(it.span, it.refusal) for it in found.parts if it.refusal]
     problems[:1] = [Problem(problems[0].unread, first)]
-    roots = [
-        it._node for it in found.parts
-        if it._node is not None and it.rule != IDENTIFIER and it.span.end > it.span.start
-    ]
-    return Reading(definitions, list(broken_in(found.parts)), roots, problems)
+    return Reading(definitions, problems, found.parts)
 
 
 def broken_in(parts: Sequence[Part]) -> Iterator[Broken]:

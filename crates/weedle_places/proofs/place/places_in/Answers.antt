@@ -1,6 +1,6 @@
-use Rattle.std.proofs.Common.{◌≡◌, length, refl, sym, subst, ◌∙◌, ap}
+use Rattle.std.proofs.Common.{length, refl, subst, ◌∙◌, ap}
 use Rattle.weedle_syntax.specs.Syntax.{IsFront}
-use Rattle.weedle_syntax.specs.Tree.{node_at, children_of}
+use Rattle.weedle_syntax.specs.Tree.{children_of}
 use Rattle.weedle_places.proofs.PlaceFacts.{root_starts, place_more, place_ends}
 use Rattle.weedle_places.proofs.place.places_in.Goals as goal
 

@@ -5,4 +5,4 @@ use Rattle.weedle_recovery.proofs.definitions.front_reads.Given as goal
 
 -- the parts so far are read up to here
 abbrev pub invariant-loop-number : goal.invariant-loop-number
-invariant-loop-number l = (l.at ≤ length l.text) × AreRead l.text (take l.number (parts_in (row_of l.fn.definition))) l.place l.at
+invariant-loop-number l = (l.at ≤ length l.text.text) × AreRead l.text.text (take l.number (parts_in (row_of l.fn.definition))) l.place l.at × (l.limits.steps ≤ l.fn.limits.steps)

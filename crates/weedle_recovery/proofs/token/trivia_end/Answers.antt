@@ -5,4 +5,4 @@ use Rattle.weedle_recovery.proofs.TokenFacts.{trivia_never_fails}
 use Rattle.weedle_recovery.proofs.token.trivia_end.Goals as goal
 
 pub unreachable-requires : goal.unreachable-requires
-unreachable-requires c = trivia_never_fails c.args.text.now c.args.place (subst (HasEnd c.args.text.now TRIVIA c.args.place) c.in-None.is c.in_ok-end.ensures.end)
+unreachable-requires c = trivia_never_fails c.args.text.now.text c.args.place (subst (HasEnd c.args.text.now.text TRIVIA c.args.place) c.in-None.is c.in_ok-end.ensures.end)

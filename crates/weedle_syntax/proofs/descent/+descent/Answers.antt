@@ -123,13 +123,13 @@ read_optional-returns-in-None-clause-lays t c =
     (LaysNode c.args.text.now c.args.item c.args.place c.args.depth c.args.nodes.now.items
     c.read.new.nodes.items) c.in-None.is c.in_ok-end.ensures.lays)
 
-pub read_list-returns-in_ok-end-in-Some-clause-end : goal.read_list-returns-in_ok-end-in-Some-clause-end
-read_list-returns-in_ok-end-in-Some-clause-end t c =
+pub items::read_list-returns-in_ok-end-in-Some-clause-end : goal.items::read_list-returns-in_ok-end-in-Some-clause-end
+items::read_list-returns-in_ok-end-in-Some-clause-end t c =
     list_more c.args.text.now c.args.rule c.args.place c.args.depth c.args.nodes.now.items c.args.item c.args.tail
     c.requires.row c.in-Some.at _ (has_now c.in-Some.is c.in_ok-at.ensures.end) c.in_ok-end-in-Some.ensures.end
 
-pub read_list-returns-in_ok-end-in-Some-clause-lays : goal.read_list-returns-in_ok-end-in-Some-clause-lays
-read_list-returns-in_ok-end-in-Some-clause-lays t c =
+pub items::read_list-returns-in_ok-end-in-Some-clause-lays : goal.items::read_list-returns-in_ok-end-in-Some-clause-lays
+items::read_list-returns-in_ok-end-in-Some-clause-lays t c =
     list_laid c.args.text.now c.args.rule c.args.place c.args.depth c.args.nodes.now.items c.args.item c.args.tail
     c.requires.row c.in-Some.at c.read.new.nodes.items c.read-in-Some.new.nodes.items _
     (has_now c.in-Some.is c.in_ok-at.ensures.end) c.in_ok-end-in-Some.ensures.end
@@ -137,18 +137,18 @@ read_list-returns-in_ok-end-in-Some-clause-lays t c =
     (LaysNode c.args.text.now c.args.item c.args.place c.args.depth c.args.nodes.now.items
     c.read.new.nodes.items) c.in-Some.is c.in_ok-at.ensures.lays) c.in_ok-end-in-Some.ensures.lays
 
-pub read_list-returns-in-None-clause-end : goal.read_list-returns-in-None-clause-end
-read_list-returns-in-None-clause-end t c =
+pub items::read_list-returns-in-None-clause-end : goal.items::read_list-returns-in-None-clause-end
+items::read_list-returns-in-None-clause-end t c =
     list_none c.args.text.now c.args.rule c.args.place c.args.depth c.args.nodes.now.items c.args.item c.args.tail
     c.requires.row (has_now c.in-None.is c.in_ok-at.ensures.end)
 
-pub read_list1-returns-in_ok-end-in-Some-clause-end : goal.read_list1-returns-in_ok-end-in-Some-clause-end
-read_list1-returns-in_ok-end-in-Some-clause-end t c =
+pub items::read_list1-returns-in_ok-end-in-Some-clause-end : goal.items::read_list1-returns-in_ok-end-in-Some-clause-end
+items::read_list1-returns-in_ok-end-in-Some-clause-end t c =
     list1_more c.args.text.now c.args.rule c.args.place c.args.depth c.args.nodes.now.items c.args.item c.args.tail
     c.requires.row c.in-Some.at _ (has_now c.in-Some.is c.in_ok-at.ensures.end) c.in_ok-end-in-Some.ensures.end
 
-pub read_list1-returns-in_ok-end-in-Some-clause-lays : goal.read_list1-returns-in_ok-end-in-Some-clause-lays
-read_list1-returns-in_ok-end-in-Some-clause-lays t c =
+pub items::read_list1-returns-in_ok-end-in-Some-clause-lays : goal.items::read_list1-returns-in_ok-end-in-Some-clause-lays
+items::read_list1-returns-in_ok-end-in-Some-clause-lays t c =
     list1_laid c.args.text.now c.args.rule c.args.place c.args.depth c.args.nodes.now.items c.args.item c.args.tail
     c.requires.row c.in-Some.at c.read.new.nodes.items c.read-in-Some.new.nodes.items _
     (has_now c.in-Some.is c.in_ok-at.ensures.end) c.in_ok-end-in-Some.ensures.end
@@ -156,21 +156,21 @@ read_list1-returns-in_ok-end-in-Some-clause-lays t c =
     (LaysNode c.args.text.now c.args.item c.args.place c.args.depth c.args.nodes.now.items
     c.read.new.nodes.items) c.in-Some.is c.in_ok-at.ensures.lays) c.in_ok-end-in-Some.ensures.lays
 
-pub read_list1-returns-in-None-clause-end : goal.read_list1-returns-in-None-clause-end
-read_list1-returns-in-None-clause-end t c =
+pub items::read_list1-returns-in-None-clause-end : goal.items::read_list1-returns-in-None-clause-end
+items::read_list1-returns-in-None-clause-end t c =
     list1_none c.args.text.now c.args.rule c.args.place c.args.depth c.args.nodes.now.items c.args.item c.args.tail
     c.requires.row (has_now c.in-None.is c.in_ok-at.ensures.end)
 
-pub read_list-returns-in-None-clause-lays : goal.read_list-returns-in-None-clause-lays
-read_list-returns-in-None-clause-lays t c =
+pub items::read_list-returns-in-None-clause-lays : goal.items::read_list-returns-in-None-clause-lays
+items::read_list-returns-in-None-clause-lays t c =
     list_not_laid c.args.text.now c.args.rule c.args.place c.args.depth c.args.nodes.now.items c.args.item c.args.tail
     c.requires.row c.read.new.nodes.items (has_now c.in-None.is c.in_ok-at.ensures.end)
     (subst
     (LaysNode c.args.text.now c.args.item c.args.place c.args.depth c.args.nodes.now.items
     c.read.new.nodes.items) c.in-None.is c.in_ok-at.ensures.lays)
 
-pub read_list1-returns-in-None-clause-lays : goal.read_list1-returns-in-None-clause-lays
-read_list1-returns-in-None-clause-lays t c = (
+pub items::read_list1-returns-in-None-clause-lays : goal.items::read_list1-returns-in-None-clause-lays
+items::read_list1-returns-in-None-clause-lays t c = (
   [],
   (subst
       (LaysNode c.args.text.now c.args.item c.args.place c.args.depth c.args.nodes.now.items
@@ -178,21 +178,21 @@ read_list1-returns-in-None-clause-lays t c = (
       (append-nil c.args.nodes.now.items),
 )
 
-pub read_items-loop-found-init : goal.read_items-loop-found-init
-read_items-loop-found-init t c = (
+pub items::read_items-loop-found-init : goal.items::read_items-loop-found-init
+items::read_items-loop-found-init t c = (
   again_start c.args.text.now c.args.rule c.args.item c.args.place c.args.depth c.args.nodes.now.items
       c.requires.row c.requires.within,
   count_items c.args.text.now c.args.rule c.args.limits.now.steps c.requires.row,
 )
 
-pub read_items-returns-in_default-clause-end : goal.read_items-returns-in_default-clause-end
-read_items-returns-in_default-clause-end t c =
+pub items::read_items-returns-in_default-clause-end : goal.items::read_items-returns-in_default-clause-end
+items::read_items-returns-in_default-clause-end t c =
     again_end c.args.text.now c.args.rule c.args.item c.args.place c.args.depth c.args.nodes.now.items c.requires.row
     c.loop-found.at c.loop-found.nodes.items c.loop-found.invariant.0
     (has_now c.in_default.is c.in_ok-found.ensures.end)
 
-pub read_items-returns-in_default-clause-lays : goal.read_items-returns-in_default-clause-lays
-read_items-returns-in_default-clause-lays t c =
+pub items::read_items-returns-in_default-clause-lays : goal.items::read_items-returns-in_default-clause-lays
+items::read_items-returns-in_default-clause-lays t c =
     again_laid c.args.text.now c.args.rule c.args.item c.args.place c.args.depth c.args.nodes.now.items c.requires.row
     c.loop-found.at c.loop-found.nodes.items c.read.new.nodes.items c.loop-found.invariant.0
     (has_now c.in_default.is c.in_ok-found.ensures.end)
@@ -200,21 +200,21 @@ read_items-returns-in_default-clause-lays t c =
     (LaysNode c.args.text.now c.args.item c.loop-found.at c.args.depth c.loop-found.nodes.items
     c.read.new.nodes.items) c.in_default.is c.in_ok-found.ensures.lays)
 
-pub read_items-returns-then-end-at-clause-end : goal.read_items-returns-then-end-at-clause-end
-read_items-returns-then-end-at-clause-end t c =
+pub items::read_items-returns-then-end-at-clause-end : goal.items::read_items-returns-then-end-at-clause-end
+items::read_items-returns-then-end-at-clause-end t c =
     again_stuck c.args.text.now c.args.rule c.args.item c.args.place c.args.depth c.args.nodes.now.items
     c.requires.row c.loop-found.at c.in-Some.end c.loop-found.nodes.items c.loop-found.invariant.0
     (has_now c.in-Some.is c.in_ok-found.ensures.end) c.if-end-at.true
 
-pub read_items-loop-found-smaller : goal.read_items-loop-found-smaller
-read_items-loop-found-smaller t c =
+pub items::read_items-loop-found-smaller : goal.items::read_items-loop-found-smaller
+items::read_items-loop-found-smaller t c =
     let on = again_on c.args.text.now c.args.rule c.args.item c.args.place c.args.depth c.args.nodes.now.items
     c.requires.row c.loop-found.at c.in-Some.end c.loop-found.nodes.items c.loop-found.invariant.0
     (has_now c.in-Some.is c.in_ok-found.ensures.end) c.if-end-at.false in
     omega (arith, on.0, on.1)
 
-pub read_items-loop-found-preserved : goal.read_items-loop-found-preserved
-read_items-loop-found-preserved t c = (
+pub items::read_items-loop-found-preserved : goal.items::read_items-loop-found-preserved
+items::read_items-loop-found-preserved t c = (
   again_step c.args.text.now c.args.rule c.args.item c.args.place c.args.depth c.args.nodes.now.items c.requires.row
       c.loop-found.at c.in-Some.end c.loop-found.nodes.items c.read.new.nodes.items c.loop-found.invariant.0
       (has_now c.in-Some.is c.in_ok-found.ensures.end) c.if-end-at.false
@@ -224,21 +224,21 @@ read_items-loop-found-preserved t c = (
   count_item c.args.text.now c.loop-found.invariant.1 c.in_ok-found.ensures.steps (has_now c.in-Some.is c.in_ok-found.ensures.end) c.if-end-at.false,
 )
 
-pub read_tail-loop-found-init : goal.read_tail-loop-found-init
-read_tail-loop-found-init t c = (
+pub items::read_tail-loop-found-init : goal.items::read_tail-loop-found-init
+items::read_tail-loop-found-init t c = (
   behind_start c.args.text.now c.args.rule c.args.item c.args.separator c.args.place c.args.depth
       c.args.nodes.now.items c.requires.row c.requires.within,
   count_tail c.args.text.now c.args.rule c.args.limits.now.steps c.requires.row,
 )
 
-pub read_tail-returns-in_default-clause-end : goal.read_tail-returns-in_default-clause-end
-read_tail-returns-in_default-clause-end t c =
+pub items::read_tail-returns-in_default-clause-end : goal.items::read_tail-returns-in_default-clause-end
+items::read_tail-returns-in_default-clause-end t c =
     behind_end c.args.text.now c.args.rule c.args.item c.args.separator c.args.place c.args.depth
     c.args.nodes.now.items c.requires.row c.loop-found.at c.loop-found.nodes.items c.loop-found.invariant.0
     (has_now c.in_default.is c.in_ok-found.ensures.end)
 
-pub read_tail-returns-in_default-clause-lays : goal.read_tail-returns-in_default-clause-lays
-read_tail-returns-in_default-clause-lays t c =
+pub items::read_tail-returns-in_default-clause-lays : goal.items::read_tail-returns-in_default-clause-lays
+items::read_tail-returns-in_default-clause-lays t c =
     behind_laid c.args.text.now c.args.rule c.args.item c.args.separator c.args.place c.args.depth
     c.args.nodes.now.items c.requires.row c.loop-found.at c.loop-found.nodes.items c.read.new.nodes.items
     c.loop-found.invariant.0 (has_now c.in_default.is c.in_ok-found.ensures.end)
@@ -246,21 +246,21 @@ read_tail-returns-in_default-clause-lays t c =
     (LaysNode c.args.text.now c.args.separator c.loop-found.at c.args.depth c.loop-found.nodes.items
     c.read.new.nodes.items) c.in_default.is c.in_ok-found.ensures.lays)
 
-pub read_tail-returns-then-behind-at-clause-end : goal.read_tail-returns-then-behind-at-clause-end
-read_tail-returns-then-behind-at-clause-end t c =
+pub items::read_tail-returns-then-behind-at-clause-end : goal.items::read_tail-returns-then-behind-at-clause-end
+items::read_tail-returns-then-behind-at-clause-end t c =
     behind_stuck c.args.text.now c.args.rule c.args.item c.args.separator c.args.place c.args.depth
     c.args.nodes.now.items c.requires.row c.loop-found.at c.in-Some.behind c.loop-found.nodes.items
     c.loop-found.invariant.0 (has_now c.in-Some.is c.in_ok-found.ensures.end) c.if-behind-at.true
 
-pub read_tail-returns-in_default-next-clause-end : goal.read_tail-returns-in_default-next-clause-end
-read_tail-returns-in_default-next-clause-end t c =
+pub items::read_tail-returns-in_default-next-clause-end : goal.items::read_tail-returns-in_default-next-clause-end
+items::read_tail-returns-in_default-next-clause-end t c =
     behind_back c.args.text.now c.args.rule c.args.item c.args.separator c.args.place c.args.depth
     c.args.nodes.now.items c.requires.row c.loop-found.at c.in-Some.behind c.loop-found.nodes.items
     c.loop-found.invariant.0 (has_now c.in-Some.is c.in_ok-found.ensures.end) c.if-behind-at.false
     (has_now c.in_default-next.is c.in_ok-next.ensures.end)
 
-pub read_tail-returns-in_default-next-clause-lays : goal.read_tail-returns-in_default-next-clause-lays
-read_tail-returns-in_default-next-clause-lays t c =
+pub items::read_tail-returns-in_default-next-clause-lays : goal.items::read_tail-returns-in_default-next-clause-lays
+items::read_tail-returns-in_default-next-clause-lays t c =
     back_laid c.args.text.now c.args.rule c.args.item c.args.separator c.args.place c.args.depth
     c.args.nodes.now.items c.requires.row c.loop-found.at c.in-Some.behind c.loop-found.nodes.items
     c.read.new.nodes.items c.read-in-loop-found.new.nodes.items c.truncate.new.self.items c.loop-found.invariant.0
@@ -275,16 +275,16 @@ read_tail-returns-in_default-next-clause-lays t c =
     (c.truncate.ensures.items ∙ ap (λ z. take z c.read-in-loop-found.new.nodes.items)
     (c.len-kept.ensures ∙ c.loop-found.nodes.ok.0))
 
-pub read_tail-loop-found-smaller : goal.read_tail-loop-found-smaller
-read_tail-loop-found-smaller t c =
+pub items::read_tail-loop-found-smaller : goal.items::read_tail-loop-found-smaller
+items::read_tail-loop-found-smaller t c =
     let on = behind_on c.args.text.now c.args.rule c.args.item c.args.separator c.args.place c.args.depth
     c.args.nodes.now.items c.requires.row c.loop-found.at c.in-Some.behind c.in-Some-next.end
     c.loop-found.nodes.items c.loop-found.invariant.0 (has_now c.in-Some.is c.in_ok-found.ensures.end)
     c.if-behind-at.false (has_now c.in-Some-next.is c.in_ok-next.ensures.end) in
     omega (arith, on.0, on.1)
 
-pub read_tail-loop-found-preserved : goal.read_tail-loop-found-preserved
-read_tail-loop-found-preserved t c = (
+pub items::read_tail-loop-found-preserved : goal.items::read_tail-loop-found-preserved
+items::read_tail-loop-found-preserved t c = (
   behind_step c.args.text.now c.args.rule c.args.item c.args.separator c.args.place c.args.depth
       c.args.nodes.now.items c.requires.row c.loop-found.at c.in-Some.behind c.in-Some-next.end
       c.loop-found.nodes.items c.read.new.nodes.items c.read-in-loop-found.new.nodes.items c.loop-found.invariant.0
@@ -299,8 +299,8 @@ read_tail-loop-found-preserved t c = (
   count_tail_on c.args.text.now c.loop-found.invariant.1 c.in_ok-found.ensures.steps (has_now c.in-Some.is c.in_ok-found.ensures.end) c.if-behind-at.false c.in_ok-next.ensures.steps (has_now c.in-Some-next.is c.in_ok-next.ensures.end),
 )
 
-pub read_items-read-requires : goal.read_items-read-requires
-read_items-read-requires t c =
+pub items::read_items-read-requires : goal.items::read_items-read-requires
+items::read_items-read-requires t c =
     let b = again_before c.args.text.now c.args.rule c.args.item c.args.place c.args.depth c.args.nodes.now.items
     c.requires.row c.loop-found.at c.loop-found.nodes.items c.requires.low c.loop-found.invariant.0 in (
       omega (arith, b.1, c.decreases),
@@ -324,14 +324,14 @@ read_optional-read-requires t c =
     c.requires.row in
     (omega (arith, b, c.decreases), (c.requires.within, (c.requires.shallow, omega (arith, b, c.requires.low))))
 
-pub read_list-read-requires : goal.read_list-read-requires
-read_list-read-requires t c =
+pub items::read_list-read-requires : goal.items::read_list-read-requires
+items::read_list-read-requires t c =
     let b = list_before c.args.text.now c.args.rule c.args.place c.args.depth c.args.nodes.now.items c.args.item
     c.args.tail c.requires.row in
     (omega (arith, b, c.decreases), (c.requires.within, (c.requires.shallow, omega (arith, b, c.requires.low))))
 
-pub read_list-read-requires-in-Some : goal.read_list-read-requires-in-Some
-read_list-read-requires-in-Some t c =
+pub items::read_list-read-requires-in-Some : goal.items::read_list-read-requires-in-Some
+items::read_list-read-requires-in-Some t c =
     let b = list_next c.args.text.now c.args.rule c.args.place c.args.depth c.args.nodes.now.items c.args.item
     c.args.tail c.requires.row c.in-Some.at (has_now c.in-Some.is c.in_ok-at.ensures.end) c.requires.within in (
       omega (arith, b.2, c.decreases),
@@ -354,14 +354,14 @@ read_list-read-requires-in-Some t c =
       ),
     )
 
-pub read_list1-read-requires : goal.read_list1-read-requires
-read_list1-read-requires t c =
+pub items::read_list1-read-requires : goal.items::read_list1-read-requires
+items::read_list1-read-requires t c =
     let b = list1_before c.args.text.now c.args.rule c.args.place c.args.depth c.args.nodes.now.items c.args.item
     c.args.tail c.requires.row in
     (omega (arith, b, c.decreases), (c.requires.within, (c.requires.shallow, omega (arith, b, c.requires.low))))
 
-pub read_list1-read-requires-in-Some : goal.read_list1-read-requires-in-Some
-read_list1-read-requires-in-Some t c =
+pub items::read_list1-read-requires-in-Some : goal.items::read_list1-read-requires-in-Some
+items::read_list1-read-requires-in-Some t c =
     let b = list1_next c.args.text.now c.args.rule c.args.place c.args.depth c.args.nodes.now.items c.args.item
     c.args.tail c.requires.row c.in-Some.at (has_now c.in-Some.is c.in_ok-at.ensures.end) c.requires.within in (
       omega (arith, b.2, c.decreases),
@@ -384,8 +384,8 @@ read_list1-read-requires-in-Some t c =
       ),
     )
 
-pub read_tail-read-requires : goal.read_tail-read-requires
-read_tail-read-requires t c =
+pub items::read_tail-read-requires : goal.items::read_tail-read-requires
+items::read_tail-read-requires t c =
     let b = behind_before c.args.text.now c.args.rule c.args.item c.args.separator c.args.place c.args.depth
     c.args.nodes.now.items c.requires.row c.loop-found.at c.loop-found.nodes.items c.requires.low
     c.loop-found.invariant.0 in (
@@ -404,8 +404,8 @@ read_tail-read-requires t c =
       ),
     )
 
-pub read_tail-read-requires-in-loop-found : goal.read_tail-read-requires-in-loop-found
-read_tail-read-requires-in-loop-found t c =
+pub items::read_tail-read-requires-in-loop-found : goal.items::read_tail-read-requires-in-loop-found
+items::read_tail-read-requires-in-loop-found t c =
     let b = behind_item c.args.text.now c.args.rule c.args.item c.args.separator c.args.place c.args.depth
     c.args.nodes.now.items c.requires.row c.loop-found.at c.in-Some.behind c.loop-found.nodes.items
     c.loop-found.invariant.0 (has_now c.in-Some.is c.in_ok-found.ensures.end) c.if-behind-at.false in (
@@ -637,40 +637,40 @@ pub read_optional-returns-in-None-clause-steps : goal.read_optional-returns-in-N
 read_optional-returns-in-None-clause-steps t c =
     count_optional c.args.text.now c.args.rule c.requires.row c.in_ok-end.ensures.steps
 
-pub read_list-returns-in-None-clause-steps : goal.read_list-returns-in-None-clause-steps
-read_list-returns-in-None-clause-steps t c =
+pub items::read_list-returns-in-None-clause-steps : goal.items::read_list-returns-in-None-clause-steps
+items::read_list-returns-in-None-clause-steps t c =
     count_no_list c.args.text.now c.args.rule c.requires.row c.in_ok-at.ensures.steps (has_now c.in-None.is c.in_ok-at.ensures.end)
 
-pub read_list-returns-in_ok-end-in-Some-clause-steps : goal.read_list-returns-in_ok-end-in-Some-clause-steps
-read_list-returns-in_ok-end-in-Some-clause-steps t c =
+pub items::read_list-returns-in_ok-end-in-Some-clause-steps : goal.items::read_list-returns-in_ok-end-in-Some-clause-steps
+items::read_list-returns-in_ok-end-in-Some-clause-steps t c =
     count_list c.args.text.now c.args.rule c.requires.row c.in_ok-at.ensures.steps (has_now c.in-Some.is c.in_ok-at.ensures.end) c.in_ok-end-in-Some.ensures.steps
 
-pub read_list1-returns-in-None-clause-steps : goal.read_list1-returns-in-None-clause-steps
-read_list1-returns-in-None-clause-steps t c =
+pub items::read_list1-returns-in-None-clause-steps : goal.items::read_list1-returns-in-None-clause-steps
+items::read_list1-returns-in-None-clause-steps t c =
     count_no_list1 c.args.text.now c.args.rule c.requires.row c.in_ok-at.ensures.steps (has_now c.in-None.is c.in_ok-at.ensures.end)
 
-pub read_list1-returns-in_ok-end-in-Some-clause-steps : goal.read_list1-returns-in_ok-end-in-Some-clause-steps
-read_list1-returns-in_ok-end-in-Some-clause-steps t c =
+pub items::read_list1-returns-in_ok-end-in-Some-clause-steps : goal.items::read_list1-returns-in_ok-end-in-Some-clause-steps
+items::read_list1-returns-in_ok-end-in-Some-clause-steps t c =
     count_list1 c.args.text.now c.args.rule c.requires.row c.in_ok-at.ensures.steps (has_now c.in-Some.is c.in_ok-at.ensures.end) c.in_ok-end-in-Some.ensures.steps
 
-pub read_items-returns-in_default-clause-steps : goal.read_items-returns-in_default-clause-steps
-read_items-returns-in_default-clause-steps t c =
+pub items::read_items-returns-in_default-clause-steps : goal.items::read_items-returns-in_default-clause-steps
+items::read_items-returns-in_default-clause-steps t c =
     count_items_end c.args.text.now c.loop-found.invariant.1 c.in_ok-found.ensures.steps (has_now c.in_default.is c.in_ok-found.ensures.end)
 
-pub read_items-returns-then-end-at-clause-steps : goal.read_items-returns-then-end-at-clause-steps
-read_items-returns-then-end-at-clause-steps t c =
+pub items::read_items-returns-then-end-at-clause-steps : goal.items::read_items-returns-then-end-at-clause-steps
+items::read_items-returns-then-end-at-clause-steps t c =
     count_items_stuck c.args.text.now c.loop-found.invariant.1 c.in_ok-found.ensures.steps (has_now c.in-Some.is c.in_ok-found.ensures.end) c.if-end-at.true
 
-pub read_tail-returns-in_default-clause-steps : goal.read_tail-returns-in_default-clause-steps
-read_tail-returns-in_default-clause-steps t c =
+pub items::read_tail-returns-in_default-clause-steps : goal.items::read_tail-returns-in_default-clause-steps
+items::read_tail-returns-in_default-clause-steps t c =
     count_tail_end c.args.text.now c.loop-found.invariant.1 c.in_ok-found.ensures.steps (has_now c.in_default.is c.in_ok-found.ensures.end)
 
-pub read_tail-returns-then-behind-at-clause-steps : goal.read_tail-returns-then-behind-at-clause-steps
-read_tail-returns-then-behind-at-clause-steps t c =
+pub items::read_tail-returns-then-behind-at-clause-steps : goal.items::read_tail-returns-then-behind-at-clause-steps
+items::read_tail-returns-then-behind-at-clause-steps t c =
     count_tail_stuck c.args.text.now c.loop-found.invariant.1 c.in_ok-found.ensures.steps (has_now c.in-Some.is c.in_ok-found.ensures.end) c.if-behind-at.true
 
-pub read_tail-returns-in_default-next-clause-steps : goal.read_tail-returns-in_default-next-clause-steps
-read_tail-returns-in_default-next-clause-steps t c =
+pub items::read_tail-returns-in_default-next-clause-steps : goal.items::read_tail-returns-in_default-next-clause-steps
+items::read_tail-returns-in_default-next-clause-steps t c =
     count_tail_back c.args.text.now c.loop-found.invariant.1 c.in_ok-found.ensures.steps (has_now c.in-Some.is c.in_ok-found.ensures.end) c.if-behind-at.false c.in_ok-next.ensures.steps (has_now c.in_default-next.is c.in_ok-next.ensures.end)
 
 pub read_conditional-returns-in-None-clause-steps : goal.read_conditional-returns-in-None-clause-steps

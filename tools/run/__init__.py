@@ -1,0 +1,1 @@
+"""What runs the texts of tests/ through built programs."""

@@ -1,0 +1,89 @@
+"""Programs that cases are run through: those that are built, and those that `rt try` builds and runs."""
+
+import os
+import subprocess
+import sys
+from pathlib import Path
+
+from case_files import TOP
+from run.report import NoUse
+
+# What rt ci calls the second build of a program.
+BUILDS = ("", ".by-rattle")
+# How many seconds a program may run.
+SECONDS, TRIED_SECONDS = 300, 1_500
+# What compiles and runs a program that isn't built.
+TRY = (sys.executable, str(TOP / "tools/try_alone.py"))
+
+
+class Built:
+    """A program that is built."""
+
+    def __init__(self, program):
+        self.program = program
+
+    def run(self, words, names=(), room=None, given=b""):
+        """How it ended with these arguments and files of the room: its status, and what it wrote."""
+        try:
+            words = [self.program, *words, *names]
+            return subprocess.run(words, input=given, capture_output=True, timeout=SECONDS, check=False, cwd=room)
+        except OSError as fault:
+            raise NoUse(f"{self.program}: {fault.strerror}") from None
+        except subprocess.TimeoutExpired:
+            return subprocess.CompletedProcess(words, -1, b"", f"it hadn't ended after {SECONDS} s".encode())
+
+
+class Tried:
+    """A program that `rt try` builds and runs."""
+
+    def __init__(self, crate):
+        self.crate = crate
+
+    def run(self, words, names=(), room=None, given=b""):
+        """How it ended with these arguments and files; what is on standard error is rt's."""
+        data = [word for name in dict.fromkeys(names) for word in ("--data", f"{name}={room}/{name}")]
+        words = [*TRY, "--seconds", str(TRIED_SECONDS), *data, "--", *words, *names]
+        try:
+            ended = subprocess.run(words, input=given, capture_output=True, cwd=self.crate, check=False)
+        except OSError as fault:
+            raise NoUse(f"{self.crate}: {fault.strerror}") from None
+        if b"run=ended" not in ended.stderr:
+            raise NoUse(f"rt try gave no answer: {ended.stderr.decode(errors='replace')[-600:]}")
+        return subprocess.CompletedProcess(words, ended.returncode, ended.stdout, b"")
+
+
+def told(ended):
+    """What a program wrote and how it ended, in one text."""
+    return f"status {ended.returncode}\n" + (ended.stdout + ended.stderr).decode(errors="replace")
+
+
+def place_of(name):
+    """Where the gate builds a program."""
+    return TOP / f"crates/{name}/out/{name}"
+
+
+def add_program(parser, name, can_be_tried=False):
+    """Takes a program as an argument, or else the one that the gate builds."""
+    parser.add_argument("program", nargs="?", default=place_of(name), metavar="PROGRAM", help=f"a built {name}")
+    if can_be_tried:
+        parser.add_argument("--try", dest="is_tried", action="store_true", help="PROGRAM is a crate, which rt try builds and runs")
+
+
+def meant(path, is_tried=False):
+    """The program that a path means."""
+    if not (Path(path) / "src/main.rt" if is_tried else Path(path)).is_file():
+        raise NoUse(f"{path} is no {'crate of a program' if is_tried else 'program that is built'}")
+    return (Tried if is_tried else Built)(str(Path(path).resolve()))
+
+
+def built_at(path, names):
+    """The programs of these names that are built, each with its name: the one that a path names, or those below a folder."""
+    path = Path(path)
+    if path.is_dir():
+        return [(str(file.resolve()), name) for name in names for build in BUILDS
+                for file in sorted(path.rglob(name + build)) if is_program(file)]
+    return [(str(path.resolve()), name) for name in names if is_program(path) and path.name.startswith(name)]
+
+
+def is_program(file):
+    return file.is_file() and os.access(file, os.X_OK)
