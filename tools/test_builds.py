@@ -1,8 +1,4 @@
-#!/usr/bin/env python3
-"""Tests builds.py over made-up crates with types of the grammar, without the toolchain, in a second.
-
-    python3 tools/test_builds.py
-"""
+"""Tests builds.py over made-up crates with types of the grammar, in a second."""
 
 import tempfile
 import unittest
@@ -188,7 +184,3 @@ class BuildsTest(unittest.TestCase):
         self.put("crates/high/src/lib.rt", "//! High.\n")
         with self.assertRaisesRegex(Unfit, "nothing that build_high stands on brings Default in"):
             builds.run(self.root)
-
-
-if __name__ == "__main__":
-    unittest.main()

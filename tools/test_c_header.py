@@ -1,8 +1,4 @@
-#!/usr/bin/env python3
-"""Tests c_header.py over made-up sources, in a second. The repository's own header is only read by a compiler's tests.
-
-    python3 tools/test_c_header.py
-"""
+"""Tests c_header.py over made-up sources, in a second."""
 
 import re
 import tempfile
@@ -73,7 +69,3 @@ class Header(unittest.TestCase):
 
     def test_it_names_its_writer(self):
         self.assertIn("Written by tools/c_header.py, and not edited by hand.", self.header().partition("*/")[0])
-
-
-if __name__ == "__main__":
-    unittest.main()

@@ -1,8 +1,4 @@
-#!/usr/bin/env python3
-"""Tests calling.py over the repository, in a second.
-
-    python3 tools/test_calling.py
-"""
+"""Tests calling.py over the repository, in a second."""
 
 import unittest
 
@@ -34,7 +30,3 @@ class OfTheRepository(unittest.TestCase):
     def test_links_lead_somewhere(self):
         for path in calling.re.findall(r"\]\(\.\./([^)]+)\)", self.text):
             self.assertTrue((calling.TOP / path).exists(), path)
-
-
-if __name__ == "__main__":
-    unittest.main()

@@ -1,8 +1,4 @@
-#!/usr/bin/env python3
-"""Tests check.py over made-up files, in a second; the repository itself is not looked at.
-
-    python3 tools/test_check.py
-"""
+"""Tests check.py over made-up files, in a second; the repository itself is not looked at."""
 
 import io
 import subprocess
@@ -71,7 +67,3 @@ class Found(unittest.TestCase):
     def test_where_nothing_can_be_written_no_look_is_told(self):
         found = self.run_main(Unfit("why"), ended(1, "x", "y"))
         self.assertEqual(found, (2, "", "check: why\n"))
-
-
-if __name__ == "__main__":
-    unittest.main()

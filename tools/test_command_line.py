@@ -1,7 +1,4 @@
-#!/usr/bin/env python3
 """Tests the command lines of all scripts of tools/: `--help`, and writers that are run by hand.
-
-    python3 tools/test_command_line.py
 
 Each script is run in an empty folder, which takes two seconds of processor time.
 """
@@ -73,7 +70,3 @@ class Scripts(unittest.TestCase):
 class Programs(unittest.TestCase):
     def test_one_that_is_there(self):
         self.assertEqual(runnable(sys.executable), sys.executable)
-
-
-if __name__ == "__main__":
-    unittest.main()

@@ -1,7 +1,4 @@
-#!/usr/bin/env python3
 """Tests compare_with_weedle2.py and what it uses, with no program, in some seconds.
-
-    python3 tools/test_compare_with_weedle2.py
 
 In the place of both programs stand the rows of the grammar: as they are, and as weedle2 has them.
 """
@@ -122,7 +119,3 @@ class Compared(unittest.TestCase):
         texts = set(comparing.worked_texts())
         self.assertGreater(len(texts), 500)
         self.assertIn("interface A {};\n// é\nenum E {\"é\"};\n", texts)
-
-
-if __name__ == "__main__":
-    unittest.main()

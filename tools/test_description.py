@@ -1,8 +1,4 @@
-#!/usr/bin/env python3
-"""Tests how declarations and doc lines are read, over made-up text, in a second.
-
-    python3 tools/test_description.py
-"""
+"""Tests how declarations and doc lines are read, over made-up text, in a second."""
 
 import unittest
 
@@ -65,7 +61,3 @@ class Productions(unittest.TestCase):
         doc = "`[extended attributes] type name`, also without `[extended attributes]`."
         names = [text.split()[0] for text in unlike(doc, "SINGLE_ARGUMENT")]
         self.assertEqual(names, ["OPTIONAL", "DEFAULT"])
-
-
-if __name__ == "__main__":
-    unittest.main()

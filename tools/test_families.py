@@ -1,7 +1,4 @@
-#!/usr/bin/env python3
 """Tests what tests/families.txt says of each text, by the rows of the grammar, in seconds.
-
-    python3 tools/test_families.py
 
 Each text is read a hundredth as long. What is UTF-8 says Python.
 """
@@ -56,7 +53,3 @@ class Lines(unittest.TestCase):
         for given in (("a", "unread", ""), ("a", "read", "x"), ("a", "read", '2"x"')):
             with self.assertRaises(ValueError):
                 Family(*given)
-
-
-if __name__ == "__main__":
-    unittest.main()

@@ -1,8 +1,4 @@
-#!/usr/bin/env python3
-"""Tests description/following.py over a made-up grammar and over that of WebIDL, without the toolchain, in a second.
-
-    python3 tools/test_following.py
-"""
+"""Tests description/following.py over a made-up grammar and over that of WebIDL, in a second."""
 
 import unittest
 
@@ -45,7 +41,3 @@ class FollowingTest(unittest.TestCase):
             self.assertIn("sequence", found[before])
         self.assertIn("optional", found["("])
         self.assertNotIn("optional", found["typedef"])
-
-
-if __name__ == "__main__":
-    unittest.main()

@@ -1,8 +1,4 @@
-#!/usr/bin/env python3
-"""Tests forgotten.py over the repository with one thing changed, in a second.
-
-    python3 tools/test_forgotten.py
-"""
+"""Tests forgotten.py over the repository with one thing changed, in a second."""
 
 import tempfile
 import unittest
@@ -90,7 +86,3 @@ class Files(unittest.TestCase):
             "crates/a/src/b/c.rt: no line `mod` of crates/a/src/b.rt names it",
             "crates/a/specs/written/T.antt: no line `mod` of crates/a/specs/written.antt names it",
         ])
-
-
-if __name__ == "__main__":
-    unittest.main()

@@ -1,8 +1,4 @@
-#!/usr/bin/env python3
-"""Tests gate.py over made-up tasks.
-
-    python3 tools/test_gate.py
-"""
+"""Tests gate.py over made-up tasks."""
 
 import sys
 import tempfile
@@ -300,7 +296,3 @@ class Known(unittest.TestCase):
 
     def test_what_is_no_python_is_not_loaded(self):
         self.assertIsNone(toolchain.load("/bin/true"))
-
-
-if __name__ == "__main__":
-    unittest.main()

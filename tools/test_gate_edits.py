@@ -1,8 +1,4 @@
-#!/usr/bin/env python3
-"""Tests gate_edits.py over a made-up rt.
-
-    python3 tools/test_gate_edits.py
-"""
+"""Tests gate_edits.py over a made-up rt."""
 
 import tempfile
 import types
@@ -172,7 +168,3 @@ class Verdicts(unittest.TestCase):
         self.assertTrue(gate_edits.is_refused(REFUSED))
         for said in (PROVED, WHOLE, "", "rattle: error: `low` has no function `less`\n"):
             self.assertFalse(gate_edits.is_refused(said))
-
-
-if __name__ == "__main__":
-    unittest.main()

@@ -1,8 +1,4 @@
-#!/usr/bin/env python3
-"""Tests gate_plan.py over a made-up repository.
-
-    python3 tools/test_gate_plan.py
-"""
+"""Tests gate_plan.py over a made-up repository."""
 
 import argparse
 import math
@@ -108,7 +104,3 @@ class Planned(unittest.TestCase):
     def test_a_change_costs_the_crate_and_those_above(self):
         self.assertEqual([*costs(self.gate, ["one"])][2], "| `one` | 1 | 14 | 14 |")
         self.assertEqual([*costs(self.gate, ["low"])][2].split("|")[2].strip(), "4")
-
-
-if __name__ == "__main__":
-    unittest.main()

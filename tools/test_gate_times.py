@@ -75,7 +75,3 @@ class TestMachine(unittest.TestCase):
         self.assertRegex(gate_times.machine(named), r"^\d+ processors, A B @ 2\.70GHz$")
         self.assertRegex(gate_times.machine(named.replace("A B", "A @ 2.50GHz")), r"^\d+ processors, A @ 2\.50GHz$")
         self.assertRegex(gate_times.machine(""), r"^\d+ processors, of no name$")
-
-
-if __name__ == "__main__":
-    unittest.main()

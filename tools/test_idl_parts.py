@@ -1,10 +1,4 @@
-#!/usr/bin/env python3
-"""Tests tools/proofs/idl_parts.py over the declared types, without the toolchain, in a second.
-
-    python3 tools/test_idl_parts.py
-
-Run it at the top of the repository.
-"""
+"""Tests tools/proofs/idl_parts.py over the declared types, in a second."""
 
 import unittest
 
@@ -20,7 +14,3 @@ class Files(unittest.TestCase):
     def test_what_is_said_otherwise_is_of_modules_and_types_that_there_are(self):
         modules = {f"{it.crate}.{it.module}" for it in DECLARED.types.values()}
         self.assertEqual(set(ABOUT) - modules - set(DECLARED.types), set())
-
-
-if __name__ == "__main__":
-    unittest.main()

@@ -1,8 +1,4 @@
-#!/usr/bin/env python3
-"""Tests impls.py over a made-up crate, without the toolchain, in a second.
-
-    python3 tools/test_impls.py
-"""
+"""Tests impls.py over a made-up crate, in a second."""
 
 import tempfile
 import unittest
@@ -101,7 +97,3 @@ class ImplsTest(unittest.TestCase):
         self.write("low/specs/Trees.antt", "pub definition_tree :\n")
         with self.assertRaisesRegex(Unfit, "low: member_tree is stated nowhere"):
             impls.run(self.root)
-
-
-if __name__ == "__main__":
-    unittest.main()

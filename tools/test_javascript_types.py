@@ -1,7 +1,4 @@
-#!/usr/bin/env python3
 """Tests javascript_types.py and javascript_text.py, in a second.
-
-    python3 tools/test_javascript_types.py
 
 The types are those that the crates declare, and weedle2's names of them those of its documentation.
 """
@@ -46,7 +43,3 @@ class Types(unittest.TestCase):
         self.assertIn(("enum_definition", "Enum"), role_rows(text, "of_definition"))
         self.assertEqual(len(role_rows(text, "of_later")), 3)
         self.assertRaises(Unfit, role_rows, text, "of_none")
-
-
-if __name__ == "__main__":
-    unittest.main()

@@ -1,8 +1,4 @@
-#!/usr/bin/env python3
-"""Tests lines.py over a made-up repository, in a second.
-
-    python3 tools/test_lines.py
-"""
+"""Tests lines.py over a made-up repository, in a second."""
 
 import contextlib
 import io
@@ -63,7 +59,3 @@ class LinesTest(unittest.TestCase):
     def test_a_folder_without_crates_is_refused(self):
         said = f"lines: {self.root} is no repository of crates: it has no crates.txt\n"
         self.assertEqual(self.run_main(), (2, "", said))
-
-
-if __name__ == "__main__":
-    unittest.main()

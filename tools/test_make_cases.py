@@ -1,7 +1,4 @@
-#!/usr/bin/env python3
 """Tests make_cases.py and what it uses, with no program, in some seconds.
-
-    python3 tools/test_make_cases.py
 
 In the place of weedle2 stand the rows of the grammar, as weedle2 has them.
 """
@@ -228,7 +225,3 @@ class Archives(unittest.TestCase):
     def test_those_of_this_repository(self):
         self.assertEqual(list(wrong_sums()), [])
         self.assertEqual(len(cases_of("worked")), 102)
-
-
-if __name__ == "__main__":
-    unittest.main()

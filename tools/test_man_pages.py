@@ -1,8 +1,4 @@
-#!/usr/bin/env python3
-"""Tests man_pages.py: what it makes of help, and that troff has nothing to say of the pages.
-
-    python3 tools/test_man_pages.py
-"""
+"""Tests man_pages.py: what it makes of help, and that troff has nothing to say of the pages."""
 
 import contextlib
 import io
@@ -109,7 +105,3 @@ class Written(unittest.TestCase):
             self.assertIsNone(man_pages.said_by_python(Path(room), ["it"]))
             (package / "__main__.py").write_text("1 / 0")
             self.assertRaises(man_pages.Unfit, man_pages.said_by_python, Path(room), ["it"])
-
-
-if __name__ == "__main__":
-    unittest.main()

@@ -1,8 +1,4 @@
-#!/usr/bin/env python3
-"""Tests measure.py and mixed_text.py, over lines in callgrind's form, in a second.
-
-    python3 tools/test_measure.py
-"""
+"""Tests measure.py and mixed_text.py, over lines in callgrind's form, in a second."""
 
 import hashlib
 import unittest
@@ -38,7 +34,3 @@ class Measured(unittest.TestCase):
     def test_the_text_that_the_figures_are_of(self):
         text = Mixed(7).text(100_000)
         self.assertEqual((len(text), hashlib.md5(text.encode()).hexdigest()), (100_282, "08dfffb24ad6942cadb3c2753bf3a23e"))
-
-
-if __name__ == "__main__":
-    unittest.main()

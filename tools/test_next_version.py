@@ -1,8 +1,5 @@
-#!/usr/bin/env python3
 """Tests next_version.py: which number a change asks for, by hand from semver and by CHANGELOG's head, and a repository of two
 versions that is made up.
-
-    python3 tools/test_next_version.py
 """
 
 import contextlib
@@ -116,7 +113,3 @@ class Compared(unittest.TestCase):
         status, out = self.ran("0000000", 10)
         self.assertEqual(status, 0)
         self.assertTrue(out.startswith("left out: "), out)
-
-
-if __name__ == "__main__":
-    unittest.main()

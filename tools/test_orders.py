@@ -1,8 +1,4 @@
-#!/usr/bin/env python3
-"""Tests orders.py over a made-up crate, without the toolchain, in a second.
-
-    python3 tools/test_orders.py
-"""
+"""Tests orders.py over a made-up crate, in a second."""
 
 import tempfile
 import unittest
@@ -87,7 +83,3 @@ class OrdersTest(unittest.TestCase):
         with mock.patch.object(orders, "MODULES", {"members": ("members", ["high"])}):
             with self.assertRaisesRegex(Unfit, "there is no folder"):
                 orders.run(self.root)
-
-
-if __name__ == "__main__":
-    unittest.main()

@@ -1,8 +1,4 @@
-#!/usr/bin/env python3
-"""Tests pages.py over repositories that are made up, in a second; this one is not looked at.
-
-    python3 tools/test_pages.py
-"""
+"""Tests pages.py over repositories that are made up, in a second; this one is not looked at."""
 
 import tempfile
 import unittest
@@ -192,7 +188,3 @@ class Docs(Repository):
         found = self.found(pages.of_docs, "crates/weedle_base/src/parse.rt", STRUCT + ENUM)
         told = [it.removeprefix("crates/weedle_base/src/parse.rt:").removesuffix(" has no doc line") for it in found]
         self.assertEqual(told, ["6: Pair.second", "14: Pair.fourth", "19: Row.Bytes", "20: Row.Many", "23: Row.Pair"])
-
-
-if __name__ == "__main__":
-    unittest.main()

@@ -1,8 +1,4 @@
-#!/usr/bin/env python3
-"""Tests prebuilt.py over a small made-up library, with a C compiler and no toolchain, in a second.
-
-    python3 tools/test_prebuilt.py
-"""
+"""Tests prebuilt.py over a small made-up library, with a C compiler, in a second."""
 
 import contextlib
 import io
@@ -240,7 +236,3 @@ class Headers(unittest.TestCase):
 
     def test_versions(self):
         self.assertEqual(prebuilt.version_in("#define WEEDLE_VERSION 0x01020f\n"), "1.2.15")
-
-
-if __name__ == "__main__":
-    unittest.main()

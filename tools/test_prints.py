@@ -1,10 +1,4 @@
-#!/usr/bin/env python3
-"""Tests prints.py over declared types, without the toolchain, in a second.
-
-    python3 tools/test_prints.py
-
-Run it at the top of the repository.
-"""
+"""Tests prints.py over declared types, in a second."""
 
 import unittest
 from unittest import mock
@@ -45,7 +39,3 @@ class Refused(unittest.TestCase):
         it.spelling = "unknown_spelling"
         with self.assertRaisesRegex(Unfit, "no spelling unknown_spelling"):
             prints.ghost_lines([it])
-
-
-if __name__ == "__main__":
-    unittest.main()

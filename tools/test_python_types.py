@@ -1,7 +1,4 @@
-#!/usr/bin/env python3
 """Tests python_types.py and python_text.py, in a second.
-
-    python3 tools/test_python_types.py
 
 The types are those that the crates declare, and weedle2's names of them those of its documentation.
 """
@@ -48,7 +45,3 @@ class Types(unittest.TestCase):
             for name, text in python_types.texts():
                 ast.parse(text, name, feature_version=(3, 9))
                 self.assertLessEqual(max(map(len, text.splitlines())), 100, name)
-
-
-if __name__ == "__main__":
-    unittest.main()

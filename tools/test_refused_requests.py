@@ -1,8 +1,4 @@
-#!/usr/bin/env python3
-"""Tests refused_requests.py: which tests it takes by their names, and how many requests it wants of them.
-
-    python3 tools/test_refused_requests.py
-"""
+"""Tests refused_requests.py: which tests it takes, and how many requests it wants of them."""
 
 import unittest
 
@@ -22,7 +18,3 @@ class Names(unittest.TestCase):
             self.assertTrue(is_swept(name), name)
         for name in ("a::b", "a::request", "b_by_requests"):
             self.assertFalse(is_swept(name), name)
-
-
-if __name__ == "__main__":
-    unittest.main()

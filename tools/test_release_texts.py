@@ -1,8 +1,4 @@
-#!/usr/bin/env python3
-"""Tests release_texts.py, and of release.sh and try_release.sh what takes no time.
-
-    python3 tools/test_release_texts.py
-"""
+"""Tests release_texts.py, and of release.sh and try_release.sh what takes no time."""
 
 import hashlib
 import shutil
@@ -98,7 +94,3 @@ class Scripts(unittest.TestCase):
             status, said = self.ran("try_release.sh", room)
         self.assertEqual(status, 1)
         self.assertTrue(said.endswith("the files aren't those of SUMS\n"), said)
-
-
-if __name__ == "__main__":
-    unittest.main()

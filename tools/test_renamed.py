@@ -1,8 +1,4 @@
-#!/usr/bin/env python3
-"""Tests renamed.py over a made-up checkout of git, in a second.
-
-    python3 tools/test_renamed.py
-"""
+"""Tests renamed.py over a made-up checkout of git, in a second."""
 
 import subprocess
 import tempfile
@@ -56,7 +52,3 @@ class Renames(unittest.TestCase):
 
     def test_no_checkout(self):
         self.assertEqual(self.found(DECLARED.replace("result", "answer"), is_checkout=False), [])
-
-
-if __name__ == "__main__":
-    unittest.main()

@@ -1,8 +1,4 @@
-#!/usr/bin/env python3
-"""Tests row_hints.py: the tokens, the words that are near, and what is told of texts by hand.
-
-    python3 tools/test_row_hints.py
-"""
+"""Tests row_hints.py: the tokens, the words that are near, and what is told of texts by hand."""
 
 import unittest
 
@@ -158,7 +154,3 @@ class Hints(unittest.TestCase):
             self.assertIsNone(told(f"interface A {{ atribute long {behind}; }};"))
             hint = "1:15: `attribute` in place of `atribute`?"
             self.assertEqual(told(f"interface A {{ atribute long x; }}; interface B {{ {behind}"), hint)
-
-
-if __name__ == "__main__":
-    unittest.main()

@@ -31,7 +31,3 @@ class TestNodes(unittest.TestCase):
 
     def test_a_line_says_a_node(self):
         self.assertEqual(printed(['    bytes_lf 3..4 "\\n"', "x"]), [(2, "bytes_lf", 3, 4, b"\n"), "x"])
-
-
-if __name__ == "__main__":
-    unittest.main()

@@ -82,7 +82,3 @@ class Command(unittest.TestCase):
         words = [sys.executable, TOP / "tools/run", "--help"]
         ran = subprocess.run(words, cwd="/", capture_output=True, text=True, check=True)
         self.assertIn("python3 tools/run WHAT", ran.stdout)
-
-
-if __name__ == "__main__":
-    unittest.main()

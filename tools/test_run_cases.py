@@ -1,7 +1,4 @@
-#!/usr/bin/env python3
 """Tests `run cases` and run/worked_runs.py, with no built program, in some seconds.
-
-    python3 tools/test_run_cases.py
 
 In the place of the programs stand scripts that answer by the rows of the grammar, some of them wrongly.
 """
@@ -267,7 +264,3 @@ class Runs(unittest.TestCase):
         self.assertEqual({run.program for run in runs}, set(run_cases.PROGRAMS))
         self.assertEqual(len(runs), len({(run.program, run.what) for run in runs}))
         self.assertEqual(len(runs), 140)
-
-
-if __name__ == "__main__":
-    unittest.main()

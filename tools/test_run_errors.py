@@ -87,7 +87,3 @@ class Run(unittest.TestCase):
         tally.keep("definitions", ["a", "b"], {"a"})
         self.assertEqual(tally.figures(), {"told": 100, "false": 0, "definitions": 50, "members": 0})
         self.assertEqual(run_errors.falls_short(3, tally.figures()), ["definitions", "members"])
-
-
-if __name__ == "__main__":
-    unittest.main()

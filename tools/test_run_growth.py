@@ -1,8 +1,4 @@
-#!/usr/bin/env python3
-"""Tests `run growth` with made-up costs, in a second.
-
-    python3 tools/test_run_growth.py
-"""
+"""Tests `run growth` with made-up costs, in a second."""
 
 import unittest
 
@@ -58,7 +54,3 @@ class Told(unittest.TestCase):
     def test_a_line_says_what_grows_how_much(self):
         line = run_growth.Tried("quotes", "weedle_explain", "bytes", 15.96).line()
         self.assertEqual(line, "quotes, weedle_explain: 16.0 times the bytes for four times the text")
-
-
-if __name__ == "__main__":
-    unittest.main()

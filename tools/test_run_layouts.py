@@ -50,7 +50,3 @@ class Blanks(unittest.TestCase):
     def test_only_those_of_no_comment_and_no_string(self):
         self.assertTrue(has_blanks_at_end("A includes B; \n"))
         self.assertFalse(has_blanks_at_end('enum E { "a \n" }; // c \r\n/* d \n */\n'))
-
-
-if __name__ == "__main__":
-    unittest.main()

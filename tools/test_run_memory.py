@@ -1,8 +1,4 @@
-#!/usr/bin/env python3
-"""Tests `run memory` and count_requests.c with small programs in C, in some seconds; it wants cc.
-
-    python3 tools/test_run_memory.py
-"""
+"""Tests `run memory` and count_requests.c with small programs in C; it wants cc."""
 
 import contextlib
 import io
@@ -138,7 +134,3 @@ class Runs(unittest.TestCase):
         self.assertTrue(all({"above", "sizes", "held"} <= set(run.keys["asks"]) for run in runs))
         self.assertTrue(all(memory.places_of(run) > 300_000 for run in runs))
         self.assertEqual(len(runs), len({(run.program, run.what) for run in runs}))
-
-
-if __name__ == "__main__":
-    unittest.main()

@@ -1,8 +1,4 @@
-#!/usr/bin/env python3
-"""Tests of `run prints`, over programs that are made up.
-
-    python3 tools/test_run_prints.py
-"""
+"""Tests of `run prints`, over programs that are made up."""
 
 import tempfile
 import unittest
@@ -129,7 +125,3 @@ class Between(unittest.TestCase):
 
     def test_the_text_between_is_one_definition(self) -> None:
         self.assertEqual((BETWEEN.count(WORD), BETWEEN.count("\n")), (1, 1))
-
-
-if __name__ == "__main__":
-    unittest.main()

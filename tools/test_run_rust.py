@@ -1,8 +1,4 @@
-#!/usr/bin/env python3
-"""Tests `run rust` over made-up cases, in a second; no program is built.
-
-    python3 tools/test_run_rust.py
-"""
+"""Tests `run rust` over made-up cases, in a second; no program is built."""
 
 import io
 import unittest
@@ -98,7 +94,3 @@ class Folders(unittest.TestCase):
         with redirect_stderr(io.StringIO()) as err:
             self.assertEqual(main(["rust", "/nowhere", "worked"]), 2)
         self.assertIn("/nowhere", err.getvalue())
-
-
-if __name__ == "__main__":
-    unittest.main()

@@ -1,8 +1,4 @@
-#!/usr/bin/env python3
-"""Tests slips.py and `run slips` with no program, in a second.
-
-    python3 tools/test_run_slips.py
-"""
+"""Tests slips.py and `run slips` with no program, in a second."""
 
 import contextlib
 import io
@@ -74,7 +70,3 @@ class Slips(unittest.TestCase):
 
     def test_the_page(self):
         self.assertEqual(slips_page.page(), slips_page.PAGE.read_text(encoding="utf-8"))
-
-
-if __name__ == "__main__":
-    unittest.main()

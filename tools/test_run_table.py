@@ -97,7 +97,3 @@ class Rows(unittest.TestCase):
         for row in tomllib.loads(WORKED.read_text())["text"]:
             self.assertIsInstance(row["text"], str)
             self.assertLessEqual(set(row), {"text", "definitions", "names", "furthest", "fail", "other"})
-
-
-if __name__ == "__main__":
-    unittest.main()

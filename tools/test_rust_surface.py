@@ -1,8 +1,4 @@
-#!/usr/bin/env python3
-"""Tests rust_surface.py and compare_rust_types.py over made-up packages, in a second; Cargo isn't called.
-
-    python3 tools/test_rust_surface.py
-"""
+"""Tests rust_surface.py and compare_rust_types.py over made-up packages, in a second."""
 
 import tempfile
 import unittest
@@ -107,7 +103,3 @@ class Programs(unittest.TestCase):
         texts = list(compare_rust_types.texts_of(3, 9))
         self.assertEqual(texts, list(compare_rust_types.texts_of(3, 9)))
         self.assertEqual(len(texts), 9)
-
-
-if __name__ == "__main__":
-    unittest.main()

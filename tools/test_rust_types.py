@@ -1,7 +1,4 @@
-#!/usr/bin/env python3
 """Tests rust_types.py and rust_rules.py, in a second.
-
-    python3 tools/test_rust_types.py
 
 The types are those that the crates declare, and weedle2's names, derives and signs those of its
 documentation. That the text is as `cargo fmt` lays it out, rust/run_tests.sh says.
@@ -60,7 +57,3 @@ class Rules(unittest.TestCase):
     def test_a_rule_reads_no_two_generic_types(self):
         for name, table in tables().items():
             self.assertEqual(len(table), len(set(table.values())), name)
-
-
-if __name__ == "__main__":
-    unittest.main()

@@ -1,10 +1,4 @@
-#!/usr/bin/env python3
-"""Tests spellings.py over declared types, without the toolchain, in a second.
-
-    python3 tools/test_spellings.py
-
-Run it at the top of the repository.
-"""
+"""Tests spellings.py over declared types, in a second."""
 
 import unittest
 
@@ -26,7 +20,3 @@ class Files(unittest.TestCase):
             spellings.items_of(file, done)
         self.assertEqual(list(spellings.unwritten(done)), [])
         self.assertIn("ConstMember", spellings.unwritten(done - {"const_member_spelling"}))
-
-
-if __name__ == "__main__":
-    unittest.main()

@@ -1,8 +1,4 @@
-#!/usr/bin/env python3
-"""Tests of tools/starts.py: first sets by hand from docs/GRAMMAR.md, and from texts that the rows read.
-
-    python3 tools/test_starts.py
-"""
+"""Tests starts.py: first sets by hand from docs/GRAMMAR.md, and of texts that the rows read."""
 
 import unittest
 
@@ -48,7 +44,3 @@ class TestGates(unittest.TestCase):
 
     def test_of_another_rule(self):
         self.assertEqual(gate(BY_NAME["ENUM"]), first_set("ENUM"))
-
-
-if __name__ == "__main__":
-    unittest.main()

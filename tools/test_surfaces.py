@@ -1,8 +1,4 @@
-#!/usr/bin/env python3
-"""Tests surfaces/: what is found in sources that are written here, and what changes of it ask of callers.
-
-    python3 tools/test_surfaces.py
-"""
+"""Tests surfaces/: what is found in made-up sources, and what changes ask of callers."""
 
 import tempfile
 import unittest
@@ -299,7 +295,3 @@ class InJavaScript(Trees):
         self.assertEqual(found["Choice.kind"], "readonly kind: `${E}.${N}`;")
         self.assertIn("term.Promise", found)
         self.assertIn("Definition.Interface", found)
-
-
-if __name__ == "__main__":
-    unittest.main()

@@ -44,7 +44,3 @@ class TodayTest(unittest.TestCase):
 
     def test_weedle2_comes_first(self):
         self.assertEqual([it.name for it in today.RULES[:len(webidl.RULES)]], [it.name for it in webidl.RULES])
-
-
-if __name__ == "__main__":
-    unittest.main()

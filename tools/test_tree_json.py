@@ -1,8 +1,4 @@
-#!/usr/bin/env python3
-"""Tests tree_json.py, in a second.
-
-    python3 tools/test_tree_json.py
-"""
+"""Tests tree_json.py, in a second."""
 
 import unittest
 
@@ -74,7 +70,3 @@ class Lines(unittest.TestCase):
         for line in ("", "== a.webidl", "includes A", "definitions 1", "unread at byte 3", INCLUDES,
                      "a.webidl:1:4: expected `;`", "1 files, 0 refused"):
             self.assertIsNone(definition_of(line), line)
-
-
-if __name__ == "__main__":
-    unittest.main()

@@ -1,8 +1,4 @@
-#!/usr/bin/env python3
-"""Tests try_alone.py and toolchain.py with commands `rt` that are made up.
-
-    python3 tools/test_try_alone.py
-"""
+"""Tests try_alone.py and toolchain.py with commands `rt` that are made up."""
 
 import os
 import subprocess
@@ -92,7 +88,3 @@ class Loaded(unittest.TestCase):
             file = Path(room, "rt")
             file.write_text("def main(words):\n    return len(words)\n")
             self.assertEqual(toolchain.load(str(file)).main(["try"]), 1)
-
-
-if __name__ == "__main__":
-    unittest.main()

@@ -1,8 +1,4 @@
-#!/usr/bin/env python3
-"""Tests try_edits.py and wrong_programs.py over a small made-up repository, with no toolchain, in seconds.
-
-    python3 tools/test_try_edits.py
-"""
+"""Tests try_edits.py and wrong_programs.py over a small made-up repository, in seconds."""
 
 import contextlib
 import io
@@ -353,7 +349,3 @@ class LibraryTest(unittest.TestCase):
             refused = subprocess.CompletedProcess([], 1, "logic=not-proved", "")
             with mock.patch.object(wrong_programs.subprocess, "run", lambda words, **_: refused):
                 wrong_programs.built_by_lib(Path(folder, "weedle_c"), Path(folder))
-
-
-if __name__ == "__main__":
-    unittest.main()

@@ -1,8 +1,4 @@
-#!/usr/bin/env python3
-"""Tests try_pages.py and doc_examples.py over a made-up repository, with a script in the place of `rt`, in a second.
-
-    python3 tools/test_try_pages.py
-"""
+"""Tests try_pages.py and doc_examples.py over a made-up repository and a made-up `rt`."""
 
 import os
 import tempfile
@@ -319,7 +315,3 @@ class Examples(Repository):
         found = doc_examples.examples_of(try_pages.TOP, ())
         there = {(it.file, int(name.rpartition("_")[2])) for name, (it, _) in found.items()}
         self.assertLessEqual(set(AROUND), there)
-
-
-if __name__ == "__main__":
-    unittest.main()

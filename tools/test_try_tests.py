@@ -1,8 +1,4 @@
-#!/usr/bin/env python3
-"""Tests try_tests.sh over a repository that is made up, with a command `rt` that is, in some seconds.
-
-    python3 tools/test_try_tests.py
-"""
+"""Tests try_tests.sh over a made-up repository and a made-up `rt`, in some seconds."""
 
 import os
 import re
@@ -91,7 +87,3 @@ class Runs(unittest.TestCase):
         for words in (["none"], ["-j", "0"], ["-k"]):
             status, out, err = self.ended(*words)
             self.assertEqual((status, out, err[:11]), (2, "", "try_tests: "), words)
-
-
-if __name__ == "__main__":
-    unittest.main()

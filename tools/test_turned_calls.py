@@ -1,8 +1,4 @@
-#!/usr/bin/env python3
-"""Tests turned_calls.py with no compiler, in no time.
-
-    python3 tools/test_turned_calls.py
-"""
+"""Tests turned_calls.py with no compiler, in no time."""
 
 import contextlib
 import io
@@ -52,7 +48,3 @@ class TurnedCallsTest(unittest.TestCase):
              mock.patch.object(turned_calls, "built", built):
             found = turned_calls.found_by("syntax-twice", Path(room))
         self.assertEqual(found, ["bytes that are asked for"] * 2 + ["test_recovery, which ends"])
-
-
-if __name__ == "__main__":
-    unittest.main()

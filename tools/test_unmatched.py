@@ -1,8 +1,4 @@
-#!/usr/bin/env python3
-"""Tests unmatched.py over the types of the repository with one thing changed, in a second.
-
-    python3 tools/test_unmatched.py
-"""
+"""Tests unmatched.py over the types of the repository with one thing changed, in a second."""
 
 import unittest
 
@@ -154,7 +150,3 @@ class Variants(unittest.TestCase):
         self.assertEqual(self.one("Single(", "Lone(", [ITERABLE_AT]), [])
         rows = found("", [ITERABLE_AT])
         self.assertEqual(rows, [f"{ITERABLE_AT}: no exception is needed any more"])
-
-
-if __name__ == "__main__":
-    unittest.main()

@@ -1,8 +1,4 @@
-#!/usr/bin/env python3
-"""Tests vendor.py over small made-up repositories, without the toolchain, in a second.
-
-    python3 tools/test_vendor.py
-"""
+"""Tests vendor.py over small made-up repositories, in a second."""
 
 import hashlib
 import json
@@ -267,7 +263,3 @@ class Refusals(VendorTest):
         text = (self.dest / "crates.txt").read_text().replace("middle: low", "middle: low memchr")
         write(self.dest, {"crates.txt": text})
         self.assertIn("changed crates.txt: middle: low memchr", self.refused())
-
-
-if __name__ == "__main__":
-    unittest.main()

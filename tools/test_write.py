@@ -1,8 +1,4 @@
-#!/usr/bin/env python3
-"""Tests write.py over made-up files, in a second; the repository itself is not looked at.
-
-    python3 tools/test_write.py
-"""
+"""Tests write.py over made-up files, in a second; the repository itself is not looked at."""
 
 import os
 import sys
@@ -180,7 +176,3 @@ class Brought(unittest.TestCase):
 
     def test_nothing_where_all_is_the_same(self):
         self.assertEqual(list(write.bring("nowhere", {"a": HEAD}, {"a": HEAD})), [])
-
-
-if __name__ == "__main__":
-    unittest.main()

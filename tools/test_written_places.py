@@ -1,8 +1,4 @@
-#!/usr/bin/env python3
-"""Tests written_places.py, and the heads of the files that stand in its places, in a second.
-
-    python3 tools/test_written_places.py
-"""
+"""Tests written_places.py, and the heads of the files that stand in its places, in a second."""
 
 import unittest
 from pathlib import Path
@@ -23,7 +19,3 @@ class Heads(unittest.TestCase):
                 head = HEAD.match(files[path].decode())[0]
                 self.assertIn(f"Written by {script}, and not edited by hand.", head)
                 self.assertTrue((TOP / script).is_file())
-
-
-if __name__ == "__main__":
-    unittest.main()
