@@ -14,7 +14,7 @@ scripts look, each at what its --help says:
     slips.py                       SLIPS, where the rows say otherwise
     try_edits.py                   wrong bodies that don't apply any more, also --programs
     pages.py                       links, names, counts and kits of the pages; fields without a doc line
-    make_cases.py                  archives of tests/ that aren't those that are listed
+    make_cases.py                  archives of tests/ that aren't as listed, or as is known by hand
     try_pages.py                   pieces of Rust and programs of pages that stand nowhere
     prebuilt.py                    the built library, where it isn't that of its sums and of this version
 

@@ -22,6 +22,13 @@ def take_none(doc):
     parser_of(doc).parse_args()
 
 
+def told(rows):
+    """Prints what was found, each a line, for a script whose status is 1 where there is something. The status."""
+    found = [str(row) for row in rows]
+    print("".join(f"{row}\n" for row in found), end="")
+    return 1 if found else 0
+
+
 def refused(parser):
     """Says how a script that writes is run. The status."""
     print(

@@ -38,9 +38,10 @@ from case_files import cases_of
 from command_line import parser_of
 from crates import read_lines
 from random_texts import Maker
-from table_reader import CHANGED, Table
+from row_ends import CHANGED
+from table_reader import Table
 from toml_files import loads
-from tree_json import Held, Struct, definition_of, read
+from tree_json import Held, Struct, definition_of, read, unescaped
 
 TOP = Path(__file__).resolve().parent.parent
 PORT = TOP / "crates/weedle_check/out/weedle_check"
@@ -49,6 +50,8 @@ WEEDLE2 = TOP / "compare/target/release/compare"
 SUFFIXES = (".webidl", ".idl", ".widl")
 STRING = re.compile(r'"((?:[^"\\]|\\.)*)"', re.S)
 BETWEEN = "typedef any between_two_texts;"
+# What comes of texts of which the answers are the same, and of others where no rule explains it.
+ALIKE, DIFFERENT = ("read whole", "left"), "different"
 # How many texts a process is given.
 TOGETHER = 500
 # How many random texts are cut.
@@ -198,13 +201,6 @@ def worked_texts():
             yield from (row[key] for row in rows for key in ("text", "laid_out") if key in row)
 
 
-def unescaped(text):
-    """What a string of Rust says."""
-    text = re.sub(r"\\\n\s*", "", text)
-    signs = {"n": "\n", "t": "\t", "r": "\r", "0": "\0", "\\": "\\", '"': '"', "'": "'"}
-    return re.sub(r"\\(u\{(\w+)\}|.)", lambda it: chr(int(it[2], 16)) if it[2] else signs.get(it[1], it[1]), text)
-
-
 def prefixes(text):
     return (text[:end] for end in range(len(text)))
 
@@ -234,10 +230,19 @@ def files_of(folder):
 
 
 # The comparing.
+def in_files(texts, room):
+    """The paths of files of a folder with these texts."""
+    files = [f"{room}/{number}.idl" for number in range(len(texts))]
+    for file, text in zip(files, texts):
+        Path(file).write_bytes(text.encode())
+    return files
+
+
 class Comparison:
+    """Both programs, and how many texts there were by what came: ALIKE, otherwise on purpose, or DIFFERENT."""
+
     def __init__(self, port, weedle2):
-        self.port, self.weedle2 = port, weedle2
-        self.whole, self.left, self.different, self.explained = 0, 0, 0, Counter()
+        self.port, self.weedle2, self.counts = port, weedle2, Counter()
 
     def add(self, texts):
         """Compares the answers of texts."""
@@ -247,33 +252,27 @@ class Comparison:
 
     def add_together(self, texts):
         with tempfile.TemporaryDirectory() as room:
-            files = [f"{room}/{number}.idl" for number in range(len(texts))]
-            for file, text in zip(files, texts):
-                Path(file).write_bytes(text.encode())
+            files = in_files(texts, room)
             for text, port, weedle2 in zip(texts, self.port.answers(files), self.weedle2.answers(files)):
-                self.add_one(text, port, weedle2)
+                self.counts[self.kind_of(text, port, weedle2)] += 1
 
-    def add_one(self, text, port, weedle2):
+    def kind_of(self, text, port, weedle2):
+        """What came of a text. What differs otherwise than on purpose is printed."""
         if port == weedle2:
-            self.whole += port.values is not None
-            self.left += port.values is None
-            return
+            return ALIKE[port.values is None]
         older = explanation(text, port, weedle2)
         if older:
-            self.explained[" and ".join(older)] += 1
-            return
-        self.different += 1
-        if self.different <= SHOWN:
+            return " and ".join(older)
+        if self.counts[DIFFERENT] < SHOWN:
             print(f"DIFFERENT: {text!r}\n  port: {port}\n  weedle2: {weedle2}")
-
-    def counts(self):
-        return Counter(whole=self.whole, left=self.left, different=self.different) + self.explained
+        return DIFFERENT
 
     def line(self):
-        explained = "".join(f", {count} by {what}" for what, count in sorted(self.explained.items()))
-        texts = self.whole + self.left + self.different + self.explained.total()
-        return (f"{texts} texts: {self.whole} read whole and {self.left} left alike, {self.explained.total()} otherwise on purpose"
-                f"{explained}, {self.different} different")
+        explained = {what: count for what, count in sorted(self.counts.items()) if what not in (*ALIKE, DIFFERENT)}
+        whole, left, different = (self.counts[it] for it in (*ALIKE, DIFFERENT))
+        return (f"{self.counts.total()} texts: {whole} read whole and {left} left alike, "
+                f"{sum(explained.values())} otherwise on purpose"
+                + "".join(f", {count} by {what}" for what, count in explained.items()) + f", {different} different")
 
 
 def compare(sources, port, weedle2, total):
@@ -282,8 +281,7 @@ def compare(sources, port, weedle2, total):
         one = Comparison(port, weedle2)
         one.add(texts)
         print(f"{name}: {one.line()}", flush=True)
-        total.whole, total.left, total.different = total.whole + one.whole, total.left + one.left, total.different + one.different
-        total.explained += one.explained
+        total.counts += one.counts
 
 
 def tell_of_files(folder, files, port):
@@ -316,7 +314,7 @@ def main(wanted, port, weedle2):
         compare(folder_texts(files, wanted), port, weedle2, total)
         tell_of_files(folder, files, port)
     print(f"seed {wanted.seed}: {total.line()}")
-    return 1 if total.different else 0
+    return 1 if total.counts[DIFFERENT] else 0
 
 
 if __name__ == "__main__":

@@ -1,27 +1,33 @@
 """Where the rules of the grammar end in a text, and which are tried and fail, as quick as Python goes.
 
-table_reader.py gives the values too, and is some forty times slower. Both read the same rows; a rule's end
-is worked out once at a place, and only where it is asked for, so what is known of a text is what was tried in
-it, as docs/GRAMMAR.md has that.
+A rule's end is worked out once at a place, and only where it is asked for, so what is known of a text is what was
+tried in it, as docs/GRAMMAR.md has that. row_nodes.py says what a rule reads directly, table_reader.py what it gives.
 """
 
-from description.classes import CLASSES
-from table_reader import ADDED, CHANGED
 from description import webidl as grammar
+from description.classes import CLASSES
 
 # What is known of a rule that fails.
 FAILS = -1
 # The rows without parts, which look at the text themselves.
 METHODS = {"If": "if_"}
 PLAIN = ("Bytes", "OneOf", "NotNext", "Run", "Past")
-ROWS = {rule.name: rule.row for rule in grammar.RULES} | ADDED
+# The rules that differ from weedle2's on purpose, each with its row there, by what it reads there.
+CHANGED = {
+    "a name that begins with a digit": ("IDENTIFIER_TEXT", ("Seq", ("ONE_OF_ALNUM", "RUN_NAME"))),
+    "a hexadecimal number with no digit": (
+        "HEX_LIT_TEXT", ("Seq", ("OPT_BYTES_MINUS", "BYTES_ZERO", "ONE_OF_X_LETTER", "RUN_HEX"))),
+    "a line comment with no LF": (
+        "LINE_COMMENT", ("Seq", ("BYTES_SLASH_SLASH", "NOT_NEXT_SLASH", "RUN_NOT_LINE_FEED", "BYTES_LF"))),
+}
+ROWS = {rule.name: rule.row for rule in grammar.RULES} | {"ONE_OF_ALNUM": ("OneOf", "Alnum")}
 
 
 class Ends:
     """The ends of rules in the text that was taken last: a function of a place for each rule, and what is known of it."""
 
     def __init__(self, rows):
-        self.text, self.at, self.known = b"", {}, {}
+        self.text, self.rows, self.at, self.known = b"", rows, {}, {}
         for rule, row in rows.items():
             self.known[rule] = {}
             self.at[rule] = self.kept(getattr(self, METHODS.get(row[0], row[0].lower()))(*row[1:]), self.known[rule])
@@ -170,13 +176,5 @@ class Ends:
         return end
 
 
-# The rows as they are, and with the changed rules as weedle2 has them.
-NOW, BEFORE = Ends(ROWS), Ends(ROWS | dict(CHANGED.values()))
-
-
-def reads_otherwise(ends):
-    """Whether one of the rules that were changed on purpose was tried where it read otherwise before."""
-    BEFORE.take(ends.text)
-    return any(
-        BEFORE.at[rule](place) != end for rule, _ in CHANGED.values() for place, end in list(ends.known[rule].items())
-    )
+# The rows as they are.
+NOW = Ends(ROWS)

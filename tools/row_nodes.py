@@ -8,8 +8,8 @@ import json
 import re
 from threading import Lock
 
-from compare_with_weedle2 import unescaped
-from row_ends import FAILS, NOW, PLAIN, ROWS
+from row_ends import FAILS, NOW, PLAIN
+from tree_json import unescaped
 
 LINE = re.compile(r'((?:  )*)(\w+) (\d+)\.\.(\d+)(?: "(.*)")?')
 # What is known of ends is of one text at a time.
@@ -18,7 +18,7 @@ ONE_TEXT = Lock()
 
 def parts_of(ends, rule, place):
     """The rules that a rule which is read at a place reads directly, each with its place."""
-    kind, *rest = ROWS[rule]
+    kind, *rest = ends.rows[rule]
     if kind in PLAIN:
         return []
     return list(KINDS[kind](ends, place, *rest))
@@ -60,7 +60,7 @@ def tail_of(ends, place, part, separator):
 def conditional(ends, place, parts, number, last):
     read = list(in_turn(ends, place, parts))
     yield from read
-    kind, *given = ROWS[parts[number]]
+    kind, *given = ends.rows[parts[number]]
     if kind != "Opt" or ends.at[given[0]](read[number][1]) != FAILS:
         part, start = read[-1]
         yield last, ends.at[part](start)

@@ -15,9 +15,9 @@ import sys
 import row_hints
 from case_files import TESTS, TOP
 from command_line import parser_of
-from compare_with_weedle2 import unescaped
 from make_cases import said_by_rows
 from row_ends import NOW
+from tree_json import unescaped
 
 SLIPS = TESTS / "slips.txt"
 PAGE = TOP / "docs/SLIPS.md"

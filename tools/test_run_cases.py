@@ -92,7 +92,7 @@ def refused(text, end, wrong):
 
 
 def trees(text, values, wrong):
-    shown = "".join(f"{at} {debug(value)}\n" for at, value in zip(wanted_of(text, None)["at"], values))
+    shown = "".join(f"{at} {debug(value)}\n" for at, value in zip(wanted_of(text)["at"], values))
     return shown.replace("Long(LongType", "Short(LongType") if wrong == "value" else shown
 
 
@@ -103,7 +103,7 @@ class Cases(unittest.TestCase):
         room = tempfile.TemporaryDirectory()
         self.addCleanup(room.cleanup)
         self.room = Path(room.name)
-        cases = numbered((text, wanted_of(text, None)) for text in TEXTS)
+        cases = numbered((text, wanted_of(text)) for text in TEXTS)
         (self.room / archive_of("some")).write_bytes(packed(cases))
 
     def program(self, name, wrong=None):
@@ -190,7 +190,7 @@ class Cases(unittest.TestCase):
             self.assertTrue(err.startswith("run cases: "), words)
 
     def test_all_folders_in_one_run_of_a_program_that_is_tried(self):
-        cases = numbered((text, wanted_of(text, None)) for text in TEXTS[:2])
+        cases = numbered((text, wanted_of(text)) for text in TEXTS[:2])
         (self.room / archive_of("other")).write_bytes(packed(cases))
         said = self.tried()
         self.assertEqual(said, (0, "weedle_check, other, some: 8 passed, 0 failed\n8 passed, 0 failed\n", "", 1))

@@ -133,7 +133,7 @@ class Reader:
 
 
 def unescaped(text):
-    """What stands between the quotes of a `Debug` text."""
+    """What stands between the quotes of a `Debug` text, or of a string of Rust."""
     def one(found):
         escape = found[1]
         if escape.startswith("u{"):
@@ -141,7 +141,7 @@ def unescaped(text):
         if escape[0] == "x" and len(escape) == 3:
             return chr(int(escape[1:], 16))
         return ESCAPES.get(escape, escape)
-    return ESCAPE.sub(one, text)
+    return ESCAPE.sub(one, re.sub(r"\\\n\s*", "", text))
 
 
 def read(text):
