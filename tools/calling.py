@@ -16,7 +16,7 @@ import sys
 import textwrap
 from pathlib import Path
 
-from command_line import parser_of
+from command_line import write_page
 from description.declarations import end_of, head_of
 from description.layout import filled
 from description.names import upper
@@ -379,20 +379,5 @@ def page(root):
     return "\n".join(parts)
 
 
-def main():
-    parser = parser_of(__doc__)
-    parser.add_argument("--check", action="store_true", help="say where the page is stale")
-    is_check = parser.parse_args().check
-    text, path = page(TOP), TOP / PAGE
-    is_new = not path.is_file() or path.read_text(encoding="utf-8") != text
-    if is_check and is_new:
-        print(f"{PAGE}: stale, tools/calling.py writes it otherwise")
-        return 1
-    if is_new:
-        path.write_text(text, encoding="utf-8")
-        print(f"changed {PAGE}")
-    return 0
-
-
 if __name__ == "__main__":
-    sys.exit(main())
+    sys.exit(write_page(__doc__, TOP, PAGE, lambda: page(TOP)))

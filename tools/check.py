@@ -29,7 +29,7 @@ import subprocess
 import sys
 from concurrent.futures import ThreadPoolExecutor
 
-from command_line import take_none
+from command_line import take_none, told
 from crates import Unfit
 from write import TOP, sources, write_anew, writer_in, writers
 
@@ -88,13 +88,10 @@ def found():
 
 def main():
     try:
-        rows = found()
+        return told(found())
     except (Unfit, OSError) as why:
         print(f"check: {why}", file=sys.stderr)
         return 2
-    if rows:
-        print(*rows, sep="\n")
-    return 1 if rows else 0
 
 
 if __name__ == "__main__":

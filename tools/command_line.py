@@ -8,6 +8,7 @@ and not laid out.
 import argparse
 import shutil
 import sys
+from pathlib import Path
 
 
 def parser_of(doc):
@@ -27,6 +28,20 @@ def told(rows):
     found = [str(row) for row in rows]
     print("".join(f"{row}\n" for row in found), end="")
     return 1 if found else 0
+
+
+def write_page(doc, top, path, text_of):
+    """What a script does that writes a page, or with --check says that it is stale. The status."""
+    parser = parser_of(doc)
+    parser.add_argument("--check", action="store_true", help="say that it is stale, and write nothing")
+    is_check, file, text = parser.parse_args().check, Path(top, path), text_of()
+    if file.is_file() and file.read_text(encoding="utf-8") == text:
+        return 0
+    if is_check:
+        return told([f"{path}: stale, tools/{parser.prog} writes it"])
+    file.write_text(text, encoding="utf-8")
+    print(f"changed {path}")
+    return 0
 
 
 def refused(parser):

@@ -25,7 +25,7 @@ import sys
 from pathlib import Path
 
 from calling import Crate, Entry, code_of, doc_before, methods_of
-from command_line import take_none
+from command_line import take_none, told
 from crates import read_lines
 from description.following import NAME_BEFORE, read_behind
 from description.names import upper
@@ -175,16 +175,15 @@ def of_reserved(root):
             yield from (f"crates/{RESERVED}: behind {shown} `{word}` {how}" for word in sorted(words))
 
 
-def main():
-    declared = Declared.of(TOP)
-    rows = [
-        *of_files(TOP), *of_types(TOP, declared), *of_contracts(TOP), *of_definitions(TOP, declared), *of_reserved(TOP),
-    ]
-    if rows:
-        print(*rows, sep="\n")
-    return 1 if rows else 0
+def found(root):
+    declared = Declared.of(root)
+    yield from of_files(root)
+    yield from of_types(root, declared)
+    yield from of_contracts(root)
+    yield from of_definitions(root, declared)
+    yield from of_reserved(root)
 
 
 if __name__ == "__main__":
     take_none(__doc__)
-    sys.exit(main())
+    sys.exit(told(found(TOP)))

@@ -29,7 +29,7 @@ import re
 import sys
 from pathlib import Path
 
-from command_line import take_none
+from command_line import take_none, told
 from crates import read_lines
 from description.docs import NUMBERS
 from description.webidl import BY_NAME, CAPITALIZED, KEYWORDS, RULES, SYMBOLS
@@ -251,13 +251,6 @@ def of_docs(root):
 LOOKS = (of_links, of_crates, of_scripts, of_paths, of_counts, of_kits, of_versions, of_docs)
 
 
-def main():
-    rows = [row for look in LOOKS for row in look(TOP)]
-    if rows:
-        print(*rows, sep="\n")
-    return 1 if rows else 0
-
-
 if __name__ == "__main__":
     take_none(__doc__)
-    sys.exit(main())
+    sys.exit(told(row for look in LOOKS for row in look(TOP)))

@@ -18,7 +18,7 @@ import subprocess
 import sys
 from pathlib import Path
 
-from command_line import take_none
+from command_line import take_none, told
 from description.declarations import declared_in
 from description.names import snake
 from description.readings import CRATES
@@ -89,13 +89,6 @@ def renamed(root):
             yield from lines
 
 
-def main():
-    rows = list(renamed(TOP))
-    if rows:
-        print(*rows, sep="\n")
-    return 1 if rows else 0
-
-
 if __name__ == "__main__":
     take_none(__doc__)
-    sys.exit(main())
+    sys.exit(told(renamed(TOP)))

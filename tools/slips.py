@@ -14,13 +14,13 @@ import sys
 
 import row_hints
 from case_files import TESTS, TOP
-from command_line import parser_of
+from command_line import write_page
 from make_cases import said_by_rows
 from row_ends import NOW
 from tree_json import unescaped
 
 SLIPS = TESTS / "slips.txt"
-PAGE = TOP / "docs/SLIPS.md"
+PAGE = "docs/SLIPS.md"
 # What is measured in real files stands on the page too, by hand.
 MEASURED = "## In real files"
 MARK = "\u2038"
@@ -118,43 +118,19 @@ def page():
         before=sum(slip.is_at(lines[0]) for slip, lines, _ in found), now=sum(any(map(slip.is_at, lines)) for slip, lines, _ in found),
         near=sum(it.is_near for _, _, it in found),
     )
-    rows = [f"| {code(slip.line)} | {'<br>'.join(map(shown, lines))}{'' if any(map(slip.is_at, lines)) else ' *no*'} |" for slip, lines, _ in found]
+    rows = [f"| `{cell(slip.line)}` | {'<br>'.join(map(cell, lines))}{'' if any(map(slip.is_at, lines)) else ' *no*'} |" for slip, lines, _ in found]
     return head + "\n".join(["| Text | What is said |", "|---|---|", *rows, ""]) + measured()
 
 
 def measured():
     """The part of the page that is written by hand."""
-    content = PAGE.read_text(encoding="utf-8") if PAGE.is_file() else ""
-    _, is_there, part = content.partition(MEASURED)
+    _, is_there, part = (TOP / PAGE).read_text(encoding="utf-8").partition(MEASURED)
     return f"\n{is_there}{part}" if is_there else ""
-
-
-def code(text):
-    return f"`{cell(text)}`"
-
-
-def shown(line):
-    """A line of a message, whose words stand in backticks already."""
-    return cell(line)
 
 
 def cell(text):
     return text.replace("|", "\\|")
 
 
-def main():
-    """Writes the page, or says that it is stale."""
-    parser = parser_of(__doc__)
-    parser.add_argument("--check", action="store_true", help="say whether it is stale")
-    is_check, content = parser.parse_args().check, page()
-    if PAGE.is_file() and PAGE.read_text(encoding="utf-8") == content:
-        return 0
-    if is_check:
-        print(f"{PAGE.relative_to(TOP)}: stale, tools/slips.py writes it")
-        return 1
-    PAGE.write_text(content, encoding="utf-8")
-    return 0
-
-
 if __name__ == "__main__":
-    sys.exit(main())
+    sys.exit(write_page(__doc__, TOP, PAGE, page))

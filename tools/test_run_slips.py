@@ -69,4 +69,4 @@ class Slips(unittest.TestCase):
         self.assertEqual(status_and_last(ByRows("1:1: expected `;`\nx\n^\n"))[0], 1)
 
     def test_the_page(self):
-        self.assertEqual(slips_page.page(), slips_page.PAGE.read_text(encoding="utf-8"))
+        self.assertEqual(slips_page.page(), (slips_page.TOP / slips_page.PAGE).read_text(encoding="utf-8"))

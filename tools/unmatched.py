@@ -25,7 +25,7 @@ import sys
 from itertools import zip_longest
 from pathlib import Path
 
-from command_line import take_none
+from command_line import take_none, told
 from description.docs import NUMBERS
 from description.names import upper
 from description.productions import said_of_all, unlike
@@ -167,13 +167,6 @@ def found_in(declared, exceptions):
             yield f"{place}: no exception is needed any more"
 
 
-def main():
-    rows = list(found_in(Declared.of(TOP), EXCEPTIONS))
-    if rows:
-        print(*rows, sep="\n")
-    return 1 if rows else 0
-
-
 if __name__ == "__main__":
     take_none(__doc__)
-    sys.exit(main())
+    sys.exit(told(found_in(Declared.of(TOP), EXCEPTIONS)))
