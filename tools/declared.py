@@ -6,6 +6,7 @@ from functools import cached_property
 from pathlib import Path
 
 from crates import Unfit
+from description.declarations import declared_in
 from description.names import snake
 from written.imports import imported
 
@@ -13,33 +14,19 @@ from written.imports import imported
 PRIVATE = {"weedle_types::formers": "weedle_types::types"}
 # What is added to the name of a former in clauses, where its own is that of an alias.
 FORMED = "Of"
-ITEM = re.compile(
-    r"^(?P<cycle>#\[cycle\(types\)\]\n)?#\[derive\((?P<derived>[^)]*)\)\]\n"
-    r"pub (?P<kind>struct|enum) (?P<name>\w+)(?:<(?P<over>[^>]*)>)?"
-    r"(?: \{\n(?P<body>.*?)^\}|\((?P<tuple>[^;]*)\);)",
-    re.M | re.S,
-)
-FIELD = re.compile(r"^    pub (\w+): (.+),$", re.M)
-PLACE = re.compile(r"pub ((?:[^,<]|<[^>]*>)+)")
-VARIANT = re.compile(r"^    (\w+)\((.+)\),$", re.M)
 ALIAS = re.compile(r"^pub type (\w+)<'a> = (formers::)?(\w+)<(.+)>;$", re.M)
-DECLARED = re.compile(r"^pub (?:struct|enum|type) (\w+)", re.M)
 PUBLIC = re.compile(r"^pub mod (\w+);", re.M)
 
 
 class Item:
     """A struct or an enum: its name, its parameters, and each field or variant with its type."""
 
-    def __init__(self, found, module):
-        self.module, self.name = module, found["name"]
-        self.is_enum, self.leads_back = found["kind"] == "enum", bool(found["cycle"])
-        self.over = [it.strip() for it in (found["over"] or "").split(",") if it.strip()]
-        self.parameters = [it for it in self.over if it != "'a"]
+    def __init__(self, it, module):
+        self.module, self.name, self.is_enum = module, it.name, it.is_enum
+        self.leads_back, self.parameters = it.is_recursive, it.parameters
+        self.over = ["'a"] * it.is_borrowing + it.parameters
         self.is_former = module.inner in PRIVATE
-        if found["tuple"]:
-            self.parts = [(str(i), it) for i, it in enumerate(PLACE.findall(found["tuple"]))]
-        else:
-            self.parts = (VARIANT if self.is_enum else FIELD).findall(found["body"])
+        self.parts = [(part.name, part.text) for part in it.parts]
 
     def at(self, given):
         """A former as the alias has it of the same name, which gives it this type."""
@@ -70,8 +57,7 @@ class Module:
 
     def items(self):
         """What it declares whose `Ord` is derived."""
-        found = ITEM.finditer(self.text)
-        return [Item(it, self) for it in found if "Ord" in it["derived"].split(", ")]
+        return [Item(it, self) for it in declared_in(self.text) if "Ord" in it.derived]
 
     def aliases(self):
         """What its aliases stand for, by their names: of a former the name FORMED of it, and what it is given."""
@@ -81,7 +67,7 @@ class Module:
     @cached_property
     def names(self):
         """The names of the types that stand in it."""
-        return DECLARED.findall(self.text)
+        return [it.name for it in declared_in(self.text)]
 
     @cached_property
     def imported(self):

@@ -25,7 +25,6 @@ Where `rt` has another scheduler than the one that is known here, or can't be re
 there is no FILE, and a line says so. The status is that of `rt ci`. `rt ci` itself gives the same verdict, later.
 """
 
-import argparse
 import inspect
 import json
 import os
@@ -37,6 +36,7 @@ from pathlib import Path
 
 import gate_edits
 import toolchain
+from command_line import parser_of
 
 TOP = Path(__file__).resolve().parent.parent
 TIMES = TOP / "docs/gate_times.json"
@@ -319,9 +319,7 @@ def out_of_layout(rt):
 
 
 def main():
-    parser = argparse.ArgumentParser(
-        description=__doc__, formatter_class=argparse.RawDescriptionHelpFormatter
-    )
+    parser = parser_of(__doc__)
     parser.add_argument("--library", type=Path, metavar="FILE")
     parser.add_argument("--programs", action="store_true")
     said = parser.parse_args()

@@ -30,6 +30,7 @@ import sys
 from pathlib import Path
 
 import gate
+from command_line import parser_of
 from crates import closure, files_of, read_lines
 
 TOP = Path(__file__).resolve().parent.parent
@@ -179,9 +180,7 @@ def times_in(path):
 
 
 def main():
-    parser = argparse.ArgumentParser(
-        description=__doc__, formatter_class=argparse.RawDescriptionHelpFormatter
-    )
+    parser = parser_of(__doc__)
     parser.add_argument("times", type=times_in, metavar="TIMES")
     parser.add_argument("--processors", type=int, action="append")
     parser.add_argument("--memory", type=float, default=math.inf, metavar="GB")

@@ -5,17 +5,12 @@
 
 It runs the command, or `rt ci` where none is given, and looks twice a second at the processes below
 it: whose crate each works for, how much processor time it has taken, and how much memory. When the
-command has ended it prints a table: of each crate the minutes of processor time of its proof, of its
-tests (their proof, and the building of their program), of its wrong bodies and of its program or
-static library, the most memory that one of these took in GB, when its proof began and how long that
-took by the clock; then the sums. What the command itself takes, and what no crate is named for, stands
-in the row `the rest`.
+command has ended it prints how long each kind of work took, and writes FILE, which tools/gate_plan.py takes: the
+date and the machine; `proof`, `tests` (their proof, and the building of their program), `programs` and
+`library` (what is built for others), the seconds of processor time by crate; `edits`, how many wrong
+bodies there are and what they take in all; `memory`, by kind and crate the most GB that a task took
+at one time, by one job (of several, what tools/gate.py expects each further one to take is left out).
 
---json writes the times in seconds in the form that tools/gate_plan.py takes:
-`proof`, `tests`, `programs` and `library` (what is built for others) by crate, `edits` as how many there are and what they take
-in all, `clock`, what each proof took by the clock; `memory`, by kind and crate the most GB that a task
-took at one time, by one job (of several, what tools/gate.py expects each further one to take is left
-out); the date and the machine.
 To compare two machines, divide by what `rt selftest` takes on each: it proves and builds one small crate of the
 toolchain, always the same.
 
@@ -33,6 +28,7 @@ import sys
 import time
 from pathlib import Path
 
+from command_line import parser_of
 from gate import FIRST, LIBRARY, OF_A_JOB, PROGRAMS
 
 TOP = Path(__file__).resolve().parent.parent
@@ -130,7 +126,7 @@ class Sampler:
             it["cwd"] = os.readlink(f"/proc/{pid}/cwd")
         except OSError:
             pass
-        it["cpu"], it["end"] = taken, time.time()
+        it["cpu"] = taken
 
     def end(self, pid):
         self.log.append(self.seen.pop(pid))
@@ -192,56 +188,28 @@ def wrong_bodies(crate):
 
 
 class Times:
-    """Seconds of processor time by kind and crate, and when each proof began and ended."""
+    """Seconds of processor time and the most memory in GB, by kind and crate."""
 
     def __init__(self, log):
         self.by = {kind: {} for kind in KINDS}
         self.memory = {kind: {} for kind in KINDS}
-        self.spans, self.rest = {}, 0.0
         for entry in log:
-            self.add(entry)
+            if crate := crate_of(entry):
+                self.add(crate, entry)
 
-    def add(self, entry):
-        crate, kind = crate_of(entry), kind_of(entry)
-        if crate is None:
-            self.rest += entry["cpu"]
-            return
-        of_kind = self.by[kind]
-        of_kind[crate] = of_kind.get(crate, 0) + entry["cpu"]
+    def add(self, crate, entry):
+        kind = kind_of(entry)
+        self.by[kind][crate] = self.by[kind].get(crate, 0) + entry["cpu"]
         most = entry.get("memory", 0) / (1 + OF_A_JOB * (jobs_of(entry) - 1)) / 1e9
         if most:
             self.memory[kind][crate] = max(self.memory[kind].get(crate, 0), most)
-        if kind == "proof":
-            # What else is done for a crate, as the looking through its files, is soon done.
-            self.spans[crate] = max(
-                self.spans.get(crate, (0.0, 0.0)), (entry["start"], entry["end"]), key=lambda it: it[1] - it[0]
-            )
-
-    def crates(self):
-        names = {it for of_kind in self.by.values() for it in of_kind}
-        return sorted(names, key=lambda it: self.spans.get(it, (float("inf"), 0)))
-
-    def sum_of(self, kind):
-        return sum(self.by[kind].values())
 
     def as_json(self):
         said = {kind: {k: round(v, 1) for k, v in self.by[kind].items()} for kind in KINDS}
-        edits = {k: [wrong_bodies(k), v] for k, v in said["edits"].items()}
-        clock = {name: round(last - first, 1) for name, (first, last) in self.spans.items()}
         memory = {kind: {k: round(v, 2) for k, v in self.memory[kind].items()} for kind in KINDS}
-        return {
-            "date": str(datetime.date.today()),
-            "machine": machine(),
-            **said,
-            "edits": edits,
-            "clock": clock,
-            "memory": memory,
-            "rest": round(self.rest, 1),
-        }
-
-
-def minutes(seconds):
-    return f"{seconds / 60:.1f}" if seconds else ""
+        edits = {k: [wrong_bodies(k), v] for k, v in said["edits"].items()}
+        date = str(datetime.date.today())
+        return {"date": date, "machine": machine(), **said, "edits": edits, "memory": memory}
 
 
 def machine(said=None):
@@ -252,43 +220,17 @@ def machine(said=None):
     return f"{words} @ {float(speed[1]) / 1000:.2f}GHz" if speed and "GHz" not in words else words
 
 
-def cells_of(seconds):
-    """The minutes of each kind; those of what is built for others stand with those of programs."""
-    made = {**seconds, "programs": seconds["programs"] + seconds["library"]}
-    return [minutes(made[kind]) for kind in KINDS if kind != "library"]
-
-
-def table(times):
-    began = min((it[0] for it in times.spans.values()), default=0)
-    rows = [
-        "| Crate | Proof | Tests | Wrong bodies | Program | GB | Begins | Takes |",
-        "|---|---|---|---|---|---|---|---|",
-    ]
-    for crate in times.crates():
-        costs = cells_of({kind: times.by[kind].get(crate, 0) for kind in KINDS})
-        most = max(times.memory[kind].get(crate, 0) for kind in KINDS)
-        first, last = times.spans.get(crate, (began, began))
-        clock = [f"{(first - began) / 60:.0f}", f"{(last - first) / 60:.0f}"]
-        rows.append(f"| `{crate}` | {' | '.join([*costs, f'{most:.1f}', *clock])} |")
-    sums = cells_of({kind: times.sum_of(kind) for kind in KINDS})
-    rows += [f"| all of these | {' | '.join(sums)} | | | |", f"| the rest | {minutes(times.rest)} | | | | | | |"]
-    whole = times.rest + sum(times.sum_of(kind) for kind in KINDS)
-    rows += ["", f"In all {whole / 60:.0f} minutes of processor time, on {machine()}, {datetime.date.today()}."]
-    return "\n".join(rows)
-
-
 def main():
-    parser = argparse.ArgumentParser(
-        description=__doc__, formatter_class=argparse.RawDescriptionHelpFormatter
-    )
-    parser.add_argument("--json", type=Path)
-    parser.add_argument("command", nargs=argparse.REMAINDER)
+    parser = parser_of(__doc__)
+    parser.add_argument("--json", type=Path, metavar="FILE")
+    parser.add_argument("command", nargs=argparse.REMAINDER, metavar="COMMAND")
     said = parser.parse_args()
     status, log = run(said.command or ["rt", "ci"])
     times = Times(log)
     if said.json:
         said.json.write_text(json.dumps(times.as_json(), indent=1) + "\n")
-    print(table(times))
+    for kind, seconds in times.by.items():
+        print(f"{kind}: {sum(seconds.values()) / 60:.0f} minutes of one processor")
     return status
 
 

@@ -6,8 +6,8 @@ from unittest import mock
 import gate_times
 
 
-def entry(words, cwd, cpu, start=0.0, end=60.0):
-    return {"words": words, "cwd": cwd, "cpu": cpu, "start": start, "end": end}
+def entry(words, cwd, cpu):
+    return {"words": words, "cwd": cwd, "cpu": cpu}
 
 
 class TestTimes(unittest.TestCase):
@@ -25,20 +25,13 @@ class TestTimes(unittest.TestCase):
         self.assertEqual(times.by["tests"], {"weedle_rows": 120.0})
         self.assertEqual(times.by["edits"], {"weedle_base": 30.0})
         self.assertEqual(times.by["programs"], {"weedle_list": 90.0})
-        self.assertEqual(times.rest, 6.0)
 
-    def test_the_table_has_a_row_for_each_crate_and_the_sum(self):
-        table = gate_times.table(gate_times.Times(self.LOG))
-        self.assertIn("| `weedle_base` | 1.0 |  | 0.5 |  | 0.0 |", table)
-        self.assertIn("In all 5 minutes of processor time", table)
-
-    def test_the_static_library_is_a_kind_of_its_own_and_stands_with_programs_in_the_table(self):
+    def test_the_static_library_is_a_kind_of_its_own(self):
         words = ["rattle", "build", "--crate-name", "weedle_c", "--crate-type", "staticlib"]
         checked = [words[0], "check", *words[2:]]
         clang = entry(["clang", "-O3"], "/x/crates/weedle_c", 30.0)
         times = gate_times.Times([entry(checked, "", 60.0), entry(words, "", 60.0), clang])
         self.assertEqual((times.by["proof"], times.by["library"]), ({"weedle_c": 60.0}, {"weedle_c": 90.0}))
-        self.assertIn("| `weedle_c` | 1.0 |  |  | 1.5 |", gate_times.table(times))
 
     def test_the_memory_is_the_most_of_a_task_by_one_job(self):
         words = ["rattle", "check", "--crate-name", "weedle_base", "--jobs"]

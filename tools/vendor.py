@@ -21,7 +21,6 @@ The status is 0 where DEST is up to date, 1 where it refuses, or where --check f
 change, 2 where the arguments are wrong.
 """
 
-import argparse
 import hashlib
 import json
 import os
@@ -31,6 +30,7 @@ import subprocess
 import sys
 from pathlib import Path
 
+from command_line import parser_of
 from crates import LIST, Unfit, closure, files_of, is_repository, line_of, read_lines
 
 TOP = Path(__file__).resolve().parent.parent
@@ -269,9 +269,7 @@ def vendor(root, dest, is_check=False):
 
 
 def main():
-    parser = argparse.ArgumentParser(
-        description=__doc__, formatter_class=argparse.RawDescriptionHelpFormatter
-    )
+    parser = parser_of(__doc__)
     parser.add_argument("dest", metavar="DEST", help="the top of the other repository")
     parser.add_argument("--check", action="store_true", help="change nothing")
     arguments = parser.parse_args()
