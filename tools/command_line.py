@@ -44,21 +44,16 @@ def write_page(doc, top, path, text_of):
     return 0
 
 
-def refused(parser):
-    """Says how a script that writes is run. The status."""
+def refuse_writer(doc):
+    """What a script that writes, and takes no arguments, does when it is run by hand. The status."""
+    parser = parser_of(doc)
+    parser.parse_args()
     print(
         f"{parser.prog}: nothing is written. `python3 tools/write.py` runs this script and all "
         "others that write, and lays out what they wrote; --help says what it writes.",
         file=sys.stderr,
     )
     return 2
-
-
-def refuse_writer(doc):
-    """What a script that writes, and takes no arguments, does when it is run by hand. The status."""
-    parser = parser_of(doc)
-    parser.parse_args()
-    return refused(parser)
 
 
 def runnable(path):

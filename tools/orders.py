@@ -1,8 +1,6 @@
 #!/usr/bin/env python3
 """Writes the laws of orders, from the declarations of the types whose `Ord` is derived.
 
-    python3 tools/orders.py --check
-
 A type's law is a function that does nothing when it runs. Its contract says of two values of the type
 that `cmp` of a struct is the comparison of its fields in order, the first that differs deciding;
 and that of an enum the value whose variant is declared first is less, and two of one variant
@@ -10,17 +8,14 @@ compare as what they hold.
 
 They stand in weedle_comparisons: MODULES says which module of src/orders has the laws of which types, with
 the places of variants in specs/Places.antt and, of the types that hold one another, proofs in
-proofs/orders. The files have the layout of `rt fmt`.
-
-tools/write.py runs the script. With --check it prints the files that are stale, and writes none: the
-status is 0 where all stands as it should, and 1 where a file is stale.
+proofs/orders. tools/write.py runs the script.
 """
 
 import re
 import sys
 from pathlib import Path
 
-from command_line import parser_of, refused
+from command_line import refuse_writer
 from crates import Unfit
 from declared import FORMED, modules_of, quoted
 from description.docs import law as law_doc
@@ -28,7 +23,7 @@ from description.flat import flat_variants
 from description.layout import COLUMNS, use_line
 from description.readings import IDL, LEAVES, TYPES, Declared, lacking
 from terminals import label
-from written_places import in_logic, place, put
+from written_places import in_logic, put
 
 TOP = Path(__file__).resolve().parent.parent
 # The crate of the laws.
@@ -305,38 +300,24 @@ def files_of(root):
     yield f"{LAWS}/specs/Places.antt", places_text(enums)
 
 
-def run(root, is_check=False):
-    """Writes what is stale, or leaves it, and gives what is said and whether all is well."""
-    said = []
-    for path, text in files_of(root):
-        file = Path(root) / place(path)
-        if file.is_file() and file.read_text(encoding="utf-8") == text:
-            continue
-        said.append(f"{'stale' if is_check else 'wrote'} {place(path)}")
-        if not is_check:
-            put(root, path, text)
-    return said, not (is_check and said)
-
-
-def main(is_check=False):
-    """Writes, or says what is stale. The status."""
-    named = [it for _, crates in MODULES.values() for it in crates]
+def run(root):
+    """Writes the files, and gives how many there are."""
     # The terminals have their laws by terminals.py.
+    named = [it for _, crates in MODULES.values() for it in crates]
     if why := lacking([*LEAVES[1:], TYPES, *IDL], named):
-        sys.exit(f"orders: {why}: MODULES says which modules have the laws")
+        raise Unfit(f"{why}: MODULES says which modules have the laws")
+    files = dict(files_of(root))
+    for path, text in files.items():
+        put(root, path, text)
+    return len(files)
+
+
+def main():
     try:
-        said, is_well = run(TOP, is_check)
+        print(f"{run(TOP)} files of orders")
     except Unfit as why:
-        said, is_well = [str(why)], False
-    print("\n".join(said), end="\n" * bool(said))
-    return 0 if is_well else 1
-
-
-def by_hand():
-    parser = parser_of(__doc__)
-    parser.add_argument("--check", action="store_true", help="say which files are stale")
-    return main(is_check=True) if parser.parse_args().check else refused(parser)
+        sys.exit(f"orders: {why}")
 
 
 if __name__ == "__main__":
-    sys.exit(by_hand())
+    sys.exit(refuse_writer(__doc__))
