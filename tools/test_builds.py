@@ -1,12 +1,10 @@
 """Tests builds.py over made-up crates with types of the grammar, in a second."""
 
-import tempfile
-import unittest
-from pathlib import Path
 from unittest import mock
 
 import builds
 from crates import Unfit
+from test_support import Room
 
 LINES = """weedle_base:
 low: weedle_base
@@ -126,26 +124,13 @@ TEXTS = {
 }
 
 
-class BuildsTest(unittest.TestCase):
-    def setUp(self):
-        folder = tempfile.TemporaryDirectory()
-        self.addCleanup(folder.cleanup)
-        self.root = Path(folder.name)
-        for path, text in TEXTS.items():
-            self.put(path, text)
-        named = {
-            "FILES": FILES, "CRATES": ["weedle_base::term", "low", "high"],
-            "TYPES": "none", "TYPES_BUILT": "build_low",
-        }
-        for name, value in named.items():
-            patch = mock.patch.object(builds, name, value)
-            patch.start()
-            self.addCleanup(patch.stop)
+class BuildsTest(Room):
+    FILES = TEXTS
 
-    def put(self, path, text):
-        path = self.root / path
-        path.parent.mkdir(parents=True, exist_ok=True)
-        path.write_text(text)
+    def setUp(self):
+        super().setUp()
+        crates = ["weedle_base::term", "low", "high"]
+        self.patch(builds, FILES=FILES, CRATES=crates, TYPES="none", TYPES_BUILT="build_low")
 
     def test_a_module_without_types_is_refused(self):
         with mock.patch.dict(builds.FILES, {"build_low/low": ("What is low.", "low::none")}):
@@ -164,13 +149,13 @@ class BuildsTest(unittest.TestCase):
                 builds.run(self.root)
 
     def test_a_type_without_a_tree_is_refused(self):
-        self.put("crates/high/specs/Trees.antt", "")
+        self.put({"crates/high/specs/Trees.antt": ""})
         with self.assertRaisesRegex(Unfit, "crates/high/specs states the tree of Definition"):
             builds.run(self.root)
 
     def test_more_fields_than_one_call_builds_are_refused(self):
         fields = "".join(f"    pub f{k}: Assign,\n" for k in range(9))
-        self.put("crates/low/src/default.rt", "pub struct Default {\n" + fields + "}\n")
+        self.put({"crates/low/src/default.rt": "pub struct Default {\n" + fields + "}\n"})
         said = "Default has 9 fields, and crates/weedle_build_base/src/structs.rt builds 2 to 8 by one call"
         with self.assertRaisesRegex(Unfit, said):
             builds.run(self.root)
@@ -181,6 +166,6 @@ class BuildsTest(unittest.TestCase):
             self.assertIn(f"pub fn {word}_fields<", text)
 
     def test_a_name_that_nothing_brings_in_is_refused(self):
-        self.put("crates/high/src/lib.rt", "//! High.\n")
+        self.put({"crates/high/src/lib.rt": "//! High.\n"})
         with self.assertRaisesRegex(Unfit, "nothing that build_high stands on brings Default in"):
             builds.run(self.root)

@@ -1,13 +1,11 @@
 """Tests c_header.py over made-up sources, in a second."""
 
 import re
-import tempfile
-import unittest
-from pathlib import Path
 
 import c_header
 from crates import Unfit
 from description.webidl import RULES
+from test_support import Room
 
 CODE = "/// The version.\nconst VERSION: u32 = 0x010203;\n"
 STATUSES = """//! Statuses.
@@ -29,15 +27,11 @@ pub const MISSING: usize = 1;
 """
 
 
-class Header(unittest.TestCase):
-    def header(self, code=CODE, statuses=STATUSES, hints=HINTS):
-        with tempfile.TemporaryDirectory() as folder:
-            source = Path(folder, "crates/weedle_c/src")
-            source.mkdir(parents=True)
-            (source / "lib.rt").write_text(code)
-            (source / "status.rt").write_text(statuses)
-            (source / "hint.rt").write_text(hints)
-            return c_header.header_of(Path(folder))
+class Header(Room):
+    def header(self, code=CODE):
+        texts = {"lib.rt": code, "status.rt": STATUSES, "hint.rt": HINTS}
+        self.put({f"crates/weedle_c/src/{name}": text for name, text in texts.items()})
+        return c_header.header_of(self.root)
 
     def test_the_version_is_the_crates(self):
         self.assertIn("#define WEEDLE_VERSION 0x010203\n", self.header())

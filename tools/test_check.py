@@ -1,13 +1,12 @@
 """Tests check.py over made-up files, in a second; the repository itself is not looked at."""
 
-import io
 import subprocess
 import unittest
-from contextlib import redirect_stderr, redirect_stdout
 from unittest import mock
 
 import check
 from crates import Unfit
+from test_support import printed
 
 HEAD = b"//! Terminals.\n//!\n//! Written by tools/terminals.py, and not edited by hand.\n"
 
@@ -50,8 +49,7 @@ class Found(unittest.TestCase):
             "look": lambda number: ends[number],
         }
         with mock.patch.multiple(check, **given):
-            with redirect_stdout(io.StringIO()) as out, redirect_stderr(io.StringIO()) as err:
-                return check.main(), out.getvalue(), err.getvalue()
+            return printed(check.main)
 
     def test_nothing(self):
         self.assertEqual(self.run_main({"a": HEAD}, ended(0, "much"), ended(0)), (0, "", ""))

@@ -1,13 +1,12 @@
 """Tests forgotten.py over the repository with one thing changed, in a second."""
 
-import tempfile
 import unittest
-from pathlib import Path
 from unittest import mock
 
 import forgotten
 from description.declarations import declared_in
 from description.readings import Declared
+from test_support import Room
 
 DECLARED = Declared.of(forgotten.TOP)
 TEXT_IN = forgotten.text_in
@@ -67,13 +66,12 @@ class Types(unittest.TestCase):
         ])
 
 
-class Files(unittest.TestCase):
+class Files(Room):
+    FILES = {"crates.txt": "a:\n", "crates/a/src/lib.rt": "mod b;\n"}
+
     def found(self, files):
-        with tempfile.TemporaryDirectory() as root:
-            for path, text in {"crates.txt": "a:\n", "crates/a/src/lib.rt": "mod b;\n", **files}.items():
-                Path(root, path).parent.mkdir(parents=True, exist_ok=True)
-                Path(root, path).write_text(text)
-            return list(forgotten.of_files(Path(root)))
+        self.put(files)
+        return list(forgotten.of_files(self.root))
 
     def test_files_that_are_named(self):
         files = {"crates/a/src/b.rt": "pub mod c;\n", "crates/a/src/b/c.rt": "", "crates/a/src/main.rt": ""}

@@ -2,13 +2,11 @@
 
 import argparse
 import math
-import tempfile
-import unittest
-from pathlib import Path
 from unittest.mock import patch
 
 import gate_plan
 from gate_plan import Gate, costs, plan, simulated
+from test_support import Room
 
 LIST = """low:
 wide: low
@@ -27,30 +25,22 @@ TIMES = {
 SAID = argparse.Namespace(show=False, memory=math.inf, slower=1)
 
 
-def gate_of(room, times=TIMES, rows=LIST):
-    (Path(room) / "crates.txt").write_text(rows)
-    for line in rows.splitlines():
-        source = Path(room) / "crates" / line.partition(":")[0] / "src"
-        source.mkdir(parents=True)
-        (source / "lib.rt").write_text("fn f() {}\n" * 10)
-    return Gate(room, times)
+class Planned(Room):
+    SOURCES = {f"crates/{row.partition(':')[0]}/src/lib.rt": "fn f() {}\n" * 10 for row in LIST.splitlines()}
+    FILES = {"crates.txt": LIST, **SOURCES}
 
-
-class Planned(unittest.TestCase):
     def setUp(self):
-        room = tempfile.TemporaryDirectory()
-        self.addCleanup(room.cleanup)
-        self.gate = gate_of(room.name)
+        super().setUp()
+        self.gate = Gate(self.root, TIMES)
 
     def test_a_file_without_times_is_refused_in_a_line(self):
-        with tempfile.TemporaryDirectory() as room:
-            file = Path(room) / "times.json"
+        file = self.root / "times.json"
+        self.assertRaises(argparse.ArgumentTypeError, gate_plan.times_in, file)
+        for text in ("weedle:", "[]", '{"proof": {}}'):
+            file.write_text(text)
             self.assertRaises(argparse.ArgumentTypeError, gate_plan.times_in, file)
-            for text in ("weedle:", "[]", '{"proof": {}}'):
-                file.write_text(text)
-                self.assertRaises(argparse.ArgumentTypeError, gate_plan.times_in, file)
-            file.write_text('{"proof": {}, "tests": {}, "edits": {}}')
-            self.assertEqual(gate_plan.times_in(file), {"proof": {}, "tests": {}, "edits": {}})
+        file.write_text('{"proof": {}, "tests": {}, "edits": {}}')
+        self.assertEqual(gate_plan.times_in(file), {"proof": {}, "tests": {}, "edits": {}})
 
     def test_the_longest_proof_gets_three_jobs_and_shares_the_processors(self):
         log = simulated(self.gate.tasks(), 4)

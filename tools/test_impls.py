@@ -1,12 +1,8 @@
 """Tests impls.py over a made-up crate, in a second."""
 
-import tempfile
-import unittest
-from pathlib import Path
-from unittest import mock
-
 import impls
 from crates import Unfit
+from test_support import Room
 from written_places import apart
 
 MODULE = """//! Members.
@@ -66,34 +62,24 @@ pub fn copy_attributes<'a>(
 }
 
 
-class ImplsTest(unittest.TestCase):
-    def setUp(self):
-        folder = tempfile.TemporaryDirectory()
-        self.addCleanup(folder.cleanup)
-        crates = mock.patch.object(impls, "CRATES", ["low"])
-        crates.start()
-        self.addCleanup(crates.stop)
-        self.root = Path(folder.name)
-        for path, text in FILES.items():
-            self.write(path, text)
-        self.out = self.root / "crates/low/src/member/written.rt"
+class ImplsTest(Room):
+    FILES = {f"crates/{path}": text for path, text in FILES.items()}
 
-    def write(self, path, text):
-        path = self.root / "crates" / path
-        path.parent.mkdir(parents=True, exist_ok=True)
-        path.write_text(text)
+    def setUp(self):
+        super().setUp()
+        self.patch(impls, CRATES=["low"])
 
     def test_a_parse_of_another_form_has_to_be_written_by_hand(self):
-        self.write("low/src/member.rt", MODULE.replace("    pub word: Word,\n", ""))
+        self.put({"crates/low/src/member.rt": MODULE.replace("    pub word: Word,\n", "")})
         with self.assertRaisesRegex(Unfit, "the Parse of Member has no plain form"):
             impls.run(self.root)
 
     def test_a_type_that_nothing_brings_in_is_refused(self):
-        self.write("low/src/member.rt", MODULE.replace("{Label, List}", "List"))
+        self.put({"crates/low/src/member.rt": MODULE.replace("{Label, List}", "List")})
         with self.assertRaisesRegex(Unfit, "Label is named, and no `use` brings it in"):
             impls.run(self.root)
 
     def test_a_tree_that_is_stated_nowhere_is_refused(self):
-        self.write("low/specs/Trees.antt", "pub definition_tree :\n")
+        self.put({"crates/low/specs/Trees.antt": "pub definition_tree :\n"})
         with self.assertRaisesRegex(Unfit, "low: member_tree is stated nowhere"):
             impls.run(self.root)

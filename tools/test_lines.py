@@ -1,13 +1,9 @@
 """Tests lines.py over a made-up repository, in a second."""
 
-import contextlib
-import io
-import tempfile
-import unittest
-from pathlib import Path
 from unittest import mock
 
 import lines
+from test_support import Room, printed
 
 TEXTS = {
     "crates.txt": "low:\nhigh: low\n",
@@ -33,27 +29,14 @@ tools: 3, of which tests 1
 """
 
 
-class LinesTest(unittest.TestCase):
-    def setUp(self):
-        folder = tempfile.TemporaryDirectory()
-        self.addCleanup(folder.cleanup)
-        self.root = Path(folder.name)
-
-    def put(self):
-        for path, text in TEXTS.items():
-            path = self.root / path
-            path.parent.mkdir(parents=True, exist_ok=True)
-            path.write_text(text)
-
+class LinesTest(Room):
     def run_main(self):
         """The status, and what is printed of answers and of errors."""
-        out, err = io.StringIO(), io.StringIO()
         with mock.patch("sys.argv", ["lines.py", str(self.root)]):
-            with contextlib.redirect_stdout(out), contextlib.redirect_stderr(err):
-                return lines.main(), out.getvalue(), err.getvalue()
+            return printed(lines.main)
 
     def test_lines_are_counted_by_crate_and_kind(self):
-        self.put()
+        self.put(TEXTS)
         self.assertEqual(self.run_main(), (0, REPORT[1:], ""))
 
     def test_a_folder_without_crates_is_refused(self):

@@ -2,18 +2,15 @@
 versions that is made up.
 """
 
-import contextlib
-import io
 import shutil
 import subprocess
-import tempfile
 import unittest
-from pathlib import Path
 
 import next_version
 from crates import Unfit
 from next_version import TOP, Change, Version, newest_commit, verdict
 from prebuilt import HEADER
+from test_support import Room, printed
 
 GIT = shutil.which("git")
 DECLARED = """\
@@ -56,34 +53,29 @@ class Numbers(unittest.TestCase):
 
 
 @unittest.skipUnless(GIT, "there is no git")
-class Compared(unittest.TestCase):
+class Compared(Room):
     """A repository with a version 0.1.0, whose commit CHANGELOG.md names."""
 
     def setUp(self):
-        room = tempfile.TemporaryDirectory()
-        self.addCleanup(room.cleanup)
-        self.top = Path(room.name)
-        (self.top / "include").mkdir()
+        super().setUp()
         self.declare("0x000100")
         self.git("init", "-q")
         self.git("add", ".")
         self.git("-c", "user.name=a", "-c", "user.email=a@b", "commit", "-q", "-m", "a")
         commit = self.git("rev-parse", "--short=12", "HEAD").strip()
-        (self.top / "CHANGELOG.md").write_text(f"## 0.1.0 (2026-01-01)\n\nCommit `{commit}`.\n")
+        self.put({"CHANGELOG.md": f"## 0.1.0 (2026-01-01)\n\nCommit `{commit}`.\n"})
 
     def git(self, *words):
         """What git prints."""
-        return subprocess.run([GIT, *words], cwd=self.top, capture_output=True, text=True, check=True).stdout
+        return subprocess.run([GIT, *words], cwd=self.root, capture_output=True, text=True, check=True).stdout
 
     def declare(self, version, more="", given="void"):
         """Writes the header."""
-        (self.top / HEADER).write_text(DECLARED.format(version=version, more=more, given=given))
+        self.put({HEADER: DECLARED.format(version=version, more=more, given=given)})
 
     def ran(self, *words):
         """The status, and what is printed."""
-        with contextlib.redirect_stdout(io.StringIO()) as out:
-            status = next_version.run(self.top, *(words or (None, 10)))
-        return status, out.getvalue()
+        return printed(next_version.run, self.root, *(words or (None, 10)))[:2]
 
     def test_nothing_has_changed(self):
         status, out = self.ran()

@@ -1,10 +1,7 @@
 """Tests pages.py over repositories that are made up, in a second; this one is not looked at."""
 
-import tempfile
-import unittest
-from pathlib import Path
-
 import pages
+from test_support import Room
 
 TABLE = "# The map\n\n## The crates\n\n| Crate | Holds |\n|---|---|\n{}\n## More\n\n| `weedle_other` | |\n"
 STRUCT = """/// A struct.
@@ -43,32 +40,22 @@ enum Hidden {
 """
 
 
-class Repository(unittest.TestCase):
-    def setUp(self):
-        folder = tempfile.TemporaryDirectory()
-        self.addCleanup(folder.cleanup)
-        self.root = Path(folder.name).resolve()
-        self.write("crates.txt", "# NAME: what it stands on\nweedle_base:\nweedle: weedle_base\n")
-        self.write("crates/weedle_base/src/parse.rt", "")
-        self.write("tools/check.py", "")
-        self.write("docs/TOOLS.md", "`check.py`\n")
-        self.write("docs/ARCHITECTURE.md", TABLE.format("| `weedle_base` | |\n| `weedle` | |\n"))
-        self.write("README.md", "")
-
-    def write(self, name, text):
-        path = self.root / name
-        path.parent.mkdir(parents=True, exist_ok=True)
-        path.write_text(text, encoding="utf-8")
+class Repository(Room):
+    FILES = {
+        "crates.txt": "# NAME: what it stands on\nweedle_base:\nweedle: weedle_base\n",
+        "crates/weedle_base/src/parse.rt": "", "tools/check.py": "", "docs/TOOLS.md": "`check.py`\n",
+        "docs/ARCHITECTURE.md": TABLE.format("| `weedle_base` | |\n| `weedle` | |\n"), "README.md": "",
+    }
 
     def found(self, look, name, text):
         """What a look finds where a file has this text."""
-        self.write(name, text)
+        self.put({name: text})
         return list(look(self.root))
 
 
 class Links(Repository):
     def links(self, text):
-        self.write("docs/USING.md", "# Using\n## Faults\n## The table: `a_b`, why [so](A.md)\n## Faults ##\n```sh\n# none\n```\n[a](#using)\n")
+        self.put({"docs/USING.md": "# Using\n## Faults\n## The table: `a_b`, why [so](A.md)\n## Faults ##\n```sh\n# none\n```\n[a](#using)\n"})
         return self.found(pages.of_links, "README.md", text)
 
     def test_those_that_lead_somewhere(self):
@@ -106,11 +93,11 @@ class Crates(Repository):
 
 class Scripts(Repository):
     def test_each_but_tests_and_other_files_is_named(self):
-        self.write("tools/test_check.py", "")
+        self.put({"tools/test_check.py": ""})
         self.assertEqual(self.found(pages.of_scripts, "tools/notes.txt", ""), [])
 
     def test_one_that_lacks(self):
-        self.write("tools/recheck.py", "")
+        self.put({"tools/recheck.py": ""})
         found = self.found(pages.of_scripts, "docs/TOOLS.md", "`recheck.py`\n")
         self.assertEqual(found, ["docs/TOOLS.md: nothing is said of check.py"])
 
@@ -118,7 +105,7 @@ class Scripts(Repository):
 class Kits(Repository):
     def rows(self, *kits):
         for page, kit in zip(pages.KIT_PAGES, kits):
-            self.write(page, f"Proved with `rattle-kit-{kit} logic 0a1b` (`rt version`).\n" if kit else "")
+            self.put({page: f"Proved with `rattle-kit-{kit} logic 0a1b` (`rt version`).\n" if kit else ""})
         return list(pages.of_kits(self.root))
 
     def test_all_name_one(self):
@@ -133,13 +120,14 @@ class Kits(Repository):
 
 class Versions(Repository):
     def rows(self, readme, cargo):
-        self.write("CHANGELOG.md", "# What is new\n\n## 1.2.0 (2026-01-02)\n\n## 1.1.0 (2026-01-01)\n")
-        self.write("README.md", readme)
-        self.write("crates/weedle_c/src/lib.rt", "/// The version: a byte each for the three numbers of 1.2.0.\n")
-        self.write("python/pyproject.toml", '[project]\nversion = "1.2.0"\n')
-        self.write("js/package.json", '{\n  "version": "1.2.0",\n}\n')
-        self.write("python/weedle/__init__.py", '__version__ = "1.2.0"\n')
-        self.write("examples/rust/Cargo.toml", f'version = "{cargo}"\n')
+        self.put({
+            "CHANGELOG.md": "# What is new\n\n## 1.2.0 (2026-01-02)\n\n## 1.1.0 (2026-01-01)\n", "README.md": readme,
+            "crates/weedle_c/src/lib.rt": "/// The version: a byte each for the three numbers of 1.2.0.\n",
+            "python/pyproject.toml": '[project]\nversion = "1.2.0"\n',
+            "js/package.json": '{\n  "version": "1.2.0",\n}\n',
+            "python/weedle/__init__.py": '__version__ = "1.2.0"\n',
+            "examples/rust/Cargo.toml": f'version = "{cargo}"\n',
+        })
         return list(pages.of_versions(self.root))
 
     def test_all_name_the_newest(self):
@@ -176,7 +164,7 @@ class Counts(Repository):
         self.assertEqual(self.found(pages.of_counts, "CHANGELOG.md", "1 keywords\n"), [])
 
     def test_what_is_not_in_pages_and_docs(self):
-        self.write("crates/weedle_base/src/parse.rt", "// 3 keywords\nfn a() {} // 4 keywords\n/// Any of the 5\n/// keywords.\n")
+        self.put({"crates/weedle_base/src/parse.rt": "// 3 keywords\nfn a() {} // 4 keywords\n/// Any of the 5\n/// keywords.\n"})
         self.assertEqual(self.found(pages.of_counts, "README.md", "\nthirteen kinds of definition\n"), [
             f"README.md:2: `thirteen kinds of definition`, by the grammar {len(pages.BY_NAME['DEFINITION'].row[1])}",
             f"crates/weedle_base/src/parse.rt:3: `5 keywords`, by the grammar {pages.KEYWORD_COUNT}",

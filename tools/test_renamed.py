@@ -1,11 +1,9 @@
 """Tests renamed.py over a made-up checkout of git, in a second."""
 
 import subprocess
-import tempfile
-import unittest
-from pathlib import Path
 
 import renamed
+from test_support import Room
 
 HOME = "crates/weedle_statements/src/callback.rt"
 DECLARED = "pub struct Callback {\n    pub name: Or,\n    pub result: Or,\n}\npub fn read(x: usize) {}\n"
@@ -19,18 +17,16 @@ FILES = {
 }
 
 
-class Renames(unittest.TestCase):
+class Renames(Room):
+    FILES = FILES
+
     def found(self, changed, is_checkout=True):
         """What is found where the file that declares is changed behind the commit."""
-        with tempfile.TemporaryDirectory() as root:
-            for path, text in FILES.items():
-                Path(root, path).parent.mkdir(parents=True, exist_ok=True)
-                Path(root, path).write_text(text)
-            for words in (["init", "-q"], ["add", "-A"], ["commit", "-q", "-m", "one"]) if is_checkout else ():
-                author = ["-c", "user.name=a", "-c", "user.email=a@b.c"]
-                subprocess.run(["git", "-C", root, *author, *words], check=True)
-            Path(root, HOME).write_text(changed)
-            return list(renamed.renamed(root))
+        for words in (["init", "-q"], ["add", "-A"], ["commit", "-q", "-m", "one"]) if is_checkout else ():
+            author = ["-c", "user.name=a", "-c", "user.email=a@b.c"]
+            subprocess.run(["git", "-C", self.root, *author, *words], check=True)
+        self.put({HOME: changed})
+        return list(renamed.renamed(self.root))
 
     def test_nothing_is_renamed(self):
         self.assertEqual(self.found(DECLARED + "pub fn more() {}\n"), [])

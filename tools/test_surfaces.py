@@ -1,11 +1,8 @@
 """Tests surfaces/: what is found in made-up sources, and what changes ask of callers."""
 
-import tempfile
-import unittest
-from pathlib import Path
-
 from prebuilt import TOP, calls_in
 from surfaces import Change, c, javascript, python, rust
+from test_support import Room
 
 HEADER = """\
 #define WEEDLE_VERSION 0x000b00
@@ -145,15 +142,11 @@ class Left: ...
 '''
 
 
-class Trees(unittest.TestCase):
+class Trees(Room):
     def surface(self, language, files):
         """The surface of a tree with these files."""
-        with tempfile.TemporaryDirectory() as room:
-            for name, text in files.items():
-                file = Path(room, name)
-                file.parent.mkdir(parents=True, exist_ok=True)
-                file.write_text(text, encoding="utf-8")
-            return language.surface_of(Path(room))
+        self.put(files)
+        return language.surface_of(self.root)
 
     def test_nothing_at_all(self):
         for language in (c, javascript, python, rust):

@@ -1,7 +1,6 @@
 """Tests try_edits.py and wrong_programs.py over a small made-up repository, in seconds."""
 
 import contextlib
-import io
 import os
 import subprocess
 import tempfile
@@ -11,6 +10,7 @@ from unittest import mock
 
 import try_edits
 import wrong_programs
+from test_support import Room, printed
 
 ONE = "# A note.\nfile: src/lib.rt\nold: a < b\nnew: a <= b\n"
 FILES = {
@@ -33,28 +33,16 @@ rt: rt check --start low::less writes a function's proof files
 """
 
 
-def write(root, files):
-    for path, text in files.items():
-        (root / path).parent.mkdir(parents=True, exist_ok=True)
-        (root / path).write_text(text)
+class TryEditsTest(Room):
+    FILES = FILES
 
-
-class TryEditsTest(unittest.TestCase):
-    def setUp(self):
-        folder = tempfile.TemporaryDirectory()
-        self.addCleanup(folder.cleanup)
-        self.root = Path(folder.name, "source")
-        write(self.root, FILES)
-
-    def add(self, text, name="new"):
-        write(self.root, {f"must-fail/by-hand/low/{name}.edit": text})
+    def add(self, text, name="new", crate="low"):
+        self.put({f"must-fail/by-hand/{crate}/{name}.edit": text})
 
     def run_main(self, *words):
         """The status, and the lines that are printed."""
-        said = io.StringIO()
-        with contextlib.redirect_stdout(said), contextlib.redirect_stderr(said):
-            status = try_edits.main([*words], self.root)
-        return status, said.getvalue().splitlines()
+        status, out, err = printed(try_edits.main, [*words], self.root)
+        return status, (err + out).splitlines()
 
 
 class Misfits(TryEditsTest):
@@ -125,7 +113,7 @@ class Functions(TryEditsTest):
     SOURCE = "pub fn first() {\n    1\n}\n\nimpl Low {\n    fn second() {\n        2\n    }\n}\n"
 
     def functions(self, path, old, head=""):
-        write(self.root, {f"crates/low/{path}": self.SOURCE})
+        self.put({f"crates/low/{path}": self.SOURCE})
         self.add(f"{head}file: {path}\nold: {old}\nnew: 0\n")
         edits = {it.name: it for it in try_edits.find_edits(self.root, ["low"])}
         return edits["low/new"].functions(self.root)
@@ -157,13 +145,8 @@ class Tries(TryEditsTest):
     def setUp(self):
         super().setUp()
         self.checks, self.files, self.answers = [], set(), {}
-        patches = [
-            mock.patch.object(try_edits, "run_rt", self.run_rt),
-            mock.patch.object(try_edits.shutil, "which", lambda name: name),
-        ]
-        for patch in patches:
-            patch.start()
-            self.addCleanup(patch.stop)
+        self.patch(try_edits, run_rt=self.run_rt)
+        self.patch(try_edits.shutil, which=lambda name: name)
 
     def run_rt(self, crate, functions):
         """Proves a crate as it stands, and refuses every other, or says what `answers` has."""
@@ -186,19 +169,19 @@ class Tries(TryEditsTest):
         self.assertEqual(self.checks, [*tried, ("high", high), ("high", turned[1])])
 
     def test_an_edit_of_a_function_is_tried_by_that_function(self):
-        write(self.root, {"must-fail/by-hand/high/above.edit": f"# only: less\n{ONE}"})
+        self.add(f"# only: less\n{ONE}", "above", "high")
         self.answers["a <= b\n", "less"] = 1, "fn high::less: not proved\nonly=1 proved=0\n"
         self.assertEqual(self.run_main("high"), (0, ["high/above: refused", "1 refused, 0 let through"]))
         self.assertEqual(self.checks, [("high", "a < b\n", "less"), ("high", "a <= b\n", "less")])
 
     def test_where_the_function_does_not_refuse_it_the_crate_is_asked(self):
-        write(self.root, {"must-fail/by-hand/high/above.edit": f"# only: less\n{ONE}"})
+        self.add(f"# only: less\n{ONE}", "above", "high")
         self.answers["a <= b\n", "less"] = 0, "only=1 proved=1\n"
         self.assertEqual(self.run_main("high"), (0, ["high/above: refused", "1 refused, 0 let through"]))
         self.assertEqual(self.checks[2:], [("high", "a < b\n"), ("high", "a <= b\n")])
 
     def test_where_there_is_no_such_function_the_crate_is_asked(self):
-        write(self.root, {"must-fail/by-hand/high/above.edit": f"# only: less\n{ONE}"})
+        self.add(f"# only: less\n{ONE}", "above", "high")
         self.answers["a < b\n", "less"] = 2, "rattle: error: `high` has no function `less`\n"
         status, said = self.run_main("high")
         self.assertEqual((status, said[-1]), (0, "1 refused, 0 let through"))
@@ -260,11 +243,12 @@ esac
 
 
 class Programs(TryEditsTest):
+    FILES = OF_PROGRAMS
+
     def setUp(self):
         super().setUp()
-        self.root, self.seen = self.root.parent / "programs", []
-        write(self.root, {**OF_PROGRAMS, "../bin/rt": RT})
-        (self.root / "../bin/rt").chmod(0o755)
+        self.seen = []
+        self.put_command("../bin/rt", RT)
 
     def tried(self, *words, found=(0, 3)):
         """The status, and the lines that are printed, where the runs come to this."""
@@ -292,18 +276,18 @@ class Programs(TryEditsTest):
         self.assertFalse((self.root / "crates/weedle_list/out").exists())
 
     def test_one_that_is_not_built(self):
-        write(self.root, {"tests/wrong_programs/broken.edit": WRONG.replace("new: wrong", "new: broken")})
+        self.put({"tests/wrong_programs/broken.edit": WRONG.replace("new: wrong", "new: broken")})
         status, lines = self.tried("broken")
         self.assertEqual((status, lines[-1]), (1, "0 found, 0 let through, 1 not tried"))
         self.assertIn("broken: NOT TRIED: rt try gave no program", lines[0])
 
     def test_one_that_does_not_apply(self):
         self.assertEqual(self.tried("--check"), (0, ["2 apply, 0 don't"]))
-        write(self.root, {"tests/wrong_programs/stale.edit": WRONG.replace("old: right", "old: left")})
+        self.put({"tests/wrong_programs/stale.edit": WRONG.replace("old: right", "old: left")})
         said = ["stale: doesn't apply: src/lib.rt has 0 times: left", "0 found, 0 let through, 1 not tried"]
         self.assertEqual(self.tried("stale"), (1, said))
         self.assertEqual(self.tried("--check"), (1, [said[0], "2 apply, 1 don't"]))
-        write(self.root, {"tests/wrong_programs/stale.edit": WRONG.replace("crate: low", "crate: no")})
+        self.put({"tests/wrong_programs/stale.edit": WRONG.replace("crate: low", "crate: no")})
         self.assertIn("isn't in crates.txt", self.tried("--check")[1][0])
         self.assertEqual(self.tried("no"), (2, ["try_edits: there is no tests/wrong_programs/no.edit"]))
 

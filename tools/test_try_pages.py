@@ -1,14 +1,12 @@
 """Tests try_pages.py and doc_examples.py over a made-up repository and a made-up `rt`."""
 
 import os
-import tempfile
-import unittest
-from pathlib import Path
 from unittest import mock
 
 import doc_examples
 import try_pages
 from crates import Unfit
+from test_support import Room
 
 README = """# A parser
 
@@ -160,28 +158,18 @@ AROUND = doc_examples.AROUND
 NOWHERE = "README.md:4: no file with tests and no doc comment has this block"
 
 
-class Repository(unittest.TestCase):
+class Repository(Room):
     FILES = FILES
 
     def setUp(self):
-        self.root = Path(self.enterContext(tempfile.TemporaryDirectory())) / "mine"
-        for path, text in self.FILES.items():
-            self.write(path, text)
-        commands = self.root.parent / "commands"
-        commands.mkdir()
-        self.write("../commands/rt", RT)
-        (commands / "rt").chmod(0o755)
-        self.enterContext(mock.patch.dict(os.environ, PATH=f"{commands}:{os.environ['PATH']}"))
-        self.enterContext(mock.patch.object(try_pages, "MEGABYTES", 1))
-
-    def write(self, path, text):
-        file = self.root / path
-        file.parent.mkdir(parents=True, exist_ok=True)
-        file.write_text(text)
+        super().setUp()
+        self.put_command("../commands/rt", RT)
+        self.enterContext(mock.patch.dict(os.environ, PATH=f"{self.root.parent}/commands:{os.environ['PATH']}"))
+        self.patch(try_pages, MEGABYTES=1)
 
     def changed(self, path, old, new):
         self.assertEqual(self.FILES[path].count(old), 1)
-        self.write(path, self.FILES[path].replace(old, new))
+        self.put({path: self.FILES[path].replace(old, new)})
 
     def tried(self, *names, is_run=False, **more):
         """What is found on these pages."""
@@ -208,11 +196,11 @@ class Readme(Repository):
         self.assertEqual(self.tried("README"), [NOWHERE])
 
     def test_a_page_of_blocks_alone(self):
-        self.write("docs/USING.md", "```rust\nlet x = gone;\n```\n")
+        self.put({"docs/USING.md": "```rust\nlet x = gone;\n```\n"})
         self.assertEqual(self.tried("README"), [NOWHERE.replace("README.md:4", "docs/USING.md:2")])
 
     def test_the_status_has_to_be_0(self):
-        self.write("../commands/rt", "#!/bin/sh\necho 'a.webidl:1:1: nothing defines the type A'\nexit 3\n")
+        self.put({"../commands/rt": "#!/bin/sh\necho 'a.webidl:1:1: nothing defines the type A'\nexit 3\n"})
         self.assertIn("ends with status 3", self.tried("README", is_run=True)[0])
 
     def test_one_without_a_program_or_its_line_is_refused(self):
@@ -244,7 +232,7 @@ class Pages(Repository):
         self.assertEqual(self.tried("VALIDATOR", "DOCUMENTATION", is_run=True), [])
 
     def test_what_is_printed_otherwise_is_said(self):
-        self.write("docs/VALIDATOR.md", VALIDATOR.replace("the type A\n", "the type B\n"))
+        self.put({"docs/VALIDATOR.md": VALIDATOR.replace("the type A\n", "the type B\n")})
         self.assertEqual(self.tried("VALIDATOR", is_run=True)[:4], [
             "docs/VALIDATOR.md: the program ends with status 0, and prints",
             "  a.webidl:1:1: nothing defines the type A",
@@ -254,7 +242,7 @@ class Pages(Repository):
 
     def test_names_that_are_gone_are_said_without_a_run(self):
         text = VALIDATOR.replace("{Name, names}", "{Name, gone}")
-        self.write("docs/VALIDATOR.md", text.replace("fn main", "use weedle_gone::it;\nuse weedle::parse;\nfn main"))
+        self.put({"docs/VALIDATOR.md": text.replace("fn main", "use weedle_gone::it;\nuse weedle::parse;\nfn main")})
         self.assertEqual(self.tried("VALIDATOR"), [
             "docs/VALIDATOR.md: the program's line of crates.txt lacks weedle",
             "docs/VALIDATOR.md: weedle_gone is no crate of crates.txt",
@@ -266,11 +254,10 @@ class Pages(Repository):
             self.assertEqual(self.tried("VALIDATOR"), ["docs/VALIDATOR.md: the program has 3 lines, and may have 2"])
 
     def test_real_files_are_counted(self):
-        for name in ("a.webidl", "below/b.idl", "c.txt"):
-            self.write(f"../real/{name}", "interface A {};\n")
+        self.put({f"../real/{name}": "interface A {};\n" for name in ("a.webidl", "below/b.idl", "c.txt")})
         files = self.root.parent / "real"
         self.assertEqual(self.tried("VALIDATOR", is_run=True, files=files), [])
-        self.write("../real/d.widl", "interface D {};\n")
+        self.put({"../real/d.widl": "interface D {};\n"})
         wrong = self.tried("VALIDATOR", is_run=True, files=files)
         self.assertEqual(wrong[1], "  3 files")
         self.assertIn("  3 types that nothing defines", wrong)
@@ -292,7 +279,7 @@ class Examples(Repository):
     def setUp(self):
         super().setUp()
         around = {("crates/weedle_low/src/lib.rt", 2): ("fn made() {}\n", "", "    it\n")}
-        self.enterContext(mock.patch.object(doc_examples, "AROUND", around))
+        self.patch(doc_examples, AROUND=around)
 
     def found(self, *crates):
         return doc_examples.examples_of(self.root, crates)
@@ -307,7 +294,7 @@ class Examples(Repository):
 
     def test_those_of_some_crates_alone(self):
         self.assertEqual(list(self.found("high")), ["high_lib_1"])
-        self.write("crates/other/src/lib.rt", "//! Other.\n")
+        self.put({"crates/other/src/lib.rt": "//! Other.\n"})
         with self.assertRaisesRegex(Unfit, "other has no example"):
             self.found("high", "other")
 

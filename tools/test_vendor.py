@@ -4,13 +4,12 @@ import hashlib
 import json
 import shutil
 import subprocess
-import tempfile
 import unittest
-from pathlib import Path
 from unittest import mock
 
 import vendor
 from crates import Unfit
+from test_support import Room, put
 
 CHANGELOG = "# What is new\n\n## {} (2026-11-26)\n\n## 0.0.9 (2026-11-01)\n"
 SOURCE = {
@@ -47,12 +46,6 @@ OWN = "# ours\napp: weedle # the program"
 LINES = "low: memchr\nmiddle: low\nweedle: middle low\n"
 
 
-def write(root, files):
-    for path, text in files.items():
-        (root / path).parent.mkdir(parents=True, exist_ok=True)
-        (root / path).write_text(text)
-
-
 def cut_off(step, left):
     """A step that ends the run where none is left."""
 
@@ -71,13 +64,12 @@ def files_in(root):
     return texts
 
 
-class VendorTest(unittest.TestCase):
+class VendorTest(Room):
     def setUp(self):
-        folder = tempfile.TemporaryDirectory()
-        self.addCleanup(folder.cleanup)
-        self.source, self.dest = Path(folder.name, "source"), Path(folder.name, "dest")
-        write(self.source, SOURCE)
-        write(self.dest, {"crates.txt": OWN, "crates/app/src/main.rt": "//! Ours.\n"})
+        super().setUp()
+        self.source, self.dest = self.root / "source", self.root / "dest"
+        put(self.source, SOURCE)
+        put(self.dest, {"crates.txt": OWN, "crates/app/src/main.rt": "//! Ours.\n"})
 
     def vendor(self, **options):
         return vendor.vendor(self.source, self.dest, **options)
@@ -98,8 +90,8 @@ class VendorTest(unittest.TestCase):
         """The source goes on without the crate `middle`, in a new version."""
         shutil.rmtree(self.source / "crates/middle")
         lines = "low: memchr\nweedle: low\nrows: weedle\n"
-        write(self.source, {"crates.txt": lines, "CHANGELOG.md": CHANGELOG.format("0.2.0")})
-        write(self.source, {"crates/low/src/lib.rt": "//! Lower.\n"})
+        put(self.source, {"crates.txt": lines, "CHANGELOG.md": CHANGELOG.format("0.2.0")})
+        put(self.source, {"crates/low/src/lib.rt": "//! Lower.\n"})
 
     def assert_is_without_middle(self):
         files = files_in(self.dest)
@@ -129,7 +121,7 @@ class Copies(VendorTest):
 
     def test_an_empty_repository_is_enough(self):
         shutil.rmtree(self.dest)
-        write(self.dest, {"crates.txt": ""})
+        put(self.dest, {"crates.txt": ""})
         self.vendor()
         self.assertEqual(files_in(self.dest).keys(), COPIED | {"crates.txt"})
 
@@ -156,7 +148,7 @@ class Copies(VendorTest):
         git("commit", "-q", "-m", "All")
         commit = git("rev-parse", "--short=12", "HEAD")
         self.assertIn(f"0.1.0 ({commit}): ", self.vendor()[0][0])
-        write(self.source, {"crates/low/src/lib.rt": "//! Other.\n"})
+        put(self.source, {"crates/low/src/lib.rt": "//! Other.\n"})
         self.assertIn(f"0.1.0 ({commit} with changes): ", self.vendor()[0][0])
 
     def test_a_second_run_changes_nothing(self):
@@ -182,7 +174,7 @@ class Updates(VendorTest):
 
     def test_what_changed_is_brought(self):
         new = {"crates/middle/src/lib.rt": "//! Other.\n", "crates/middle/src/new.rt": "//! New.\n"}
-        write(self.source, {**new, "CHANGELOG.md": CHANGELOG.format("0.2.0")})
+        put(self.source, {**new, "CHANGELOG.md": CHANGELOG.format("0.2.0")})
         (self.source / "crates/low/specs/Rows.antt").unlink()
         said, _ = self.vendor()
         head = "weedle 0.1.0 (no commit) to 0.2.0 (no commit): 3 crates, 8 files"
@@ -194,14 +186,14 @@ class Updates(VendorTest):
 
     def test_a_new_crate_and_its_line_are_added(self):
         lines = SOURCE["crates.txt"].replace("low: memchr", "base:\nlow: base")
-        write(self.source, {"crates.txt": lines, "crates/base/src/lib.rt": "//! Base.\n"})
+        put(self.source, {"crates.txt": lines, "crates/base/src/lib.rt": "//! Base.\n"})
         said, _ = self.vendor()
         self.assertEqual(said[1:], ["added base", "changed low: its line"])
         wanted = f"{OWN}\n{LINES.replace('memchr', 'base')}base:\n"
         self.assertEqual(files_in(self.dest)["crates.txt"], wanted)
 
     def test_a_crate_that_is_no_more_is_removed(self):
-        write(self.dest, {"crates/middle/out/kept": "", "crates/low/out/kept": ""})
+        put(self.dest, {"crates/middle/out/kept": "", "crates/low/out/kept": ""})
         self.drop_middle()
         said, _ = self.vendor()
         wanted = ["changed low: 1 file", "changed weedle: its line", "removed middle"]
@@ -217,7 +209,7 @@ class Updates(VendorTest):
         # It writes the record, removes three files, writes two, and writes the record again.
         for steps in range(7):
             shutil.rmtree(self.dest)
-            write(self.dest, before)
+            put(self.dest, before)
             left = iter(range(steps))
             cut = {name: cut_off(step, left) for name, step in whole.items()}
             with mock.patch.multiple(vendor, **cut), self.assertRaises(StopIteration):
@@ -237,16 +229,16 @@ class Refusals(VendorTest):
         self.assertIn("is this repository itself", self.refused())
 
     def test_another_crate_of_such_a_name(self):
-        write(self.dest, {"crates/low/src/lib.rt": "//! Ours.\n"})
+        put(self.dest, {"crates/low/src/lib.rt": "//! Ours.\n"})
         self.assertIn("has a crate low that isn't from here", self.refused())
 
     def test_another_line_of_such_a_name(self):
-        write(self.dest, {"crates.txt": "middle:\n"})
+        put(self.dest, {"crates.txt": "middle:\n"})
         self.assertIn("has a crate middle that isn't from here", self.refused())
 
     def test_files_changed_added_or_removed_by_hand(self):
         self.vendor()
-        write(self.dest, {"crates/low/src/lib.rt": "mine", "crates/middle/src/mine.rt": "mine"})
+        put(self.dest, {"crates/low/src/lib.rt": "mine", "crates/middle/src/mine.rt": "mine"})
         (self.dest / "crates/middle/proofs/Lib.antt").unlink()
         rows = [row.strip() for row in self.refused().splitlines()[1:]]
         removed, added = "removed crates/middle/proofs/Lib.antt", "added crates/middle/src/mine.rt"
@@ -254,12 +246,12 @@ class Refusals(VendorTest):
 
     def test_a_file_added_by_hand_to_a_crate_that_is_no_more(self):
         self.vendor()
-        write(self.dest, {"crates/middle/notes.md": "mine"})
+        put(self.dest, {"crates/middle/notes.md": "mine"})
         self.drop_middle()
         self.assertIn("added crates/middle/notes.md", self.refused())
 
     def test_a_line_changed_by_hand(self):
         self.vendor()
         text = (self.dest / "crates.txt").read_text().replace("middle: low", "middle: low memchr")
-        write(self.dest, {"crates.txt": text})
+        put(self.dest, {"crates.txt": text})
         self.assertIn("changed crates.txt: middle: low memchr", self.refused())

@@ -2,15 +2,13 @@
 
 import os
 import sys
-import tempfile
 import unittest
-from contextlib import redirect_stderr, redirect_stdout
-from io import StringIO
 from pathlib import Path
 from unittest import mock
 
 import write
 from crates import Unfit
+from test_support import Room, printed, put
 
 HEAD = b"//! Terminals.\n//!\n//! Written by tools/terminals.py.\n"
 
@@ -37,22 +35,15 @@ class Heads(unittest.TestCase):
         self.assertIsNone(write.writer_in("//! By hand.\n\n\n// as written by tools/x.py\n"))
 
 
-def put(root, files):
-    """Writes the files of a made-up repository."""
-    for path, data in files.items():
-        (Path(root) / path).parent.mkdir(parents=True, exist_ok=True)
-        (Path(root) / path).write_bytes(data)
-
-
-class Copies(unittest.TestCase):
+class Copies(Room):
     def copied(self, files):
         """What a copy of a repository of these files holds: files by their paths, and folders."""
-        with tempfile.TemporaryDirectory() as here, tempfile.TemporaryDirectory() as there:
-            put(here, {**files, "crates.txt": b"a:\n", "tools/x.py": b"1"})
-            write.copy(here, write.sources(here), there)
-            found = {it.relative_to(there).as_posix(): it for it in Path(there).rglob("*")}
-            data = {path: it.read_bytes() for path, it in found.items() if it.is_file()}
-            return data, found.keys() - data.keys()
+        here, there = self.root / "here", self.root / "there"
+        put(here, {**files, "crates.txt": b"a:\n", "tools/x.py": b"1"})
+        write.copy(here, write.sources(here), there)
+        found = {it.relative_to(there).as_posix(): it for it in there.rglob("*")}
+        data = {path: it.read_bytes() for path, it in found.items() if it.is_file()}
+        return data, found.keys() - data.keys()
 
     def test_what_a_check_reads_is_copied(self):
         data, _ = self.copied({"crates/a/src/lib.rt": b"x", "crates/a/out/kept": b"no source"})
@@ -93,18 +84,17 @@ find src -type f | sort | while read -r file; do echo laid >> "$file"; done
 """
 
 
-class Layouts(unittest.TestCase):
+class Layouts(Room):
     def laid_out(self, files, anew):
         """The files of a room after it was laid out, and how often `rt` was called."""
-        with tempfile.TemporaryDirectory() as folder:
-            room, calls = Path(folder, "room"), Path(folder, "calls")
-            put(room, {**anew, "crates.txt": b"a:\nb:\nc:\n"})
-            put(folder, {"bin/rt": LAYS_OUT.encode(), "calls": b""})
-            Path(folder, "bin/rt").chmod(0o755)
-            path = f"{folder}/bin{os.pathsep}{os.environ['PATH']}"
-            with mock.patch.dict(os.environ, PATH=path, CALLS=str(calls)):
-                write.lay_out(room, files)
-            return write.sources(room), len(calls.read_text().splitlines())
+        room, calls = self.root / "room", self.root / "calls"
+        put(room, {**anew, "crates.txt": b"a:\nb:\nc:\n"})
+        self.put({"calls": ""})
+        self.put_command("bin/rt", LAYS_OUT)
+        path = f"{self.root}/bin{os.pathsep}{os.environ['PATH']}"
+        with mock.patch.dict(os.environ, PATH=path, CALLS=str(calls)):
+            write.lay_out(room, files)
+        return write.sources(room), len(calls.read_text().splitlines())
 
     def test_each_crate_with_a_file_that_differs_is_laid_out_as_a_whole(self):
         files = {f"crates/{it}/src/lib.rt": b"x\n" for it in "abc"}
@@ -119,12 +109,11 @@ class Layouts(unittest.TestCase):
         self.assertEqual(self.laid_out(files, files), (files, 0))
 
 
-class Writers(unittest.TestCase):
+class Writers(Room):
     def said(self, text):
         """What is said of a script with this `main`."""
-        with tempfile.TemporaryDirectory() as room:
-            put(room, {"tools/x.py": text.encode(), "tools/y.py": b"WORD = 'why'\n"})
-            return write.call([sys.executable, "-c", write.RUN, "x"], room)
+        self.put({"tools/x.py": text, "tools/y.py": "WORD = 'why'\n"})
+        return write.call([sys.executable, "-c", write.RUN, "x"], self.root)
 
     def test_each_is_a_script(self):
         for script in write.WRITERS:
@@ -148,8 +137,7 @@ class Whole(unittest.TestCase):
             "bring": lambda top, files, anew: ["new a"],
         }
         with mock.patch.multiple(write, **given):
-            with redirect_stdout(StringIO()) as out, redirect_stderr(StringIO()) as err:
-                return write.main(), out.getvalue(), err.getvalue()
+            return printed(write.main)
 
     def test_the_pages_follow_what_is_brought(self):
         found = self.run_main({}, lambda words, folder: f"changed {words[1]}\n")
@@ -160,15 +148,14 @@ class Whole(unittest.TestCase):
         self.assertEqual(found, (2, "new a\n", "write: why\n"))
 
 
-class Brought(unittest.TestCase):
+class Brought(Room):
     def test_what_differs_is_changed_removed_or_new(self):
-        with tempfile.TemporaryDirectory() as root:
-            files = {f"crates/a/src/{name}.rt": HEAD for name in ("kept", "gone", "other")}
-            put(root, files)
-            anew = {**files, "crates/a/src/other.rt": b"x", "crates/a/src/b/first.rt": HEAD}
-            del anew["crates/a/src/gone.rt"]
-            rows = list(write.bring(root, files, anew))
-            there = {it.relative_to(root).as_posix(): it.read_bytes() for it in Path(root).rglob("*.rt")}
+        files = {f"crates/a/src/{name}.rt": HEAD for name in ("kept", "gone", "other")}
+        self.put(files)
+        anew = {**files, "crates/a/src/other.rt": b"x", "crates/a/src/b/first.rt": HEAD}
+        del anew["crates/a/src/gone.rt"]
+        rows = list(write.bring(self.root, files, anew))
+        there = {it.relative_to(self.root).as_posix(): it.read_bytes() for it in self.root.rglob("*.rt")}
         self.assertEqual(rows, [
             "new crates/a/src/b/first.rt", "removed crates/a/src/gone.rt", "changed crates/a/src/other.rt",
         ])
