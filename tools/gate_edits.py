@@ -111,33 +111,30 @@ class Trial:
         return [given[self.crate.name, "edits", number] for number in range(len(self.edits))]
 
 
-def can_replace(rt):
-    """Whether rt tries edits as is known here."""
-    wanted = {
-        "add_edits": ["tasks", "crate", "edits", "first", "waits", "is_well", "kept", "start", "in_ci"],
-        "checked": ["crate", "texts", "flags", "kept"],
-        "must_fail": ["crate", "edit", "flags", "kept"],
-    }
-    try:
-        given = {name: [*inspect.signature(getattr(rt, name)).parameters] for name in wanted}
-        kept = [rt.Kept.key, rt.Kept.of_edit, rt.Kept.tried, rt.Kept.keep_tried, rt.Kept.is_untouched]
-        kinds = [rt.UNSURE, rt.REFUSED, *rt.SETTLED]
-    except (AttributeError, TypeError):
-        return False
-    return given == wanted and all(map(callable, [*kept, rt.need, rt.say])) and len(kinds) > 2
-
-
-def tries_at_once(rt):
-    """Whether rt tries the edits of a crate in one call and keeps nothing of earlier runs, as older kits do."""
-    wanted = {
-        "must_fail_all": ["crate", "edits", "flags"],
-        "checked": ["crate", "texts", "flags", "kept"],
-        "must_fail": ["crate", "edit", "flags", "kept"],
-    }
+def takes(rt, **more):
+    """Whether these calls of rt have these parameters, and those that try an edit what is known here."""
+    edits = {"checked": ["crate", "texts", "flags", "kept"], "must_fail": ["crate", "edit", "flags", "kept"]}
+    wanted = edits | more
     try:
         return wanted == {name: [*inspect.signature(getattr(rt, name)).parameters] for name in wanted}
     except (AttributeError, TypeError):
         return False
+
+
+def can_replace(rt):
+    """Whether rt tries edits as is known here."""
+    try:
+        calls = [rt.Kept.key, rt.Kept.of_edit, rt.Kept.tried, rt.Kept.keep_tried, rt.Kept.is_untouched, rt.need, rt.say]
+        kinds = [rt.UNSURE, rt.REFUSED, *rt.SETTLED]
+    except AttributeError:
+        return False
+    add_edits = ["tasks", "crate", "edits", "first", "waits", "is_well", "kept", "start", "in_ci"]
+    return takes(rt, add_edits=add_edits) and all(map(callable, calls)) and len(kinds) > 2
+
+
+def tries_at_once(rt):
+    """Whether rt tries the edits of a crate in one call and keeps nothing of earlier runs, as older kits do."""
+    return takes(rt, must_fail_all=["crate", "edits", "flags"])
 
 
 def all_by_functions(rt):

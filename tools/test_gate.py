@@ -1,16 +1,13 @@
 """Tests gate.py over made-up tasks."""
 
 import sys
-import tempfile
 import threading
 import types
 import unittest
-from contextlib import nullcontext, redirect_stdout
-from io import StringIO
-from pathlib import Path
+from contextlib import nullcontext
 
-import toolchain
 from gate import Order, is_known, known, measured, out_of_layout, remembered, run_all, scheduler, with_built
+from test_support import Room, printed
 
 GB = 10**9
 TIMES = {("low", "proof"): 60, ("long", "proof"): 2400, ("side", "proof"): 500, ("top", "proof"): 300}
@@ -169,93 +166,68 @@ class Measured(unittest.TestCase):
         self.assertEqual(remembered({}), {})
 
 
-class Library(unittest.TestCase):
-    """The static library, as a task behind its proof."""
+class Built(Room):
+    """What is built over the proof of a crate, with a command in the place of the compiler and the linker."""
 
-    def setUp(self):
-        room = tempfile.TemporaryDirectory()
-        self.addCleanup(room.cleanup)
-        self.file = Path(room.name, "libweedle_c.a")
-        self.other = Path(room.name, "libweedle_c.aarch64-linux.a")
-        self.words = ["-c", "import sys; open(sys.argv[-1], 'w').write(sys.argv[1])"]
-        crate = types.SimpleNamespace(name="weedle_c", folder=room.name, words=lambda flags, keeps: flags)
-        lib = types.SimpleNamespace(guarded=lambda: [sys.executable, *self.words], RATTLE="rattle")
-        self.rt = types.SimpleNamespace(crates_of=lambda root: [crate], rtlib=lib, KIT="/kit")
-        self.tasks = {("weedle_c", "proof"): ([], 7, GB, lambda given, jobs: True)}
+    # It writes its words into the file that is named behind -o.
+    WRITES = "import sys; it = sys.argv[1:]; open(it[it.index('-o') + 1], 'w').write(' '.join(it))"
+    FAILS = "print('no'); raise SystemExit(1)"
+    SAID = "no\ngate.py: {} isn't built over what is proved, for {}-unknown-linux-gnu\n"
+    FILES = {"out/kept": ""}
 
-    def build(self, is_proved=True):
-        waits, *_, call = with_built(self.tasks, self.rt, self.file)["weedle_c", "library"]
-        self.assertEqual(waits, [("weedle_c", "proof")])
-        with redirect_stdout(StringIO()) as said:
-            return call({("weedle_c", "proof"): is_proved}, 1), said.getvalue()
+    def built(self, name, command=WRITES, is_proved=True, **what):
+        """Whether it went well, and what is printed."""
+        crate = types.SimpleNamespace(name=name, folder=str(self.root), words=lambda flags, keeps: flags)
+        lib = types.SimpleNamespace(guarded=lambda: [sys.executable, "-c", command], RATTLE="rattle")
+        rt = types.SimpleNamespace(crates_of=lambda root: [crate], rtlib=lib, KIT="/kit")
+        tasks = with_built({(name, "proof"): ([], 7, GB, lambda given, jobs: True)}, rt, **what)
+        self.assertEqual(set(tasks), {(name, "proof"), (name, "library")})
+        waits, *_, call = tasks[name, "library"]
+        self.assertEqual(waits, [(name, "proof")])
+        return printed(call, {(name, "proof"): is_proved}, 1)[:2]
 
-    def test_it_is_built_behind_the_proof(self):
-        self.assertEqual(self.build(), (True, ""))
-        self.assertEqual(self.file.read_text(), "rattle")
-        self.assertEqual(self.other.read_text(), "rattle")
+    def made(self):
+        """The texts of the files that are made, by their names."""
+        return {it.name: it.read_text() for it in self.root.rglob("*") if it.is_file() and it.name != "kept"}
 
-    def test_what_each_is_built_for(self):
-        self.words = ["-c", "import sys; open(sys.argv[-1], 'w').write(' '.join(sys.argv[3:]))"]
-        self.assertEqual(self.build(), (True, ""))
-        for file, wanted in (
-            (self.file, "--target x86_64-unknown-linux-gnu --cpu x86-64 "),
-            (self.other, "--target aarch64-unknown-linux-gnu --cpu generic "),
-        ):
-            self.assertIn(wanted, file.read_text())
+    def library(self, **how):
+        return self.built("weedle_c", library=self.root / "libweedle_c.a", **how)
 
-    def test_what_is_not_proved_is_not_built(self):
-        self.assertEqual(self.build(is_proved=False), (False, ""))
-        self.assertFalse(self.file.exists())
-        self.assertFalse(self.other.exists())
+    def program(self, **how):
+        return self.built("weedle_check", programs=["weedle_check"], **how)
 
-    def test_where_building_fails_it_is_said(self):
-        self.words = ["-c", "print('no'); raise SystemExit(1)"]
-        said = "no\ngate.py: weedle_c isn't built over what is proved, for {}-unknown-linux-gnu\n"
-        self.assertEqual(self.build(), (False, said.format("x86_64") + said.format("aarch64")))
+    def test_the_static_library_for_each_target(self):
+        self.assertEqual(self.library(), (True, ""))
+        made = self.made()
+        self.assertIn("--target x86_64-unknown-linux-gnu --cpu x86-64 ", made.pop("libweedle_c.a"))
+        other = made.pop("libweedle_c.aarch64-linux.a")
+        self.assertIn("--target aarch64-unknown-linux-gnu --cpu generic ", other)
+        self.assertEqual(made, {})
 
-    def test_another_rt_goes_on_without_it(self):
-        with redirect_stdout(StringIO()) as said:
-            self.assertEqual(with_built(self.tasks, types.SimpleNamespace(), self.file), self.tasks)
-        self.assertIn("can't be built", said.getvalue())
-
-
-class Programs(unittest.TestCase):
-    """The programs of a release, as tasks behind their proofs."""
-
-    def setUp(self):
-        room = tempfile.TemporaryDirectory()
-        self.addCleanup(room.cleanup)
-        self.out = Path(room.name, "out")
-        self.out.mkdir()
-        # What stands for both commands writes its words into the file that is named behind -o.
-        self.words = ["-c", "import sys; it = sys.argv[1:]; open(it[it.index('-o') + 1], 'w').write(' '.join(it))"]
-        crate = types.SimpleNamespace(name="weedle_check", folder=room.name, words=lambda flags, keeps: flags)
-        lib = types.SimpleNamespace(guarded=lambda: [sys.executable, *self.words], RATTLE="rattle")
-        self.rt = types.SimpleNamespace(crates_of=lambda root: [crate], rtlib=lib, KIT="/kit")
-        self.tasks = {("weedle_check", "proof"): ([], 7, GB, lambda given, jobs: True)}
-
-    def build(self, is_proved=True):
-        tasks = with_built(self.tasks, self.rt, programs=["weedle_check"])
-        self.assertEqual(set(tasks), {("weedle_check", "proof"), ("weedle_check", "library")})
-        with redirect_stdout(StringIO()) as said:
-            return tasks["weedle_check", "library"][3]({("weedle_check", "proof"): is_proved}, 1), said.getvalue()
-
-    def test_one_is_built_and_linked_behind_its_proof_for_any_processor(self):
-        self.assertEqual(self.build(), (True, ""))
-        made, program = Path(self.out, "weedle_check.x86-64.o"), Path(self.out, "weedle_check.x86-64")
-        self.assertIn("rattle build --jobs 1 --target x86_64-unknown-linux-gnu --cpu x86-64 ", made.read_text())
-        linked = program.read_text()
+    def test_a_program_is_built_and_linked_for_any_processor(self):
+        self.assertEqual(self.program(), (True, ""))
+        made = self.made()
+        words = "rattle build --jobs 1 --target x86_64-unknown-linux-gnu --cpu x86-64 "
+        self.assertIn(words, made["weedle_check.x86-64.o"])
+        linked = made["weedle_check.x86-64"]
         self.assertTrue(linked.startswith("/kit/bin/rattle-link --target x86_64-unknown-linux-gnu "), linked)
-        self.assertIn(f" {made} ", linked)
+        self.assertIn(f" {self.root}/out/weedle_check.x86-64.o ", linked)
 
     def test_what_is_not_proved_is_not_built(self):
-        self.assertEqual(self.build(is_proved=False), (False, ""))
-        self.assertEqual([*self.out.iterdir()], [])
+        for build in (self.library, self.program):
+            self.assertEqual(build(is_proved=False), (False, ""))
+        self.assertEqual(self.made(), {})
 
     def test_where_building_fails_it_is_said_and_nothing_is_linked(self):
-        self.words = ["-c", "print('no'); raise SystemExit(1)"]
-        said = "no\ngate.py: weedle_check isn't built over what is proved, for x86_64-unknown-linux-gnu\n"
-        self.assertEqual(self.build(), (False, said))
+        said = [self.SAID.format("weedle_c", it) for it in ("x86_64", "aarch64")]
+        self.assertEqual(self.library(command=self.FAILS), (False, "".join(said)))
+        self.assertEqual(self.program(command=self.FAILS), (False, self.SAID.format("weedle_check", "x86_64")))
+
+    def test_another_rt_goes_on_without_it(self):
+        tasks = {("weedle_c", "proof"): ([], 7, GB, None)}
+        found, out, _ = printed(with_built, tasks, types.SimpleNamespace(), self.root / "libweedle_c.a")
+        self.assertEqual(found, tasks)
+        self.assertIn("can't be built", out)
 
 
 class Known(unittest.TestCase):
@@ -293,6 +265,3 @@ class Known(unittest.TestCase):
         lib = types.SimpleNamespace(fmt=lambda folder, *_: 1, crates_below=lambda root: [types.SimpleNamespace(name="top", folder="")])
         rt = types.SimpleNamespace(crates_of=lambda root, aside: [], rtlib=lib)
         self.assertEqual(out_of_layout(rt), ["top"])
-
-    def test_what_is_no_python_is_not_loaded(self):
-        self.assertIsNone(toolchain.load("/bin/true"))

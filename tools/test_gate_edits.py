@@ -1,11 +1,11 @@
 """Tests gate_edits.py over a made-up rt."""
 
-import tempfile
 import types
 import unittest
 from pathlib import Path
 
 import gate_edits
+from test_support import Room
 
 PROVED = "fn low::less: proved\nonly=1 proved=1\n"
 REFUSED = "fn low::less: not proved\nonly=1 proved=0\n"
@@ -60,18 +60,40 @@ class Rt:
         return ("refused" if is_refused else "missed"), f"{Path(edit).stem}: {ran.returncode}"
 
 
-class Tried(unittest.TestCase):
+FUNCTIONS = {("base", "functions"): PROVED, ("one", "functions"): REFUSED, ("two", "functions"): REFUSED}
+
+
+class Edits:
+    """A crate with two edits of a function, as both ways of rt try them."""
+
+    FILES = {f"{name}.edit": "# only: less\nfile: src/lib.rt\nold: <\nnew: <=\n" for name in ("one", "two")}
+
     def setUp(self):
-        room = tempfile.TemporaryDirectory()
-        self.addCleanup(room.cleanup)
-        self.edits = [Path(room.name, f"{name}.edit") for name in ("one", "two")]
-        for edit in self.edits:
-            edit.write_text("# only: less\nfile: src/lib.rt\nold: <\nnew: <=\n")
+        super().setUp()
+        self.edits = [self.root / name for name in self.FILES]
         self.crate = types.SimpleNamespace(name="low", count=lambda pattern: 7)
         self.kept = Kept()
 
+    def test_each_is_tried_by_its_function(self):
+        self.assertEqual(self.run_all(FUNCTIONS)[:2], (["refused", "refused"], [*FUNCTIONS]))
+
+    def test_one_that_its_function_lets_through_is_tried_over_the_crate(self):
+        for said, kind in ((WHOLE, "refused"), (PROVED, "missed")):
+            answers = FUNCTIONS | {("one", "functions"): PROVED, ("one", "crate"): said}
+            kinds, checks = self.run_all(answers)[:2]
+            self.assertEqual(kinds, [kind, "refused"])
+            self.assertIn(("one", "crate"), checks)
+            self.assertNotIn(("two", "crate"), checks)
+            self.kept = Kept()
+
+    def test_where_the_function_is_not_proved_as_it_stands_all_are_tried_over_the_crate(self):
+        answers = {("base", "functions"): REFUSED, ("one", "crate"): WHOLE, ("two", "crate"): PROVED}
+        self.assertEqual(self.run_all(answers)[:2], (["refused", "missed"], [*answers]))
+
+
+class Tried(Edits, Room):
     def run_all(self, answers):
-        """The results, what rt was asked to check, and how many were known before."""
+        """What each edit comes to, what rt was asked to check, and how many were known before."""
         rt, tasks = Rt(answers), {}
         gate_edits.replace(rt)
         results, known = rt.add_edits(
@@ -81,31 +103,11 @@ class Tried(unittest.TestCase):
         for key, (waits, _, _, call) in tasks.items():
             self.assertTrue(all(it in given for it in waits))
             given[key] = call(given, 1)
-        return results(given), rt.checks, len(known())
-
-    def test_each_is_tried_by_its_function(self):
-        answers = {("base", "functions"): PROVED, ("one", "functions"): REFUSED, ("two", "functions"): REFUSED}
-        results, checks, known = self.run_all(answers)
-        self.assertEqual([kind for kind, _ in results], ["refused", "refused"])
-        self.assertEqual((checks, known), ([*answers], 0))
-
-    def test_one_that_its_function_lets_through_is_tried_over_the_crate(self):
-        answers = {("base", "functions"): PROVED, ("one", "functions"): PROVED, ("two", "functions"): REFUSED}
-        results, checks, _ = self.run_all(answers | {("one", "crate"): WHOLE})
-        self.assertEqual([kind for kind, _ in results], ["refused", "refused"])
-        self.assertIn(("one", "crate"), checks)
-        self.assertNotIn(("two", "crate"), checks)
-
-    def test_where_the_function_is_not_proved_as_it_stands_all_are_tried_over_the_crate(self):
-        answers = {("base", "functions"): REFUSED, ("one", "crate"): WHOLE, ("two", "crate"): PROVED}
-        results, checks, _ = self.run_all(answers)
-        self.assertEqual([kind for kind, _ in results], ["refused", "missed"])
-        self.assertEqual(checks, [*answers])
+        return [kind for kind, _ in results(given)], rt.checks, len(known())
 
     def test_what_was_refused_is_kept_and_not_tried_again(self):
-        answers = {("base", "functions"): PROVED, ("one", "functions"): REFUSED, ("two", "functions"): REFUSED}
-        first, *_ = self.run_all(answers)
-        self.assertEqual(self.run_all({}), (first, [], 2))
+        self.assertEqual(self.run_all(FUNCTIONS)[2], 0)
+        self.assertEqual(self.run_all({}), (["refused", "refused"], [], 2))
 
     def test_a_crate_with_an_edit_without_a_function_is_left_to_rt(self):
         self.edits[1].write_text("file: src/lib.rt\nold: <\nnew: <=\n")
@@ -132,31 +134,13 @@ class OlderRt(Rt):
         return kind == "refused", said
 
 
-class TriedAtOnce(unittest.TestCase):
-    setUp = Tried.setUp
-
+class TriedAtOnce(Edits, Room):
     def run_all(self, answers):
+        """What each edit comes to, or rt's own answer, and what rt was asked to check."""
         rt = OlderRt(answers)
         gate_edits.replace(rt)
-        return rt.must_fail_all(self.crate, self.edits, []), rt.checks
-
-    def test_each_is_tried_by_its_function(self):
-        answers = {("base", "functions"): PROVED, ("one", "functions"): REFUSED, ("two", "functions"): REFUSED}
-        results, checks = self.run_all(answers)
-        self.assertEqual([refused for refused, _ in results], [True, True])
-        self.assertEqual(checks, [*answers])
-
-    def test_one_that_its_function_lets_through_is_tried_over_the_crate(self):
-        answers = {("base", "functions"): PROVED, ("one", "functions"): PROVED, ("two", "functions"): REFUSED}
-        results, checks = self.run_all(answers | {("one", "crate"): PROVED})
-        self.assertEqual([refused for refused, _ in results], [False, True])
-        self.assertNotIn(("two", "crate"), checks)
-
-    def test_where_the_function_is_not_proved_as_it_stands_all_are_tried_over_the_crate(self):
-        answers = {("base", "functions"): REFUSED, ("one", "crate"): WHOLE, ("two", "crate"): PROVED}
-        results, checks = self.run_all(answers)
-        self.assertEqual([refused for refused, _ in results], [True, False])
-        self.assertEqual(checks, [*answers])
+        found = rt.must_fail_all(self.crate, self.edits, [])
+        return found if isinstance(found, str) else ["refused" if it else "missed" for it, _ in found], rt.checks
 
     def test_a_crate_with_an_edit_without_a_function_is_left_to_rt(self):
         self.edits[1].write_text("file: src/lib.rt\nold: <\nnew: <=\n")
