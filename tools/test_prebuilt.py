@@ -1,19 +1,16 @@
 """Tests prebuilt.py over a small made-up library, with a C compiler, in a second."""
 
-import contextlib
-import io
 import os
 import platform
 import shutil
 import subprocess
-import tempfile
 import unittest
-from pathlib import Path
 from unittest import mock
 
 import prebuilt
 from crates import Unfit
 from prebuilt import ADDON, ARCHIVE, ASKED, FOLDER, HEADER, PREBUILT, SHARED, SUMS, TOP
+from test_support import Room, printed
 
 OTHER = "aarch64-linux"
 COMPILER = shutil.which(os.environ.get("CC", "cc"))
@@ -37,45 +34,38 @@ CODE = "int weedle_syntax(void) {{ return {number}; }} int weedle_rule_name(void
 
 
 @unittest.skipUnless(COMPILER and ARCHIVER, "there is no C compiler, or no ar")
-class PrebuiltTest(unittest.TestCase):
+class PrebuiltTest(Room):
     """A repository with a header of two calls, and an archive that has them."""
 
+    FILES = {"js/exports": "{ global: napi_*; node_api_*; local: *; };"}
+
     def setUp(self):
-        room = tempfile.TemporaryDirectory()
-        self.addCleanup(room.cleanup)
-        self.top = Path(room.name)
-        for name in ("include", "c", "js"):
-            (self.top / name).mkdir()
-        shutil.copy(TOP / "c/link_shared.sh", self.top / "c")
-        (self.top / "js/exports").write_text("{ global: napi_*; node_api_*; local: *; };")
-        (self.top / "js/build.sh").write_text(BUILD_ADDON)
-        (self.top / "js/build.sh").chmod(0o755)
+        super().setUp()
+        self.put_command("c/link_shared.sh", (TOP / "c/link_shared.sh").read_text())
+        self.put_command("js/build.sh", BUILD_ADDON)
         self.declare()
         self.archive = self.built("built.a", 1)
 
     def declare(self, version="0x000a02", more=""):
         """Writes the header."""
-        text = DECLARED.format(version=version).replace("static", f"{more}static")
-        (self.top / HEADER).write_text(text)
+        self.put({HEADER: DECLARED.format(version=version).replace("static", f"{more}static")})
 
     def built(self, name, number):
         """An archive of a version of the code."""
-        source, made = self.top / "code.c", self.top / "code.o"
-        source.write_text(CODE.format(number=number))
+        source, made = self.root / "code.c", self.root / "code.o"
+        self.put({"code.c": CODE.format(number=number)})
         subprocess.run([COMPILER, "-c", "-fPIC", "-o", made, source], check=True)
-        subprocess.run([ARCHIVER, "rcD", self.top / name, made], check=True)
-        return self.top / name
+        subprocess.run([ARCHIVER, "rcD", self.root / name, made], check=True)
+        return self.root / name
 
     def made(self):
         """The folder, with the pair of that archive."""
-        prebuilt.make(self.top, self.archive, KIT)
-        return self.top / FOLDER
+        prebuilt.make(self.root, self.archive, KIT)
+        return self.root / FOLDER
 
     def compared(self, archive, kit):
         """The lines of a comparison: what is wrong, and what is printed beside."""
-        with contextlib.redirect_stdout(io.StringIO()) as out:
-            found = [*prebuilt.compared(self.top, archive, kit)]
-        return found, out.getvalue()
+        return printed(lambda: [*prebuilt.compared(self.root, archive, kit)])[:2]
 
 
 class Made(PrebuiltTest):
@@ -84,7 +74,7 @@ class Made(PrebuiltTest):
         self.assertEqual((folder / ARCHIVE).read_bytes(), self.archive.read_bytes())
         rows = (folder / SUMS).read_text().splitlines()
         self.assertEqual(rows[:2], ["# weedle 0.10.2", f"# {KIT}"])
-        self.assertEqual([*prebuilt.faults(self.top)], [])
+        self.assertEqual([*prebuilt.faults(self.root)], [])
 
     @unittest.skipUnless(shutil.which("sha256sum"), "there is no sha256sum")
     def test_the_sums_are_those_that_sha256sum_reads(self):
@@ -101,23 +91,23 @@ class Made(PrebuiltTest):
         self.assertEqual(prebuilt.soname_of("1.12.3"), "libweedle.so.1.12")
 
     def test_a_header_without_a_version(self):
-        (self.top / HEADER).write_text("#define WEEDLE_VERSION 11\n")
-        words = [self.top / "c/link_shared.sh", self.archive, self.top / "other.so"]
+        (self.root / HEADER).write_text("#define WEEDLE_VERSION 11\n")
+        words = [self.root / "c/link_shared.sh", self.archive, self.root / "other.so"]
         done = subprocess.run(words, capture_output=True, text=True, check=False)
-        self.assertEqual((done.returncode, done.stderr), (1, f"link_shared.sh: {self.top / HEADER} has no version\n"))
-        self.assertFalse((self.top / "other.so").exists())
+        self.assertEqual((done.returncode, done.stderr), (1, f"link_shared.sh: {self.root / HEADER} has no version\n"))
+        self.assertFalse((self.root / "other.so").exists())
 
     def test_what_is_missing(self):
         with self.assertRaises(Unfit):
-            prebuilt.make(self.top, self.top / "none.a", KIT)
+            prebuilt.make(self.root, self.root / "none.a", KIT)
         with self.assertRaises(Unfit):
-            prebuilt.make(self.top, self.archive, None)
+            prebuilt.make(self.root, self.archive, None)
 
 
 class Looked(PrebuiltTest):
     def found(self):
         """What is wrong, in one text."""
-        return "\n".join(prebuilt.faults(self.top))
+        return "\n".join(prebuilt.faults(self.root))
 
     def test_there_is_none(self):
         with self.assertRaises(Unfit) as caught:
@@ -151,9 +141,9 @@ class Looked(PrebuiltTest):
         self.assertIn(f"{FOLDER}/{ADDON} exports no napi_register_module_v1", self.found())
 
     def test_files_for_another_processor(self):
-        shutil.copytree(self.made(), self.top / PREBUILT / OTHER)
+        shutil.copytree(self.made(), self.root / PREBUILT / OTHER)
         machine = platform.machine()
-        found = [*prebuilt.faults(self.top, OTHER)]
+        found = [*prebuilt.faults(self.root, OTHER)]
         self.assertEqual([it.partition(":")[0] for it in found], [
             f"{PREBUILT}/{OTHER}/{SHARED} is for {machine}", f"{PREBUILT}/{OTHER}/{ADDON} is for {machine}",
         ])
@@ -191,7 +181,7 @@ class Compared(PrebuiltTest):
 
     def test_an_archive_that_is_not_there(self):
         self.made()
-        found, _ = self.compared(self.top / "none.a", KIT)
+        found, _ = self.compared(self.root / "none.a", KIT)
         self.assertIn("to compare with: c/build.sh builds it", found[0])
 
 
@@ -199,10 +189,10 @@ class Targets(PrebuiltTest):
     """What is built for other processors."""
 
     def test_those_that_have_a_folder(self):
-        self.assertEqual(prebuilt.targets_in(self.top), ["x86_64-linux"])
-        (self.top / PREBUILT / OTHER).mkdir(parents=True)
-        (self.top / PREBUILT / "sparc-linux").mkdir()
-        self.assertEqual(prebuilt.targets_in(self.top), ["x86_64-linux", OTHER])
+        self.assertEqual(prebuilt.targets_in(self.root), ["x86_64-linux"])
+        (self.root / PREBUILT / OTHER).mkdir(parents=True)
+        (self.root / PREBUILT / "sparc-linux").mkdir()
+        self.assertEqual(prebuilt.targets_in(self.root), ["x86_64-linux", OTHER])
 
     def test_where_each_is_built(self):
         self.assertEqual(prebuilt.archive_of("x86_64-linux"), "c/out/libweedle.a")
@@ -216,13 +206,13 @@ class Targets(PrebuiltTest):
     def test_a_compiler_that_is_not_there(self):
         with mock.patch("prebuilt.compiler_for", lambda _: "aarch64-none-gcc"):
             with self.assertRaises(Unfit) as caught:
-                prebuilt.make(self.top, self.archive, KIT, OTHER)
+                prebuilt.make(self.root, self.archive, KIT, OTHER)
         self.assertIn("there is no aarch64-none-gcc to link what is for aarch64-linux; ", str(caught.exception))
-        self.assertFalse((self.top / PREBUILT / OTHER).exists())
+        self.assertFalse((self.root / PREBUILT / OTHER).exists())
 
     def test_another_archive(self):
-        shutil.copytree(self.made(), self.top / PREBUILT / OTHER)
-        found = [*prebuilt.compared(self.top, self.built("other.a", 3), KIT, OTHER)]
+        shutil.copytree(self.made(), self.root / PREBUILT / OTHER)
+        found = [*prebuilt.compared(self.root, self.built("other.a", 3), KIT, OTHER)]
         self.assertEqual(len(found), 1)
         self.assertIn(f"isn't {PREBUILT}/{OTHER}/{ARCHIVE}, which has to be built anew", found[0])
 

@@ -3,8 +3,6 @@
 In the place of the programs stand scripts that answer by the rows of the grammar, some of them wrongly.
 """
 
-import contextlib
-import io
 import json
 import sys
 import tempfile
@@ -22,6 +20,7 @@ from run import cases as run_cases
 from run import programs, worked_runs
 from run.__main__ import main
 from table_reader import Table
+from test_support import Room, printed
 from tree_json import debug
 
 TEXTS = ["///d\ninterface A { attribute long x; };", "foo", "A includes B;\nC includs D;", "", "enum E { '\x01' };", "typedef any between;"]
@@ -96,102 +95,74 @@ def trees(text, values, wrong):
     return shown.replace("Long(LongType", "Short(LongType") if wrong == "value" else shown
 
 
-class Cases(unittest.TestCase):
+class Cases(Room):
     """Runs over cases of a few texts."""
 
-    def setUp(self):
-        room = tempfile.TemporaryDirectory()
-        self.addCleanup(room.cleanup)
-        self.room = Path(room.name)
-        cases = numbered((text, wanted_of(text)) for text in TEXTS)
-        (self.room / archive_of("some")).write_bytes(packed(cases))
+    FILES = {archive_of("some"): packed(numbered((text, wanted_of(text)) for text in TEXTS))}
 
     def program(self, name, wrong=None):
         """A program, right or wrong in one way."""
         answers = {text: answer_of(text, wrong) for text in [*TEXTS, BETWEEN]}
         answers |= {"is_crash": wrong == "crash", "status": 0 if wrong == "status" else 1}
-        (self.room / f"{name}.json").write_text(json.dumps(answers), encoding="utf-8")
-        file = self.room / name
-        head = HEAD.format(python=sys.executable, answers=str(self.room / f"{name}.json"))
-        file.write_text(head + (LIST if name == "weedle_list" else CHECK), encoding="utf-8")
-        file.chmod(0o755)
-        return str(file)
+        self.put({f"{name}.json": json.dumps(answers)})
+        head = HEAD.format(python=sys.executable, answers=str(self.root / f"{name}.json"))
+        return self.put_command(name, head + (LIST if name == "weedle_list" else CHECK))
 
     def tried(self, *words, wrong=None):
         """The same as of `ended`, of the crate of weedle_check in the place of a program, and how often it was compiled."""
-        crate, script, calls = (self.room / name for name in ("weedle_check", "try", "calls"))
-        (crate / "src").mkdir(parents=True)
-        (crate / "src/main.rt").touch()
+        crate, calls = self.root / "weedle_check", self.root / "calls"
+        self.put({"weedle_check/src/main.rt": ""})
         program = self.program("weedle_check_itself", wrong)
-        script.write_text(TRIED.format(python=sys.executable, calls=str(calls), program=program), encoding="utf-8")
-        script.chmod(0o755)
-        with mock.patch.object(programs, "TRY", (str(script),)):
+        script = self.put_command("try", TRIED.format(python=sys.executable, calls=str(calls), program=program))
+        with mock.patch.object(programs, "TRY", (script,)):
             said = self.ended("--try", str(crate), *words)
         return *said, len(calls.read_text().splitlines()) if calls.exists() else 0
 
     def ended(self, *words):
         """The status, and what is printed on both outputs."""
-        with contextlib.redirect_stdout(io.StringIO()) as out, contextlib.redirect_stderr(io.StringIO()) as err:
-            return main(["cases", *words, "--tests", str(self.room)]), out.getvalue(), err.getvalue()
+        return printed(main, ["cases", *words, "--tests", str(self.root)])
 
     def test_all_pass(self):
-        said = self.ended(self.program("weedle_check"), "some")
-        self.assertEqual(said, (0, "weedle_check, some: 12 passed, 0 failed\n12 passed, 0 failed\n", ""))
-        said = self.ended(self.program("weedle_list"), "some", "--every", "1")
-        self.assertEqual(said, (0, "weedle_list, some: 12 passed, 0 failed\n12 passed, 0 failed\n", ""))
+        for name, words in (("weedle_check", []), ("weedle_list", ["--every", "1"])):
+            said = f"{name}, some: 12 passed, 0 failed\n12 passed, 0 failed\n"
+            self.assertEqual(self.ended(self.program(name), "some", *words), (0, said, ""))
 
-    def test_a_value_that_is_wrong(self):
-        status, out, _ = self.ended(self.program("weedle_check", "value"), "some")
-        self.assertEqual((status, out.splitlines()[-1]), (1, "11 passed, 1 failed"))
-        failed, wanted, came = out.splitlines()[:3]
+    def test_what_is_wrong_fails(self):
+        """A value, an excerpt, a hint that lacks; a name's node, in both texts that have it; a status, of all that is refused."""
+        for wrong, failed, said in (
+            ("value", 1, ""), ("excerpt", 1, ""), ("hint", 1, ""), ("node", 2, "'identifier'"), ("status", 3, ""),
+            ("crash", 12, "status -9"),
+        ):
+            status, out, _ = self.ended(self.program("weedle_check", wrong), "some")
+            self.assertEqual((status, out.splitlines()[-1]), (1, f"{12 - failed} passed, {failed} failed"), wrong)
+            self.assertIn(said, out)
+        status, out, _ = self.ended(self.program("weedle_list", "exchanged"), "some", "--every", "1")
+        self.assertEqual((status, out.splitlines()[-1]), (1, "10 passed, 2 failed"))
+
+    def test_what_was_wanted_and_what_came_is_shown(self):
+        failed, wanted, came = self.ended(self.program("weedle_check", "value"), "some")[1].splitlines()[:3]
         self.assertEqual(failed, f"FAILED: {TEXTS[0]!r}")
         self.assertIn('"Long":{"unsigned"', wanted)
         self.assertIn('"Short":{"unsigned"', came)
 
-    def test_an_excerpt_that_is_wrong(self):
-        status, out, _ = self.ended(self.program("weedle_check", "excerpt"), "some")
-        self.assertEqual((status, out.splitlines()[-1]), (1, "11 passed, 1 failed"))
-
-    def test_a_hint_that_is_lacking(self):
-        status, out, _ = self.ended(self.program("weedle_check", "hint"), "some")
-        self.assertEqual((status, out.splitlines()[-1]), (1, "11 passed, 1 failed"))
-
-    def test_a_node_that_is_wrong(self):
-        status, out, _ = self.ended(self.program("weedle_check", "node"), "some")
-        self.assertEqual((status, out.splitlines()[-1]), (1, "10 passed, 2 failed"))
-        self.assertIn("'identifier'", out.splitlines()[1])
-
-    def test_a_status_that_is_wrong_fails_what_is_refused(self):
-        status, out, _ = self.ended(self.program("weedle_check", "status"), "some")
-        self.assertEqual((status, out.splitlines()[-1]), (1, "9 passed, 3 failed"))
-
-    def test_a_program_that_crashes(self):
-        status, out, _ = self.ended(self.program("weedle_check", "crash"), "some")
-        self.assertEqual((status, out.splitlines()[-1]), (1, "0 passed, 12 failed"))
-        self.assertIn("status -9", out)
-
-    def test_an_outline_for_a_list(self):
-        status, out, _ = self.ended(self.program("weedle_list", "exchanged"), "some", "--every", "1")
-        self.assertEqual((status, out.splitlines()[-1]), (1, "10 passed, 2 failed"))
-
     def test_a_folder_of_programs(self):
         self.program("weedle_check")
-        self.assertEqual(self.ended(str(self.room))[0], 2)
+        self.assertEqual(self.ended(str(self.root))[0], 2)
         self.program("weedle_list")
-        status, out, _ = self.ended(str(self.room), "some", "--every", "1")
+        status, out, _ = self.ended(str(self.root), "some", "--every", "1")
         self.assertEqual((status, out.splitlines()[-1]), (0, "24 passed, 0 failed"))
 
     def test_what_cannot_be_run(self):
         program = self.program("weedle_check")
-        for words in ([program, "none"], [program, "real"], [str(self.room / "no")], [self.program("other")],
-                      ["--try", str(self.room)]):
+        for words in ([program, "none"], [program, "real"], [str(self.root / "no")], [self.program("other")],
+                      ["--try", str(self.root)]):
             status, out, err = self.ended(*words)
             self.assertEqual((status, out), (2, ""), words)
             self.assertTrue(err.startswith("run cases: "), words)
 
     def test_all_folders_in_one_run_of_a_program_that_is_tried(self):
         cases = numbered((text, wanted_of(text)) for text in TEXTS[:2])
-        (self.room / archive_of("other")).write_bytes(packed(cases))
+        self.put({archive_of("other"): packed(cases)})
         said = self.tried()
         self.assertEqual(said, (0, "weedle_check, other, some: 8 passed, 0 failed\n8 passed, 0 failed\n", "", 1))
 

@@ -1,15 +1,12 @@
 """Tests `run memory` and count_requests.c with small programs in C; it wants cc."""
 
-import contextlib
-import io
 import subprocess
-import tempfile
 import unittest
-from pathlib import Path
 
 from run import memory, worked_runs
 from run.__main__ import main
 from run.programs import built_at
+from test_support import Room, printed
 
 # It reads its input, asks for room for each byte of it, and says how many there were.
 PROGRAM = """
@@ -43,24 +40,16 @@ asks = {{ above = 10, sizes = {sizes}, held = {held}{more} }}
 """
 
 
-class Programs(unittest.TestCase):
+class Programs(Room):
     """Runs of a program that asks for SIZE bytes for each place."""
-
-    def setUp(self):
-        room = tempfile.TemporaryDirectory()
-        self.addCleanup(room.cleanup)
-        self.room = Path(room.name)
 
     def ended(self, size=100, more=0, said=20_000, sizes="[100]", held=104, asks=""):
         """The status, and the lines that are printed."""
-        (self.room / "some.c").write_text(PROGRAM)
+        self.put({"some.c": PROGRAM, "runs.toml": RUN.format(said=said, sizes=sizes, held=held, more=asks)})
         words = ["cc", "-O0", f"-DSIZE={size}", f"-DMORE={more}", "-o", "some", "some.c"]
-        subprocess.run(words, cwd=self.room, check=True)
-        runs = self.room / "runs.toml"
-        runs.write_text(RUN.format(said=said, sizes=sizes, held=held, more=asks))
-        with contextlib.redirect_stdout(io.StringIO()) as out, contextlib.redirect_stderr(io.StringIO()) as err:
-            status = main(["memory", str(self.room), "--runs", str(runs)])
-        return status, (out.getvalue() + err.getvalue()).splitlines()
+        subprocess.run(words, cwd=self.root, check=True)
+        status, out, err = printed(main, ["memory", str(self.root), "--runs", str(self.root / "runs.toml")])
+        return status, (out + err).splitlines()
 
     def assert_failed(self, why, **how):
         status, lines = self.ended(**how)
@@ -94,25 +83,22 @@ class Programs(unittest.TestCase):
 
     def test_one_program_by_its_name(self):
         self.ended()
-        self.assertEqual(built_at(self.room / "some", ["some"]), [(str(self.room / "some"), "some")])
+        self.assertEqual(built_at(self.root / "some", ["some"]), [(str(self.root / "some"), "some")])
 
     def test_no_program(self):
-        with contextlib.redirect_stderr(io.StringIO()) as err:
-            self.assertEqual(main(["memory", str(self.room)]), 2)
-        self.assertIn("run memory: ", err.getvalue())
+        status, _, err = printed(main, ["memory", str(self.root)])
+        self.assertEqual(status, 2)
+        self.assertIn("run memory: ", err)
 
 
-class Checks(unittest.TestCase):
+class Checks(Room):
     """What a program with checks is given: a script that says so stands for one."""
 
     def came(self, script, **asks):
         keys = {"what": "w", "program": "p", "status": 0, "stdout_like": "TIMES .*\n",
                 "input": {"piece": "a", "times": 5000, "checked": 30}, "asks": {"above": 10, "sizes": [], "held": 1} | asks}
-        with tempfile.TemporaryDirectory() as room:
-            program = Path(room) / "p"
-            program.write_text(f"#!/bin/sh\n# __asan_init\n{script}\n")
-            program.chmod(0o755)
-            return memory.failure_of(worked_runs.Run(keys), str(program), "")
+        program = self.put_command("p", f"#!/bin/sh\n# __asan_init\n{script}\n")
+        return memory.failure_of(worked_runs.Run(keys), program, "")
 
     TELL = r'echo "$(wc -c) $ASAN_OPTIONS"; log=${ASAN_OPTIONS##*log_path=}; echo "Stats: 0M malloced by %d calls" > "$log.1"'
 

@@ -1,7 +1,5 @@
 """Tests slips.py and `run slips` with no program, in a second."""
 
-import contextlib
-import io
 import subprocess
 import unittest
 from argparse import Namespace
@@ -12,6 +10,7 @@ from run import slips as run_slips
 from run.cases import last_line
 from run.report import Report
 from slips import Slip, Told, slips
+from test_support import printed
 
 
 class ByRows:
@@ -30,9 +29,9 @@ class ByRows:
 
 def status_and_last(program):
     report = Report()
-    with contextlib.redirect_stdout(io.StringIO()) as out, mock.patch.object(run_slips, "meant", lambda *_: program):
-        run_slips.run(Namespace(program="", is_tried=False), report)
-    return int(report.failed > 0), out.getvalue().split("\n")[-2]
+    with mock.patch.object(run_slips, "meant", lambda *_: program):
+        _, out, _ = printed(run_slips.run, Namespace(program="", is_tried=False), report)
+    return int(report.failed > 0), out.split("\n")[-2]
 
 
 class Slips(unittest.TestCase):

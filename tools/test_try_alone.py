@@ -3,11 +3,10 @@
 import os
 import subprocess
 import sys
-import tempfile
-import unittest
 from pathlib import Path
 
 import toolchain
+from test_support import Room
 
 SCRIPT = Path(__file__).resolve().parent / "try_alone.py"
 # A command that prints what it would run, and with which words; its status is how many words there are.
@@ -37,39 +36,33 @@ OTHERS = (
 )
 
 
-class Tries(unittest.TestCase):
-    def setUp(self):
-        room = tempfile.TemporaryDirectory()
-        self.addCleanup(room.cleanup)
-        self.room = Path(room.name)
-
-    def put(self, library=RTLIB, command=RT):
+class Tries(Room):
+    def put_rt(self, library=RTLIB, command=RT):
         """Puts the command there."""
-        (self.room / "rt").write_text(command.format(python=sys.executable))
-        (self.room / "rt").chmod(0o755)
-        (self.room / "rtlib.py").write_text(library)
+        self.put_command("rt", command.format(python=sys.executable))
+        self.put({"rtlib.py": library})
 
     def ended(self, *words):
         """The status, and what is printed on both outputs."""
-        env = os.environ | {"PATH": str(self.room)}
+        env = os.environ | {"PATH": str(self.root)}
         ran = subprocess.run([sys.executable, SCRIPT, *words], capture_output=True, text=True, env=env, check=False)
         return ran.returncode, ran.stdout, ran.stderr
 
     def test_nothing_is_checked_beside_a_try(self):
-        self.put()
+        self.put_rt()
         said = self.ended("--test", "--seconds", "5")
         self.assertEqual(said, (3, "beside: true words: --test --seconds 5\n", ""))
 
     def test_another_command_is_called_as_it_is(self):
         for library in OTHERS:
-            self.put(library)
+            self.put_rt(library)
             status, out, err = self.ended("--test")
             self.assertNotIn("beside: true", out, library)
             self.assertIn("words: --test", out, library)
             self.assertEqual((status, err), (1, "try_alone.py: this rt tries otherwise, so it is called as it is\n"), library)
 
     def test_a_command_that_is_no_python_is_called_as_it_is(self):
-        self.put(command="#!/bin/sh\necho so \"$@\"; exit 7\n")
+        self.put_rt(command="#!/bin/sh\necho so \"$@\"; exit 7\n")
         status, out, err = self.ended("--test")
         self.assertEqual((status, out), (7, "so try --test\n"))
         self.assertIn("called as it is", err)
@@ -78,13 +71,11 @@ class Tries(unittest.TestCase):
         self.assertEqual(self.ended("--test"), (2, "", "try_alone.py: there is no command rt on PATH\n"))
 
 
-class Loaded(unittest.TestCase):
+class Loaded(Room):
     def test_what_is_no_python_is_not_loaded(self):
         self.assertIsNone(toolchain.load("/bin/true"))
         self.assertIsNone(toolchain.load("/no/such/file"))
 
     def test_a_command_is_a_module(self):
-        with tempfile.TemporaryDirectory() as room:
-            file = Path(room, "rt")
-            file.write_text("def main(words):\n    return len(words)\n")
-            self.assertEqual(toolchain.load(str(file)).main(["try"]), 1)
+        file = self.put_command("rt", "def main(words):\n    return len(words)\n")
+        self.assertEqual(toolchain.load(file).main(["try"]), 1)

@@ -2,11 +2,10 @@
 
 import os
 import re
-import shutil
 import subprocess
-import tempfile
-import unittest
 from pathlib import Path
+
+from test_support import Room
 
 TOOLS = Path(__file__).resolve().parent
 PARTS = ("try_tests.sh", "try_alone.py", "toolchain.py", "command_line.py")
@@ -27,34 +26,25 @@ PASSED = "test a ... ok\ntest result: ok. 3 passed; 0 failed; 0 ignored; 0 filte
 FAILED = "test a ... FAILED\ntest result: FAILED. 2 passed; 1 failed; 0 ignored; 0 filtered out\n"
 
 
-class Runs(unittest.TestCase):
-    def setUp(self):
-        room = tempfile.TemporaryDirectory()
-        self.addCleanup(room.cleanup)
-        self.room = Path(room.name)
-        (self.room / "tools").mkdir()
-        for name in PARTS:
-            shutil.copy(TOOLS / name, self.room / "tools")
-        (self.room / "tools/run").write_text(CASES)
-        (self.room / "bin").mkdir()
-        (self.room / "bin/rt").write_text(RT)
-        (self.room / "bin/rt").chmod(0o755)
-        (self.room / "crates.txt").write_text(CRATES)
-        for name in ("low", "late", "plain", "early"):
-            self.put(name, "" if name in ("low", "plain") else "#[test]\n")
+class Runs(Room):
+    FILES = {f"tools/{name}": (TOOLS / name).read_text() for name in PARTS} | {"tools/run": CASES, "crates.txt": CRATES}
 
-    def put(self, name, source="#[test]\n", said=PASSED, status=0):
+    def setUp(self):
+        super().setUp()
+        self.put_command("bin/rt", RT)
+        for name in ("low", "late", "plain", "early"):
+            self.put_crate(name, "" if name in ("low", "plain") else "#[test]\n")
+
+    def put_crate(self, name, source="#[test]\n", said=PASSED, status=0):
         """Puts a crate there, and what rt says of it."""
-        crate = self.room / "crates" / name
-        (crate / "src/below").mkdir(parents=True, exist_ok=True)
-        (crate / "src/below/tests.rt").write_text(source)
-        (crate / "said").write_text(said)
-        (crate / "status").write_text(f"{status}\n")
+        files = {"src/below/tests.rt": source, "said": said, "status": f"{status}\n"}
+        self.put({f"crates/{name}/{path}": text for path, text in files.items()})
 
     def ended(self, *words):
         """The status, what is printed but for the seconds, and what is said of faults."""
-        env = os.environ | {"PATH": f"{self.room / 'bin'}:{os.environ['PATH']}"}
-        script = self.room / "tools/try_tests.sh"
+        env = os.environ | {"PATH": f"{self.root / 'bin'}:{os.environ['PATH']}"}
+        script = self.root / "tools/try_tests.sh"
+        script.chmod(0o755)
         ran = subprocess.run([script, *words], capture_output=True, text=True, env=env, check=False)
         return ran.returncode, re.sub(r"\d+ s$", "N s", ran.stdout, flags=re.M), ran.stderr
 
@@ -72,14 +62,14 @@ class Runs(unittest.TestCase):
         self.assertEqual((status, len(out.splitlines()), out.splitlines()[-1]), (0, 4, "11 passed, 0 failed"))
 
     def test_one_that_fails_is_shown_whole(self):
-        self.put("late", said=FAILED, status=1)
+        self.put_crate("late", said=FAILED, status=1)
         status, out, _ = self.ended("late", "early")
         self.assertEqual((status, out.splitlines()[-1]), (1, "5 passed, 1 failed"))
         self.assertIn("late: 2 passed, 1 failed, N s\ntry_alone.py: this rt", out)
         self.assertIn(FAILED, out)
 
     def test_one_that_gives_no_count_counts_as_one_failed(self):
-        self.put("late", said="error: a slip\n", status=2)
+        self.put_crate("late", said="error: a slip\n", status=2)
         status, out, _ = self.ended("late")
         self.assertEqual((status, out.splitlines()[-2:]), (1, ["error: a slip", "0 passed, 1 failed"]))
 

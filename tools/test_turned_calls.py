@@ -1,7 +1,5 @@
 """Tests turned_calls.py with no compiler, in no time."""
 
-import contextlib
-import io
 import subprocess
 import tempfile
 import unittest
@@ -9,6 +7,7 @@ from pathlib import Path
 from unittest import mock
 
 import turned_calls
+from test_support import printed
 
 SAID = "  a call: at most 3 bytes\nroom: ok\nbytes that are asked for: FAILED\n1 passed, 1 failed\n"
 
@@ -16,11 +15,9 @@ SAID = "  a call: at most 3 bytes\nroom: ok\nbytes that are asked for: FAILED\n1
 class TurnedCallsTest(unittest.TestCase):
     def run_main(self, found: list[str], *words: str) -> tuple[int, list[str]]:
         """The status, and the lines that are printed, where these tests find each call."""
-        said = io.StringIO()
-        with contextlib.redirect_stdout(said), contextlib.redirect_stderr(said), \
-             mock.patch.object(turned_calls, "found_by", lambda name, room: found):
-            status = turned_calls.main([*words])
-        return status, said.getvalue().splitlines()
+        with mock.patch.object(turned_calls, "found_by", lambda name, room: found):
+            status, out, err = printed(turned_calls.main, [*words])
+        return status, (out + err).splitlines()
 
     def test_each_call_is_turned(self) -> None:
         self.assertEqual(len(turned_calls.names()), 3 * 9 + 3 * 3 + 2)
