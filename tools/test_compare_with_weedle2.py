@@ -3,8 +3,6 @@
 In the place of both programs stand the rows of the grammar: as they are, and as weedle2 has them.
 """
 
-import contextlib
-import io
 import unittest
 from pathlib import Path
 
@@ -12,6 +10,7 @@ import compare_with_weedle2 as comparing
 from compare_with_weedle2 import Answer, Comparison, answer_by_rows, explanation, renamed
 from row_ends import CHANGED
 from table_reader import Table
+from test_support import printed
 from tree_json import Held, debug, read
 
 INCLUDES = (
@@ -54,10 +53,9 @@ class Wrong(BySomeRows):
 
 def compared(texts, weedle2):
     """The counts of a comparison, and what it prints."""
-    one, out = Comparison(BySomeRows(), weedle2), io.StringIO()
-    with contextlib.redirect_stdout(out):
-        one.add(texts)
-    return dict(one.counts), out.getvalue()
+    one = Comparison(BySomeRows(), weedle2)
+    _, out, _ = printed(one.add, texts)
+    return dict(one.counts), out
 
 
 class ByRows(unittest.TestCase):

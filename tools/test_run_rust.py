@@ -1,8 +1,6 @@
 """Tests `run rust` over made-up cases, in a second; no program is built."""
 
-import io
 import unittest
-from contextlib import redirect_stderr, redirect_stdout
 from unittest import mock
 
 from case_files import Case
@@ -10,6 +8,7 @@ from compare_with_weedle2 import Answer
 from run import rust
 from run.__main__ import main
 from run.rust import came_of, failures_of, wanted_of
+from test_support import printed
 from tree_json import read
 
 TEXT = "A includes B;"
@@ -80,17 +79,16 @@ class Folders(unittest.TestCase):
     def test_counts_and_failures_are_printed(self):
         program = Program({**ANSWERS, "A includes": Answer(["unread at byte 2"], None)})
         with mock.patch.object(rust, "cases_of", lambda folder: [READ, REFUSED]), \
-                mock.patch.object(rust, "Weedle2", lambda path: program), redirect_stdout(io.StringIO()) as out:
-            self.assertEqual(main(["rust", "here", "tests"]), 1)
-        self.assertTrue(out.getvalue().startswith("FAILED: "))
-        self.assertTrue(out.getvalue().endswith("tests: 1 passed, 1 failed\n1 passed, 1 failed\n"))
+                mock.patch.object(rust, "Weedle2", lambda path: program):
+            status, out, _ = printed(main, ["rust", "here", "tests"])
+        self.assertEqual((status, out[:8]), (1, "FAILED: "))
+        self.assertTrue(out.endswith("tests: 1 passed, 1 failed\n1 passed, 1 failed\n"))
 
     def test_a_folder_that_is_not_there(self):
-        with redirect_stderr(io.StringIO()) as err:
-            self.assertEqual(main(["rust", "none", "nowhere"]), 2)
-        self.assertEqual(err.getvalue(), "run rust: no folder nowhere can be run\n")
+        said = printed(main, ["rust", "none", "nowhere"])
+        self.assertEqual(said, (2, "", "run rust: no folder nowhere can be run\n"))
 
     def test_a_program_that_is_not_there(self):
-        with redirect_stderr(io.StringIO()) as err:
-            self.assertEqual(main(["rust", "/nowhere", "worked"]), 2)
-        self.assertIn("/nowhere", err.getvalue())
+        status, _, err = printed(main, ["rust", "/nowhere", "worked"])
+        self.assertEqual(status, 2)
+        self.assertIn("/nowhere", err)
