@@ -6,119 +6,19 @@ import builds
 from crates import Unfit
 from test_support import Room
 
-LINES = """weedle_base:
-low: weedle_base
-weedle_build_base: low weedle_base
-build_low: weedle_build_base low weedle_base
-high: low
-build_high: build_low weedle_build_base high
-"""
-DEFAULT = """//! Defaults.
-
-/// A default.
-pub struct Default<'a> {
-    /// The sign.
-    pub assign: Assign,
-    /// The value.
-    pub value: DecLit<'a>,
-}
-"""
-LOW = """//! Members.
-
-mod default;
-pub mod mixin;
-
-pub use default::Default;
-"""
-MIXIN = """//! Mixins.
-
-/// Members.
-pub type MixinMembers<'a> = Vec<MixinMember<'a>>;
-
-/// A mixin.
-pub struct InterfaceMixinDefinition<'a> {
-    /// The sign.
-    pub assign: Assign,
-    /// The members, between braces.
-    pub members: Braced<MixinMembers<'a>>,
-}
-
-/// One of two.
-pub enum MixinMember<'a> {
-    /// A word.
-    Const(Option<Pair<'a>>),
-    /// A number, which is kept.
-    Number(DecLit<'a>),
-}
-
-pub struct DecLit<'a>(pub &'a str);
-
-pub struct BooleanLit(pub bool);
-
-/// What no rule reads.
-pub struct Pair<'a>(pub &'a str);
-"""
-TREES = """-- Trees.
-abbrev pub default_tree : Default → Tree
-default_tree v = Mark
-
-abbrev pub definition_tree : InterfaceMixinDefinition → Tree
-abbrev pub mixin_tree : MixinMember → Tree
-abbrev pub boolean_tree : BooleanLit → Tree
-"""
-PART = """//! What others are built of.
-
-pub struct LowPart<T>(T);
-
-pub(crate) type Pairs<'a> = Option<LowPart<Pair<'a>>>;
-"""
-BASE = """//! The second pass.
-
-pub use alternatives::{alternative, choice};
-pub use at::At;
-pub use build::{Build, BuildResult};
-pub use structs::two_fields;
-"""
-HIGH = """//! High.
-
-mod definition;
-
-pub use low::Default;
-"""
-SPECIAL = """//! Any.
-
-pub enum Definition<'a> {
-    Callback(Default<'a>),
-}
-"""
-TERMS = """//! Terminals.
-
-pub struct Assign;
-pub struct True;
-pub struct False;
-
-pub struct Braced<T> {
-    pub body: T,
-}
-"""
-FILES = {
-    "build_low/low": ("What is low.", "low::mixin"),
-    "build_low/defaults": ("Defaults.", "low::default"),
-    "build_high/high": ("What is high.", "high"),
-}
+FILES = {"build_low/low": ("What is low.", "low::default"), "build_high/high": ("What is high.", "high")}
 TEXTS = {
-    "crates.txt": LINES,
-    "crates/low/src/lib.rt": LOW,
-    "crates/low/src/default.rt": DEFAULT,
-    "crates/low/src/mixin.rt": MIXIN,
-    "crates/low/specs/Trees.antt": TREES,
+    "crates.txt": "weedle_base:\nlow: weedle_base\nweedle_build_base: low weedle_base\nhigh: low\n"
+                  "build_low: weedle_build_base low weedle_base\nbuild_high: build_low weedle_build_base high\n",
+    "crates/low/src/lib.rt": "mod default;\n\npub use default::Default;\n",
+    "crates/low/src/default.rt": "pub struct Default {\n    pub assign: Assign,\n    pub colon: Assign,\n}\n",
+    "crates/low/specs/Trees.antt": "abbrev pub default_tree : Default → Tree\n",
     "crates/weedle_base/src/lib.rt": "pub mod term;\n",
-    "crates/weedle_base/src/term.rt": TERMS,
-    "crates/weedle_build_base/src/lib.rt": BASE,
-    "crates/build_low/src/lib.rt": "pub use part::LowPart;\n",
-    "crates/build_low/src/part.rt": PART,
-    "crates/high/src/lib.rt": HIGH,
-    "crates/high/src/definition.rt": SPECIAL,
+    "crates/weedle_base/src/term.rt": "pub struct Assign;\n",
+    "crates/weedle_build_base/src/lib.rt": "pub use build::{Build, BuildResult};\n",
+    "crates/build_low/src/lib.rt": "",
+    "crates/high/src/lib.rt": "mod definition;\n\npub use low::Default;\n",
+    "crates/high/src/definition.rt": "pub enum Definition<'a> {\n    Callback(Default<'a>),\n}\n",
     "crates/high/specs/Trees.antt": "abbrev pub definition_tree : Definition → Tree\n",
     "crates/build_high/src/lib.rt": "",
 }
@@ -143,10 +43,11 @@ class BuildsTest(Room):
                 builds.run(self.root)
 
     def test_a_type_that_no_file_builds_is_refused(self):
-        with mock.patch.dict(builds.FILES):
-            del builds.FILES["build_low/defaults"]
-            with self.assertRaisesRegex(Unfit, "no file of FILES has Default"):
-                builds.run(self.root)
+        trees = TEXTS["crates/low/specs/Trees.antt"] + "abbrev pub inheritance_tree : Inheritance → Tree\n"
+        declared = "pub struct Inheritance {\n    pub colon: Assign,\n}\n"
+        self.put({"crates/low/specs/Trees.antt": trees, "crates/low/src/other.rt": declared})
+        with self.assertRaisesRegex(Unfit, "no file of FILES has Inheritance"):
+            builds.run(self.root)
 
     def test_a_type_without_a_tree_is_refused(self):
         self.put({"crates/high/specs/Trees.antt": ""})

@@ -9,15 +9,10 @@ MODULE = """//! Members.
 
 mod written;
 
-use crate::formers;
 use leaves::{Sign, Word};
 use types::{Label, List};
 use weedle_types::attribute::ExtendedAttributeList;
 
-/// A word or a label.
-pub type Either<'a> = formers::Either<Label<'a>>;
-
-/// A member.
 #[derive(Debug)]
 pub struct Member<'a> {
     pub attributes: Option<ExtendedAttributeList<'a>>,
@@ -25,40 +20,21 @@ pub struct Member<'a> {
     pub list: List<'a>,
     pub label: Option<Label<'a>>,
 }
-
-/// A definition.
-#[derive(Debug)]
-pub enum Definition<'a> {
-    Member(Member<'a>),
-    Sign(Sign),
-}
-
-impl<'a> Parse<'a> for Definition<'a> {}
 """
-FORMERS = """//! Made over a type.
-
-use leaves::Word;
-
-#[derive(Drop)]
-pub enum Either<T> {
-    Word(Word),
-    Other(T),
-}
-"""
-FILES = {
-    "low/src/formers.rt": FORMERS,
-    "low/src/member.rt": MODULE,
-    "low/specs/Trees.antt": "pub member_tree :\npub definition_tree :\n",
-    "low/proofs/MemberRules.antt": "pub ruleset member_steps\n",
-    apart("weedle_grammar/specs/Table/Members.antt"): "abbrev pub MEMBER : Rule\n",
-    "weedle_fields/src/lib.rt": "pub fn attributes_and_three<'a, A: Parse<'a>>(\n",
-    "weedle_base/src/term.rt": "#[derive(Clone, Copy)]\npub struct Word;\n",
-    "weedle_types/src/copies.rt": """
+COPIES = """
 pub fn copy_attributes<'a>(
     attributes: &Option<ExtendedAttributeList<'a>>,
     alloc: Global,
 ) -> Result<Option<ExtendedAttributeList<'a>>, AllocError>
-""",
+"""
+FILES = {
+    "low/src/member.rt": MODULE,
+    "low/specs/Trees.antt": "pub member_tree :\n",
+    "low/proofs/MemberRules.antt": "pub ruleset member_steps\n",
+    apart("weedle_grammar/specs/Table/Members.antt"): "abbrev pub MEMBER : Rule\n",
+    "weedle_fields/src/lib.rt": "pub fn attributes_and_three<'a, A: Parse<'a>>(\n",
+    "weedle_base/src/term.rt": "#[derive(Clone, Copy)]\npub struct Word;\n",
+    "weedle_types/src/copies.rt": COPIES,
 }
 
 
@@ -80,6 +56,6 @@ class ImplsTest(Room):
             impls.run(self.root)
 
     def test_a_tree_that_is_stated_nowhere_is_refused(self):
-        self.put({"crates/low/specs/Trees.antt": "pub definition_tree :\n"})
+        self.put({"crates/low/specs/Trees.antt": ""})
         with self.assertRaisesRegex(Unfit, "low: member_tree is stated nowhere"):
             impls.run(self.root)
