@@ -4,6 +4,7 @@ In the place of the programs stand scripts that answer by the rows of the gramma
 """
 
 import json
+import os
 import sys
 import tempfile
 import unittest
@@ -195,6 +196,21 @@ class Runs(unittest.TestCase):
         self.assert_right("cat", bytes={"a": "ff41"}, arguments=["a"], stdout="\ufffdA")
         self.assert_right("cat", input="x", stdout="x")
         self.assert_right("cat", input_bytes="78", stdout="x")
+
+    def test_what_becomes_of_files(self):
+        files, shell = {"a": "x", "b": "y", "below/c": "z"}, ["-c", "printf n > a; printf m > below/c; rm b; printf o > d"]
+        keys = {"files": files, "folders": ["below"], "links": {"link": "below/c"}, "modes": {"a": "640"}}
+        wanted, came = self.came("sh", arguments=shell, after={"a": "n", "below/c": "m", "d": "o"}, **keys)
+        self.assertEqual(came.replace("b is gone\n", ""), wanted)
+        for shell, said in (("chmod 600 a", "a: 'x', with mode 600\n"), ("touch b", "b: 'y'\n"), ("rm link", "link is gone\n"),
+                            ("cp below/c e; mv e below/c", "below/c: 'z'\n")):
+            wanted, came = self.came("sh", arguments=["-c", f"sleep 0.01; {shell}"], **keys)
+            self.assertEqual(came, wanted + said)
+
+    def test_who_it_is_for(self):
+        runs = [worked_runs.Run({"what": "w", "program": "p", "status": 0, key: True}) for key in ("built", "unprivileged")]
+        self.assertEqual([run.is_for(True) for run in runs], [False, os.geteuid() != 0])
+        self.assertTrue(runs[0].is_for(False))
 
     def test_faults(self):
         self.assert_right("cat", arguments=["a"], folders=["a"], status=1, stderr_like="cat: a: .*\n")

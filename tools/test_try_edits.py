@@ -297,10 +297,9 @@ class Programs(TryEditsTest):
                 stack.enter_context(mock.patch.object(wrong_programs, name, lambda *_, found=found: found))
             return wrong_programs.failures_in("p", "p", "")
 
-    def test_the_formatter_is_run_over_files(self):
-        with mock.patch.object(wrong_programs.layout_runs, "failures_of_runs", lambda program: iter([(program, "what")])):
-            found = wrong_programs.failing_texts("p", "weedle_format")
-        self.assertEqual((sum(found), len(found)), (1, len(wrong_programs.layout_runs.RUNS)))
+    def test_the_formatter_is_run_by_hand(self):
+        self.patch(wrong_programs, all_runs=lambda: ["a", "b"], failures_of=lambda program, found: [program, None])
+        self.assertEqual(wrong_programs.failing_texts("p", "weedle_format"), [True, False])
 
     def test_the_first_runs_that_find_it_count(self):
         self.assertEqual(self.found([False, True], [True], [True]), (1, 2))

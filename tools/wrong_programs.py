@@ -16,11 +16,11 @@ import time
 from pathlib import Path
 
 from case_files import cases_of
-from run import layout_runs, memory
+from run import memory
 from run.cases import TRIED_TEXT, check_texts
+from run.layout_runs import all_runs
 from run.programs import Built
-from run.report import compared
-from run.worked_runs import has_checks, runs
+from run.worked_runs import failures_of, runs
 
 TOP = Path(__file__).resolve().parent.parent
 
@@ -116,9 +116,7 @@ def failing_tests(archive: Path, room: Path) -> list[bool]:
 
 def failing_runs(program: str, name: str) -> list[bool]:
     """Of each run of tests/runs.toml whether it fails."""
-    left_out = has_checks(program)
-    return [bool(compared(run.what, run.wanted(), run.came(program))) for run in runs()
-            if run.program == name and not (left_out and run.is_for_built)]
+    return [bool(it) for it in failures_of(program, [run for run in runs() if run.program == name])]
 
 
 def failing_memory(program: str, name: str, library: str) -> list[bool]:
@@ -129,8 +127,7 @@ def failing_memory(program: str, name: str, library: str) -> list[bool]:
 def failing_texts(program: str, name: str) -> list[bool]:
     """Of each of the shorter texts of tests/tests, where it is weedle_check; of each run over files, of weedle_format."""
     if name == "weedle_format":
-        failed = len([*layout_runs.failures_of_runs(program)])
-        return [True] * failed + [False] * (len(layout_runs.RUNS) - failed)
+        return [bool(it) for it in failures_of(program, all_runs())]
     if name != "weedle_check":
         return []
     failures, count = check_texts(Built(program), [case for case in cases_of("tests") if len(case.text) <= TRIED_TEXT])

@@ -1,13 +1,13 @@
 """Runs the cases of tests/ through a built program, and compares what it answers with what is wanted.
 
-    python3 tools/run cases PROGRAM [FOLDER..] [--most BYTES] [--every N] [--real FOLDER] [--checked]
+    python3 tools/run cases PROGRAM [FOLDER..] [--most BYTES] [--every N] [--real FOLDER]
     python3 tools/run cases --try crates/weedle_check [FOLDER..] [--most BYTES]
 
 PROGRAM is a built weedle_check or weedle_list, which the name of its file says; or a folder, of which all
 such programs below it are run (after `rt ci`: crates). With --try it is the crate of weedle_check, which `rt
 try` builds and runs, once over all texts. A FOLDER is one of tests/, as random; `runs` is tests/runs.toml.
 Without one all are run, but for `real` where no folder of the real files is given by --real, and for `runs`
-with --try. --checked leaves out what takes too long where a program was built with checks.
+with --try.
 
 weedle_check reads many files at once: first all texts of a folder, of which it has to say where and why those are
 refused that are, and nothing of the others; then with --tree those that are read, of which it has to print the
@@ -27,7 +27,7 @@ from compare_with_weedle2 import BETWEEN, renamed
 from row_nodes import nodes_of, printed
 from run.programs import Built, Tried, built_at, meant, told
 from run.report import Failure, NoUse, compared
-from run.worked_runs import RUNS, runs
+from run.worked_runs import RUNS, failures_of, runs
 from tree_json import NoTree, definition_of, plain, read
 
 PROGRAMS = CHECK, LIST = ("weedle_check", "weedle_list")
@@ -246,11 +246,8 @@ def title_of(tree):
 
 
 # The runs that are written by hand.
-def failures_of_runs(program, kind, is_checked):
-    found = [
-        compared(run.what, run.wanted(), run.came(program.program)) for run in runs()
-        if run.program == kind and not (is_checked and run.is_for_built)
-    ]
+def failures_of_runs(program, kind):
+    found = failures_of(program.program, [run for run in runs() if run.program == kind])
     return [it for it in found if it], len(found)
 
 
@@ -279,7 +276,7 @@ def size_of_value(case):
 def run_folder(program, kind, folder, cases, wanted):
     """The failures of a folder, and how many cases it has for the program."""
     if folder == RUNS:
-        return failures_of_runs(program, kind, wanted.checked)
+        return failures_of_runs(program, kind)
     if folder == "real":
         return real_texts(program, cases, wanted.real) if kind == CHECK else ([], 0)
     if kind == CHECK:
@@ -340,7 +337,6 @@ def add_arguments(words):
     words.add_argument("--every", type=int, default=EVERY, metavar="N", help=f"weedle_list reads each Nth text of a folder ({EVERY})")
     words.add_argument("--real", metavar="FOLDER", help="where the real files are")
     words.add_argument("--try", dest="tried", action="store_true", help="PROGRAM is a crate, which rt try builds and runs")
-    words.add_argument("--checked", action="store_true", help="PROGRAM is built with checks: leave out what then takes too long")
     words.add_argument("--tests", default=TESTS, metavar="FOLDER", help="where the cases are, if not in tests")
 
 

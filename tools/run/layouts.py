@@ -11,7 +11,7 @@ whole
 - its layout is laid out to itself, and has no blanks at the end of a line that no comment and no string holds;
 - with --weedle2, the program of compare/, weedle2 reads the same values of both; it isn't asked of the folder `deep`.
 
-Then it runs the program over files, as tools/run/layout_runs.py has them.
+Then come the runs of tests/format.toml, over files, and others by hand (tools/run/layout_runs.py).
 """
 
 import functools
@@ -20,9 +20,10 @@ import re
 
 from compare_with_weedle2 import Weedle2
 from run import texts
-from run.layout_runs import RUNS, failures_of_runs
+from run.layout_runs import all_runs
 from run.programs import add_program, meant
-from run.report import NoUse, Wrong
+from run.report import NoUse
+from run.worked_runs import failures_of
 
 # Which texts are sown.
 SOWN = ("random", "real files")
@@ -133,4 +134,5 @@ def run(wanted, report):
     for kind, given in kinds(wanted):
         asked = None if kind == texts.DEEP else weedle2
         texts.add(report, kind, given, functools.partial(wrong_of, program, asked))
-    report.add("runs over files", len(RUNS), [Wrong(*it) for it in failures_of_runs(program.program)])
+    found = failures_of(program.program, all_runs())
+    report.add("runs by hand", len(found), found)

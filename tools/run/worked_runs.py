@@ -1,19 +1,23 @@
-"""Runs of the programs that are written by hand, in tests/runs.toml and tests/memory.toml: arguments, files, and what is
-to come of them.
+"""Runs of the programs that are written by hand, in tests/runs.toml, format.toml and memory.toml: arguments, files, and what
+is to come of them.
 
 A run has the keys
     what        what it shows
-    program     weedle_check or weedle_list; in tests/memory.toml weedle_table or weedle_format too
+    program     weedle_check or weedle_list, in tests/format.toml weedle_format, and in tests/memory.toml any of these
     arguments   the arguments; none where it is left out
     files       the texts of files, by their names
     bytes       the bytes of files in hexadecimal, by their names
     folders     names of folders that lie beside the files
+    links       names of symbolic links, and where they lead
+    modes       modes of files and folders, in octal
+    after       the texts that files have behind it; all others are as they were, untouched, and there are no others
     input       the text on standard input; or input_bytes, in hexadecimal; or input_folder = true: a folder
     breaks      true: behind this text a read of standard input fails, as where a connection breaks off
     output      "full": a device that takes no byte; or a number: a file that takes so many bytes
     memory      how many bytes of address space the program has; one that is built with checks has none to spare
                 for them, so no request of it may be for so many
     built       true: a build with checks takes too long for it
+    unprivileged  true: it isn't for root
     status, stdout, stderr    what is to come; stdout and stderr are nothing where they are left out
     stdout_like, stderr_like  the same as a regular expression, for what differs from run to run
     asks        what it asks for at most, of memory, as tools/run/memory.py says
@@ -32,13 +36,14 @@ import tempfile
 from pathlib import Path
 
 from case_files import TESTS
+from run.report import compared
 from toml_files import loads
 
 RUNS = "runs"
 SECONDS = 120
 KEYS = set(
-    "what program arguments files bytes folders input input_bytes input_folder breaks output memory built status stdout "
-    "stderr stdout_like stderr_like asks".split()
+    "what program arguments files bytes folders links modes after input input_bytes input_folder breaks output memory built "
+    "unprivileged status stdout stderr stdout_like stderr_like asks".split()
 )
 
 
@@ -62,15 +67,18 @@ class Run:
         # What the environment has more, and what a program with checks is told more.
         self.env, self.checks = {}, ""
         self.what, self.program, self.memory = keys["what"], keys["program"], keys.get("memory")
-        # Whether it isn't for a build with checks.
-        self.is_for_built = keys.get("built", False)
         # How many bytes the output takes, where it is a file that takes only some.
         self.room = keys["output"] if isinstance(keys.get("output"), int) else None
+
+    def is_for(self, is_checked):
+        """Whether it is for such a build, and for who runs it."""
+        return not (is_checked and self.keys.get("built") or self.keys.get("unprivileged") and os.geteuid() == 0)
 
     def wanted(self):
         """What is to come, in one text."""
         out, err = (self.keys.get(f"{name}_like", self.keys.get(name, "")) for name in ("stdout", "stderr"))
-        return shown(self.keys["status"], out, err)
+        changed = (f"{name}: {text!r}\n" for name, text in sorted(self.keys.get("after", {}).items()))
+        return shown(self.keys["status"], out, err) + "".join(changed)
 
     def texts(self):
         """The texts of the files, and the one on standard input."""
@@ -87,8 +95,10 @@ class Run:
         """What came, in one text; where it is like what is wanted, as that has it."""
         with tempfile.TemporaryDirectory() as room:
             self.lay(Path(room))
+            before = files_in(Path(room))
             status, out, err = self.ended(program, room)
-        return shown(status, self.as_wanted("stdout", out), self.as_wanted("stderr", err))
+            changed = "".join(changes(before, files_in(Path(room))))
+        return shown(status, self.as_wanted("stdout", out), self.as_wanted("stderr", err)) + changed
 
     def as_wanted(self, name, text):
         pattern = self.keys.get(f"{name}_like")
@@ -103,6 +113,10 @@ class Run:
             (room / name).write_bytes(text_of(text).encode())
         for name, digits in self.keys.get("bytes", {}).items():
             (room / name).write_bytes(bytes.fromhex(digits))
+        for name, target in self.keys.get("links", {}).items():
+            (room / name).symlink_to(target)
+        for name, mode in self.keys.get("modes", {}).items():
+            (room / name).chmod(int(mode, 8))
 
     def given(self):
         """The bytes on standard input."""
@@ -139,6 +153,30 @@ class Run:
         return how | {"preexec_fn": lambda: limit(found)} if found else how
 
 
+def files_in(room):
+    """The files of a folder: of each its text, its mode and what shows that it was touched; of a link where it leads."""
+    found = {}
+    for path in room.rglob("*"):
+        name = path.relative_to(room).as_posix()
+        if path.is_symlink():
+            found[name] = (os.readlink(path), "")
+        elif path.is_file() and not name.startswith("."):
+            is_now = path.stat()
+            text = path.read_bytes().decode(errors="replace")
+            found[name] = (text, f"{is_now.st_mode & 0o777:o}", is_now.st_ino, is_now.st_mtime_ns)
+    return found
+
+
+def changes(before, behind):
+    """A line for each file that isn't as it was: its text now, and its mode where that is another."""
+    for name in sorted(before.keys() | behind.keys()):
+        was, now = before.get(name), behind.get(name)
+        if now is None:
+            yield f"{name} is gone\n"
+        elif was != now:
+            yield f"{name}: {now[0]!r}" + f", with mode {now[1]}" * (was is not None and was[1] != now[1]) + "\n"
+
+
 def kept(content):
     """A file with this content, from its front on."""
     file = tempfile.TemporaryFile()
@@ -166,6 +204,12 @@ def limit(found):
 def has_checks(program):
     """Whether a program is built with checks of each access, as `rt try` builds one."""
     return b"__asan_init" in Path(program).read_bytes()
+
+
+def failures_of(program, found):
+    """A failure, or None, for each of these runs that are for the program."""
+    is_checked = has_checks(program)
+    return [compared(it.what, it.wanted(), it.came(program)) for it in found if it.is_for(is_checked)]
 
 
 def shown(status, out, err):
