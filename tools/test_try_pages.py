@@ -262,11 +262,6 @@ class Pages(Repository):
         self.assertEqual(wrong[1], "  3 files")
         self.assertIn("  3 types that nothing defines", wrong)
 
-    def test_a_program_may_be_proved(self):
-        with mock.patch.object(try_pages, "run", side_effect=try_pages.run) as ran:
-            self.tried("VALIDATOR", is_run=True, is_proved=True)
-        self.assertEqual(ran.call_args.args[1], ["run", "--", "a.webidl"])
-
 
 class Examples(Repository):
     FILES = {

@@ -1,7 +1,7 @@
 #!/usr/bin/env python3
 """Holds the programs and pieces of Rust in pages and doc lines to what is there, what is proved and what they print.
 
-    python3 tools/try_pages.py [--no-run] [--prove] [--files FOLDER] [PAGE..]
+    python3 tools/try_pages.py [--no-run] [--files FOLDER] [PAGE..]
     python3 tools/try_pages.py --examples [--no-run] [CRATE..]
 
 README has a program: its ```rust block with a `fn main(rt: HostRuntime)`. The ```rust blocks of docs/VALIDATOR.md,
@@ -17,7 +17,7 @@ that it is given as a file of this name, and else it is its standard input.
   docs/USING.md too, stands, indentation and blank lines aside, in a file with tests below crates/*/src, or in a doc
   comment there; what its `use` lines bring in, that file's do too.
 - The program runs: in a repository of its own with a copy of the library, as tools/vendor.py makes it, it prints
-  what the page says. With --prove it is proved and built first, by `rt run`; else `rt try` runs it with checks.
+  what the page says. `rt try` runs it with checks.
 - With --files those of VALIDATOR and DOCUMENTATION run over each *.webidl, *.idl and *.widl file of that folder,
   and what they print is counted. The ```text block behind `## Over real files` has these counts. docs/COMPARED.md
   says of which package these files are.
@@ -236,18 +236,15 @@ def build_repository(root, pages, room):
 
 
 def run(folder, words, **more):
-    """Runs `rt` in a program's folder."""
-    return subprocess.run(["rt", *words], cwd=folder, capture_output=True, text=True, **more)
+    """Runs the program of a folder."""
+    words = ["rt", "try", "--seconds", SECONDS, *words]
+    return subprocess.run(words, cwd=folder, capture_output=True, text=True, **more)
 
 
-def words_of(is_proved):
-    return ["run"] if is_proved else ["try", "--seconds", SECONDS]
-
-
-def misprints(page, folder, is_proved):
+def misprints(page, folder):
     """What the program does otherwise than its page says."""
     given = ["--", page.file] if page.is_argument else []
-    ran = run(folder, [*words_of(is_proved), *given], input="" if given else page.input)
+    ran = run(folder, given, input="" if given else page.input)
     if ran.stdout != page.output or page.name == README and ran.returncode:
         yield f"{page.path}: the program ends with status {ran.returncode}, and prints"
         yield from (f"  {row}" for row in ran.stdout.splitlines())
@@ -255,18 +252,7 @@ def misprints(page, folder, is_proved):
         yield from ran.stderr.splitlines()
 
 
-def printed_of(page, folder, names, is_proved):
-    """What the program prints of these files, which lie below its folder: in one run, or in one for each."""
-    if page.is_argument:
-        return run(folder, [*words_of(is_proved), "--", *names]).stdout
-    if is_proved:
-        texts = ((folder / name).read_bytes() for name in names)
-        runs = (subprocess.run([f"out/{page.line.name}"], cwd=folder, input=it, capture_output=True) for it in texts)
-        return "".join(ran.stdout.decode() for ran in runs)
-    return run(folder, [*words_of(is_proved), "--cases", FILES]).stdout
-
-
-def miscounts(page, folder, files, is_proved):
+def miscounts(page, folder, files):
     """What is counted of a folder of real files, where the page says otherwise."""
     there = sorted(file for file in files.rglob("*") if file.suffix in SUFFIXES)
     if not there:
@@ -275,7 +261,8 @@ def miscounts(page, folder, files, is_proved):
     names = [f"{FILES}/{number}-{file.name}" for number, file in enumerate(there)]
     for file, name in zip(there, names):
         shutil.copyfile(file, folder / name)
-    rows, kinds = printed_of(page, folder, names, is_proved).splitlines(), COUNTED[page.name]
+    ran, kinds = run(folder, ["--", *names] if page.is_argument else ["--cases", FILES]), COUNTED[page.name]
+    rows = ran.stdout.splitlines()
     found = Counter(kind for row in rows for kind, pattern in kinds if pattern.search(row))
     counts = [f"{len(there)} files", *(f"{found[kind]} {kind}" for kind, _ in kinds)]
     if counts != page.counts:
@@ -284,7 +271,7 @@ def miscounts(page, folder, files, is_proved):
         yield from ("where the page has", *(f"  {row}" for row in page.counts))
 
 
-def try_pages(root, names, is_run, is_proved=False, files=None):
+def try_pages(root, names, is_run, files=None):
     """What doesn't hold, and a line for each page of what was looked at."""
     pages = [page_of(name, (root / path_of(name)).read_text(encoding="utf-8")) for name in names]
     wrong = [row for page in pages for row in unknown(root, page)]
@@ -302,9 +289,9 @@ def try_pages(root, names, is_run, is_proved=False, files=None):
         build_repository(root, pages, Path(room))
         for page in pages:
             folder = Path(room) / "crates" / page.line.name
-            wrong += misprints(page, folder, is_proved)
+            wrong += misprints(page, folder)
             if files and page.name in COUNTED:
-                wrong += miscounts(page, folder, files, is_proved)
+                wrong += miscounts(page, folder, files)
     return wrong, [f"{row}, prints what the page says" for row in said]
 
 
@@ -321,7 +308,6 @@ def main():
     parser = parser_of(__doc__)
     parser.add_argument("names", nargs="*", metavar="PAGE", help=f"{', '.join(MOST_LINES)}; of examples a crate")
     parser.add_argument("--no-run", action="store_true", help="look at the texts alone")
-    parser.add_argument("--prove", action="store_true", help="prove and build the programs")
     parser.add_argument("--files", type=Path, metavar="FOLDER", help="run them over these files too")
     parser.add_argument("--examples", action="store_true", help="try the examples in doc comments instead")
     given = parser.parse_args()
@@ -336,7 +322,7 @@ def main():
             status = try_examples(TOP, examples)
             wrong, said = [f"{len(examples)} examples, not all hold"] * bool(status), [f"{len(examples)} examples, all hold"]
         else:
-            wrong, said = try_pages(TOP, given.names or list(MOST_LINES), not given.no_run, given.prove, given.files)
+            wrong, said = try_pages(TOP, given.names or list(MOST_LINES), not given.no_run, given.files)
     except (Unfit, OSError) as why:
         print(f"try_pages: {why}", file=sys.stderr)
         return 2

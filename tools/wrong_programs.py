@@ -78,25 +78,20 @@ def keep_newest(folder: Path, program: Path) -> None:
                     os.link(file, program)
 
 
-def built_by_run(crate: Path) -> Path:
-    """The program that `rt run` proves and builds of a crate."""
-    program = crate / "out" / crate.name
-    program.unlink(missing_ok=True)
-    ran = subprocess.run(["rt", "run"], cwd=crate, stdin=subprocess.DEVNULL, stdout=subprocess.PIPE,
-                         stderr=subprocess.STDOUT, text=True, timeout=PATIENCE, check=False)
-    if not program.is_file():
-        raise NotBuilt(f"rt run gave no program: {ran.stdout[-400:]}")
-    return program
+def proved(crate: Path, words: list[str], made: str) -> Path:
+    """What `rt` proves and builds of a crate."""
+    file = crate / "out" / made
+    file.unlink(missing_ok=True)
+    how = {"stdin": subprocess.DEVNULL, "stdout": subprocess.PIPE, "stderr": subprocess.STDOUT, "text": True}
+    ran = subprocess.run(["rt", *words], cwd=crate, timeout=PATIENCE, check=False, **how)
+    if not file.is_file():
+        raise NotBuilt(f"rt {words[0]} gave no {made}: {ran.stdout[-400:]}")
+    return file
 
 
 def built_by_lib(crate: Path, room: Path) -> Path:
-    """The library for C, of the archive that `rt lib` proves and builds of its crate."""
-    archive, whole = crate / "out" / f"lib{crate.name}.a", room / "libweedle.a"
-    archive.unlink(missing_ok=True)
-    ran = subprocess.run(["rt", "lib", "--cpu", "x86-64"], cwd=crate, stdin=subprocess.DEVNULL, stdout=subprocess.PIPE,
-                         stderr=subprocess.STDOUT, text=True, timeout=PATIENCE, check=False)
-    if not archive.is_file():
-        raise NotBuilt(f"rt lib gave no archive: {ran.stdout[-400:]}")
+    """The library for C, of the archive that `rt lib` builds of its crate."""
+    archive, whole = proved(crate, ["lib", "--cpu", "x86-64"], f"lib{crate.name}.a"), room / "libweedle.a"
     subprocess.run([TOP / "c/join.sh", archive, whole], check=True)
     return whole
 
@@ -145,7 +140,7 @@ class Runs:
         if crate.name == LIBRARY:
             found = failing_tests(built_by_lib(crate, self.room), self.room)
             return sum(found), len(found)
-        program = str(built_by_run(crate) if is_proved else built_by_try(crate, self.room))
+        program = str(proved(crate, ["run"], crate.name) if is_proved else built_by_try(crate, self.room))
         return failures_in(program, crate.name, self.library)
 
 

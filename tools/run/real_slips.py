@@ -59,75 +59,63 @@ def tokens_of(text):
 
 # Each kind is a function of a text, its tokens and chance, which gives all slips of the kind: where it is, how many
 # bytes are taken out there, and what is put there.
-def left_out(sign):
-    return lambda text, tokens, chance: [(start, end - start, b"") for _, start, end in tokens if text[start:end] == sign]
-
-
-def doubled(sign):
-    return lambda text, tokens, chance: [(end, 0, sign) for _, start, end in tokens if text[start:end] == sign]
-
-
-def in_place_of(sign, other):
-    return lambda text, tokens, chance: [(start, end - start, other) for _, start, end in tokens if text[start:end] == sign]
+def at_signs(sign, put):
+    """Something else in the place of a sign."""
+    sign = sign.encode()
+    return lambda text, tokens, chance: [
+        (start, end - start, put.encode()) for _, start, end in tokens if text[start:end] == sign
+    ]
 
 
 def keywords_of(text, tokens):
     return [(start, text[start:end].decode()) for _, start, end in tokens if text[start:end] in KEYWORDS and end - start > 2]
 
 
-def mistyped(change):
-    """Keywords with one letter changed by a function of the keyword, a place in it and chance."""
+def at_keywords(change):
+    """Keywords changed by a function of the keyword, a place in it and chance."""
     def slips(text, tokens, chance):
-        found = [(start, word, change(word, chance.randrange(len(word) - 1), chance)) for start, word in keywords_of(text, tokens)]
-        return [(start, len(word), other.encode()) for start, word, other in found if other != word and other.encode() not in KEYWORDS]
+        words = keywords_of(text, tokens)
+        found = [(start, word, change(word, chance.randrange(len(word) - 1), chance).encode()) for start, word in words]
+        return [(start, len(word), other) for start, word, other in found if other != word.encode() and other not in KEYWORDS]
     return slips
 
 
-def words_left_out(text, tokens, chance):
-    return [(start, len(word), b"") for start, word in keywords_of(text, tokens)]
+def at_pairs(test, slip):
+    """A slip, by the start of a token, its end, and those of the next one, where both tokens with their kinds pass a test."""
+    return lambda text, tokens, chance: [
+        slip(text, start, end, behind, until)
+        for (kind, start, end), (other, behind, until) in zip(tokens, tokens[1:])
+        if test(kind, text[start:end], text[end:behind], other, text[behind:until])
+    ]
 
 
-def words_exchanged(text, tokens, chance):
-    """Two words, one of them a keyword at least, in the other order."""
-    found = []
-    for (kind, start, end), (other, behind, until) in zip(tokens, tokens[1:]):
-        one, two = text[start:end], text[behind:until]
-        if kind == other == "word" and one != two and (one in KEYWORDS or two in KEYWORDS):
-            found.append((start, until - start, two + text[end:behind] + one))
-    return found
+def may_be_exchanged(kind, one, _, other, two):
+    """Whether two words stand there, one of them a keyword at least."""
+    return kind == other == "word" and one != two and (one in KEYWORDS or two in KEYWORDS)
 
 
 def strings_opened(text, tokens, chance):
     return [(end - 1, 1, b"") for kind, start, end in tokens if kind == "string"]
 
 
-def docstrings(text, tokens, chance):
-    """Docstrings in front of members."""
-    pairs = zip(tokens, tokens[1:])
-    return [(behind, 0, b"/// text\n  ") for (_, start, end), (_, behind, _) in pairs if text[start:end] in (b";", b"{") and b"\n" in text[end:behind]]
-
-
-def ends_left_out(text, tokens, chance):
-    """`}` and the `;` behind it left out."""
-    pairs = zip(tokens, tokens[1:])
-    return [(start, until - start, b"") for (_, start, end), (_, behind, until) in pairs if text[start:end] == b"}" and text[behind:until] == b";"]
-
-
 KINDS = {
-    "a letter of a keyword missing": mistyped(lambda word, at, chance: word[:at] + word[at + 1:]),
-    "a letter of a keyword changed": mistyped(lambda word, at, chance: word[:at] + chance.choice(LETTERS) + word[at + 1:]),
-    "a letter in a keyword added": mistyped(lambda word, at, chance: word[:at] + chance.choice(LETTERS) + word[at:]),
-    "two letters of a keyword exchanged": mistyped(lambda word, at, chance: word[:at] + word[at + 1] + word[at] + word[at + 2:]),
-    "a keyword missing": words_left_out,
-    "two words exchanged": words_exchanged,
+    "a letter of a keyword missing": at_keywords(lambda word, at, chance: word[:at] + word[at + 1:]),
+    "a letter of a keyword changed": at_keywords(lambda word, at, chance: word[:at] + chance.choice(LETTERS) + word[at + 1:]),
+    "a letter in a keyword added": at_keywords(lambda word, at, chance: word[:at] + chance.choice(LETTERS) + word[at:]),
+    "two letters of a keyword exchanged": at_keywords(lambda word, at, chance: word[:at] + word[at + 1] + word[at] + word[at + 2:]),
+    "a keyword missing": lambda text, tokens, chance: [(start, len(word), b"") for start, word in keywords_of(text, tokens)],
+    "two words exchanged": at_pairs(may_be_exchanged, lambda text, start, end, behind, until: (
+        start, until - start, text[behind:until] + text[end:behind] + text[start:end])),
     "a string's end missing": strings_opened,
-    "a docstring before a member": docstrings,
-    "`};` missing": ends_left_out,
-    **{f"`{sign}` missing": left_out(sign.encode()) for sign in ";,{}()<>=[]"},
-    **{f"`{sign}` twice": doubled(sign.encode()) for sign in ";,{})"},
-    "`;` for `,`": in_place_of(b",", b";"),
-    "`,` for `;`": in_place_of(b";", b","),
-    "`)` for `}`": in_place_of(b"}", b")"),
+    "a docstring before a member": at_pairs(
+        lambda kind, one, between, other, two: one in (b";", b"{") and b"\n" in between,
+        lambda text, start, end, behind, until: (behind, 0, b"/// text\n  ")),
+    "`};` missing": at_pairs(
+        lambda kind, one, between, other, two: (one, two) == (b"}", b";"),
+        lambda text, start, end, behind, until: (start, until - start, b"")),
+    **{f"`{sign}` missing": at_signs(sign, "") for sign in ";,{}()<>=[]"},
+    **{f"`{sign}` twice": at_signs(sign, 2 * sign) for sign in ";,{})"},
+    **{f"`{put}` for `{sign}`": at_signs(sign, put) for sign, put in (",;", ";,", "})")},
 }
 
 
