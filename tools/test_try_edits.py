@@ -46,26 +46,15 @@ class TryEditsTest(Room):
 
 
 class Misfits(TryEditsTest):
-    def misfit(self, text):
-        return try_edits.misfit_of(text, self.root / "crates/low")
-
-    def test_an_old_text_that_stands_twice_or_never(self):
-        twice = "file: src/lib.rt\nold: Some(\nnew: None\n"
-        self.assertEqual(self.misfit(twice), "src/lib.rt has 2 times: Some(")
-        never = "file: src/lib.rt\nold: a > b\nnew: None\n"
-        self.assertEqual(self.misfit(never), "src/lib.rt has 0 times: a > b")
-
-    def test_a_file_that_is_not_there_or_elsewhere(self):
-        self.assertEqual(self.misfit("file: src/no.rt\n"), "there is no file src/no.rt")
-        self.assertEqual(self.misfit("file: out/kept\n"), "there is no file out/kept")
-
-    def test_a_line_that_rt_would_not_read(self):
-        self.assertEqual(self.misfit(f"{ONE}and more\n"), "a line isn't read: and more")
-
-    def test_what_changes_nothing(self):
-        self.assertEqual(self.misfit("file: src/lib.rt\n"), "it changes nothing")
-        same = "file: src/lib.rt\nold: a < b\nnew: a < b\n"
-        self.assertEqual(self.misfit(same), "it changes nothing")
+    def test_why_one_does_not_apply(self):
+        for text, why in (
+            ("file: src/lib.rt\nold: Some(\nnew: None\n", "src/lib.rt has 2 times: Some("),
+            ("file: src/lib.rt\nold: a > b\nnew: None\n", "src/lib.rt has 0 times: a > b"),
+            ("file: src/no.rt\n", "there is no file src/no.rt"), ("file: out/kept\n", "there is no file out/kept"),
+            (f"{ONE}and more\n", "a line isn't read: and more"), ("file: src/lib.rt\n", "it changes nothing"),
+            ("file: src/lib.rt\nold: a < b\nnew: a < b\n", "it changes nothing"), (ONE, ""),
+        ):
+            self.assertEqual(try_edits.misfit_of(text, self.root / "crates/low"), why)
 
 
 class Checks(TryEditsTest):
@@ -82,29 +71,18 @@ class Checks(TryEditsTest):
 
 
 class Outcomes(unittest.TestCase):
-    def outcome(self, status, said):
-        return str(try_edits.outcome_of(status, said))
-
-    def test_a_check_that_fails_refuses(self):
-        self.assertEqual(self.outcome(1, REFUSED), "refused")
-
-    def test_a_check_that_passes_lets_through(self):
-        self.assertEqual(self.outcome(0, "logic=proved functions=2\n"), "LET THROUGH")
-
-    def test_a_proof_that_only_misses_a_name(self):
-        said = "./proofs/Less.antt:7:1: error: `less` is not in scope\nlogic=not-proved\n"
-        self.assertEqual(self.outcome(1, said), "refused (only by a name that is gone)")
-        self.assertEqual(self.outcome(1, said + REFUSED), "refused")
-
-    def test_a_text_that_cannot_be_read(self):
-        said = "./specs/Rows.antt:1:1: error: `b` is not in scope\nlogic=not-proved\n"
-        self.assertIn("NOT TRIED: the prover can't read it: ./specs", self.outcome(1, said))
-
-    def test_a_body_that_does_not_compile(self):
-        said = "src/lib.rt:1:1: error[E0425]: no such name\n"
-        why = f"NOT TRIED: it didn't reach the prover: {said.strip()}"
-        self.assertEqual(self.outcome(1, said), why)
-        self.assertEqual(self.outcome(2, ""), "NOT TRIED: it didn't reach the prover: no word")
+    def test_what_a_check_comes_to(self):
+        gone = "./proofs/Less.antt:7:1: error: `less` is not in scope\nlogic=not-proved\n"
+        unread = "./specs/Rows.antt:1:1: error: `b` is not in scope"
+        slip = "src/lib.rt:1:1: error[E0425]: no such name"
+        for status, said, outcome in (
+            (1, REFUSED, "refused"), (0, "logic=proved functions=2\n", "LET THROUGH"),
+            (1, gone, "refused (only by a name that is gone)"), (1, gone + REFUSED, "refused"),
+            (1, f"{unread}\nlogic=not-proved\n", f"NOT TRIED: the prover can't read it: {unread}"),
+            (1, f"{slip}\n", f"NOT TRIED: it didn't reach the prover: {slip}"),
+            (2, "", "NOT TRIED: it didn't reach the prover: no word"),
+        ):
+            self.assertEqual(str(try_edits.outcome_of(status, said)), outcome)
 
 
 class Functions(TryEditsTest):

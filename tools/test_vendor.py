@@ -27,16 +27,10 @@ SOURCE = {
     "crates/weedle/src/lib.rt": "//! The library.\n",
     "crates/rows/src/lib.rt": "#[test]\n",
 }
-COPIED = {
-    "crates/low/src/lib.rt",
-    "crates/low/specs/Lib.antt",
-    "crates/low/specs/Rows.antt",
-    "crates/middle/src/lib.rt",
-    "crates/middle/src/deep/part.rt",
-    "crates/middle/proofs/Lib.antt",
-    "crates/weedle/LICENSE",
-    "crates/weedle/src/lib.rt",
-}
+COPIED = {f"crates/{it}" for it in (
+    "low/src/lib.rt low/specs/Lib.antt low/specs/Rows.antt middle/src/lib.rt middle/src/deep/part.rt "
+    "middle/proofs/Lib.antt weedle/LICENSE weedle/src/lib.rt"
+).split()}
 # The beginnings of both notices, the second as weedle2 5.0.0 has it.
 NOTICES = (
     "Copyright (c) 2026 the engineers of Nenevanity\n\nPermission is hereby granted, free of charge",
@@ -220,19 +214,16 @@ class Updates(VendorTest):
 
 
 class Refusals(VendorTest):
-    def test_what_is_no_repository(self):
+    def test_what_is_no_repository_and_this_one_itself(self):
         (self.dest / "crates.txt").unlink()
         self.assertIn("has no crates.txt", self.refused())
-
-    def test_this_repository_itself(self):
         self.dest = self.source
         self.assertIn("is this repository itself", self.refused())
 
-    def test_another_crate_of_such_a_name(self):
+    def test_another_crate_or_line_of_such_a_name(self):
         put(self.dest, {"crates/low/src/lib.rt": "//! Ours.\n"})
         self.assertIn("has a crate low that isn't from here", self.refused())
-
-    def test_another_line_of_such_a_name(self):
+        shutil.rmtree(self.dest / "crates/low")
         put(self.dest, {"crates.txt": "middle:\n"})
         self.assertIn("has a crate middle that isn't from here", self.refused())
 
