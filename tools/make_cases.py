@@ -132,7 +132,7 @@ def unlike(cases):
     for text, known in worked():
         if text in by_text:
             wanted, shown = by_text[text], compact(by_text[text].get("value"))
-            wrong = [key for key, it in known.items() if key != "value" and wanted.get(key) != it]
+            wrong = [key for key, it in known.items() if key != "value" and wanted.get(key, "") != it]
             wrong += [piece for piece in known.get("value", ()) if piece not in shown]
             yield from (f"by hand {it} of {text[:100]!r} is otherwise" for it in wrong)
 

@@ -87,9 +87,9 @@ class Wanted(unittest.TestCase):
 
 class ByHand(unittest.TestCase):
     def test_the_rows_say_what_is_known_by_hand(self):
-        cases = [Case("", text, wanted_of(text)) for text, known in worked() if "says" in known or len(text) < 200]
+        cases = [Case("", text, wanted_of(text)) for text, _ in worked() if len(text) < 300]
         self.assertEqual(list(unlike(cases)), [])
-        self.assertEqual(sum("says" in known for _, known in worked()), 40)
+        self.assertEqual([sum(key in known for _, known in worked()) for key in ("says", "hint")], [40, 63])
 
     def test_what_is_otherwise(self):
         text, known = next((text, known) for text, known in worked() if "says" in known)
