@@ -121,7 +121,7 @@ class Entry:
     def __init__(self, path, item):
         self.path, self.item, self.text = path, item, item.module.text
         self.begin = re.search(ITEM_BEGIN.format(kind=item.kind, name=item.name), self.text, re.M).start()
-        self.doc = first_words(doc_before(self.text, self.begin))
+        self.doc = first_words(head_of(self.text, self.begin))
         self.name = path.rpartition("::")[2]
 
     @property
@@ -149,16 +149,6 @@ class Entry:
     def is_word(self):
         """Whether it is a struct with nothing in it, as a keyword."""
         return self.item.kind == "struct" and re.match(rf"pub struct {self.item.name};", self.text[self.begin:])
-
-
-def doc_before(text, begin):
-    """The docs right before a place, past attributes and comments."""
-    rows = []
-    for row in reversed(text[:begin].rstrip("\n").split("\n")):
-        if not row.strip().startswith(("//", "#[")):
-            break
-        rows.append(row)
-    return "\n".join(reversed(rows))
 
 
 class Crate:

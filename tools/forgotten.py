@@ -24,9 +24,10 @@ import re
 import sys
 from pathlib import Path
 
-from calling import Crate, Entry, code_of, doc_before, methods_of
+from calling import Crate, Entry, code_of, methods_of
 from command_line import take_none, told
 from crates import read_lines
+from description.declarations import head_of
 from description.following import NAME_BEFORE, read_behind
 from description.names import upper
 from description.public import public_items
@@ -109,7 +110,7 @@ def of_contracts(root):
                 (f"{entry.path}::{method}", *place) for method, *place in methods_of(entry, crates[crate])
             ]
             for called, text, begin in own:
-                said = " ".join(doc_before(text, text.rindex("\n", 0, begin) + 1).replace("///", "").split())
+                said = " ".join(head_of(text, text.rindex("\n", 0, begin) + 1).replace("///", "").split())
                 if "ensures" not in code_of(text, begin) and WITHOUT not in said:
                     yield f"{crate}: {called} has no `ensures`, and its doc doesn't say \"{WITHOUT} ..\""
 

@@ -22,6 +22,7 @@ from description.docs import law as law_doc
 from description.flat import flat_variants
 from description.layout import COLUMNS, use_line
 from description.readings import IDL, LEAVES, TYPES, Declared, lacking
+from description.uses import ghost_line
 from terminals import label
 from written_places import in_logic, put
 
@@ -179,13 +180,6 @@ def path_of(item, name):
     """The path of a type that a law names; a former's is that of its alias, with what it is given."""
     known = item.module.knows(name)
     return item.module.path_of(name) if known else item.module.path
-
-
-def ghost_line(path, names):
-    line = f"ghost use {path}.{{{', '.join(names)}}};\n"
-    if len(line) <= COLUMNS + 1:
-        return line
-    return f"ghost use {path}.{{\n" + "".join(f"  {name},\n" for name in names) + "};\n"
 
 
 def ghost_lines(items, laws):

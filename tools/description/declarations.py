@@ -148,10 +148,10 @@ def part_of(kind, number, docs, code):
 
 
 def head_of(text, end):
-    """The docs and the attributes right before a declaration, as they stand."""
+    """The docs, comments and attributes right before a declaration or a method, as they stand."""
     rows = []
     for row in reversed(text[:end].rstrip("\n").split("\n")):
-        if not row.startswith(("///", "#[")):
+        if not row.strip().startswith(("//", "#[")):
             break
         rows.append(row)
     return "\n".join(reversed(rows))
