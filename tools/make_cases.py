@@ -101,10 +101,10 @@ def places(text):
 
 def wanted_of(text):
     """What is wanted of a text, by the rows alone."""
-    answer, by = answer_by_rows(text, ()), {"by": "the grammar's rows"}
-    if answer.values is None:
-        rest = int(answer.lines[-1].rpartition(" ")[2])
+    by, rest = {"by": "the grammar's rows"}, NOW.end_of(text.encode())
+    if rest < len(text.encode()):
         return by | {"rest": rest, **said_by_rows(text, rest)}
+    answer = answer_by_rows(text, ())
     values = [plain(it) for it in answer.values]
     return by | {"list": answer.lines[:-1], "at": places(text), "value": values}
 

@@ -42,6 +42,15 @@ class Ends:
         """Where the rule ends that is read from the front of the text on."""
         return self.at[rule](0)
 
+    def end_of(self, text, rule="DEFINITIONS"):
+        """Takes a text, and says where the rule ends."""
+        self.take(text)
+        return self.ends_at(rule)
+
+    def is_whole(self, text, rule="DEFINITIONS"):
+        """Takes a text, and says whether the rule reads all of it."""
+        return self.end_of(text, rule) == len(text)
+
     @staticmethod
     def kept(work, known):
         def end(place):

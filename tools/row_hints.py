@@ -189,8 +189,7 @@ def mends(text, start, place, tokens, change):
     changed = text[start:at] + put + text[at + taken:end]
     if nests_deep(changed):
         return False
-    NOW.take(changed)
-    return NOW.ends_at() == len(changed)
+    return NOW.is_whole(changed)
 
 
 def braces(text, tokens, at, taken, put):
@@ -247,8 +246,7 @@ def comes_beyond(text, start, place, tokens, change):
     changed = text[start:at] + put + text[at + taken:end]
     if nests_deep(changed):
         return False
-    NOW.take(changed)
-    NOW.ends_at()
+    NOW.end_of(changed)
     return len(changed) - NOW.unmet()[0] < end - beyond
 
 
@@ -272,8 +270,7 @@ def past_token(text, place):
 
 def unmet_texts(text, start):
     """The texts of which it is said that one would go on at the furthest place."""
-    NOW.take(text[start:])
-    NOW.ends_at()
+    NOW.end_of(text[start:])
     return {word.strip("`").encode() for word in words(NOW.unmet()[1]) if word.startswith("`")}
 
 

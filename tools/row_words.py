@@ -32,8 +32,7 @@ SHOWN = 6
 @cache
 def starts(rule):
     """The rules without parts by which what the rule reads begins."""
-    NOW.take(b"")
-    NOW.ends_at(rule)
+    NOW.end_of(b"", rule)
     return {it for it in NOW.unmet()[1] if it not in UNSAID}
 
 
@@ -68,7 +67,6 @@ def position(text, place):
 
 def refusal(text, rest):
     """Of a text whose rest from this byte on is refused: the furthest byte, and the sentence."""
-    NOW.take(text.encode()[rest:])
-    NOW.ends_at()
+    NOW.end_of(text.encode()[rest:])
     place, unmet = NOW.unmet()
     return rest + place, sentence(words(unmet))

@@ -15,7 +15,7 @@ import sys
 import row_hints
 from case_files import TESTS, TOP
 from command_line import write_page
-from make_cases import said_by_rows
+from make_cases import wanted_of
 from row_ends import NOW
 from tree_json import unescaped
 
@@ -50,9 +50,7 @@ class Slip:
 
     def wanted(self):
         """What is to be said of it, by the rows."""
-        NOW.take(self.text.encode())
-        rest = NOW.ends_at()
-        return {"rest": rest, **said_by_rows(self.text, rest)}
+        return wanted_of(self.text)
 
     def told(self):
         return Told(self.text.encode(), len(self.text[:self.place].encode()))
@@ -74,25 +72,18 @@ class Told:
     """
 
     def __init__(self, text, slip):
-        NOW.take(text)
-        start = NOW.ends_at()
-        NOW.take(text[start:])
-        NOW.ends_at()
+        start = NOW.end_of(text)
+        NOW.end_of(text[start:])
         self.place = start + NOW.unmet()[0]
         self.hint = row_hints.found(text, start, self.place)
         self.has_change = self.hint is not None and self.hint[1] is not None
-        self.mends = self.has_change and is_whole(changed(text, *self.hint[:3]))
+        self.mends = self.has_change and NOW.is_whole(changed(text, *self.hint[:3]))
         places = [self.place] + ([self.hint[0]] if self.hint else [])
         self.is_near = any(abs(line_of(text, place) - line_of(text, slip)) <= 1 for place in places)
 
 
 def changed(text, at, taken, put):
     return text[:at] + put + text[at + taken:]
-
-
-def is_whole(text):
-    NOW.take(text)
-    return NOW.ends_at() == len(text)
 
 
 def line_of(text, place):

@@ -56,8 +56,7 @@ class Table:
 
     def read(self, text):
         """The byte up to which definitions are read, and their values."""
-        self.ends.take(text.encode())
-        return self.ends.ends_at(), self.value("DEFINITIONS", 0)
+        return self.ends.end_of(text.encode()), self.value("DEFINITIONS", 0)
 
     def text(self, start, end):
         return self.ends.text[start:end].decode()

@@ -30,8 +30,7 @@ class Families(unittest.TestCase):
                     self.assertEqual(raised.exception.start, family.rest(PART))
                     continue
                 text.decode()
-                NOW.take(text)
-                self.assertEqual(NOW.ends_at(), family.rest(PART))
+                self.assertEqual(NOW.end_of(text), family.rest(PART))
                 self.assertEqual(family.kind == READ, family.rest(PART) == len(text))
 
     def test_there_are_forty_and_more(self):

@@ -14,9 +14,7 @@ ROWS = Ends({rule.name: rule.row for rule in today.RULES})
 
 def is_whole(text, rule):
     """Whether the rule reads the whole text."""
-    data = text.encode()
-    ROWS.take(data)
-    return ROWS.ends_at(rule) == len(data)
+    return ROWS.is_whole(text.encode(), rule)
 
 
 class TodayTest(unittest.TestCase):

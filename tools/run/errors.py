@@ -76,8 +76,7 @@ def count_of(rule, place):
 
 
 def is_whole(text):
-    NOW.take(text.encode())
-    return NOW.ends_at() == len(text.encode())
+    return NOW.is_whole(text.encode())
 
 
 def told_at(raw, part):
@@ -86,8 +85,7 @@ def told_at(raw, part):
         return part.start
     front = MEMBERS.get(part.rule, "").encode()
     start = part.start if front else part.definition
-    NOW.take(front + raw[start:part.end])
-    NOW.ends_at()
+    NOW.end_of(front + raw[start:part.end])
     return start + max(0, NOW.unmet()[0] - len(front))
 
 

@@ -15,12 +15,12 @@ be pointed at. The first N of those that don't mend or aren't pointed at are sho
 import random
 
 from compare_with_weedle2 import files_of
-from make_cases import said_by_rows
+from make_cases import wanted_of
 from row_ends import NOW
 from row_hints import KEYWORDS, kind_at
 from run.programs import meant
 from run.slips import Counts, said_otherwise
-from slips import MARK, Told, changed, is_whole
+from slips import MARK, Told, changed
 
 SEED, EACH = 7, 60
 LETTERS = "abcdefghijklmnopqrstuvwxyz"
@@ -41,9 +41,7 @@ class Slip:
 
     def wanted(self):
         """What is to be said of it, by the rows."""
-        NOW.take(self.data)
-        rest = NOW.ends_at()
-        return {"rest": rest, **said_by_rows(self.text, rest)}
+        return wanted_of(self.text)
 
 
 def tokens_of(text):
@@ -122,7 +120,7 @@ KINDS = {
 def real_texts(folder):
     """The names, the bytes and the tokens of the files that are read whole."""
     texts = [(file.name, file.read_bytes()) for file in files_of(folder)]
-    return [(name, text, tokens_of(text)) for name, text in texts if is_whole(text)]
+    return [(name, text, tokens_of(text)) for name, text in texts if NOW.is_whole(text)]
 
 
 def slips_of(texts, kind, each):
@@ -136,7 +134,7 @@ def slips_of(texts, kind, each):
         if found:
             slip = chance.choice(found)
             other = changed(text, *slip)
-            if not is_whole(other):
+            if not NOW.is_whole(other):
                 count += 1
                 yield Slip(kind, name, other, slip[0])
 

@@ -156,8 +156,7 @@ def parts_by_rows(raw):
 def diagnosis_by_rows(raw):
     """The furthest place, and the rules that fail there, by the rows."""
     with ONE_TEXT:
-        NOW.take(raw)
-        NOW.ends_at()
+        NOW.end_of(raw)
         place, rules = NOW.unmet()
     return place, sorted(rule.lower() for rule in rules)
 
