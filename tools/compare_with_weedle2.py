@@ -96,6 +96,11 @@ def renamed(value):
     return value
 
 
+def parts_between(out):
+    """What `weedle_check --tree` writes of each text, without what it writes of BETWEEN behind it; and what comes last."""
+    return re.split(r'^\d+:\d+ .*"between_two_texts".*\n', out, flags=re.M)
+
+
 # The two sides.
 def output_of(words, text=None):
     """What a program writes; a status of more than 1 is none of an answer."""
@@ -142,16 +147,11 @@ class Port:
             between = Path(room) / "between"
             between.write_text(BETWEEN)
             words = [word for file in files for word in (file, str(between))]
-            lines = output_of([self.check, "--tree", *words]).splitlines()
-        lists = [[]]
-        for text in map(definition_of, lines):
-            if text is not None and '"between_two_texts"' in text:
-                lists.append([])
-            elif text is not None:
-                lists[-1].append(renamed(read(text)))
-        if len(lists) != len(files) + 1:
-            raise NoUse(f"{self.check}: {len(lists) - 1} trees of {len(files)} texts")
-        return lists[:-1]
+            *parts, _ = parts_between(output_of([self.check, "--tree", *words]))
+        if len(parts) != len(files):
+            raise NoUse(f"{self.check}: {len(parts)} trees of {len(files)} texts")
+        texts = [filter(None, map(definition_of, part.splitlines())) for part in parts]
+        return [[renamed(read(it)) for it in part] for part in texts]
 
 
 # What the rows give.

@@ -51,25 +51,16 @@ def row(name, words):
     return f"{name:<{NAME}}" + "".join(f"{word:>{NUMBER}}" for word in words)
 
 
-def table(counts):
-    """The lines of a table: a row for each crate, and one for their sums."""
-    heads = [maker for maker, _ in COLUMNS], [kind for _, kind in COLUMNS]
-    yield from (row("", words) for words in heads)
-    for name, count in [*counts.items(), (SUM, sum(counts.values(), Counter()))]:
-        yield row(name, [count[column] for column in COLUMNS])
-
-
-def sums(counts):
-    """A line for all that is by hand, and one for all that is written."""
-    for maker in MAKERS:
-        lines = sum(count[maker, kind] for count in counts.values() for kind in KINDS.values())
-        yield f"{maker}: {lines}"
-
-
 def report(root):
+    """The lines of a table, a row for each crate and one for their sums, and the sums below it."""
     counts = {name: lines_of(root, name) for name in read_lines(root)}
+    whole = sum(counts.values(), Counter())
+    yield from (row("", words) for words in zip(*COLUMNS))
+    yield from (row(name, [count[it] for it in COLUMNS]) for name, count in [*counts.items(), (SUM, whole)])
+    yield ""
+    yield from (f"{maker}: {sum(whole[maker, kind] for kind in KINDS.values())}" for maker in MAKERS)
     lines, tests = lines_of_tools(root)
-    return [*table(counts), "", *sums(counts), f"tools: {lines}, of which tests {tests}"]
+    yield f"tools: {lines}, of which tests {tests}"
 
 
 def main():

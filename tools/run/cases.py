@@ -23,7 +23,7 @@ from concurrent.futures import ThreadPoolExecutor
 from pathlib import Path
 
 from case_files import TESTS, cases_of, compact, folders, numbered
-from compare_with_weedle2 import BETWEEN, renamed
+from compare_with_weedle2 import BETWEEN, parts_between, renamed
 from row_nodes import nodes_of, printed
 from run.programs import Built, Tried, built_at, meant, told
 from run.report import Failure, NoUse, compared
@@ -91,8 +91,9 @@ def tree_all(program, cases, room):
     (Path(room) / "between").write_text(BETWEEN, encoding="utf-8")
     ended = program.run(["--errors", "1", "--tree"], [word for name in names for word in (name, "between")], room)
     refused = sum(not case.is_read for case in cases)
-    parts = parts_between(ended.stdout.decode(errors="replace"), last_line(2 * len(cases), refused))
-    if parts is None or len(parts) != len(cases) or ended.stderr or ended.returncode != (1 if refused else 0):
+    *parts, last = parts_between(ended.stdout.decode(errors="replace"))
+    is_well = last == last_line(2 * len(cases), refused) and ended.returncode == (1 if refused else 0)
+    if not is_well or len(parts) != len(cases) or ended.stderr:
         if len(cases) > 1 and isinstance(program, Built):
             return [failure for case in cases for failure in tree_all(program, [case], room)]
         return [Failure(case.text, trees_of(case), told(ended)) for case in cases]
@@ -100,14 +101,6 @@ def tree_all(program, cases, room):
         compared(case.text, trees_of(case), trees_in(part)) if case.is_read else compared(case.text, said_of(case, name), part)
         for case, name, part in zip(cases, names, parts)
     ]
-
-
-def parts_between(out, last):
-    """What is written of each text, what is of the text between two left out; or None where it doesn't end in this line."""
-    if not out.endswith(last):
-        return None
-    *parts, rest = re.split(r'^\d+:\d+ .*"between_two_texts".*\n', out[:len(out) - len(last)], flags=re.M)
-    return None if rest else parts
 
 
 def trees_of(case):
