@@ -1,8 +1,6 @@
 """Tests make_cases.py and what it uses, with no program, in some seconds."""
 
-import tempfile
 import unittest
-from pathlib import Path
 from unittest import mock
 
 import make_cases
@@ -11,6 +9,7 @@ from make_cases import (
     Disagree, cases_anew, excerpt, real_cases, stale, sum_of, unlike, wanted_of, with_rows_again, without_text, worked,
 )
 from row_words import position, sentence
+from test_support import Room
 
 
 class Words(unittest.TestCase):
@@ -100,11 +99,8 @@ class ByHand(unittest.TestCase):
         self.assertEqual(len([*unlike([Case("", text, wanted)])]), len(known["value"]))
 
 
-class Archives(unittest.TestCase):
+class Archives(Room):
     CASES = numbered([("é\n", {"by": "weedle2", "rest": 0}), ("", {"by": "weedle2", "value": []})])
-
-    def setUp(self):
-        self.room = Path(self.enterContext(tempfile.TemporaryDirectory()))
 
     def test_what_is_packed_is_unpacked(self):
         for cases in (self.CASES, [Case("a", None, {"by": "weedle2"})]):
@@ -115,33 +111,31 @@ class Archives(unittest.TestCase):
         self.assertEqual([case.is_read for case in self.CASES], [False, True])
 
     def test_texts_that_weedle2_is_not_asked_of(self):
-        file = self.room / "added.txt"
-        file.write_text("# A note.\nA includes B;\n\\n A includes B;\n")
-        make_cases.write(self.room, {})
-        self.assertEqual(len(list(stale(self.room))), 1)
-        cases = cases_anew("added", self.room)
+        self.put({"added.txt": "# A note.\nA includes B;\n\\n A includes B;\n"})
+        make_cases.write(self.root, {})
+        self.assertEqual(len(list(stale(self.root))), 1)
+        cases = cases_anew("added", self.root)
         self.assertEqual([case.wanted["at"] for case in cases], [["1:1"], ["2:2"]])
-        make_cases.write(self.room, {"added": cases})
-        self.assertEqual(list(stale(self.room)), [])
-        file.unlink()
-        make_cases.write(self.room, {})
-        self.assertEqual((folders(self.room), list(stale(self.room))), ([], []))
+        make_cases.write(self.root, {"added": cases})
+        self.assertEqual(list(stale(self.root)), [])
+        (self.root / "added.txt").unlink()
+        make_cases.write(self.root, {})
+        self.assertEqual((folders(self.root), list(stale(self.root))), ([], []))
 
     def test_an_archive_that_is_not_made_stays(self):
         for folder in ("a", "real"):
-            make_cases.write(self.room, {folder: self.CASES})
-        self.assertEqual(folders(self.room), ["a", "real"])
-        self.assertEqual(list(wrong_sums(self.room)), [])
+            make_cases.write(self.root, {folder: self.CASES})
+        self.assertEqual(folders(self.root), ["a", "real"])
+        self.assertEqual(list(wrong_sums(self.root)), [])
 
     def test_what_is_stale(self):
         text = next(text for text, known in worked() if known == {"rest": 0})
-        make_cases.write(self.room, {"worked": numbered([(text, {"by": "weedle2", "rest": 99})])})
-        self.assertEqual(list(stale(self.room)), [f"tests/worked.tar.xz: by hand rest of {text!r} is otherwise"])
-        make_cases.write(self.room, {"a": self.CASES, "b": self.CASES})
-        (self.room / archive_of("a")).write_bytes(packed(self.CASES[:1]))
-        (self.room / archive_of("b")).unlink()
-        (self.room / archive_of("c")).write_bytes(b"")
-        self.assertEqual(list(wrong_sums(self.room)), [
+        make_cases.write(self.root, {"worked": numbered([(text, {"by": "weedle2", "rest": 99})])})
+        self.assertEqual(list(stale(self.root)), [f"tests/worked.tar.xz: by hand rest of {text!r} is otherwise"])
+        make_cases.write(self.root, {"a": self.CASES, "b": self.CASES})
+        self.put({archive_of("a"): packed(self.CASES[:1]), archive_of("c"): b""})
+        (self.root / archive_of("b")).unlink()
+        self.assertEqual(list(wrong_sums(self.root)), [
             f"tests/a.tar.xz: not what tests/{INDEX} lists", f"tests/b.tar.xz: lacking, and listed in tests/{INDEX}",
             f"tests/c.tar.xz: not what tests/{INDEX} lists",
         ])

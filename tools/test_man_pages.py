@@ -1,16 +1,12 @@
 """Tests man_pages.py: what it makes of help, and that troff has nothing to say of the pages."""
 
-import contextlib
-import io
 import shutil
 import subprocess
-import tempfile
 import unittest
-from pathlib import Path
-from unittest import mock
 
 import man_pages
 from man_pages import FOLDER, PROGRAMS, PYTHON, TOP, escaped, help_of, marked, page_of
+from test_support import Room
 
 GROFF = shutil.which("groff")
 OF_A_PROGRAM = """\
@@ -87,21 +83,17 @@ class Pages(unittest.TestCase):
             self.assertEqual((done.returncode, done.stderr), (0, ""), page)
 
 
-class Written(unittest.TestCase):
+class Written(Room):
     def test_what_is_stale_is_written(self):
-        with tempfile.TemporaryDirectory() as room, mock.patch.object(man_pages, "pages") as made:
-            made.side_effect = lambda _: iter([("man/a.1", "x\n"), ("man/b.1", None)])
-            top, left = Path(room), "man/b.1: left as it is, since the Python package can't be loaded"
-            self.assertEqual([*man_pages.look(top, True)], ["man/a.1: stale, tools/write.py writes it", left])
-            self.assertFalse((top / FOLDER).exists())
-            self.assertEqual([*man_pages.look(top, False)], ["changed man/a.1", left])
-            self.assertEqual([*man_pages.look(top, True)], [left])
+        self.patch(man_pages, pages=lambda _: iter([("man/a.1", "x\n"), ("man/b.1", None)]))
+        left = "man/b.1: left as it is, since the Python package can't be loaded"
+        self.assertEqual([*man_pages.look(self.root, True)], ["man/a.1: stale, tools/write.py writes it", left])
+        self.assertFalse((self.root / FOLDER).exists())
+        self.assertEqual([*man_pages.look(self.root, False)], ["changed man/a.1", left])
+        self.assertEqual([*man_pages.look(self.root, True)], [left])
 
     def test_a_package_that_cannot_be_loaded(self):
-        with tempfile.TemporaryDirectory() as room, contextlib.redirect_stdout(io.StringIO()):
-            package = Path(room, "python/it")
-            package.mkdir(parents=True)
-            (package / "__main__.py").write_text("raise ImportError('another version')")
-            self.assertIsNone(man_pages.said_by_python(Path(room), ["it"]))
-            (package / "__main__.py").write_text("1 / 0")
-            self.assertRaises(man_pages.Unfit, man_pages.said_by_python, Path(room), ["it"])
+        self.put({"python/it/__main__.py": "raise ImportError('another version')"})
+        self.assertIsNone(man_pages.said_by_python(self.root, ["it"]))
+        self.put({"python/it/__main__.py": "1 / 0"})
+        self.assertRaises(man_pages.Unfit, man_pages.said_by_python, self.root, ["it"])

@@ -3,14 +3,13 @@
 import hashlib
 import shutil
 import subprocess
-import tempfile
 import unittest
-from pathlib import Path
 from unittest import mock
 
 import release_texts
 from crates import Unfit
 from prebuilt import FOLDER, SHARED, TOP, SharedObject
+from test_support import Room
 
 CHANGELOG = """\
 # What is new
@@ -27,7 +26,7 @@ Commit `0123456789ab`.
 """
 
 
-class Texts(unittest.TestCase):
+class Texts(Room):
     def test_the_section_of_a_version(self):
         text = release_texts.section_of(CHANGELOG, "0.11.0")
         self.assertTrue(text.startswith("## 0.11.0 (2026-11-30)\n"))
@@ -53,12 +52,9 @@ class Texts(unittest.TestCase):
                 self.assertIn(f": Linux, {wanted}, glibc ", release_texts.wants_of(TOP / FOLDER / SHARED))
 
     def test_the_sums(self):
-        with tempfile.TemporaryDirectory() as room:
-            folder = Path(room)
-            (folder / "b").write_bytes(b"b")
-            (folder / "a").write_bytes(b"a")
-            release_texts.write(folder, TOP, [TOP / FOLDER / SHARED])
-            rows = (folder / "SUMS").read_text().splitlines()
+        self.put({"b": "b", "a": "a"})
+        release_texts.write(self.root, TOP, [TOP / FOLDER / SHARED])
+        rows = (self.root / "SUMS").read_text().splitlines()
         heads = [row for row in rows if row.startswith("# ")]
         self.assertRegex(heads[0], r"^# weedle \d+\.\d+\.\d+$")
         self.assertRegex(heads[2], r"^# libweedle\.so: Linux, x86-64, glibc 2\.\d+ or later$")
@@ -67,30 +63,26 @@ class Texts(unittest.TestCase):
 
 
 @unittest.skipUnless(shutil.which("sh"), "there is no sh")
-class Scripts(unittest.TestCase):
+class Scripts(Room):
     def ran(self, script, *words):
         """The status and what is said on standard error."""
         done = subprocess.run([TOP / "tools" / script, *words], capture_output=True, text=True, check=False)
         return done.returncode, done.stderr
 
     def test_a_folder_with_other_things_stays(self):
-        with tempfile.TemporaryDirectory() as room:
-            Path(room, "mine").write_text("mine")
-            status, said = self.ran("release.sh", "--draft", room)
-            self.assertEqual(status, 1)
-            self.assertIn(f"{room} holds other things than a release", said)
-            self.assertTrue(Path(room, "mine").exists())
+        self.put({"mine": "mine"})
+        status, said = self.ran("release.sh", "--draft", self.root)
+        self.assertEqual(status, 1)
+        self.assertIn(f"{self.root} holds other things than a release", said)
+        self.assertTrue((self.root / "mine").exists())
 
     def test_what_is_no_release(self):
-        with tempfile.TemporaryDirectory() as room:
-            status, said = self.ran("try_release.sh", room)
+        status, said = self.ran("try_release.sh", self.root)
         self.assertEqual((status, said), (1, "try_release.sh: usage: tools/try_release.sh FOLDER, and FOLDER has SUMS\n"))
 
     @unittest.skipUnless(shutil.which("sha256sum"), "there is no sha256sum")
     def test_a_file_that_is_another(self):
-        with tempfile.TemporaryDirectory() as room:
-            Path(room, "a").write_text("a")
-            Path(room, "SUMS").write_text(f"{hashlib.sha256(b'b').hexdigest()}  a\n")
-            status, said = self.ran("try_release.sh", room)
+        self.put({"a": "a", "SUMS": f"{hashlib.sha256(b'b').hexdigest()}  a\n"})
+        status, said = self.ran("try_release.sh", self.root)
         self.assertEqual(status, 1)
         self.assertTrue(said.endswith("the files aren't those of SUMS\n"), said)

@@ -15,24 +15,18 @@ HEAD = b"//! Terminals.\n//!\n//! Written by tools/terminals.py.\n"
 
 class Heads(unittest.TestCase):
     def test_the_script_that_a_head_names(self):
-        self.assertEqual(write.writer_in(HEAD.decode()), "tools/terminals.py")
-        self.assertEqual(write.writer_in("-- A law. Written by tools/x.py.\n"), "tools/x.py")
-
-    def test_a_head_may_be_long(self):
-        text = "//! Rules.\n//!\n//! More of them.\n//!\n//! Written by tools/x.py.\n\nuse crate::y;\n"
-        self.assertEqual(write.writer_in(text), "tools/x.py")
-
-    def test_a_head_of_c(self):
-        text = "/*\n * A header.\n *\n * Written by tools/x.py.\n */\nint f(void);\n"
-        self.assertEqual(write.writer_in(text), "tools/x.py")
-        self.assertIsNone(write.writer_in("/* By hand. */\n/* Written by tools/x.py. */\n"))
-
-    def test_a_head_of_python(self):
-        self.assertEqual(write.writer_in('"""Types. Written by tools/x.py."""\n\nA = 1\n'), "tools/x.py")
-        self.assertIsNone(write.writer_in('"""By hand."""\n"""Written by tools/x.py."""\n'))
+        long = "//! Rules.\n//!\n//! More of them.\n//!\n//! Written by tools/x.py.\n\nuse crate::y;\n"
+        of_c = "/*\n * A header.\n *\n * Written by tools/x.py.\n */\nint f(void);\n"
+        of_python = '"""Types. Written by tools/x.py."""\n\nA = 1\n'
+        for text in ("-- A law. Written by tools/x.py.\n", long, of_c, of_python):
+            self.assertEqual(write.writer_in(text), "tools/x.py", text)
 
     def test_only_a_head_counts(self):
-        self.assertIsNone(write.writer_in("//! By hand.\n\n\n// as written by tools/x.py\n"))
+        for text in (
+            "//! By hand.\n\n\n// as written by tools/x.py\n", "/* By hand. */\n/* Written by tools/x.py. */\n",
+            '"""By hand."""\n"""Written by tools/x.py."""\n',
+        ):
+            self.assertIsNone(write.writer_in(text), text)
 
 
 class Copies(Room):
