@@ -86,28 +86,10 @@ def call(words, folder, name=None):
     return ran.stdout
 
 
-def crate_of(path):
-    """The crate of a file, or None where the file is no crate's."""
-    top, name, *_ = path.split("/")
-    return name if top == "crates" else None
-
-
-def sizes_of(files, anew):
-    """The crates with a file that isn't among these, each with the size of its code."""
-    changed = {crate_of(path) for path, data in anew.items() if files.get(path) != data}
-    sizes = dict.fromkeys(changed - {None}, 0)
-    for path, data in anew.items():
-        if crate_of(path) in sizes and path.endswith(".rt"):
-            sizes[crate_of(path)] += len(data)
-    return sizes
-
-
-def shares(sizes, count):
-    """Crates dealt out into at most so many shares of about the same size."""
-    found = [[] for _ in range(count)]
-    for crate in sorted(sizes, key=sizes.get, reverse=True):
-        min(found, key=lambda share: sum(map(sizes.get, share))).append(crate)
-    return [share for share in found if share]
+def crates_changed(files, anew):
+    """The crates with a file that isn't among these."""
+    changed = [path.split("/") for path, data in anew.items() if files.get(path) != data]
+    return sorted({name for top, name, *_ in changed if top == "crates"})
 
 
 def lay_out_together(room, crates):
@@ -124,9 +106,9 @@ def lay_out_together(room, crates):
 
 def lay_out(room, files):
     """Lays out each crate that has a file which isn't among these."""
-    found = shares(sizes_of(files, sources(room)), os.cpu_count() or 1)
+    crates, count = crates_changed(files, sources(room)), os.cpu_count() or 1
     with ThreadPoolExecutor() as pool:
-        for end in [pool.submit(lay_out_together, room, it) for it in found]:
+        for end in [pool.submit(lay_out_together, room, crates[at::count]) for at in range(min(count, len(crates)))]:
             end.result()
 
 
