@@ -1,7 +1,7 @@
 #!/usr/bin/env python3
 """Says how long a gate from nothing would take, and what a change would cost, from measured times.
 
-    python3 tools/gate_plan.py TIMES [--processors N].. [--memory GB] [--slower F] [--show]
+    python3 tools/gate_plan.py TIMES [--processors N].. [--memory GB] [--slower F]
     python3 tools/gate_plan.py TIMES --costs CRATE..
 
 TIMES is a file of JSON that tools/gate_times.py wrote. The layout of the crates is read from
@@ -12,7 +12,7 @@ for each crate's tests, for each wrong body, for the static library and for each
 are those of one job; by two, three or four jobs a proof takes SPEED of them, and where more jobs run than there are
 processors, they share them. With --memory so many GB are free when it begins, of which gate.py uses 85 hundredths. With --slower the machine
 takes F times as long. It prints, for each N (4 and 2 where none is given), the minutes by the clock and of processor
-time; with --show when each task that takes a minute or more begins and ends.
+time.
 
 The wrong bodies of a crate begin with a check of the functions that they turn (`seed`), which takes as long as a try of
 one.
@@ -45,8 +45,6 @@ SECONDS_OF_A_LIBRARY = 60.0
 # How many GB `rt ci` expects a check to take: of itself, with what the kit's libraries take, and for each
 # line of the crate's sources, of its definitions and proofs, and of the sources below it.
 OF_ITSELF, OF_A_SOURCE, OF_A_PROOF, OF_A_LINE_BELOW = 1.2, 1e-3, 2e-4, 8e-5
-# Of which tasks it is shown when they run, in seconds.
-SHOWN = 60.0
 
 
 class Task:
@@ -161,11 +159,7 @@ def plan(crates, processors, said):
     tasks = crates.tasks()
     log = simulated(tasks, processors, gate.ROOM * said.memory, crates.peaks, said.slower)
     end, work = max(it[1] for it in log.values()), said.slower * sum(it.seconds for it in tasks.values())
-    yield f"{processors} processors: {minutes(end)} minutes, {minutes(work)} of processor time"
-    for key, (begin, end, jobs) in log.items() if said.show else ():
-        if end - begin >= SHOWN:
-            named = " ".join(map(str, key))
-            yield f"  {begin / 60:6.1f} to {end / 60:6.1f}, {jobs} jobs: {named}"
+    return f"{processors} processors: {minutes(end)} minutes, {minutes(work)} of processor time"
 
 
 def times_in(path):
@@ -185,7 +179,6 @@ def main():
     parser.add_argument("--processors", type=int, action="append")
     parser.add_argument("--memory", type=float, default=math.inf, metavar="GB")
     parser.add_argument("--slower", type=float, default=1, metavar="F")
-    parser.add_argument("--show", action="store_true")
     parser.add_argument("--costs", nargs="+", metavar="CRATE")
     said = parser.parse_args()
     crates = Gate(TOP, said.times)
@@ -196,7 +189,7 @@ def main():
         print(*costs(crates, said.costs), sep="\n")
         return
     for processors in said.processors or (4, 2):
-        print(*plan(crates, processors, said), sep="\n")
+        print(plan(crates, processors, said))
 
 
 if __name__ == "__main__":

@@ -1,12 +1,11 @@
 """Tests rust_surface.py and compare_rust_types.py over made-up packages, in a second."""
 
-import tempfile
 import unittest
-from pathlib import Path
 
 import compare_rust_types
 import rust_surface
 from rust_surface import Surface, differing, type_text
+from test_support import Room
 
 
 def path(name, *arguments):
@@ -73,7 +72,7 @@ class Items(unittest.TestCase):
         self.assertEqual(found["weedle::Parse"], ("trait", ["parse"]))
 
 
-class Programs(unittest.TestCase):
+class Programs(Room):
     def test_each_type_is_asked_for(self):
         names = list(compare_rust_types.types())
         self.assertEqual(len(names), len(set(names)))
@@ -89,15 +88,11 @@ class Programs(unittest.TestCase):
                 compare_rust_types.put(text, "b", "c", "x.rs")
 
     def test_a_copy_has_another_name_and_the_changes(self):
-        with tempfile.TemporaryDirectory() as room:
-            here = Path(room, "weedle2")
-            (here / "src").mkdir(parents=True)
-            (here / "Cargo.toml").write_text('[package]\nname = "weedle2"\n')
-            (here / "src/a.rs").write_text("x y")
-            compare_rust_types.copy_of(here, "other", Path(room), [("a.rs", "y", "z")])
-            self.assertEqual(Path(room, "other/src/a.rs").read_text(), "x z")
-            self.assertIn('name = "other"', Path(room, "other/Cargo.toml").read_text())
-            self.assertEqual((here / "src/a.rs").read_text(), "x y")
+        self.put({"weedle2/Cargo.toml": '[package]\nname = "weedle2"\n', "weedle2/src/a.rs": "x y"})
+        compare_rust_types.copy_of(self.root / "weedle2", "other", self.root, [("a.rs", "y", "z")])
+        self.assertEqual((self.root / "other/src/a.rs").read_text(), "x z")
+        self.assertIn('name = "other"', (self.root / "other/Cargo.toml").read_text())
+        self.assertEqual((self.root / "weedle2/src/a.rs").read_text(), "x y")
 
     def test_texts_are_those_of_the_seed(self):
         texts = list(compare_rust_types.texts_of(3, 9))

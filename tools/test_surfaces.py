@@ -169,22 +169,20 @@ class InC(Trees):
         calls = calls_in((TOP / c.HEADER).read_text(encoding="utf-8"))
         self.assertLessEqual(calls | {"weedle_rule_name"}, c.surface_of(TOP).keys())
 
-    def test_what_grows(self):
-        of = c.change_of
-        self.assertEqual(of("struct weedle_answer", "size_t count", "size_t count, size_t rest"), Change.ABI)
-        self.assertEqual(of("struct weedle_answer", "size_t count", "size_t rest, size_t count"), Change.BROKEN)
-        self.assertEqual(of("struct weedle_answer", "size_t count", "size_t counted"), Change.BROKEN)
-        self.assertEqual(of("struct weedle_node", "uint32_t rule", "uint32_t rule, uint32_t depth"), Change.BROKEN)
-
-    def test_numbers_and_calls(self):
-        of = c.change_of
-        self.assertEqual(of("enum weedle_rule WEEDLE_LF", "0", "1"), Change.ABI)
-        self.assertEqual(of("enum weedle_rule WEEDLE_LF", None, "1"), Change.ABI)
-        self.assertEqual(of("enum weedle_rule WEEDLE_LF", "0", None), Change.BROKEN)
-        self.assertEqual(of("enum weedle_status WEEDLE_STATUS_NEW", None, "7"), Change.ABI)
-        self.assertEqual(of("#define WEEDLE_RULE_COUNT", "1", "2"), Change.ABI)
-        self.assertEqual(of("weedle_new", None, "void (void)"), Change.ADDED)
-        self.assertEqual(of("weedle_rules", "uint32_t (void)", "size_t (void)"), Change.BROKEN)
+    def test_what_a_change_asks(self):
+        """A struct that is an answer's may grow at its end; numbers of rules and new statuses change the ABI alone."""
+        answer, node, rule = "struct weedle_answer", "struct weedle_node", "enum weedle_rule WEEDLE_LF"
+        for name, old, new, change in (
+            (answer, "size_t count", "size_t count, size_t rest", Change.ABI),
+            (answer, "size_t count", "size_t rest, size_t count", Change.BROKEN),
+            (answer, "size_t count", "size_t counted", Change.BROKEN),
+            (node, "uint32_t rule", "uint32_t rule, uint32_t depth", Change.BROKEN),
+            (rule, "0", "1", Change.ABI), (rule, None, "1", Change.ABI), (rule, "0", None, Change.BROKEN),
+            ("enum weedle_status WEEDLE_STATUS_NEW", None, "7", Change.ABI),
+            ("#define WEEDLE_RULE_COUNT", "1", "2", Change.ABI), ("weedle_new", None, "void (void)", Change.ADDED),
+            ("weedle_rules", "uint32_t (void)", "size_t (void)", Change.BROKEN),
+        ):
+            self.assertEqual(c.change_of(name, old, new), change, (name, old, new))
 
 
 class InPython(Trees):
@@ -202,28 +200,21 @@ class InPython(Trees):
             "weedle.types.Role": "class ()", "weedle.types.Role.A": "= 'a'",
         })
 
-    def test_calls_that_take_more(self):
+    def test_what_a_change_asks(self):
         old = "(text: str, rule: str='a', *, more: bool=False) -> int"
-        for new in (
-            "(text: str, rule: str='b', *, more: bool=True) -> int",
-            "(text: str, rule: str='a', third: int=1, *, more: bool=False, other: int=2) -> int",
-            "(text: str='', rule: str='a', *, more: bool=False) -> int",
+        for was, now, change in (
+            (old, "(text: str, rule: str='b', *, more: bool=True) -> int", Change.ADDED),
+            (old, "(text: str, rule: str='a', third: int=1, *, more: bool=False, other: int=2) -> int", Change.ADDED),
+            (old, "(text: str='', rule: str='a', *, more: bool=False) -> int", Change.ADDED),
+            (old, "(text: str, rule: str, *, more: bool=False) -> int", Change.BROKEN),
+            (old, "(text: str, *, more: bool=False) -> int", Change.BROKEN),
+            (old, "(text: str, rule: str='a') -> int", Change.BROKEN),
+            (old, "(text: str, rule: str='a', *, more: bool=False, other: int) -> int", Change.BROKEN),
+            (old, "(text: str, rule: str='a', *, more: bool=False) -> str", Change.BROKEN),
+            (old, "(text: bytes, rule: str='a', *, more: bool=False) -> int", Change.BROKEN),
+            ("str", "int", Change.BROKEN), ("str", None, Change.BROKEN), (None, "str", Change.ADDED),
         ):
-            self.assertEqual(python.change_of("f", old, new), Change.ADDED, new)
-        for new in (
-            "(text: str, rule: str, *, more: bool=False) -> int",
-            "(text: str, *, more: bool=False) -> int",
-            "(text: str, rule: str='a') -> int",
-            "(text: str, rule: str='a', *, more: bool=False, other: int) -> int",
-            "(text: str, rule: str='a', *, more: bool=False) -> str",
-            "(text: bytes, rule: str='a', *, more: bool=False) -> int",
-        ):
-            self.assertEqual(python.change_of("f", old, new), Change.BROKEN, new)
-
-    def test_what_is_no_call(self):
-        self.assertEqual(python.change_of("f", "str", "int"), Change.BROKEN)
-        self.assertEqual(python.change_of("f", "str", None), Change.BROKEN)
-        self.assertEqual(python.change_of("f", None, "str"), Change.ADDED)
+            self.assertEqual(python.change_of("f", was, now), change, now)
 
     def test_the_package(self):
         found = python.surface_of(TOP)
@@ -270,17 +261,17 @@ class InJavaScript(Trees):
             "Type": "export declare const Type: Kind<Type> & { readonly Single: Kind<Type.Single>; };",
         })
 
-    def test_calls_that_take_more(self):
+    def test_what_a_change_asks(self):
         old = "export declare function parse(text: string): Definitions;"
         more = "export declare function parse(text: string, rule?: string, other?: number): Definitions;"
-        self.assertEqual(javascript.change_of("parse", old, more), Change.ADDED)
-        self.assertEqual(javascript.change_of("parse", old, more.replace("?", "")), Change.BROKEN)
-        self.assertEqual(javascript.change_of("parse", more, old), Change.BROKEN)
-        self.assertEqual(javascript.change_of("parse", old, old.replace("string", "number")), Change.BROKEN)
-        self.assertEqual(javascript.change_of("walk", "walk(): A;", "walk(deep?: boolean): A;"), Change.ADDED)
-        self.assertEqual(javascript.change_of("walk", "walk(): A;", "walk(deep: boolean): A;"), Change.BROKEN)
-        self.assertEqual(javascript.change_of("find", "find(a): B;", "find(a): B;\nfind(c): D;"), Change.ADDED)
-        self.assertEqual(javascript.change_of("find", "find(a): B;", None), Change.BROKEN)
+        for name, was, now, change in (
+            ("parse", old, more, Change.ADDED), ("parse", old, more.replace("?", ""), Change.BROKEN),
+            ("parse", more, old, Change.BROKEN), ("parse", old, old.replace("string", "number"), Change.BROKEN),
+            ("walk", "walk(): A;", "walk(deep?: boolean): A;", Change.ADDED),
+            ("walk", "walk(): A;", "walk(deep: boolean): A;", Change.BROKEN),
+            ("find", "find(a): B;", "find(a): B;\nfind(c): D;", Change.ADDED), ("find", "find(a): B;", None, Change.BROKEN),
+        ):
+            self.assertEqual(javascript.change_of(name, was, now), change, now)
 
     def test_the_package(self):
         found = javascript.surface_of(TOP)
