@@ -4,29 +4,21 @@
     python3 tools/try_edits.py [--check] [CRATE..]
     python3 tools/try_edits.py --programs [--check] [NAME..]
 
-Those for the prover are must-fail/by-hand/CRATE/*.edit, of all crates or of those that are named. An edit
-has a line `file: src/lib.rt`, and then pairs of lines `old: TEXT` and `new: TEXT`, each TEXT one
-line; further pairs apply to what the earlier ones made. A line that begins with `#` says something
-to the reader, and `# only: PATH` names the function that the edit turns, as `rt check --only` takes it.
-Of an edit without such a line that changes nothing but `src/`, it is the function in which the first text
-stands, or the module, where that is a method.
+Those for the prover are must-fail/by-hand/CRATE/*.edit, of all crates or of those that are named. An edit has a line
+`file: src/lib.rt`, and then pairs of lines `old: TEXT` and `new: TEXT`, each TEXT one line; further pairs apply to what the
+earlier ones made. A line that begins with `#` says something to the reader, and `# only: PATH` names the function that the
+edit turns, as `rt check --only` takes it. Where an edit of `src/` has no such line, it is the function in which the first
+text stands, or the module, where that is a method.
 
 Those that no contract refuses are tests/wrong_programs/*.edit, with two lines more, and a third where it is to be proved:
 
     crate: NAME      whose files it changes
-    program: NAME    which program is built with it (tools/wrong_programs.py says how, and what it is run by)
+    program: NAME    which program is built with it, or weedle_c, the library for C (wrong_programs.py says how each is run)
     build: run       that is proved and built by `rt run`, which takes minutes; else `rt try` builds it with checks
 
-Where the program is weedle_c, it is the library for C, which `rt lib` proves and builds: its tests in C have to find the edit.
-
-First it looks whether each edit applies: whether each old text stands in its file exactly once.
-With --check that is all. Else it copies the repository to a temporary folder, without .git but
-with what `rt check` kept of these crates and those below them. There it checks the functions of a
-crate's edits as they stand, and then those of each edit in turn, by `rt check --only`: half a
-minute, or some minutes where it touches the types that hold one another. Where an edit isn't refused
-so, or has no function, the whole crate is checked as it stands and with the edit. Over all definitions
-each check begins with minutes of sums over the crates below. What isn't proved yet is proved first: an
-hour and more over the types. A program takes a minute or two, and minutes where it is proved.
+First it looks whether each old text stands in its file exactly once; with --check that is all. Then it works in a copy of the
+repository, with what `rt check` kept. The functions of a crate's edits are checked as they stand, and then with each edit, by
+`rt check --only`: for half a minute or some minutes. Where that doesn't refuse an edit, the whole crate is checked with it.
 
 It prints a line for each edit:
 
@@ -35,12 +27,11 @@ It prints a line for each edit:
     CRATE/NAME: doesn't apply       with the reason
     CRATE/NAME: NOT TRIED           with the reason
 
-Behind `refused` stands in brackets where that says little of a contract: where a proof only misses
-a name that the edit took away. The last line is `N refused, M let through`, or `N found, ..`, and behind it how many
-weren't tried, where there are such; with --check it is `N apply, M don't`.
+Behind `refused` stands in brackets where a proof only misses a name that the edit took away, which says little of a contract.
+The last line is `N refused, M let through`, or `N found, ..`, and how many weren't tried; with --check `N apply, M don't`.
 
-The status is 0 where each edit was refused or found, or applies; 1 where one wasn't or doesn't; 2 where the
-arguments are wrong.
+The status is 0 where each edit was refused or found, or applies; 1 where one wasn't or doesn't; 2 where the arguments are
+wrong.
 """
 
 import contextlib
@@ -49,6 +40,7 @@ import shutil
 import subprocess
 import sys
 import tempfile
+from collections import Counter
 from pathlib import Path
 
 import gate_edits
@@ -287,35 +279,31 @@ def by_runs(copy, edits):
             yield edit, Outcome(FOUND, f"{failed} of {count}") if failed else Outcome(LET_THROUGH, f"by all {count}")
 
 
-def try_edits(root, edits):
-    """Tries the edits, all of the prover or all of programs, and prints a line for each. Returns how many came to each kind."""
-    counts = dict.fromkeys((REFUSED, FOUND, LET_THROUGH, UNFIT, UNTRIED), 0)
+def misfits(root, edits):
+    """Each edit that doesn't apply, with the reason."""
+    found = ((edit, edit.misfit(root)) for edit in edits)
+    return {edit: Outcome(UNFIT, why) for edit, why in found if why}
 
-    def tell(edit, outcome):
+
+def outcomes(root, edits):
+    """Each edit, all of the prover or all of programs, with what came of it: those that don't apply come first."""
+    unfit = misfits(root, edits)
+    yield from unfit.items()
+    fit = [edit for edit in edits if edit not in unfit]
+    if fit:
+        with tempfile.TemporaryDirectory(prefix="try-edits-") as room:
+            copy = Path(room, "repository")
+            copy_repository(root, copy, [edit.program or edit.crate for edit in fit if edit.is_proved or not edit.program])
+            yield from (by_runs if fit[0].program else by_prover)(copy, fit)
+
+
+def told(found):
+    """Prints a line for each edit with what came of it. How many came to each kind."""
+    counts = Counter()
+    for edit, outcome in found:
         print(f"{edit.name}: {outcome}", flush=True)
         counts[outcome.kind] += 1
-
-    misfits = {edit: edit.misfit(root) for edit in edits}
-    for edit in edits:
-        if misfits[edit]:
-            tell(edit, Outcome(UNFIT, misfits[edit]))
-    fit = [edit for edit in edits if not misfits[edit]]
-    with tempfile.TemporaryDirectory(prefix="try-edits-") as room:
-        copy = Path(room, "repository")
-        if fit:
-            copy_repository(root, copy, [edit.program or edit.crate for edit in fit if edit.is_proved or not edit.program])
-            for edit, outcome in by_runs(copy, fit) if fit[0].program else by_prover(copy, fit):
-                tell(edit, outcome)
     return counts
-
-
-def check(root, edits):
-    """Says which edits don't apply, and how many do. Returns whether all do."""
-    misfits = {edit: why for edit in edits if (why := edit.misfit(root))}
-    for edit, why in misfits.items():
-        print(f"{edit.name}: {Outcome(UNFIT, why)}")
-    print(f"{len(edits) - len(misfits)} apply, {len(misfits)} don't")
-    return not misfits
 
 
 def main(words=None, root=TOP):
@@ -327,10 +315,12 @@ def main(words=None, root=TOP):
     try:
         edits = find_edits(root, given.names, given.programs)
         if given.check:
-            return 0 if check(root, edits) else 1
+            unfit = told(misfits(root, edits).items())[UNFIT]
+            print(f"{len(edits) - unfit} apply, {unfit} don't")
+            return 1 if unfit else 0
         if not shutil.which("rt"):
             raise Unfit("the toolchain's command rt isn't on PATH")
-        counts = try_edits(root, edits)
+        counts = told(outcomes(root, edits))
     except Unfit as error:
         print(f"try_edits: {error}", file=sys.stderr)
         return 2
