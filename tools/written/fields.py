@@ -9,15 +9,9 @@ A type that is dropped can be taken apart only below the module that declares it
 
 import re
 
-from description.layout import COLUMNS, filled, tall
+from description.layout import COLUMNS, filled
 from description.names import snake
 from written.pieces import EQUAL, Piece
-
-# How wide `rt fmt` leaves the names of a pattern, and the parts of a tuple, on one line. Where a
-# tuple is wider, parts of WORD_COLUMNS at most fill their lines, and others have a line each.
-PATTERN_COLUMNS = 18
-TUPLE_COLUMNS = 60
-WORD_COLUMNS = 10
 
 IF_AND_ONLY_IF = ("Rattle.std.specs.Prelude", "◌↔◌")
 TYPE_NAME = re.compile(r"\b[A-Z]\w*")
@@ -46,17 +40,6 @@ def tuple_of(parts):
     return parts[0] if len(parts) == 1 else f"({', '.join(parts)})"
 
 
-def is_short(parts, columns=TUPLE_COLUMNS):
-    return len(", ".join(parts)) <= columns
-
-
-def signature(types):
-    line = f"    pub fn into_fields(self) -> {tuple_of(types)}\n"
-    if is_short(types) or len(types) == 1:
-        return line
-    return "    pub fn into_fields(\n        self,\n" + tall(") -> (", types, ")", "    ")
-
-
 def clause(values):
     line = f"        ensures {{ result ≡ {tuple_of(values)} }}\n"
     if len(line) <= COLUMNS + 1:
@@ -65,32 +48,15 @@ def clause(values):
     return f"        ensures {{ result ≡ (\n{rows}        ) }}\n"
 
 
-def pattern(item, names):
-    if is_short(names, PATTERN_COLUMNS):
-        return f"        let {item.name} {{ {', '.join(names)} }} = self;\n"
-    return tall(f"let {item.name} {{", names, "} = self;", " " * 8)
-
-
-def answer(names):
-    if is_short(names) or len(names) == 1:
-        return f"        {tuple_of(names)}\n"
-    if max(map(len, names)) <= WORD_COLUMNS:
-        return "        (\n" + filled([f"{name}," for name in names], " " * 12) + "        )\n"
-    return tall("(", names, ")", " " * 8)
-
-
 def into_fields(item, parts):
     """The method that gives a struct's fields."""
     names, types = zip(*parts)
     doc = f"Its {'field' if len(names) == 1 else 'fields, in order'}: {listed(names)}."
     return (
         filled(doc.split(), "    ", "/// ")
-        + signature(types)
+        + f"    pub fn into_fields(self) -> {tuple_of(types)}\n"
         + clause([f"self.entry.{name}" for name in names])
-        + "    {\n"
-        + pattern(item, names)
-        + answer(names)
-        + "    }\n"
+        + f"    {{\n        let {item.name} {{ {', '.join(names)} }} = self;\n        {tuple_of(names)}\n    }}\n"
     )
 
 
