@@ -53,14 +53,9 @@ def row_takes(row, takes):
 
 
 def find_takes():
-    takes = {r.name: False for r in RULES}
-    changed = True
-    while changed:
-        changed = False
-        for r in RULES:
-            new = row_takes(r.row, takes)
-            changed |= new != takes[r.name]
-            takes[r.name] = new
+    takes = dict.fromkeys(NUMBER, False)
+    while (found := {r.name: row_takes(r.row, takes) for r in RULES}) != takes:
+        takes = found
     return takes
 
 
@@ -87,14 +82,8 @@ def read_first(row):
 def reads_of(row):
     """How often a byte or a cell is looked at, at most, to work a cell of the row out."""
     kind = row[0]
-    if kind == "Bytes":
-        return len(row[1])
-    if kind == "Past":
-        return len(row[1]) + 1
-    if kind in ("Seq", "First"):
-        return len(row[1])
-    if kind == "If":
-        return len(row[1]) + 1
+    if kind in ("Bytes", "Past", "Seq", "First", "If"):
+        return len(row[1]) + (kind in ("Past", "If"))
     return {"OneOf": 1, "NotNext": 1, "Run": 2, "Opt": 1, "Many": 2, "List": 2, "List1": 2, "Tail": 3}[kind]
 
 
@@ -174,10 +163,8 @@ def spec_section(s):
 
 def joined_sections():
     """The lists of all sections, one behind the other."""
-    joined = SECTIONS[-1].module
-    for s in reversed(SECTIONS[:-1]):
-        joined = f"{s.module} ++ {joined}" if s is SECTIONS[-2] else f"{s.module} ++ ({joined})"
-    return joined
+    *front, last = (s.module for s in SECTIONS)
+    return f"{' ++ ('.join(front)} ++ {last}{')' * (len(front) - 1)}"
 
 
 def spec_table():
@@ -215,22 +202,18 @@ def spec_names():
     put(TOP, f"{GRAMMAR}/specs/Names.antt", "\n".join(out) + "\n")
 
 
+PLAIN = {
+    "Bytes": "the bytes `{}`", "Past": "everything past `{}`", "OneOf": "one byte of the class `{}`",
+    "NotNext": "no byte of the class `{}` next", "Run": "all bytes of the class `{}`", "Opt": "`{}` or nothing",
+    "Many": "`{}` again and again", **dict.fromkeys(("List", "List1", "Tail"), "items `{}`"),
+}
+
+
 def plain_text(row):
     """The row in words, for the doc line of a part."""
-    kind = row[0]
-    if kind in ("Bytes", "Past"):
-        text = row[1].replace("\n", "LF")
-        return f"the bytes `{text}`" if kind == "Bytes" else f"everything past `{text}`"
-    if kind in ("OneOf", "NotNext", "Run"):
-        lead = {"OneOf": "one byte", "NotNext": "no byte", "Run": "all bytes"}[kind]
-        return f"{lead} of the class `{row[1]}`" + (" next" if kind == "NotNext" else "")
-    if kind == "Opt":
-        return f"`{row[1]}` or nothing"
-    if kind == "Many":
-        return f"`{row[1]}` again and again"
-    if kind in ("List", "List1", "Tail"):
-        return f"items `{row[1]}`"
-    return ", ".join(f"`{x}`" for x in row[1]) if kind == "Seq" else "the first of " + ", ".join(f"`{x}`" for x in row[1])
+    if row[0] in PLAIN:
+        return PLAIN[row[0]].format(row[1].replace("\n", "LF"))
+    return "the first of " * (row[0] != "Seq") + ", ".join(f"`{x}`" for x in row[1])
 
 
 def code_row(row):
@@ -323,21 +306,16 @@ def set_number(crate, name, value):
         path.write_text(re.sub(rf"pub const {name}: usize = \d+;", f"pub const {name}: usize = {value};", path.read_text()))
 
 
-def spec_bound():
-    put(TOP, f"{GRAMMAR}/specs/Bound.antt", "\n".join([
-        f"-- How many rules there are. {HEAD}",
-        "use Rattle.std.specs.Prelude.{ℕ}", "",
-        "-- one more than the greatest number", "abbrev pub rule_count : ℕ", f"rule_count = {len(RULES)}"]) + "\n")
-    set_number(GRAMMAR, "RULES", len(RULES))
+def spec_number(crate, about, doc, name, value, constant):
+    """A number in the specs of a crate, which its code has as a constant."""
+    put(TOP, f"{crate}/specs/Bound.antt", f"""-- {about} {HEAD}
+use Rattle.std.specs.Prelude.{{ℕ}}
 
-
-def spec_reads():
-    put(TOP, f"{ENDS}/specs/Bound.antt", "\n".join([
-        f"-- How much is looked at for one cell. {HEAD}",
-        "use Rattle.std.specs.Prelude.{ℕ}", "",
-        "-- how often a byte or a cell is looked at, at most, to work a rule out at a place", "abbrev pub most_reads : ℕ",
-        f"most_reads = {MOST_READS}"]) + "\n")
-    set_number(ENDS, "READS", MOST_READS)
+-- {doc}
+abbrev pub {name} : ℕ
+{name} = {value}
+""")
+    set_number(crate, constant, value)
 
 
 FILL_GHOSTS = ["ghost use Rattle.std.specs.Prelude.{◌≤◌, length};", "ghost use Rattle.weedle_rules.specs.Filling.{IsFilling};", ""]
@@ -416,12 +394,12 @@ def main():
         code_fill_section(s)
     spec_table()
     spec_names()
-    spec_bound()
-    spec_reads()
+    spec_number(GRAMMAR, "How many rules there are.", "one more than the greatest number", "rule_count", len(RULES), "RULES")
+    spec_number(ENDS, "How much is looked at for one cell.",
+                "how often a byte or a cell is looked at, at most, to work a rule out at a place", "most_reads", MOST_READS, "READS")
     code_grammar()
     code_fill_place()
     proof_takes()
-    print(f"{len(RULES)} rules in {len(SECTIONS)} sections: " + ", ".join(f"{s.module} {len(s.rules)}" for s in SECTIONS))
 
 
 if __name__ == "__main__":

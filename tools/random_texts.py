@@ -30,13 +30,8 @@ NAME_CHARACTER = re.compile(r"[0-9A-Za-z_-]")
 def least_depths():
     """How many rules stand in one another, at least, in what each rule reads."""
     depth = dict.fromkeys(ROWS, float("inf"))
-    changed = True
-    while changed:
-        changed = False
-        for rule, row in ROWS.items():
-            new = 1 + least_of(row, depth)
-            changed |= new < depth[rule]
-            depth[rule] = min(new, depth[rule])
+    while (found := {rule: 1 + least_of(row, depth) for rule, row in ROWS.items()}) != depth:
+        depth = found
     return depth
 
 
