@@ -338,7 +338,7 @@ def unbuilt(files):
 
 
 def run(root):
-    """Writes the files, and gives the crates that have them."""
+    """Writes the files."""
     if said := lacking(CRATES, [*BY_OTHERS, *(it for _, *sources in FILES.values() for it in sources)]):
         raise Unfit(f"{said}: FILES says where it is built")
     parts = Parts(root)
@@ -347,12 +347,11 @@ def run(root):
         raise Unfit(f"no file of FILES has {', '.join(names)}")
     for file in files:
         put(root, file.path, file.text())
-    return sorted({file.crate for file in files})
 
 
 def main():
     try:
-        print(*run(TOP), sep="\n")
+        run(TOP)
     except Unfit as why:
         sys.exit(f"builds: {why}")
 

@@ -22,6 +22,7 @@ from description.layout import filled
 from description.names import upper
 from description.public import public_items
 from description.webidl import BY_NAME, DOC
+from pages import anchor_of
 
 TOP = Path(__file__).resolve().parent.parent
 PAGE = "docs/CALLING.md"
@@ -192,7 +193,7 @@ def type_text(entry, crate):
     own = [code_of(text, begin) for name, text, begin in methods if not is_plain(entry, name)]
     shown = filled(entry.doc.split(" "), "", "/// ", COLUMNS) + compact(code)
     if own:
-        shown += f"impl {entry.name} {{\n" + "".join(indented(it) for it in own) + "}\n"
+        shown += f"impl {entry.name} {{\n" + textwrap.indent("".join(own), "    ") + "}\n"
     if said := said_of(apart, entry, crate, derived):
         shown += filled(said.split(" "), "", "// ", COLUMNS)
     return shown
@@ -259,10 +260,6 @@ def said_of(apart, entry, crate, derived):
     if traits:
         parts.append(f"Traits: {', '.join(f'`{it}`' for it in sorted(traits))}.")
     return " ".join(parts)
-
-
-def indented(text):
-    return "".join(f"    {row}".rstrip() + "\n" for row in text.rstrip("\n").split("\n"))
 
 
 def words_text(entries):
@@ -341,11 +338,6 @@ def module_text(path, entries, crates):
     if words := [it for it in entries if it.is_word()]:
         parts.append(words_text(words))
     return "\n".join(parts)
-
-
-def anchor_of(heading):
-    """How a link calls a heading."""
-    return re.sub(r"[^\w -]", "", heading.lower()).replace(" ", "-")
 
 
 def page(root):

@@ -7,7 +7,7 @@ from pathlib import Path
 
 from crates import Unfit
 from description.declarations import declared_in
-from description.names import snake
+from description.names import logic, snake
 from written.imports import imported
 
 # The modules that nobody outside their crate can name, each with the one that names its types.
@@ -42,7 +42,7 @@ class Item:
         return f"{snake(self.name)}_place"
 
     def declared(self):
-        return f"Rattle.{self.module.dotted('declared')}.{quoted(self.name)}"
+        return f"Rattle.{self.module.dotted('declared')}.{logic(self.name)}"
 
 
 class Module:
@@ -100,10 +100,6 @@ def public_part(source, parts):
         public.append(part)
         file = source.joinpath(*public).with_suffix(".rt")
     return public
-
-
-def quoted(name):
-    return f"«{name}»" if name == "Type" else name
 
 
 def modules_of(root, path):

@@ -256,10 +256,8 @@ def write(file):
 
 
 def main():
-    written = list(files())
-    for file in written:
+    for file in files():
         write(file)
-    print(f"{sum(len(file.types) for file in written)} types")
 
 
 if __name__ == "__main__":

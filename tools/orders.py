@@ -17,10 +17,11 @@ from pathlib import Path
 
 from command_line import refuse_writer
 from crates import Unfit
-from declared import FORMED, modules_of, quoted
+from declared import FORMED, modules_of
 from description.docs import law as law_doc
 from description.flat import flat_variants
 from description.layout import COLUMNS, use_line
+from description.names import logic
 from description.readings import IDL, LEAVES, TYPES, Declared, lacking
 from description.uses import ghost_line
 from terminals import label
@@ -79,7 +80,7 @@ def in_clause(type_, aliases, inner=False):
     over = over[:-1]
     if name in aliases:
         name, over = aliases[name]
-    parts = [quoted(name), *(in_clause(it, aliases, True) for it in cut(over))]
+    parts = [logic(name), *(in_clause(it, aliases, True) for it in cut(over))]
     return f"({' '.join(parts)})" if inner and parts[1:] else " ".join(parts)
 
 
@@ -219,10 +220,10 @@ def places_text(items):
     for item in items:
         names = [constructor(item, name) for name, _ in item.parts]
         variants = [f"{name.split('-')[1]} as {name}" for name in names]
-        uses.append(f"use {item.declared()}.{{{quoted(item.name)}}}")
+        uses.append(f"use {item.declared()}.{{{logic(item.name)}}}")
         uses.append(f"use {item.declared()}.TheVariants.{{{', '.join(variants)}}}")
         over = "".join(f"{{{it} : Type 0}} → " for it in item.parameters)
-        whole = " ".join([quoted(item.name), *item.parameters])
+        whole = " ".join([logic(item.name), *item.parameters])
         laws.append(f"\n-- `{item.name}`\nabbrev pub {item.place} : {over}{whole} → ℕ")
         for i, (name, _) in enumerate(item.parts):
             laws.append(f"{item.place} ({constructor(item, name, True)}) = {i}")
@@ -238,7 +239,7 @@ def parts_of(k):
 def enum_answers(item):
     """Why the clauses of an enum hold that leads back to itself."""
     parts, is_ = "(type.the_parts static_lft)", "order.is _ _"
-    lines = [f"place_is : (x : {quoted(item.name)}) → place_of {parts} (type.as_values static_lft x) ≡ {item.place} x",
+    lines = [f"place_is : (x : {logic(item.name)}) → place_of {parts} (type.as_values static_lft x) ≡ {item.place} x",
              f"unfolding view.out-{item.name} denote.Hole.Carrier.out"]
     lines += [f"place_is ({constructor(item, name, True)}) = refl" for name, _ in item.parts]
     for name, lemma in (("earlier", "by_before"), ("later", "by_after")):
@@ -262,8 +263,8 @@ def answers_text(module, item):
         uses = [
             "use Rattle.std.proofs.Common.{◌≡◌, ◌∙◌, inl, inr, refl}", "use denote.Hole.Carrier",
             "use denote.Signature.{static_lft}",
-            f"use Rattle.{own}.{quoted(item.name)} as type", *uses, f"use {RING}.TheViews as view",
-            f"use {item.declared()}.{{{quoted(item.name)}}}",
+            f"use Rattle.{own}.{logic(item.name)} as type", *uses, f"use {RING}.TheViews as view",
+            f"use {item.declared()}.{{{logic(item.name)}}}",
             f"use {item.declared()}.TheVariants.{{{', '.join(variants)}}}",
             f"use {in_logic(f'{LAWS}.specs.Places')}.{{{item.place}}}",
             f"use Rattle.{LAWS}.proofs.Choices.{{by_after, by_before, by_same, place_of}}",
@@ -295,20 +296,18 @@ def files_of(root):
 
 
 def run(root):
-    """Writes the files, and gives how many there are."""
+    """Writes the files."""
     # The terminals have their laws by terminals.py.
     named = [it for _, crates in MODULES.values() for it in crates]
     if why := lacking([*LEAVES[1:], TYPES, *IDL], named):
         raise Unfit(f"{why}: MODULES says which modules have the laws")
-    files = dict(files_of(root))
-    for path, text in files.items():
+    for path, text in files_of(root):
         put(root, path, text)
-    return len(files)
 
 
 def main():
     try:
-        print(f"{run(TOP)} files of orders")
+        run(TOP)
     except Unfit as why:
         sys.exit(f"orders: {why}")
 

@@ -287,18 +287,10 @@ def is_written(declaration: Declaration) -> bool:
     return not declaration.parameters and declaration.module != FORMERS and declaration.name != BARE
 
 
-def run() -> int:
-    """Writes the files, and gives how many `impl`s they have."""
-    count = 0
-    for name, about, impls in [*handed_on(), *families()]:
-        put(TOP, f"{CRATE}/src/{name}.rt", text(about, impls))
-        count += len(impls)
-    return count
-
-
 def main() -> None:
     try:
-        print(f"{run()} types")
+        for name, about, impls in [*handed_on(), *families()]:
+            put(TOP, f"{CRATE}/src/{name}.rt", text(about, impls))
     except Unfit as why:
         sys.exit(f"prints: {why}")
 

@@ -234,7 +234,6 @@ def main():
         writer.file(file)
     if names := list(unwritten(writer.done)):
         sys.exit(f"no file of FILES has {', '.join(names)}")
-    print(f"{len(FILES)} files of {SPELL} and {SPELL_IDL}")
 
 
 if __name__ == "__main__":

@@ -178,7 +178,6 @@ def main():
     code_sets()
     code_written()
     proof_words()
-    print(f"the rows and first sets of {len(RULES)} rules")
 
 
 if __name__ == "__main__":

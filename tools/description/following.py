@@ -22,26 +22,18 @@ def texts_of(rules):
     return found
 
 
+# The sequences of parts that a row of a kind reads; of a repetition as many as show what stands behind what.
+WAYS = {
+    "Seq": lambda parts: [[*parts]], "First": lambda parts: [[it] for it in parts], "Opt": lambda part: [[], [part]],
+    "Many": lambda part: [[], [part, part]], "List": lambda part, tail: [[], [part, tail]],
+    "List1": lambda part, tail: [[part, tail]], "Tail": lambda part, separator: [[], 2 * [separator, part]],
+    "If": lambda parts, number, last: [[*parts], [*parts, last]],
+}
+
+
 def ways(row):
-    """The sequences of parts that a row reads; of a repetition as many as show what stands behind what."""
-    kind = row[0]
-    if kind == "Seq":
-        return [list(row[1])]
-    if kind == "First":
-        return [[part] for part in row[1]]
-    if kind == "Opt":
-        return [[], [row[1]]]
-    if kind == "Many":
-        return [[], [row[1], row[1]]]
-    if kind == "List":
-        return [[], [row[1], row[2]]]
-    if kind == "List1":
-        return [[row[1], row[2]]]
-    if kind == "Tail":
-        return [[], [row[2], row[1], row[2], row[1]]]
-    if kind == "If":
-        return [list(row[1]), [*row[1], row[3]]]
-    return []
+    """The sequences of parts that a row reads."""
+    return WAYS[row[0]](*row[1:]) if row[0] in WAYS else []
 
 
 class Neighbours:

@@ -1,7 +1,8 @@
 """The `From` of each variant of an enum: what it holds becomes that variant."""
 
+from description.imports import home_of
 from description.uses import ghost_line
-from written.pieces import EQUAL, Piece, bound, home, unbound
+from written.pieces import EQUAL, Piece, bound, unbound
 
 # What a clause calls the value and what is made of it, and what it does in some crates.
 NAMES = ("value", "made")
@@ -13,7 +14,7 @@ def conversion(item, variant, held, declared):
     is_borrowing = "'a" in held
     lifetime, to = ("<'a>", bound(item)) if is_borrowing else ("", unbound(item))
     value, made = OTHER_NAMES.get(item.crate, NAMES)
-    variants = ghost_line(f"{home(declared)}.TheVariants", [variant], "    ")
+    variants = ghost_line(f"{home_of(declared)}.TheVariants", [variant], "    ")
     return Piece(
         f"""impl{lifetime} From<{held}> for {to} {{
 {variants}

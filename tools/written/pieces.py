@@ -1,7 +1,5 @@
 """A piece of a file that is written: an `impl`, with what the logic of it names."""
 
-from description.names import logic
-
 EQUAL = ("Rattle.std.specs.Prelude", "◌≡◌")
 
 
@@ -10,11 +8,6 @@ class Piece:
 
     def __init__(self, text, ghost=()):
         self.text, self.ghost = text, set(ghost)
-
-
-def home(item):
-    """The module of the logic that has a declared type."""
-    return f"Rattle.{item.crate}.specs.declared.{item.module}.{logic(item.name)}"
 
 
 def bound(item):
