@@ -10,6 +10,7 @@ from run.layouts import has_blanks_at_end
 from run.prints import BETWEEN, Programs, failures_of_worked, one_wrong, worked, wrong_of
 from run.programs import Built
 from table_reader import Table
+from test_support import Room
 
 WORD = "between_two_texts"
 
@@ -114,14 +115,11 @@ class Worked(unittest.TestCase):
         self.assertTrue(failures_of_worked(fake))
 
 
-class Between(unittest.TestCase):
+class Between(Room):
     def test_answers_are_one_for_each_text(self) -> None:
-        with tempfile.TemporaryDirectory() as folder:
-            room = Path(folder)
-            (room / "between").write_text("typedef any nothing;\n")
-            (room / "a").write_text("a;\n")
-            with self.assertRaises(NoUse):
-                Fake().written(["a"], room)
+        self.put({"between": "typedef any nothing;\n", "a": "a;\n"})
+        with self.assertRaises(NoUse):
+            Fake().written(["a"], self.root)
 
     def test_the_text_between_is_one_definition(self) -> None:
         self.assertEqual((BETWEEN.count(WORD), BETWEEN.count("\n")), (1, 1))

@@ -32,9 +32,7 @@ use weedle::{
 const MOST: usize = 3;
 
 /// The names of a text.
-fn list(
-    text: &str,
-) -> Status {
+fn list(text: &str) -> Status {
     Status::Read
 }
 
@@ -58,9 +56,7 @@ PROVED = """use weedle::{
 };
 
 /// The names of a text.
-fn list(
-    text: &str,
-) -> Status {
+fn list(text: &str) -> Status {
     Status::Read
 }
 
@@ -180,7 +176,7 @@ class Readme(Repository):
     def test_all_holds(self):
         wrong, said = try_pages.try_pages(self.root, ["README"], True)
         self.assertEqual(wrong, [])
-        self.assertEqual(said, ["README.md: 19 lines, and 1 other blocks of Rust stand in crates/, prints what the page says"])
+        self.assertEqual(said, ["README.md: 17 lines, and 1 other blocks of Rust stand in crates/, prints what the page says"])
 
     def test_a_piece_of_the_program_that_is_not_proved(self):
         self.changed(try_pages.PROVED, "/// The names of a text.", "/// The names.")
