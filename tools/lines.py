@@ -40,11 +40,8 @@ def lines_of(root, crate):
 
 def lines_of_tools(root):
     """How many lines the scripts have, and how many of those are their tests'."""
-    counts = {
-        path.name: path.read_text(encoding="utf-8").count("\n")
-        for path in (Path(root) / "tools").rglob("*.py")
-    }
-    return sum(counts.values()), sum(it for name, it in counts.items() if name.startswith("test_"))
+    counts = {path: path.read_text(encoding="utf-8").count("\n") for path in (Path(root) / "tools").rglob("*.py")}
+    return sum(counts.values()), sum(it for path, it in counts.items() if path.name.startswith("test_"))
 
 
 def row(name, words):
