@@ -27,7 +27,7 @@ from write import writer_in
 TOP = Path(__file__).resolve().parent.parent
 FUNCTION = re.compile(r"^ *pub fn (\w+)", re.M)
 # What may name a field or a function by hand, and what is left alone.
-SUFFIXES = {".rt", ".antt", ".edit", ".md", ".py", ".pyi", ".rs", ".js", ".ts", ".c", ".h", ".cpp", ".sh"}
+SUFFIXES = {".rt", ".antt", ".edit", ".md", ".py", ".pyi", ".rs", ".js", ".ts", ".c", ".h", ".in", ".cpp", ".sh"}
 ASIDE = ("tests/", "CHANGELOG.md", "python/tests/", "docs/CALLING.md")
 
 
