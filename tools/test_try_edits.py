@@ -85,32 +85,6 @@ class Outcomes(unittest.TestCase):
             self.assertEqual(str(try_edits.outcome_of(status, said)), outcome)
 
 
-class Functions(TryEditsTest):
-    """By which functions an edit is tried."""
-
-    SOURCE = "pub fn first() {\n    1\n}\n\nimpl Low {\n    fn second() {\n        2\n    }\n}\n"
-
-    def functions(self, path, old, head=""):
-        self.put({f"crates/low/{path}": self.SOURCE})
-        self.add(f"{head}file: {path}\nold: {old}\nnew: 0\n")
-        edits = {it.name: it for it in try_edits.find_edits(self.root, ["low"])}
-        return edits["low/new"].functions(self.root)
-
-    def test_a_line_names_them(self):
-        self.assertEqual(self.functions("src/lib.rt", "1", "# only: Low::second\n# A note.\n"), ["Low::second"])
-
-    def test_the_function_in_which_the_text_stands(self):
-        self.assertEqual(self.functions("src/walk/parts.rt", "1"), ["walk::parts::first"])
-        self.assertEqual(self.functions("src/lib.rt", "1"), ["first"])
-
-    def test_of_a_method_its_module(self):
-        self.assertEqual(self.functions("src/walk.rt", "2"), ["walk"])
-        self.assertEqual(self.functions("src/lib.rt", "2"), [])
-
-    def test_what_changes_a_definition_has_none(self):
-        self.assertEqual(self.functions("specs/Rows.antt", "1"), [])
-
-
 class Hints(unittest.TestCase):
     def test_the_verdict_is_the_last_line(self):
         said = "rt: chose --jobs 1 for low\nonly=2 proved=1\nrt: rt check --start less\nrt: rt lemma WORD..\n"

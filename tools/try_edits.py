@@ -7,8 +7,7 @@
 Those for the prover are must-fail/by-hand/CRATE/*.edit, of all crates or of those that are named. An edit has a line
 `file: src/lib.rt`, and then pairs of lines `old: TEXT` and `new: TEXT`, each TEXT one line; further pairs apply to what the
 earlier ones made. A line that begins with `#` says something to the reader, and `# only: PATH` names the function that the
-edit turns, as `rt check --only` takes it. Where an edit of `src/` has no such line, it is the function in which the first
-text stands, or the module, where that is a method.
+edit turns, or the module of a method, as `rt check --only` takes it.
 
 Those that no contract refuses are tests/wrong_programs/*.edit, with two lines more, and a third where it is to be proved:
 
@@ -60,8 +59,6 @@ UNREAD = re.compile(
     r"(\./)?(src|specs)/\S+:\d+:\d+: error: .*"
     r"(is not in scope|has no field|is no name|operand is missing|expected the end|cannot continue)"
 )
-# The head of a function in a source file, with what stands before it.
-FUNCTION = re.compile(r"^( *)(?:pub(?:\([a-z]+\))? )?(?:unsafe )?(?:extern \"C\" )?fn (\w+)", re.MULTILINE)
 # rt's own hints, which stand behind the last line of a check.
 HINTS = re.compile(r"(^rt: .*\n)+\Z", re.MULTILINE)
 # What is said of a proof that names what an edit took away.
@@ -88,15 +85,6 @@ class Edit:
         if not {self.crate, self.program or self.crate} <= read_lines(root).keys():
             return "its crate or its program isn't in crates.txt"
         return misfit_of(self.text, Path(root, "crates", self.crate))
-
-    def functions(self, root):
-        """The functions that it turns, as `rt check --only` takes them; none where that isn't known."""
-        found = gate_edits.functions_of(self.file)
-        if found or any(part in self.text for part in ("file: specs/", "file: proofs/")):
-            return found
-        first = (re.search(rf"^{it}: (.*)$", self.text, re.MULTILINE)[1] for it in ("file", "old"))
-        path = function_at(Path(root, "crates", self.crate), *first)
-        return [path] if path else []
 
 
 class Outcome:
@@ -147,17 +135,6 @@ def misfit_of(text, crate):
     except Misfit as why:
         return str(why)
     return ""
-
-
-def function_at(crate, path, old):
-    """The function of a source file in which a text stands, or its module where that is a method; nothing at the root."""
-    text = (crate / path.strip()).read_text(encoding="utf-8")
-    heads = [*FUNCTION.finditer(text[: text.index(old)])]
-    module = Path(path.strip()).relative_to("src").with_suffix("").parts
-    module = "::".join(it for it in module if it not in ("lib", "main", "mod"))
-    if not heads or heads[-1][1]:
-        return module
-    return f"{module}::{heads[-1][2]}" if module else heads[-1][2]
 
 
 def find_edits(root, names, is_programs=False):
@@ -241,7 +218,7 @@ def is_proved(crate, functions=()):
 
 def by_functions(copy, folder, edits):
     """Of each edit that its functions alone refuse, what came of it."""
-    functions = {edit: names for edit in edits if (names := edit.functions(copy))}
+    functions = {edit: names for edit in edits if (names := gate_edits.functions_of(edit.file))}
     every = list(dict.fromkeys(it for names in functions.values() for it in names))
     if not every or not is_proved(folder, every):
         return
