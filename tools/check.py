@@ -4,19 +4,8 @@
     python3 tools/check.py
 
 In a copy of the repository all that scripts write is written anew, and each crate is formatted, as
-tools/write.py does it. The copy then has to hold the very files of the repository. Beside that these
-scripts look, each at what its --help says:
-
-    unmatched.py                   types that aren't declared as the grammar has them
-    forgotten.py                   what was forgotten of a new type or file, and no proof misses
-    renamed.py                     what still has the old name of what was renamed since the last commit
-    calling.py, man_pages.py       CALLING and man pages that aren't as the sources are
-    slips.py                       SLIPS, where the rows say otherwise
-    try_edits.py                   wrong bodies that don't apply any more, also --programs
-    pages.py                       links, names, counts and kits of the pages; fields without a doc line
-    make_cases.py                  archives of tests/ that aren't as listed, or as is known by hand
-    try_pages.py                   pieces of Rust and programs of pages that stand nowhere
-    prebuilt.py                    the built library, where it isn't that of its sums and of this version
+tools/write.py does it. The copy then has to hold the very files of the repository. Beside that the
+scripts of LOOKS look, each at what its --help says; docs/TOOLS.md has them in a table.
 
 It prints a line for each file that is stale, for each that no script writes though it says so, and
 for whatever else was found. It changes nothing. It needs the toolchain's command `rt` on PATH, and

@@ -188,18 +188,14 @@ class Maker:
         return [piece for _ in self.times(0) for piece in self.make(row[1])]
 
     def make_list(self, row):
-        return self.items(row, self.times(0))
-
-    def make_list1(self, row):
-        return self.items(row, self.times(1))
-
-    def items(self, row, times):
         pieces = []
-        for _ in times:
+        for _ in self.times(row[0] == "List1"):
             if pieces:
                 pieces += self.make(ROWS[row[2]][2])
             pieces += self.make(row[1])
         return pieces
+
+    make_list1 = make_list
 
     def make_if(self, row):
         parts = [self.make(part) for part in row[1]]

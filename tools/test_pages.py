@@ -93,11 +93,8 @@ class Crates(Repository):
 
 class Scripts(Repository):
     def test_each_but_tests_and_other_files_is_named(self):
-        self.put({"tools/test_check.py": ""})
-        self.assertEqual(self.found(pages.of_scripts, "tools/notes.txt", ""), [])
-
-    def test_one_that_lacks(self):
-        self.put({"tools/recheck.py": ""})
+        self.put({"tools/test_check.py": "", "tools/notes.txt": ""})
+        self.assertEqual(list(pages.of_scripts(self.root)), [])
         found = self.found(pages.of_scripts, "docs/TOOLS.md", "`recheck.py`\n")
         self.assertEqual(found, ["docs/TOOLS.md: nothing is said of check.py"])
 

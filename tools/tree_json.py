@@ -21,6 +21,7 @@ Deep nesting ends it, as it ends the readers: a text of some thousand types in o
 
 import json
 import re
+from dataclasses import dataclass
 
 LINE = re.compile(r"(?:\d+:\d+ |  )(?=[A-Z]\w*\()")
 WORD = re.compile(r"[A-Za-z_]\w*")
@@ -39,24 +40,20 @@ class Unit(str):
     """A name alone, as `OpenBrace`."""
 
 
+@dataclass
 class Held:
     """A name with what stands between its parentheses, as `Identifier("A")` or `Some(QMark)`; a tuple has no name."""
 
-    def __init__(self, name, values):
-        self.name, self.values = name, values
-
-    def __eq__(self, other):
-        return isinstance(other, Held) and (self.name, self.values) == (other.name, other.values)
+    name: object
+    values: list
 
 
+@dataclass
 class Struct:
     """A name with fields, as `Inheritance { colon: Colon, identifier: Identifier("A") }`."""
 
-    def __init__(self, name, fields):
-        self.name, self.fields = name, fields
-
-    def __eq__(self, other):
-        return isinstance(other, Struct) and (self.name, self.fields) == (other.name, other.fields)
+    name: str
+    fields: dict
 
 
 class Reader:

@@ -94,12 +94,6 @@ class Record:
     def paths(self):
         return {path for state in self.states for path in state.files}
 
-    def has_file(self, path, checksum):
-        return any(state.files.get(path) == checksum for state in self.states)
-
-    def has_line(self, name, words):
-        return any(state.lines.get(name) == words for state in self.states)
-
 
 def sum_of(content):
     return hashlib.sha256(content).hexdigest()
@@ -176,11 +170,11 @@ def refuse_others(dest, record, source, there):
 def refuse_changes_by_hand(dest, record, there):
     found = []
     for path in sorted(record.paths() | {*there.files}):
-        if not record.has_file(path, there.files.get(path)):
+        if there.files.get(path) not in [state.files.get(path) for state in record.states]:
             word = "changed" if path in there.files else "removed"
             found.append(f"{word if path in record.paths() else 'added'} {path}")
     for name, words in there.lines.items():
-        if not record.has_line(name, words):
+        if words not in [state.lines.get(name) for state in record.states]:
             found.append(f"changed {LIST}: {words}")
     if found:
         head = f"copies in {dest} were changed by hand: move the changes away, or undo them"
