@@ -9,18 +9,21 @@ Build first weedle_check and weedle_list (`rt run` in their crates) and the prog
 
 The texts are
 - those that stand in the tests of this repository, each string of their files;
-- N random ones, made of the seed by the grammar's own rows, and N that are nearly such; of each of the first 200 each prefix,
-  and N times one with a byte changed;
-- each file of a FOLDER (*.webidl, *.idl, *.widl), N times with a byte changed, and, up to BYTES bytes, each of its prefixes.
+- N random ones, made of the seed by the grammar's own rows, and N that are nearly such; of each of
+  the first 200 each prefix, and N times one with a byte changed;
+- each file of a FOLDER (*.webidl, *.idl, *.widl), N times with a byte changed, and, up to BYTES
+  bytes, each of its prefixes.
 
-An answer is what weedle_list prints of the text and, where it is read whole, the value of each definition, in weedle2's words:
-RENAMED has what is called otherwise in the port on purpose. Where the answers differ, the text is read by the rows of the
-grammar (table_reader.py): as they are, which must give the port's answer, and with the fewest of the three rules that were
-changed on purpose as they were before, which must give weedle2's. All else is a failure, and the text is printed with both
-answers.
+An answer is what weedle_list prints of the text and, where it is read whole, the value of each
+definition, in weedle2's words: RENAMED has what is called otherwise in the port on purpose. Where
+the answers differ, the text is read by the rows of the grammar (table_reader.py): as they are,
+which must give the port's answer, and with the fewest of the three rules that were changed on
+purpose as they were before, which must give weedle2's. All else is a failure, and the text is
+printed with both answers.
 
-It ends with a line of counts, and, for each folder, how many files are read whole, and where the others are stopped. The
-status is 0, 1 where answers differ that these rules don't explain, and 2 where a program isn't there or doesn't do.
+It ends with a line of counts, and, for each folder, how many files are read whole, and where the
+others are stopped. The status is 0, 1 where answers differ that these rules don't explain, and 2
+where a program isn't there or doesn't do.
 """
 
 import itertools

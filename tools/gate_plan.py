@@ -4,18 +4,20 @@
     python3 tools/gate_plan.py TIMES [--processors N].. [--memory GB] [--slower F]
     python3 tools/gate_plan.py TIMES --costs CRATE..
 
-TIMES is a file of JSON that tools/gate_times.py wrote. The layout of the crates is read from crates.txt, so one that is only
-thought of can be tried in a copy.
+TIMES is a file of JSON that tools/gate_times.py wrote. The layout of the crates is read from
+crates.txt, so one that is only thought of can be tried in a copy.
 
-The gate is simulated in the order of tools/gate.py, by the times and the memory that it knows: a task for each proof, for each
-crate's tests, for each wrong body and the check that those of a crate begin with (`seed`), for the static library and for each
-program of a release (`library`). Times are those of one job; by two, three or four jobs a proof takes SPEED of them, and where
-more jobs run than there are processors, they share them. With --memory so many GB are free when it begins, of which gate.py
-uses 85 hundredths. With --slower the machine takes F times as long. It prints, for each N (4 and 2 where none is given), the
-minutes by the clock and of processor time.
+The gate is simulated in the order of tools/gate.py, by the times and the memory that it knows: a
+task for each proof, for each crate's tests, for each wrong body and the check that those of a crate
+begin with (`seed`), for the static library and for each program of a release (`library`). Times are
+those of one job; by two, three or four jobs a proof takes SPEED of them, and where more jobs run
+than there are processors, they share them. With --memory so many GB are free when it begins, of
+which gate.py uses 85 hundredths. With --slower the machine takes F times as long. It prints, for
+each N (4 and 2 where none is given), the minutes by the clock and of processor time.
 
-With --costs it prints a row for each CRATE: how many crates stand above it, the minutes of processor time of all of these and
-its own, and those of the longest chain among them: what a change of it costs, though only of a body.
+With --costs it prints a row for each CRATE: how many crates stand above it, the minutes of
+processor time of all of these and its own, and those of the longest chain among them: what a change
+of it costs, though only of a body.
 
 The status is 0, or 2 where TIMES holds no such times or a CRATE isn't there.
 """

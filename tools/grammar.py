@@ -394,9 +394,11 @@ def main():
         code_fill_section(s)
     spec_table()
     spec_names()
-    spec_number(GRAMMAR, "How many rules there are.", "one more than the greatest number", "rule_count", len(RULES), "RULES")
-    spec_number(ENDS, "How much is looked at for one cell.",
-                "how often a byte or a cell is looked at, at most, to work a rule out at a place", "most_reads", MOST_READS, "READS")
+    spec_number(
+        GRAMMAR, "How many rules there are.", "one more than the greatest number", "rule_count", len(RULES), "RULES",
+    )
+    often = "how often a byte or a cell is looked at, at most, to work a rule out at a place"
+    spec_number(ENDS, "How much is looked at for one cell.", often, "most_reads", MOST_READS, "READS")
     code_grammar()
     code_fill_place()
     proof_takes()

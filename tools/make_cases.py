@@ -1,21 +1,23 @@
 #!/usr/bin/env python3
-"""Makes again what the rows of the grammar say of the texts of tests/, and holds that to what is known by hand.
+"""Makes again what the rows say of the texts of tests/, and holds it to what is known by hand.
 
     python3 tools/make_cases.py [--real FOLDER]
     python3 tools/make_cases.py --check
 
-The archives have their texts and weedle2's answers for good. Made again is, of each text that is refused, what weedle2
-doesn't say: the furthest place and the words (row_words.py), the excerpt, and what would mend it (row_hints.py). Of
-`deep`, which weedle2 takes too long for, and of `added`, whose rules it lacks, all is made again (table_reader.py). The
-texts of `added` stand in tests/added.txt. Nothing is taken from the port. tests/README.md says what stands in which file.
+The archives have their texts and weedle2's answers for good. Made again is, of each text that is
+refused, what weedle2 doesn't say: the furthest place and the words (row_words.py), the excerpt, and
+what would mend it (row_hints.py). Of `deep`, which weedle2 takes too long for, and of `added`,
+whose rules it lacks, all is made again (table_reader.py). The texts of `added` stand in
+tests/added.txt. Nothing is taken from the port. tests/README.md says what stands in which file.
 
 FOLDER has the real files, each the one that is known; without it tests/real.tar.xz stays as it is.
 
-With --check nothing is written: it prints a line for each archive that isn't the one that tests/INDEX lists, where
-`added` has other texts than tests/added.txt, and where an archive says otherwise than tests/worked.toml.
+With --check nothing is written: it prints a line for each archive that isn't the one that
+tests/INDEX lists, where `added` has other texts than tests/added.txt, and where an archive says
+otherwise than tests/worked.toml.
 
-The status is 0, or 1 where --check finds something, or where a made answer isn't as it is known by hand. Nothing is
-written then.
+The status is 0, or 1 where --check finds something, or where a made answer isn't as it is known by
+hand. Nothing is written then.
 """
 
 import hashlib

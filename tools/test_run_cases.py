@@ -129,7 +129,7 @@ class Cases(Room):
             self.assertEqual(self.ended(self.program(name), "some", *words), (0, said, ""))
 
     def test_what_is_wrong_fails(self):
-        """A value, an excerpt, a hint that lacks; a name's node, in both texts that have it; a status, of all that is refused."""
+        """A name's node fails in both texts that have one, and a status wherever a text is refused."""
         for wrong, failed, said in (
             ("value", 1, ""), ("excerpt", 1, ""), ("hint", 1, ""), ("node", 2, "'identifier'"), ("status", 3, ""),
             ("crash", 12, "status -9"),
@@ -202,8 +202,10 @@ class Runs(unittest.TestCase):
         keys = {"files": files, "folders": ["below"], "links": {"link": "below/c"}, "modes": {"a": "640"}}
         wanted, came = self.came("sh", arguments=shell, after={"a": "n", "below/c": "m", "d": "o"}, **keys)
         self.assertEqual(came.replace("b is gone\n", ""), wanted)
-        for shell, said in (("chmod 600 a", "a: 'x', with mode 600\n"), ("touch b", "b: 'y'\n"), ("rm link", "link is gone\n"),
-                            ("cp below/c e; mv e below/c", "below/c: 'z'\n")):
+        for shell, said in (
+            ("chmod 600 a", "a: 'x', with mode 600\n"), ("touch b", "b: 'y'\n"), ("rm link", "link is gone\n"),
+            ("cp below/c e; mv e below/c", "below/c: 'z'\n"),
+        ):
             wanted, came = self.came("sh", arguments=["-c", f"sleep 0.01; {shell}"], **keys)
             self.assertEqual(came, wanted + said)
 

@@ -100,7 +100,7 @@ class Fields(unittest.TestCase):
 
 class Variants(unittest.TestCase):
     def test_what_differs(self):
-        """An order, a name, a production that the row doesn't have, what may be absent and isn't said, and what is never absent."""
+        """An order, a name, a production, what may be absent and isn't said, and what is never absent."""
         absent = "EXTENDED_ATTRIBUTE_LIST may be absent, and the doc doesn't say so"
         for old, new, places, why in (
             ("Single(SingleTyped", "Single(DoubleTyped", ["Single"],

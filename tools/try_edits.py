@@ -1,23 +1,26 @@
 #!/usr/bin/env python3
-"""Tries wrong bodies that the gate doesn't try: the prover has to refuse each, or a run of tests/ to find it.
+"""Tries wrong bodies by hand: the prover has to refuse each, or a run of tests/ to find it.
 
     python3 tools/try_edits.py [--check] [CRATE..]
     python3 tools/try_edits.py --programs [--check] [NAME..]
 
-Those for the prover are must-fail/by-hand/CRATE/*.edit, of all crates or of those that are named. An edit has a line
-`file: src/lib.rt`, and then pairs of lines `old: TEXT` and `new: TEXT`, each TEXT one line; further pairs apply to what the
-earlier ones made. A line that begins with `#` says something to the reader, and `# only: PATH` names the function that the
-edit turns, or the module of a method, as `rt check --only` takes it.
+Those for the prover are must-fail/by-hand/CRATE/*.edit, of all crates or of those that are named.
+An edit has a line `file: src/lib.rt`, and then pairs of lines `old: TEXT` and `new: TEXT`, each
+TEXT one line; further pairs apply to what the earlier ones made. A line that begins with `#` says
+something to the reader, and `# only: PATH` names the function that the edit turns, or the module of
+a method, as `rt check --only` takes it.
 
-Those that no contract refuses are tests/wrong_programs/*.edit, with two lines more, and a third where it is to be proved:
+Those that no contract refuses are tests/wrong_programs/*.edit, with two lines more, and a third
+where it is to be proved:
 
     crate: NAME      whose files it changes
-    program: NAME    which program is built with it, or weedle_c, the library for C (wrong_programs.py says how each is run)
-    build: run       that is proved and built by `rt run`, which takes minutes; else `rt try` builds it with checks
+    program: NAME    which program is built with it; weedle_c is the library for C (wrong_programs.py)
+    build: run       that `rt run` proves and builds it, for minutes; else `rt try` does, with checks
 
-First it looks whether each old text stands in its file exactly once; with --check that is all. Then it works in a copy of the
-repository, with what `rt check` kept. The functions of a crate's edits are checked as they stand, and then with each edit, by
-`rt check --only`: for half a minute or some minutes. Where that doesn't refuse an edit, the whole crate is checked with it.
+First it looks whether each old text stands in its file exactly once; with --check that is all. Then
+it works in a copy of the repository, with what `rt check` kept. The functions of a crate's edits
+are checked as they stand, and then with each edit, by `rt check --only`: for half a minute or some
+minutes. Where that doesn't refuse an edit, the whole crate is checked with it.
 
 It prints a line for each edit:
 
@@ -26,11 +29,12 @@ It prints a line for each edit:
     CRATE/NAME: doesn't apply       with the reason
     CRATE/NAME: NOT TRIED           with the reason
 
-Behind `refused` stands in brackets where a proof only misses a name that the edit took away, which says little of a contract.
-The last line is `N refused, M let through`, or `N found, ..`, and how many weren't tried; with --check `N apply, M don't`.
+Behind `refused` stands in brackets where a proof only misses a name that the edit took away, which
+says little of a contract. The last line is `N refused, M let through`, or `N found, ..`, and how
+many weren't tried; with --check `N apply, M don't`.
 
-The status is 0 where each edit was refused or found, or applies; 1 where one wasn't or doesn't; 2 where the arguments are
-wrong.
+The status is 0 where each edit was refused or found, or applies; 1 where one wasn't or doesn't; 2
+where the arguments are wrong.
 """
 
 import contextlib

@@ -17,11 +17,11 @@ that it is given as a file of this name, and else it is its standard input.
   docs/USING.md too, stands, indentation and blank lines aside, in a file with tests below crates/*/src, or in a doc
   comment there; what its `use` lines bring in, that file's do too.
 - The program prints what the page says, by `rt try` over a copy of the library, as tools/vendor.py makes it.
-- With --files those of VALIDATOR and DOCUMENTATION run over each *.webidl, *.idl and *.widl file of that folder, and what
-  they print is counted: so much as the ```text block behind `## Over real files` says.
+- With --files those of VALIDATOR and DOCUMENTATION run over each *.webidl, *.idl and *.widl file of that folder,
+  and what they print is counted: so much as the ```text block behind `## Over real files` says.
 
-With --examples the ```rust blocks in the doc comments of crates/*/src are tried instead, or those of each CRATE, as tests of
-a crate over those that they name (doc_examples.py).
+With --examples the ```rust blocks in the doc comments of crates/*/src are tried instead, or those of each CRATE, as
+tests of a crate over those that they name (doc_examples.py).
 
 --no-run compares texts alone; of examples it prints the modules. PAGE is README, VALIDATOR or DOCUMENTATION; without it
 all are looked at. It needs Python 3.11, and without --no-run the toolchain's command `rt` on PATH, 3,000 MB of memory

@@ -1,4 +1,4 @@
-"""Runs of weedle_format: those of tests/format.toml, over files, and over the worked texts of tests/layouts.toml and long ones."""
+"""Runs of weedle_format: over the files of tests/format.toml, worked texts and long ones."""
 
 import tomllib
 

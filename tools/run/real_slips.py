@@ -98,10 +98,15 @@ def strings_opened(text, tokens, chance):
 
 KINDS = {
     "a letter of a keyword missing": at_keywords(lambda word, at, chance: word[:at] + word[at + 1:]),
-    "a letter of a keyword changed": at_keywords(lambda word, at, chance: word[:at] + chance.choice(LETTERS) + word[at + 1:]),
-    "a letter in a keyword added": at_keywords(lambda word, at, chance: word[:at] + chance.choice(LETTERS) + word[at:]),
-    "two letters of a keyword exchanged": at_keywords(lambda word, at, chance: word[:at] + word[at + 1] + word[at] + word[at + 2:]),
-    "a keyword missing": lambda text, tokens, chance: [(start, len(word), b"") for start, word in keywords_of(text, tokens)],
+    "a letter of a keyword changed": at_keywords(
+        lambda word, at, chance: word[:at] + chance.choice(LETTERS) + word[at + 1:]),
+    "a letter in a keyword added": at_keywords(
+        lambda word, at, chance: word[:at] + chance.choice(LETTERS) + word[at:]),
+    "two letters of a keyword exchanged": at_keywords(
+        lambda word, at, chance: word[:at] + word[at + 1] + word[at] + word[at + 2:]),
+    "a keyword missing": lambda text, tokens, chance: [
+        (start, len(word), b"") for start, word in keywords_of(text, tokens)
+    ],
     "two words exchanged": at_pairs(may_be_exchanged, lambda text, start, end, behind, until: (
         start, until - start, text[behind:until] + text[end:behind] + text[start:end])),
     "a string's end missing": strings_opened,
