@@ -3,7 +3,6 @@
 import unittest
 
 import compare_rust_types
-import rust_surface
 from rust_surface import Surface, differing, type_text
 from test_support import Room
 

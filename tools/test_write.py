@@ -3,7 +3,6 @@
 import os
 import sys
 import unittest
-from pathlib import Path
 from unittest import mock
 
 import write
