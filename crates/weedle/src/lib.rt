@@ -115,3 +115,4 @@ pub use weedle_view::{
     included_into, inheritance_of, members_of, parts_named, type_names, type_names_of_arguments,
     type_names_of_attributes, type_names_of_return,
 };
+pub use weedle_whole::{WholeError, write_whole};
