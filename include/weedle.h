@@ -151,13 +151,11 @@ struct weedle_formatted {
  * WEEDLE_STATUS_TOO_LONG: 32 bits don't hold the length of the text, or a place or a depth of its tree.
  * Only with WEEDLE_STATUS_READ is anything written to `nodes`.
  *
- * Most texts have 0.8 to 1.6 nodes a byte. A list of them takes 16 bytes of memory for each byte of the text while it
- * is read, twice as much where that isn't enough, and so on. Where its nodes take more than 32 MB, as of a text of 2.6 MB
- * with 0.8 nodes a byte, it is given back while they are written to `nodes`, a quarter of what is left at a time (tested):
- * so both take up to a quarter more than the list alone, or 32 MB more. Descent tries at most 16 rules for each byte and
- * 4,096 more, 400 nodes deep; what people write takes two, some 60 deep. Where that isn't enough it reads over a memo of
- * what the reading tries, with no recursion: texts that nest 100,000 deep took 130 to 300 bytes for each byte, and 0.4 to
- * 1 microseconds.
+ * Most texts have 0.8 to 1.6 nodes a byte. While it is read, a list of them takes 8 bytes of memory for each byte of the
+ * text, twice as much where that isn't enough, and so on; the nodes of a definition of 64 kB or more take 16 bytes each
+ * beside it. Descent tries at most 16 rules for each byte and 4,096 more, 400 nodes deep; what people write takes two,
+ * some 60 deep. Where that isn't enough it reads over a memo of what the reading tries, with no recursion: texts that nest
+ * 100,000 deep took 130 to 300 bytes for each byte, and 0.4 to 1 microseconds.
  *
  * Dense texts, as those of names of a letter, have more: 9.3 nodes a byte are the most that was found. To read no text
  * twice, give a room of 12 nodes for each byte and 64 more, and map a large one without a reserve (on Linux mmap with

@@ -32,33 +32,29 @@ COLUMNS = 118
 LONG = 3
 INTRO = """# Calling `weedle`
 
-All that a caller of the crate `weedle` can name, by its path. [README](../README.md) has a whole program, which the
-gate proves, and its line of `crates.txt`. [USING](USING.md) says what each part is for, [PROVED](PROVED.md) what is
-proved of it in words, and [GRAMMAR](GRAMMAR.md) what each type reads. `tools/calling.py` writes this page from the
-sources.
+All that a caller of the crate `weedle` can name, by its path. [USING](USING.md) says what each part is for,
+[PROVED](PROVED.md) what is proved of it, [GRAMMAR](GRAMMAR.md) what each type reads. `tools/calling.py` writes this page.
 
 {contents}"""
 CALLS = """## Calls
 
-Each has its contract. `result` is what the call returns, `x.now` what a borrowed argument holds; the other words
-stand in [the last section](#the-words-of-the-contracts). A call that can run out of memory takes an allocator.
+Each has its contract. `result` is what the call returns, `x.now` what a borrowed argument holds ([other
+words](#the-words-of-the-contracts)). A call that can run out of memory takes an allocator.
 """
 TYPES = """## Types
 
-A heading is the module in which a caller finds the types below it. Above each type stands what it is, and last the
-traits that it has: `Copy` includes `Clone`, and `Ord` includes `PartialOrd`, `Eq` and `PartialEq`. `Parse` reads a
-value from the front of a text. `into_fields` gives the fields of a struct in their order, and a method of a variant's
-name, as `into_interface`, what the variant holds. Both take the value; their contracts are
-`result ≡ (self.entry.a, ..)` and `result ≡ Some held ↔ self.entry ≡ Enum.Variant held`.
+The headings are modules. `Copy` includes `Clone`, and `Ord` includes `PartialOrd`, `Eq` and `PartialEq`. `Parse` reads
+a value from the front of a text. `into_fields` gives the fields of a struct, `into_interface` and its like what a variant
+holds: `result ≡ (self.entry.a, ..)` and `result ≡ Some held ↔ self.entry ≡ Enum.Variant held`. Both take the value.
 """
 DOCSTRINGS = """## Where a docstring may stand
 
-A docstring is lines that begin with `///`. These members and definitions may begin with one, their field `docstring`:
+A docstring is lines that begin with `///`. These members and definitions may begin with one, in their field `docstring`:
 """
-NO_DOCSTRING = "These may not: with one in front they aren't read."
+NO_DOCSTRING = "These may not; a docstring in front is a syntax error."
 WORDS = """## The words of the contracts
 
-Each is defined in the file that is named, or in the standard library's (`Rattle.std`).
+Each is defined in the file that is named, or in the standard library (`Rattle.std`).
 """
 ITEM_BEGIN = r"^pub {kind} {name}\b"
 METHOD = re.compile(r"^    pub fn (\w+)", re.M)

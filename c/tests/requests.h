@@ -9,11 +9,11 @@
 #include <stdlib.h>
 
 /*
- * Memory that is refused: the request of this number, from 1 on. And how many bytes were asked for in all, and how many
- * given back of blocks that were cut. To cut a block is no request: the C library refuses none of these.
+ * Memory that is refused: the request of this number, from 1 on. And how many bytes were asked for in all. To
+ * cut a block is no request: the C library refuses none of these.
  */
 static unsigned long requests, refused;
-static size_t asked, given_back;
+static size_t asked;
 static int counts;
 
 void *__real_malloc(size_t size);
@@ -30,10 +30,7 @@ void *__wrap_malloc(size_t size) { return is_refused(size) ? NULL : __real_mallo
 
 void *__wrap_realloc(void *block, size_t size) {
     size_t has = block == NULL ? 0 : malloc_usable_size(block);
-    if (size <= has) {
-        given_back += has - size;
-        return __real_realloc(block, size);
-    }
+    if (size <= has) return __real_realloc(block, size);
     return is_refused(size) ? NULL : __real_realloc(block, size);
 }
 

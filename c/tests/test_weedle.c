@@ -381,15 +381,16 @@ static size_t asked_by(int call, const char *text, size_t length, uint32_t *stat
 
 /*
  * A call, what it comes to where there is no room, of what is read and of what isn't, and for how many bytes it asks at
- * the most for each byte of a dense text: weedle_syntax for a list of 16 bytes a byte, for one twice as long and one four
- * times as long, as the header says; the others for what was measured, and a tenth more.
+ * the most for each byte of a dense text: weedle_syntax for a list of 8 bytes a byte, for one twice as long and one four
+ * times as long, as the header says, and for the runs of these short definitions; the others for what was measured, and a
+ * tenth more.
  */
 static const struct {
     const char *name;
     enum weedle_status read, refused;
     size_t most;
 } ASKING[] = {
-    {"weedle_syntax", WEEDLE_STATUS_NO_ROOM, WEEDLE_STATUS_REFUSED, 16 * (1 + 2 + 4)},
+    {"weedle_syntax", WEEDLE_STATUS_NO_ROOM, WEEDLE_STATUS_REFUSED, 8 * (1 + 2 + 4) + 3},
     {"weedle_syntax_of", WEEDLE_STATUS_NO_ROOM, WEEDLE_STATUS_NO_ROOM, 140},
     {"weedle_explain", WEEDLE_STATUS_READ, WEEDLE_STATUS_REFUSED, 255},
     {"weedle_format", WEEDLE_STATUS_NO_ROOM, WEEDLE_STATUS_REFUSED, 515},
@@ -422,35 +423,45 @@ static void test_bytes_that_are_asked_for(void) {
     }
 }
 
-/* Of a text with more than 32 MB of nodes their list is given back while they are written, but for the last 32 MB. */
-static void check_given_back(size_t times, int is_long) {
-    static const char member[] = "[A] interface A { [B] attribute long x; };\n";
-    const size_t last = 2097152 * sizeof(struct weedle_node);
-    size_t length;
-    char *text = repeated("", member, times, "", &length);
-    struct weedle_node none, *nodes = malloc(4 * length * sizeof *nodes);
-    struct weedle_answer all, answer;
-    CHECK(nodes != NULL);
-    for (int whole = 0; whole < 2; whole++) {
-        given_back = 0;
-        uint32_t status = whole ? weedle_syntax(text, length, &none, 0, &all)
-                                : weedle_syntax_of(WEEDLE_DEFINITIONS, text, length, &none, 0, &all);
-        CHECK(status == WEEDLE_STATUS_NO_ROOM && given_back == 0);
-        status = whole ? weedle_syntax(text, length, nodes, 4 * length, &answer)
-                       : weedle_syntax_of(WEEDLE_DEFINITIONS, text, length, nodes, 4 * length, &answer);
-        CHECK(status == WEEDLE_STATUS_READ && answer.count == all.count);
-        size_t bytes = answer.count * sizeof *nodes;
-        CHECK((bytes > last) == is_long);
-        CHECK(is_long ? given_back + last >= bytes : given_back == 0);
-    }
+/* The nodes of a text by weedle_syntax are those by weedle_syntax_of, which keeps all of them in 16 bytes. */
+static void check_both_ways(const char *text, size_t length) {
+    size_t room = 12 * length + 64, bytes;
+    struct weedle_node *nodes = malloc(room * sizeof *nodes), *same = malloc(room * sizeof *same);
+    struct weedle_answer answer, other;
+    CHECK(nodes != NULL && same != NULL);
+    CHECK(weedle_syntax(text, length, nodes, room, &answer) == WEEDLE_STATUS_READ);
+    CHECK(weedle_syntax_of(WEEDLE_DEFINITIONS, text, length, same, room, &other) == WEEDLE_STATUS_READ);
+    bytes = answer.count * sizeof *nodes;
+    CHECK(answer.count == other.count && answer.rest == other.rest && memcmp(nodes, same, bytes) == 0);
     free(nodes);
-    free(text);
+    free(same);
 }
 
-/* Of texts of 0.4 and 1.1 MB, whose nodes take 23 and 57 MB. */
-static void test_memory_that_is_given_back(void) {
-    check_given_back(large(10000), 0);
-    check_given_back(large(25000), getenv("WEEDLE_SMALL") == NULL);
+/* Texts whose definitions are short, longer than 64 kB, or both in turn; and a name that ends at byte 65,536 or near it. */
+static void test_definitions_of_any_length(void) {
+    static const char member[] = "[A] attribute long? x;\n";
+    size_t length, longer;
+    char *body = repeated("A includes B; interface C {", member, 3200, "}; typedef D E;", &length);
+    CHECK(length > 65536);
+    check_both_ways(body, length);
+    check_both_ways(STATEMENT, strlen(STATEMENT));
+    check_both_ways("", 0);
+    for (size_t tail = 65520; tail < 65550; tail++) {
+        char *text = repeated("A includes B; enum C { \"", "d", tail, "\" }; A includes B;", &longer);
+        check_both_ways(text, longer);
+        free(text);
+    }
+    free(body);
+}
+
+/* Read by weedle_syntax, a short text asks for 8 bytes for each of its bytes and for what its longest definition takes. */
+static void test_bytes_for_short_nodes(void) {
+    static const char member[] = "interface A { readonly attribute unsigned long long someAttribute; };\n";
+    size_t length;
+    uint32_t status;
+    char *text = repeated("", member, 2000, "", &length);
+    CHECK(asked_by(0, text, length, &status) <= 11 * length && status == WEEDLE_STATUS_NO_ROOM);
+    free(text);
 }
 
 /* What is laid out already isn't read again: it asks for half as much as what isn't. */
@@ -556,7 +567,8 @@ static const struct test TESTS[] = {
     {"memory that is refused", test_memory_that_is_refused},
     {"memory of a layout that is refused", test_memory_of_a_layout_that_is_refused},
     {"bytes that are asked for", test_bytes_that_are_asked_for},
-    {"memory that is given back", test_memory_that_is_given_back},
+    {"definitions of any length", test_definitions_of_any_length},
+    {"bytes for short nodes", test_bytes_for_short_nodes},
     {"bytes for what is laid out", test_bytes_for_what_is_laid_out},
     {"a long layout", test_a_long_layout},
     {"brackets that aren't closed", test_brackets_that_are_not_closed},

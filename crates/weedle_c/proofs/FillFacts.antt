@@ -1,10 +1,10 @@
 -- A room that is filled from its front.
-use Rattle.std.proofs.Common.{◌≡◌, ◌<◌, ◌≤◌, ◌+◌, ◌∙◌, ℕ, List, [], ◌∷◌, ◌++◌, All, length, take, drop, set, map, get_or, refl, ap, sym, arith, append_assoc, append-nil}
-use Rattle.std.proofs.lemmas.List.{length-set, length-drop, length-take-le, take_more_set, map_more, map-append, drop-set-lt, drop-drop, take-append-drop, take_all}
-use Rattle.std.proofs.lemmas.List.Elements.{All-take}
-use Rattle.std.proofs.Math.Seq.{drop-append_seam}
+use Rattle.std.proofs.Common.{◌≡◌, ◌<◌, ◌≤◌, ◌+◌, ◌∙◌, ℕ, List, [], ◌∷◌, ◌++◌, All, length, length-drop, take, drop, set, map, get_or, refl, ap, subst, sym, arith}
+use Rattle.std.proofs.lemmas.List.{length-set, get_or-drop, take_more_set, map_more, drop-set-lt, drop-drop, take-append-drop, take_all}
+use Rattle.std.proofs.lemmas.List.Elements.{All-weaker}
 use Rattle.weedle_c.specs.Nodes.{Fits, c_node}
 use Rattle.weedle_c.specs.declared.node.WeedleNode.{WeedleNode}
+use Rattle.weedle_syntax.specs.Compact.{IsNarrow}
 use Rattle.weedle_syntax.specs.declared.node.Node.{Node}
 
 -- the first i cells have the first i nodes, and the others what they had
@@ -30,46 +30,45 @@ filled_all {found} {old} {now} h =
     let n = length found in
     sym (take-append-drop n now) ∙ ap (λ xs. xs ++ drop n now) (h.front ∙ ap (map c_node) (take_all n found (omega arith))) ∙ ap (λ xs. map c_node found ++ xs) h.behind
 
--- a list that is moved to a room from its end on: the last nodes of all stand there, and the others are left
-pub record IsMoved (all : List Node) (old : List WeedleNode) (left : List Node) (now : List WeedleNode) : Type 0 where
-  pub moved : List Node
-  pub are : all ≡ left ++ moved
-  pub behind : drop (length left) now ≡ map c_node moved ++ drop (length all) old
-  pub size : length now ≡ length old
-  pub enough : length left ≤ length old
-  pub fit : All Fits left
+-- a room that is being filled: the first k nodes stand there, and these are left
+pub record IsFilling (found : List Node) (old now : List WeedleNode) (k : ℕ) (left : List Node) : Type 0 where
+  pub filled : IsFilled found old now k
+  pub within : k ≤ length found
+  pub are_left : left ≡ drop k found
 
--- none is moved yet
-pub none_moved : (all : List Node) (old : List WeedleNode) → length all ≤ length old → All Fits all → IsMoved all old all old
-none_moved all old room fit = record { moved = []; are = sym (append-nil all); behind = refl; size = refl; enough = room; fit = fit }
+pub none_filled : (found : List Node) (old : List WeedleNode) (left : List Node) → left ≡ found → IsFilling found old old 0 left
+none_filled found old left is = record { filled = record { size = refl; front = refl; behind = refl }; within = omega arith; are_left = is }
 
-module _ {all left : List Node} {old now : List WeedleNode} (h : IsMoved all old left now) where
-  -- those from number k on
-  pub more_moved : (k : ℕ) (rest : List Node) (new : List WeedleNode) → k ≤ length left → rest ≡ take k left → length new ≡ length now
-      → drop k new ≡ map c_node (drop k left) ++ drop (length left) now → IsMoved all old rest new
-  more_moved k rest new within is size behind =
-      let many : length rest ≡ k = ap length is ∙ length-take-le k left within in
-      let room = h.enough in
-      record {
-        moved = drop k left ++ h.moved;
-        are = h.are ∙ ap (λ xs. xs ++ h.moved) (sym (take-append-drop k left)) ∙ append_assoc (take k left) (drop k left) h.moved ∙ ap (λ xs. xs ++ (drop k left ++ h.moved)) (sym is);
-        behind = ap (λ n. drop n new) many ∙ behind ∙ ap (λ xs. map c_node (drop k left) ++ xs) h.behind ∙ sym (append_assoc (map c_node (drop k left)) (map c_node h.moved) (drop (length all) old)) ∙ ap (λ xs. xs ++ drop (length all) old) (sym (map-append c_node (drop k left) h.moved));
-        size = size ∙ h.size;
-        enough = omega (arith, many, within, room);
-        fit = rw is (All-take Fits k left h.fit);
-      }
+module _ {found : List Node} {old now : List WeedleNode} {k : ℕ} {left rest : List Node} {n : Node} (h : IsFilling found old now k left) (steps : left ≡ n ∷ rest) where
+  next_inside : k < length found
+  next_inside =
+      let many = ap length (sym h.are_left ∙ steps) in
+      let all = length-drop k found in
+      omega (arith, many, all, h.within)
 
-  -- those that are left
-  pub all_moved : (new : List WeedleNode) → new ≡ map c_node left ++ drop (length left) now → new ≡ map c_node all ++ drop (length all) old
-  all_moved new is =
-      is ∙ ap (λ xs. map c_node left ++ xs) h.behind ∙ sym (append_assoc (map c_node left) (map c_node h.moved) (drop (length all) old))
-      ∙ ap (λ xs. xs ++ drop (length all) old) (sym (map-append c_node left h.moved) ∙ ap (map c_node) (sym h.are))
+  next_is : n ≡ get_or found k n
+  next_is = let z : k + 0 ≡ k = omega arith in ap (λ xs. get_or xs 0 n) (sym steps ∙ h.are_left) ∙ get_or-drop k found 0 n ∙ ap (λ i. get_or found i n) z
 
--- what is behind place k, once it is written
-pub filled_behind : (found : List Node) (k : ℕ) (old part new : List WeedleNode) → k ≤ length found → length found ≤ length old
-    → part ≡ map c_node (drop k found) ++ drop (length (drop k found)) (drop k old) → new ≡ take k old ++ part → drop k new ≡ map c_node (drop k found) ++ drop (length found) old
-filled_behind found k old part new within room is all =
-    let front : length (take k old) ≡ k = length-take-le k old (omega arith) in
-    let cut : drop k (take k old ++ part) ≡ part = ap (λ n. drop n (take k old ++ part)) (sym front) ∙ drop-append_seam (take k old) part in
-    let many : k + length (drop k found) ≡ length found = (let l = length-drop k found in omega (arith, l, within)) in
-    ap (drop k) all ∙ cut ∙ is ∙ ap (λ xs. map c_node (drop k found) ++ xs) (drop-drop (length (drop k found)) k old ∙ ap (λ n. drop n old) many)
+  pub next_fits : All Fits found → Fits n
+  next_fits fit = subst Fits (sym next_is) (fit k n next_inside)
+
+  pub next_has_room : length found ≤ length old → k < length now
+  next_has_room room = let inside = next_inside in let size = h.filled.size in omega (arith, inside, size, room)
+
+  pub one_filled : (c : WeedleNode) → length found ≤ length old → c ≡ c_node n → IsFilling found old (set now k c) (k + 1) rest
+  one_filled c room same = record {
+    filled = filled_more h.filled n c next_inside (next_has_room room) next_is same;
+    within = (let inside = next_inside in omega (arith, inside));
+    are_left = ap (drop 1) (sym steps ∙ h.are_left) ∙ drop-drop 1 k found;
+  }
+
+pub all_filled : {found : List Node} {old now : List WeedleNode} {k : ℕ} {left : List Node} → IsFilling found old now k left → left ≡ [] → now ≡ map c_node found ++ drop (length found) old
+all_filled {found} {old} {now} {k} {left} h none =
+    let many = ap length (sym h.are_left ∙ none) in
+    let all = length-drop k found in
+    let done : k ≡ length found = omega (arith, many, all, h.within) in
+    filled_all (subst (IsFilled found old now) done h.filled)
+
+-- what is narrow fits
+pub narrow_fit : (found : List Node) → All IsNarrow found → All Fits found
+narrow_fit found h = All-weaker IsNarrow Fits (λ n narrow. record { depth = narrow.depth; start = narrow.start; end = narrow.end }) found h

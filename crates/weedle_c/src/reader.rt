@@ -5,10 +5,10 @@ ghost use Rattle.std.specs.Str.{IsValidUpTo};
 ghost use Rattle.weedle_c.specs.Answers.{IsCounted, IsTooLong, IsTree, IsUnread};
 ghost use Rattle.weedle_syntax.specs.Syntax.{IsFront, IsSyntax};
 
-use crate::node::{MOST, WeedleNode, all_narrow_fit, move_narrow, rest_of};
+use crate::node::{MOST, WeedleNode, fill_compact};
 use crate::status::{NO_MEMORY, NO_ROOM, NOT_UTF8, READ, REFUSED, TOO_LONG};
 use std::alloc::Global;
-use weedle_syntax::{Narrow, narrow_of_front};
+use weedle_syntax::{Compact, compact_of_front};
 
 /// What is said of a reading beside its status.
 #[repr(C)]
@@ -67,20 +67,15 @@ fn read_text(alloc: Global, raw: &str, nodes: &mut [WeedleNode], answer: &mut We
     if raw.len() > MOST {
         return TOO_LONG;
     }
-    match narrow_of_front(alloc, raw) {
-        Ok(mut found) => answer_of(raw, &mut found, nodes, answer),
+    match compact_of_front(alloc, raw) {
+        Ok(found) => answer_of(raw, &found, nodes, answer),
         Err(_) => NO_MEMORY,
     }
 }
 
 /// What is answered where these nodes were read.
-fn answer_of(
-    raw: &str,
-    found: &mut Vec<Narrow>,
-    nodes: &mut [WeedleNode],
-    answer: &mut WeedleAnswer,
-) -> u32
-    requires front { IsFront raw.now found.old.items }
+fn answer_of(raw: &str, found: &Compact, nodes: &mut [WeedleNode], answer: &mut WeedleAnswer) -> u32
+    requires front { IsFront raw.now found.now }
     requires nothing { answer.old ≡ NOTHING }
     ensures known { (result ≤ TOO_LONG) × (result ≢ NOT_UTF8) }
     ensures read { result ≡ READ → IsTree raw.now nodes.old nodes.new answer.new }
@@ -92,18 +87,15 @@ fn answer_of(
     ensures unwritten { result ≢ READ → nodes.new ≡ nodes.old }
 {
     let count = found.len();
-    let rest = rest_of(found);
+    let rest = found.end();
     if rest < raw.len() {
         *answer = WeedleAnswer { count: 0, rest };
         return REFUSED;
-    }
-    if !all_narrow_fit(found) {
-        return TOO_LONG;
     }
     *answer = WeedleAnswer { count, rest };
     if count > nodes.len() {
         return NO_ROOM;
     }
-    move_narrow(found, nodes);
+    fill_compact(found, nodes);
     READ
 }

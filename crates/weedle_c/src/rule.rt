@@ -4,14 +4,14 @@ ghost use Rattle.std.specs.Prelude.{◌≡◌, ◌≢◌, ◌≤◌, ◌<◌, �
 ghost use Rattle.std.specs.Str.{IsValidUpTo};
 ghost use Rattle.weedle_c.specs.Answers.{IsTooLong, IsRuleTree, IsRuleCounted};
 ghost use Rattle.weedle_rules.specs.Outcomes.{FailsAt};
-ghost use Rattle.weedle_syntax.specs.Syntax.{IsRuleFront, rest_of as the_rest_of};
+ghost use Rattle.weedle_syntax.specs.Syntax.{IsRuleFront};
 
-use crate::node::{MOST, WeedleNode, all_narrow_fit, move_narrow, rest_of};
+use crate::node::{MOST, WeedleNode, fill_compact};
 use crate::reader::{NOTHING, WeedleAnswer};
 use crate::status::{NO_MEMORY, NO_ROOM, NO_RULE, NOT_UTF8, READ, REFUSED, TOO_LONG};
 use std::alloc::Global;
 use weedle_grammar::{RULES, Rule, rule_of};
-use weedle_syntax::{Narrow, narrow_of_rule};
+use weedle_syntax::{Compact, compact_of_rule};
 
 /// Reads a rule at the front of a text, and writes its nodes where there is room for all. The
 /// answer is the status.
@@ -72,8 +72,8 @@ fn read_rule_text(
     if raw.len() > MOST {
         return TOO_LONG;
     }
-    match narrow_of_rule(alloc, raw, rule) {
-        Ok(Some(mut found)) => rule_answer(raw, rule, &mut found, nodes, answer),
+    match compact_of_rule(alloc, raw, rule) {
+        Ok(Some(found)) => rule_answer(raw, rule, &found, nodes, answer),
         Ok(None) => REFUSED,
         Err(_) => NO_MEMORY,
     }
@@ -83,11 +83,11 @@ fn read_rule_text(
 fn rule_answer(
     raw: &str,
     rule: Rule,
-    found: &mut Vec<Narrow>,
+    found: &Compact,
     nodes: &mut [WeedleNode],
     answer: &mut WeedleAnswer,
 ) -> u32
-    requires front { IsRuleFront raw.now rule found.old.items }
+    requires front { IsRuleFront raw.now rule found.now }
     requires nothing { answer.old ≡ NOTHING }
     ensures known { (result ≤ TOO_LONG) × (result ≢ NOT_UTF8) × (result ≢ REFUSED) }
     ensures read { result ≡ READ → IsRuleTree raw.now rule nodes.old nodes.new answer.new }
@@ -99,17 +99,14 @@ fn rule_answer(
         → answer.new.rest ≡ 0 }
     ensures unwritten { result ≢ READ → nodes.new ≡ nodes.old }
 {
-    if !all_narrow_fit(found) {
-        return TOO_LONG;
-    }
     let count = found.len();
     *answer = WeedleAnswer {
         count,
-        rest: rest_of(found),
+        rest: found.end(),
     };
     if count > nodes.len() {
         return NO_ROOM;
     }
-    move_narrow(found, nodes);
+    fill_compact(found, nodes);
     READ
 }

@@ -15,34 +15,96 @@ callback interface C : E {}; interface E : _C {}; interface F : A {}; interface 
 interface H : Y {}; partial interface Y {}; interface Z : a {}; interface J : T {}; typedef long T;
 ";
 
-/// The names of the ancestors of a name, with the kind of each in front.
+/// Names in `TEXT`, of which it is known what they inherit from.
+#[derive(Clone, Copy, Debug)]
+enum Example {
+    /// An interface, with one of each kind above it.
+    Interface,
+    /// A dictionary that an enum of its name follows.
+    Dictionary,
+    /// A callback interface, above which a circle closes.
+    CallbackInterface,
+    /// An interface in a circle of two.
+    Circle,
+    /// An interface that inherits from the name of a type.
+    TypeName,
+    /// An interface that inherits from itself.
+    Itself,
+    /// An interface above which there is a part alone.
+    Part,
+    /// An interface above which a name differs in its case.
+    Case,
+    /// A name for a type.
+    Typedef,
+    /// No name.
+    Nothing,
+    /// A name that nothing defines.
+    Unknown,
+}
+
+impl Example {
+    fn name(self) -> &'static str {
+        match self {
+            Example::Interface => "F",
+            Example::Dictionary => "A",
+            Example::CallbackInterface => "C",
+            Example::Circle => "E",
+            Example::TypeName => "J",
+            Example::Itself => "G",
+            Example::Part => "H",
+            Example::Case => "Z",
+            Example::Typedef => "T",
+            Example::Nothing => "",
+            Example::Unknown => "Unknown",
+        }
+    }
+
+    /// The kind and the name of each ancestor.
+    fn ancestors(self) -> &'static str {
+        match self {
+            Example::Interface => "interface A;dictionary B;callback interface C;interface E;",
+            Example::Dictionary => "dictionary B;callback interface C;interface E;",
+            Example::CallbackInterface => "interface E;",
+            Example::Circle => "callback interface C;",
+            Example::TypeName => "typedef T;",
+            _ => "",
+        }
+    }
+}
+
+/// The ancestors of a name, with the kind of each in front.
 fn listing_of(
     alloc: Global,
     definitions: &Definitions<'_>,
     name: &str,
 ) -> Result<String, AllocError> {
+    let above = ancestors(alloc, definitions, name)?;
     let mut listing = String::new(alloc);
-    for above in &ancestors(alloc, definitions, name)? {
-        write!(listing, "{} {};", kind_of(above), name_of(above))?;
+    for i in 0..above.len() {
+        write!(listing, "{} {};", kind_of(above[i]), name_of(above[i]))?;
     }
     Ok(listing)
 }
 
-/// Whether these are the ancestors of a name in `TEXT`.
-fn is_said(alloc: Global, name: &str, said: &str) -> Result<bool, AllocError> {
+/// Whether a list says so of an example.
+fn is_said(alloc: Global, list: &Definitions<'_>, of: Example) -> Result<bool, AllocError> {
+    let listing = listing_of(alloc, list, of.name())?;
+    Ok(listing.as_str() == of.ancestors())
+}
+
+/// Whether these are the ancestors in `TEXT`.
+fn has_ancestors(alloc: Global, of: Example) -> Result<bool, AllocError> {
     match Definitions::parse(alloc, TEXT) {
-        Ok((_, list)) => lend(list, move |list: &Definitions<'_>| {
-            listing_of(alloc, list, name).map(|listing| listing.as_str() == said)
-        }),
+        Ok((_, list)) => lend(list, move |list: &Definitions<'_>| is_said(alloc, list, of)),
         Err(Err::Failure(_)) => Err(AllocError),
         Err(Err::Error(_)) => Ok(false),
     }
 }
 
 /// Asserts that these are the ancestors, or that memory is wanted.
-fn assert_ancestors(rt: &impl Abort, alloc: Global, wanted: &mut Wanted, name: &str, said: &str) {
-    if let Some(is_said) = wanted.given(is_said(alloc, name, said)) {
-        assert!(rt; is_said, "of {name}");
+fn assert_ancestors(rt: &impl Abort, alloc: Global, wanted: &mut Wanted, of: Example) {
+    if let Some(is_said) = wanted.given(has_ancestors(alloc, of)) {
+        assert!(rt; is_said, "of {}", of.name());
     }
 }
 
@@ -50,30 +112,25 @@ fn assert_ancestors(rt: &impl Abort, alloc: Global, wanted: &mut Wanted, name: &
 fn ancestors_are_the_nearest_first(rt: HostRuntime) -> Result<(), Fail> {
     let alloc = rt.alloc();
     let mut wanted = Wanted::new();
-    for (name, said) in [
-        (
-            "F",
-            "interface A;dictionary B;callback interface C;interface E;",
-        ),
-        ("A", "dictionary B;callback interface C;interface E;"),
-        ("C", "interface E;"),
-        ("E", "callback interface C;"),
-        ("J", "typedef T;"),
-    ] {
-        assert_ancestors(&rt, alloc, &mut wanted, name, said);
-    }
+    assert_ancestors(&rt, alloc, &mut wanted, Example::Interface);
+    assert_ancestors(&rt, alloc, &mut wanted, Example::Dictionary);
+    assert_ancestors(&rt, alloc, &mut wanted, Example::CallbackInterface);
+    assert_ancestors(&rt, alloc, &mut wanted, Example::Circle);
+    assert_ancestors(&rt, alloc, &mut wanted, Example::TypeName);
     assert!(rt; wanted.tell(&rt, alloc));
     Ok(())
 }
 
-/// `G` inherits from itself, `H` from what has a part alone, `Z` from what differs in its case.
 #[test]
 fn what_inherits_from_nothing_has_none(rt: HostRuntime) -> Result<(), Fail> {
     let alloc = rt.alloc();
     let mut wanted = Wanted::new();
-    for name in ["G", "H", "Z", "Y", "T", "a", "", "Unknown"] {
-        assert_ancestors(&rt, alloc, &mut wanted, name, "");
-    }
+    assert_ancestors(&rt, alloc, &mut wanted, Example::Itself);
+    assert_ancestors(&rt, alloc, &mut wanted, Example::Part);
+    assert_ancestors(&rt, alloc, &mut wanted, Example::Case);
+    assert_ancestors(&rt, alloc, &mut wanted, Example::Typedef);
+    assert_ancestors(&rt, alloc, &mut wanted, Example::Nothing);
+    assert_ancestors(&rt, alloc, &mut wanted, Example::Unknown);
     assert!(rt; wanted.tell(&rt, alloc));
     Ok(())
 }

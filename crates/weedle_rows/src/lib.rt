@@ -76,6 +76,8 @@
 #[cfg(test)]
 mod ancestors;
 #[cfg(test)]
+mod anew;
+#[cfg(test)]
 mod lists;
 #[cfg(test)]
 mod outcomes;

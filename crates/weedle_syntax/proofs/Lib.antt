@@ -23,3 +23,5 @@ pub mod WalkFacts
 mod WantedFacts
 mod MemoFacts
 pub mod InnerFacts
+mod RunFacts
+mod CompactFacts

@@ -22,6 +22,10 @@ Piles text n old new = (inner : List Node) × HasParts text n inner × (reverse 
 abbrev pub Adds : List ℕ → List Node → List Node → List Node → Type 0
 Adds text inner old new = (more : List Node) × (new ≡ old ++ more) × AreTrees text inner more
 
+-- these are the nodes below that of rule r from p to e, of depth d
+abbrev pub LaysBelow : List ℕ → ℕ → ℕ → ℕ → ℕ → List Node → Type 0
+LaysBelow text r p e d below = (inner : List Node) × HasParts text (node r p e d) inner × AreTrees text inner below
+
 -- nothing is laid down where rule r fails at p, else its node, of depth d, with all below it
 abbrev pub LaysNode : List ℕ → ℕ → ℕ → ℕ → List Node → List Node → Option ℕ → Type 0
 LaysNode text r p d old new o = MatchOption o (new ≡ old) (λ e. Adds text (node r p e d ∷ []) old new)

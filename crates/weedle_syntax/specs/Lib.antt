@@ -6,3 +6,4 @@ pub mod Tree
 pub mod Kinds
 pub mod Steps
 pub mod Table
+pub mod Compact

@@ -1,6 +1,7 @@
 //! Nodes in 16 bytes each, as a descent lays them down.
 
 ghost use Rattle.std.specs.Prelude.{◌≡◌, [], ◌∷◌, ◌++◌, length, IfOk};
+ghost use Rattle.weedle_syntax.specs.Compact.{IsNarrow};
 ghost use Rattle.weedle_syntax.specs.Laid.{node as the_node};
 
 use crate::node::Node;
@@ -34,7 +35,8 @@ impl Narrow {
     /// The node.
     #[inline(always)]
     pub fn node(self) -> Node
-        ensures { result ≡ self }
+        ensures same { result ≡ self }
+        ensures narrow { IsNarrow result }
     {
         Node {
             rule: self.rule,

@@ -14,7 +14,7 @@ ghost use Rattle.weedle_syntax.specs.Syntax.{
   rest_of,
 };
 
-use crate::compact::narrow_within;
+use crate::front::narrow_within;
 use crate::lay::rule_by_descent;
 use crate::limits::Limits;
 use crate::narrow::widened;

@@ -1,44 +1,36 @@
-use Rattle.std.proofs.Common.{◌≡◌, ◌∙◌, ◌<◌, ◌≤◌, inr, length, refl, arith}
+use Rattle.std.proofs.Common.{◌≡◌, ◌<◌, ◌≤◌, length, arith}
 use Rattle.weedle_c.proofs.TreeFacts.{unread, has_tree}
 use Rattle.weedle_syntax.specs.Syntax.{rest_of}
 use Rattle.weedle_c.proofs.reader.answer_of.Goals as goal
 
 pub returns-then-rest-raw-clause-refused : goal.returns-then-rest-raw-clause-refused
 returns-then-rest-raw-clause-refused c =
-    let rest = c.rest_of-rest.ensures in
+    let rest = c.end-rest.ensures in
     let before = c.if-rest-raw.true in
-    let inside : rest_of c.args.found.now.items < length c.args.raw.now = omega arith in
+    let inside : rest_of c.args.found.now < length c.args.raw.now = omega arith in
     λ _. unread c.requires.front rest inside
 
 pub returns-then-count-nodes-clause-no_room : goal.returns-then-count-nodes-clause-no_room
 returns-then-count-nodes-clause-no_room c =
-    let rest = c.rest_of-rest.ensures in
+    let rest = c.end-rest.ensures in
     let behind = c.if-rest-raw.false in
-    let done : length c.args.raw.now ≤ rest_of c.args.found.now.items = omega arith in
-    let many : c.len-count.result ≡ length c.args.found.now.items = c.len-count.ensures ∙ c.args.found.now.ok.0 in
+    let done : length c.args.raw.now ≤ rest_of c.args.found.now = omega arith in
+    let many : c.len-count.result ≡ length c.args.found.now = c.len-count.ensures in
     let more = c.if-count-nodes.true in
     λ _. record {
-      tree = c.args.found.now.items;
+      tree = c.args.found.now;
       has = has_tree c.requires.front done rest many;
       more = omega (arith, more, many);
     }
 
 pub returns-clause-read : goal.returns-clause-read
 returns-clause-read c =
-    let rest = c.rest_of-rest.ensures in
+    let rest = c.end-rest.ensures in
     let behind = c.if-rest-raw.false in
-    let done : length c.args.raw.now ≤ rest_of c.args.found.now.items = omega arith in
-    let many : c.len-count.result ≡ length c.args.found.now.items = c.len-count.ensures ∙ c.args.found.now.ok.0 in
+    let done : length c.args.raw.now ≤ rest_of c.args.found.now = omega arith in
+    let many : c.len-count.result ≡ length c.args.found.now = c.len-count.ensures in
     λ _. record {
-      tree = c.args.found.now.items;
+      tree = c.args.found.now;
       has = has_tree c.requires.front done rest many;
-      written = c.move_narrow.ensures;
+      written = c.fill_compact.ensures;
     }
-
-pub returns-then-not-all_narrow_fit-clause-too_long : goal.returns-then-not-all_narrow_fit-clause-too_long
-returns-then-not-all_narrow_fit-clause-too_long c =
-    let rest = c.rest_of-rest.ensures in
-    let behind = c.if-rest-raw.false in
-    let done : length c.args.raw.now ≤ rest_of c.args.found.now.items = omega arith in
-    let has = has_tree c.requires.front {answer = record { count = length c.args.found.now.items; rest = c.rest_of-rest.result }} done rest refl in
-    λ _. inr (c.args.found.now.items, has.is_syntax, λ all. let t = c.if-not-all_narrow_fit.ensures.1 all in cc)

@@ -1,6 +1,0 @@
-use Rattle.weedle_c.proofs.FillFacts.{IsFilled}
-use Rattle.weedle_c.proofs.node.fill_narrow.Given as goal
-
--- the nodes so far stand in the room
-abbrev pub invariant-loop-at : goal.invariant-loop-at
-invariant-loop-at l = IsFilled l.found l.initial.room l.room l.at

@@ -1,0 +1,7 @@
+use Rattle.std.proofs.Common.{take}
+use Rattle.weedle_syntax.specs.Compact.{IsShortened}
+use Rattle.weedle_syntax.proofs.runs.shorten.Given as goal
+
+-- those so far are put behind what was there
+abbrev pub invariant-loop-i : goal.invariant-loop-i
+invariant-loop-i l = IsShortened l.base (take l.i l.found) l.fn.shorts.items l.shorts.items
