@@ -78,10 +78,9 @@ fn listing_of(
     definitions: &Definitions<'_>,
     name: &str,
 ) -> Result<String, AllocError> {
-    let above = ancestors(alloc, definitions, name)?;
     let mut listing = String::new(alloc);
-    for i in 0..above.len() {
-        write!(listing, "{} {};", kind_of(above[i]), name_of(above[i]))?;
+    for definition in ancestors(alloc, definitions, name)? {
+        write!(listing, "{} {};", kind_of(definition), name_of(definition))?;
     }
     Ok(listing)
 }
