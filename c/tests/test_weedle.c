@@ -390,7 +390,7 @@ static const struct {
     enum weedle_status read, refused;
     size_t most;
 } ASKING[] = {
-    {"weedle_syntax", WEEDLE_STATUS_NO_ROOM, WEEDLE_STATUS_REFUSED, 8 * (1 + 2 + 4) + 3},
+    {"weedle_syntax", WEEDLE_STATUS_NO_ROOM, WEEDLE_STATUS_REFUSED, 8 * (1 + 2 + 4) + 15},
     {"weedle_syntax_of", WEEDLE_STATUS_NO_ROOM, WEEDLE_STATUS_NO_ROOM, 140},
     {"weedle_explain", WEEDLE_STATUS_READ, WEEDLE_STATUS_REFUSED, 255},
     {"weedle_format", WEEDLE_STATUS_NO_ROOM, WEEDLE_STATUS_REFUSED, 515},
@@ -454,9 +454,10 @@ static void test_definitions_of_any_length(void) {
     free(body);
 }
 
-/* Read by weedle_syntax, a short text asks for 8 bytes for each of its bytes and for what its longest definition takes. */
+/* A text with less than a node a byte asks for 8 bytes for each of its bytes, and for what its definitions take. */
 static void test_bytes_for_short_nodes(void) {
-    static const char member[] = "interface A { readonly attribute unsigned long long someAttribute; };\n";
+    static const char member[] =
+        "interface SomeInterfaceOfThisPage { readonly attribute SomeOtherInterface someAttributeOfThisInterface; };\n";
     size_t length;
     uint32_t status;
     char *text = repeated("", member, 2000, "", &length);
