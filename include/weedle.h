@@ -1,5 +1,5 @@
 /*
- * WebIDL, read into its syntax tree. Written by tools/c_header.py, and not edited by hand.
+ * WebIDL, read into its syntax tree. Written by tools/write/c_header.py, and not edited by hand.
  *
  *     struct weedle_answer answer;
  *     uint32_t status = weedle_syntax(text, length, nodes, room, &answer);

@@ -5,10 +5,10 @@ import re
 import subprocess
 from pathlib import Path
 
-from test_support import Room
+from shared.test_support import Room
 
 TOOLS = Path(__file__).resolve().parent
-PARTS = ("try_tests.sh", "try_alone.py", "toolchain.py", "command_line.py")
+PARTS = ("try_tests.sh", "run/try_alone.py", "shared/toolchain.py", "shared/command_line.py")
 CRATES = """# NAME: what it stands on
 low: memchr
 late: low
@@ -27,7 +27,7 @@ FAILED = "test a ... FAILED\ntest result: FAILED. 2 passed; 1 failed; 0 ignored;
 
 
 class Runs(Room):
-    FILES = {f"tools/{name}": (TOOLS / name).read_text() for name in PARTS} | {"tools/run": CASES, "crates.txt": CRATES}
+    FILES = {f"tools/{name}": (TOOLS / name).read_text() for name in PARTS} | {"tools/run/__main__.py": CASES, "crates.txt": CRATES}
 
     def setUp(self):
         super().setUp()

@@ -8,8 +8,8 @@ import unittest
 from unittest import mock
 
 import vendor
-from crates import Unfit
-from test_support import Room, put
+from shared.crates import Unfit
+from shared.test_support import Room, put
 
 CHANGELOG = "# What is new\n\n## {} (2026-11-26)\n\n## 0.0.9 (2026-11-01)\n"
 SOURCE = {

@@ -5,7 +5,7 @@
 #
 # A crate has tests where a file below its src/ has `#[test]`; names of crates limit the run to
 # these. Each is run by `rt try --test` in its folder, without the check that `rt` runs beside a try
-# (tools/try_alone.py). Beside them 50 kB of the texts in tests/ are run through weedle_check, which
+# (tools/run/try_alone.py). Beside them 50 kB of the texts in tests/ are run through weedle_check, which
 # is compiled once for that, by `tools/run cases`: that is called `cases`, and may be named as a
 # crate is. N crates run at once, or as many as the variable TRY_JOBS says; else one for every
 # processor, and for every 3,000 MB of free memory. Runs side by side share nothing but the sources.
@@ -57,7 +57,7 @@ try_crate() {
     if [ "$1" = "$CASES" ]; then
         exec python3 tools/run cases --try crates/weedle_check --most "$CASE_BYTES"
     fi
-    cd "crates/$1" && exec python3 ../../tools/try_alone.py --test --seconds "$SECONDS_EACH"
+    cd "crates/$1" && exec python3 ../../tools/run/try_alone.py --test --seconds "$SECONDS_EACH"
 }
 
 start() {

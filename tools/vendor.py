@@ -30,10 +30,9 @@ import subprocess
 import sys
 from pathlib import Path
 
-from command_line import parser_of
-from crates import LIST, Unfit, closure, files_of, is_repository, line_of, read_lines
+from shared.command_line import parser_of
+from shared.crates import LIST, TOP, Unfit, closure, files_of, is_repository, line_of, read_lines
 
-TOP = Path(__file__).resolve().parent.parent
 LIBRARY = "weedle"
 LICENSE = f"crates/{LIBRARY}/LICENSE"
 RECORD = f"crates/{LIBRARY}.vendored.json"

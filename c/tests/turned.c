@@ -1,5 +1,5 @@
 /*
- * The calls of the C library, one of which does something wrong: for tools/turned_calls.py, which says which tests find it.
+ * The calls of the C library, one of which does something wrong: for tools/look/turned_calls.py, which says which tests find it.
  *
  * It is linked with a test and the library by --wrap of each call, and compiled with -DTURNED='"CALL HOW"'. What is wrong
  * lies behind the call, as a body would have it that keeps each clause of its contract: what it asks for, when it says

@@ -1,5 +1,5 @@
 //! Reads every type at every word of texts by the Rust package, by weedle2 itself, and by weedle2 with the three rules of the
-//! port, and counts where the answers are the same. `tools/compare_rust_types.py` builds and runs it.
+//! port, and counts where the answers are the same. `tools/measure/compare_rust_types.py` builds and runs it.
 
 #[rustfmt::skip]
 mod types;

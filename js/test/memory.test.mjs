@@ -1,6 +1,6 @@
 // Each request for memory that the addon makes, refused in turn: the answer, or NoMemory, and never a crash.
 //
-// tools/refuse_request.c refuses them, and test/refuse.c says which, which a C compiler builds.
+// tools/run/refuse_request.c refuses them, and test/refuse.c says which, which a C compiler builds.
 
 import assert from "node:assert/strict";
 import fs from "node:fs";
@@ -50,7 +50,7 @@ console.log(JSON.stringify(JSON.parse(process.argv[3]).map(sweep)));
 function swept(texts) {
   return inRoom((room) => {
     const [tool, addon] = [path.join(room, "refuse_request.so"), path.join(room, "refuse.node")];
-    for (const [out, source] of [[tool, `${TOP}/tools/refuse_request.c`], [addon, `${HOME}/test/refuse.c`]]) {
+    for (const [out, source] of [[tool, `${TOP}/tools/run/refuse_request.c`], [addon, `${HOME}/test/refuse.c`]]) {
       const built = run("cc", ["-O2", "-shared", "-fPIC", "-DNAPI_VERSION=8", `-I${HEADERS}`, "-o", out, source, "-ldl"]);
       assert.deepEqual([built.status, built.err], [0, ""]);
     }

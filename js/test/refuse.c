@@ -1,5 +1,5 @@
 /*
- * For tests: has tools/refuse_request.c, which is loaded before all else, refuse the addon's requests for memory.
+ * For tests: has tools/run/refuse_request.c, which is loaded before all else, refuse the addon's requests for memory.
  *
  *     refuse(number)   begins to count anew, and refuses the request of this number; 0 refuses none
  *     made()           how many there were since

@@ -12,7 +12,7 @@ from support import TOP
 import weedle
 from test_values import WINDOW, all_values, read_texts
 from test_walks import is_separator
-from toml_files import loads
+from shared.toml_files import loads
 from weedle import Definition, common, definitions, dictionary, interface, literal, term, types
 from weedle._building import fields_of
 from weedle._placed import UNPLACED

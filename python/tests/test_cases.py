@@ -15,10 +15,10 @@ from pathlib import Path
 
 from support import HOME
 import weedle
-from case_files import cases_of, folders
-from compare_with_weedle2 import DEPTH, files_of
-from make_cases import sum_of, without_text
+from measure.compare_with_weedle2 import DEPTH, files_of
 from run.cases import title_of
+from shared.case_files import cases_of, folders
+from write.make_cases import sum_of, without_text
 from test_values import all_values
 from test_weedle2 import in_weedle2s_words
 

@@ -9,9 +9,9 @@ import unittest
 
 from support import TOP
 import weedle
-from case_files import cases_of, folders
-from compare_with_weedle2 import DEPTH
-from toml_files import loads
+from measure.compare_with_weedle2 import DEPTH
+from shared.case_files import cases_of, folders
+from shared.toml_files import loads
 from weedle import _formatting
 
 FOLDERS = [name for name in folders() if name != "real"]

@@ -12,7 +12,7 @@ import unittest
 
 import support  # (finds the package and the scripts)
 import weedle
-from families import NOT_UTF8, READ, REFUSED, families
+from run.families import NOT_UTF8, READ, REFUSED, families
 from weedle import _library
 
 DEEP = "typedef " + "sequence<" * 10_000 + "long" + ">" * 10_000 + " A;"

@@ -8,7 +8,7 @@ import unittest
 from pathlib import Path
 
 from lsp_client import PAGE, Client, places, range_, where
-from slips import slips
+from write.slips import slips
 from weedle import Span
 from weedle.lsp import layout, renaming
 from weedle.lsp.diagnostics import actions

@@ -7,7 +7,7 @@ import unittest
 
 import support  # noqa: F401  (finds the package and the scripts)
 import weedle
-from compare_with_weedle2 import worked_texts
+from measure.compare_with_weedle2 import worked_texts
 from weedle.grammar import NUMBERS, RULES
 
 TEXT = "/* a */ Request includes Body; // b\n/// d\ninterface A {}; //"

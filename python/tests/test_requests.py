@@ -1,6 +1,6 @@
 """Each request for memory that the library makes, refused in turn: the answer, or a MemoryError, and never a crash.
 
-tools/refuse_request.c refuses them, which a C compiler builds.
+tools/run/refuse_request.c refuses them, which a C compiler builds.
 """
 
 import json
@@ -58,7 +58,7 @@ class Requests(unittest.TestCase):
     @classmethod
     def setUpClass(cls):
         with tempfile.TemporaryDirectory() as room:
-            tool, source = f"{room}/refuse_request.so", TOP / "tools/refuse_request.c"
+            tool, source = f"{room}/refuse_request.so", TOP / "tools/run/refuse_request.c"
             subprocess.run([COMPILER, "-O2", "-shared", "-fPIC", "-o", tool, source, "-ldl"], check=True)
             named = _library.place().name
             cls.done = subprocess.run(

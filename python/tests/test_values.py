@@ -9,9 +9,9 @@ import unittest
 
 import support  # noqa: F401  (finds the package and the scripts)
 import weedle
-from compare_with_weedle2 import worked_texts
 from description.names import upper
 from description.webidl import BY_NAME
+from measure.compare_with_weedle2 import worked_texts
 from test_program import INCLUDES
 from weedle import Definition, common, interface, term, types
 from weedle._values import Terminal, Value

@@ -9,7 +9,7 @@ import unittest
 from support import TOP
 import weedle
 from test_values import WINDOW, all_values, read_texts
-from toml_files import loads
+from shared.toml_files import loads
 from weedle import Definition, Name, Role, Value, common, interface, term, types
 
 COMMENTED = """\

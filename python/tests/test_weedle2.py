@@ -7,8 +7,8 @@ skipped. WEEDLE_FILES names a folder of *.webidl, *.idl and *.widl files, as tho
 librust-web-sys-dev; without it the files are skipped. WEEDLE_TEXTS says how many random texts are read
 (2,000 where it isn't set).
 
-Expected is what weedle2 answers: its `Debug` texts, read by tools/tree_json.py. Where the port differs on
-purpose, by three rules, it is what the grammar's rows give by tools/table_reader.py, and by the older rules
+Expected is what weedle2 answers: its `Debug` texts, read by tools/shared/tree_json.py. Where the port differs on
+purpose, by three rules, it is what the grammar's rows give by tools/rows/table_reader.py, and by the older rules
 those have to give weedle2's answer.
 """
 
@@ -21,11 +21,11 @@ from pathlib import Path
 
 import support  # noqa: F401  (finds the package and the scripts)
 import weedle
-from compare_with_weedle2 import (
+from measure.compare_with_weedle2 import (
     DEPTH, SUFFIXES, Weedle2, answer_by_rows, explanation, worked_texts,
 )
-from random_texts import Maker
-from tree_json import plain
+from rows.random_texts import Maker
+from shared.tree_json import plain
 
 PROGRAM, FOLDER = os.environ.get("WEEDLE2"), os.environ.get("WEEDLE_FILES")
 TEXTS, SEED, TOGETHER = int(os.environ.get("WEEDLE_TEXTS", 2_000)), 7, 200

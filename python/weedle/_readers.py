@@ -1,6 +1,6 @@
 """Which class each rule makes.
 
-Written by tools/python_types.py, and not edited by hand.
+Written by tools/write/python_types.py, and not edited by hand.
 """
 
 from weedle import (

@@ -1,6 +1,6 @@
 """The rules of the grammar. What each reads stands in docs/GRAMMAR.md.
 
-Written by tools/python_types.py, and not edited by hand.
+Written by tools/write/python_types.py, and not edited by hand.
 """
 
 #: The version of the library that has these rules: a byte each for its three numbers.

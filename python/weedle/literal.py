@@ -1,6 +1,6 @@
 """Literals.
 
-Written by tools/python_types.py, and not edited by hand.
+Written by tools/write/python_types.py, and not edited by hand.
 """
 
 from __future__ import annotations

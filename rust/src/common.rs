@@ -1,6 +1,6 @@
 //! Parts that stand anywhere in the grammar: brackets, lists, names and docstrings.
 //!
-//! Written by tools/rust_types.py, and not edited by hand.
+//! Written by tools/write/rust_types.py, and not edited by hand.
 
 use crate::literal::DefaultValue;
 use crate::term;

@@ -1,6 +1,6 @@
 //! Members of dictionaries.
 //!
-//! Written by tools/rust_types.py, and not edited by hand.
+//! Written by tools/write/rust_types.py, and not edited by hand.
 
 use crate::attribute::ExtendedAttributeList;
 use crate::common::{Default, Docstring, Identifier};

@@ -1,6 +1,6 @@
 //! Members of interfaces.
 //!
-//! Written by tools/rust_types.py, and not edited by hand.
+//! Written by tools/write/rust_types.py, and not edited by hand.
 
 use crate::argument::ArgumentList;
 use crate::attribute::ExtendedAttributeList;

@@ -1,6 +1,6 @@
 //! The rules of the grammar, and which of them read what is made of others.
 //!
-//! Written by tools/rust_types.py, and not edited by hand.
+//! Written by tools/write/rust_types.py, and not edited by hand.
 
 /// No rule of the grammar.
 pub const NONE: u16 = u16::MAX;

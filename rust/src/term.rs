@@ -1,6 +1,6 @@
 //! Terminals: the words and signs of the grammar.
 //!
-//! Written by tools/rust_types.py, and not edited by hand.
+//! Written by tools/write/rust_types.py, and not edited by hand.
 
 /// The keyword `ByteString`, with the trivia around it.
 #[derive(Clone, Copy, Debug, Default, PartialEq, Eq, PartialOrd, Ord, Hash)]

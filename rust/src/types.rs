@@ -1,6 +1,6 @@
 //! Types.
 //!
-//! Written by tools/rust_types.py, and not edited by hand.
+//! Written by tools/write/rust_types.py, and not edited by hand.
 
 use crate::attribute::ExtendedAttributeList;
 use crate::common::{Generics, Identifier, Parenthesized, Punctuated};

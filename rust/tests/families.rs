@@ -1,5 +1,5 @@
 //! Texts that are made to be slow, deep or long, each with what the rows of the grammar say of it: those of
-//! `tests/families.txt` of the repository, whose form `tools/families.py` tells.
+//! `tests/families.txt` of the repository, whose form `tools/run/families.py` tells.
 
 use nom::error::ErrorKind;
 use std::path::Path;

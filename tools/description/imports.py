@@ -1,7 +1,7 @@
 """The lines `use` of a file that is written: what it names is looked up where it is stated.
 
 Stated are the public names of the files of specs/ and proofs/ that are written by hand, or by
-tools/grammar.py, and the declared types.
+tools/write/grammar.py, and the declared types.
 """
 
 import re
@@ -9,7 +9,7 @@ from pathlib import Path
 
 from description.declarations import crate_of, declared_by
 from description.names import logic
-from written_places import files_in, module_in
+from shared.written_places import files_in, module_in
 
 STATED = re.compile(r"^ *(?:abbrev |unfoldable )?pub (?:ruleset |record )?([\w-]+)", re.M)
 # What a file that is written states itself.

@@ -11,7 +11,7 @@ from description.webidl import BY_CONTENT, BY_NAME
 
 # The crates whose types are read, lowest first; of the lowest the module of the terminals. All scripts
 # have them from here, so a new one has its line here and in crates.txt. Scripts that say where they write
-# what is of a crate, as FILES of builds.py and MODULES of orders.py, name a crate that they lack.
+# what is of a crate, as FILES of write/builds.py and MODULES of write/orders.py, name a crate that they lack.
 CRATES = """
     weedle_base::term
     weedle_parts

@@ -26,13 +26,12 @@ import sys
 from importlib import import_module
 from pathlib import Path
 
-if __name__ == "__main__":
-    # The other scripts are found, and this package by its name.
+if not __package__:
     sys.path[0] = str(Path(__file__).resolve().parent.parent)
 
-from command_line import parser_of  # noqa: E402
-from compare_with_weedle2 import DEPTH  # noqa: E402
-from run.report import NoUse, Report  # noqa: E402
+from measure.compare_with_weedle2 import DEPTH
+from run.report import NoUse, Report
+from shared.command_line import parser_of
 
 WHAT = tuple(line.split()[0] for line in __doc__.split("\n\n")[3].splitlines())
 

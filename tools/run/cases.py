@@ -22,13 +22,13 @@ import tempfile
 from concurrent.futures import ThreadPoolExecutor
 from pathlib import Path
 
-from case_files import TESTS, cases_of, compact, folders, numbered
-from compare_with_weedle2 import BETWEEN, parts_between, renamed
-from row_nodes import nodes_of, printed
+from measure.compare_with_weedle2 import BETWEEN, parts_between, renamed
+from rows.nodes import nodes_of, printed
 from run.programs import Built, Tried, built_at, meant, told
 from run.report import Failure, NoUse, compared
 from run.worked_runs import RUNS, failures_of, runs
-from tree_json import NoTree, definition_of, plain, read
+from shared.case_files import TESTS, cases_of, compact, folders, numbered
+from shared.tree_json import NoTree, definition_of, plain, read
 
 PROGRAMS = CHECK, LIST = ("weedle_check", "weedle_list")
 # How many texts a process is given.
@@ -200,7 +200,7 @@ def list_texts(program, cases):
 # The real files, of which sums are kept alone.
 def real_texts(program, cases, folder):
     """The failures of real files by weedle_check; the files that aren't the ones that are known fail too."""
-    from make_cases import files_of, sum_of, without_text
+    from write.make_cases import files_of, sum_of, without_text
     files = {str(file.relative_to(folder).with_suffix("")).replace("/", "."): file for file in files_of(folder)}
     failures = []
     for case in cases:
@@ -232,7 +232,7 @@ def answer_of_real(program, file, wanted):
 
 def title_of(tree):
     """The kind and the name of a definition."""
-    from compare_with_weedle2 import TITLES
+    from measure.compare_with_weedle2 import TITLES
     ((kind, fields),) = tree["value"].items()
     name = fields.get("identifier") or fields["lhs_identifier"]
     return f"{TITLES[kind]} {name['Identifier']}"

@@ -10,8 +10,8 @@ reader up to three times as long. Each family counts as passed; docs/USING.md ha
 import resource
 import subprocess
 
-from command_line import runnable
 from run.report import NoUse
+from shared.command_line import runnable
 
 STACK, MOST = 8 << 20, 1 << 20
 NESTED = {

@@ -4,9 +4,9 @@
     python3 tools/run errors [PROGRAM] --files FILE.. [--errors N ..]
 
 Of N texts (100 where it is left out) of 3 kB and more, with 1, 3 and 10 errors each
-(tools/sown_errors.py), it looks at this. With --files the texts are those of files, which aren't the repository's.
+(tools/run/sown_errors.py), it looks at this. With --files the texts are those of files, which aren't the repository's.
 
-- By the rows of the grammar (tools/row_ends.py): the parts join to the text; the rule of each part is read there from its start to
+- By the rows of the grammar (tools/rows/ends.py): the parts join to the text; the rule of each part is read there from its start to
   its end, or fails at its start; there are as many nodes as the rows give.
 - By what was sown: every definition and member in which no error stands is read; each error is told at its line, by an unread part
   of its own whose reading comes furthest there, by the rows; a part that no error has is a false one, where unread parts that
@@ -19,9 +19,9 @@ a text 97 of 100 have to be told, 3 of 100 may be false at most, and all definit
 import random
 from pathlib import Path
 
-import sown_errors
-from row_ends import FAILS, NOW
-from row_nodes import parts_of
+from rows.ends import FAILS, NOW
+from rows.nodes import parts_of
+from run import sown_errors
 from run.programs import add_program, meant
 from run.report import Wrong
 

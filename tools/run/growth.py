@@ -26,12 +26,12 @@ from concurrent.futures import ThreadPoolExecutor
 from pathlib import Path
 from typing import Callable, Iterator, NamedTuple
 
-import sown_errors
-from case_files import TOP
-from families import Family, families
+from run import sown_errors
+from run.families import Family, families
 from run.memory import built_library
 from run.programs import add_program
 from run.report import Report, Wrong
+from shared.crates import TOP
 
 # How many times as much the longer of two texts may cost.
 MOST = 5

@@ -2,8 +2,8 @@
 
 import tomllib
 
-from case_files import TESTS
 from run.worked_runs import Run, runs
+from shared.case_files import TESTS
 
 OVER_FILES, WORKED = TESTS / "format.toml", TESTS / "layouts.toml"
 TOO_LONG = "<stdin>: left as it is, since its layout would say something else or be too long\n"

@@ -18,7 +18,7 @@ import functools
 import random
 import re
 
-from compare_with_weedle2 import Weedle2
+from measure.compare_with_weedle2 import Weedle2
 from run import texts
 from run.layout_runs import all_runs
 from run.programs import add_program, meant

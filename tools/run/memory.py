@@ -13,7 +13,7 @@ there, as those of tests/runs.toml. Their key `asks` says for how much memory th
               where it is left out
 
 A text has a place for each byte, and one for its end. A C compiler has to be there, as `cc`, for
-tools/count_requests.c. Of a program that is built with checks, as `rt try` builds one, requests can't be counted so: it
+tools/run/count_requests.c. Of a program that is built with checks, as `rt try` builds one, requests can't be counted so: it
 is given shorter texts, and no request for more than a hundredth above the largest size is granted it. The number of its
 requests is what the checks tell; there each list that is cut to its length is a request more.
 
@@ -26,10 +26,11 @@ import tempfile
 from argparse import ArgumentParser, Namespace
 from pathlib import Path
 
-from case_files import TESTS, TOP
 from run.programs import built_at
 from run.report import NoUse, Report, Wrong
 from run.worked_runs import Run, has_checks, runs, text_of
+from shared.case_files import TESTS
+from shared.crates import TOP
 
 RUNS = TESTS / "memory.toml"
 # What may be there beside what grows with the text: room for the output, the arguments, a formatter's buffers.
@@ -125,7 +126,7 @@ def limited(run: Run, program: str) -> tuple[str, str | None]:
 def built_library(room: str | Path) -> str:
     """The library that counts, built in a folder."""
     library = f"{room}/count_requests.so"
-    source = str(TOP / "tools/count_requests.c")
+    source = str(TOP / "tools/run/count_requests.c")
     subprocess.run(["cc", "-O2", "-shared", "-fPIC", "-o", library, source, "-ldl"], check=True)
     return library
 

@@ -22,12 +22,12 @@ import tomllib
 from argparse import ArgumentParser, Namespace
 from pathlib import Path
 
-from case_files import TESTS
-from compare_with_weedle2 import Weedle2
-from random_texts import Maker
+from measure.compare_with_weedle2 import Weedle2
+from rows.random_texts import Maker
 from run import texts
 from run.programs import Built, meant, place_of
 from run.report import Failure, NoUse, Report
+from shared.case_files import TESTS
 
 # The worked texts, and what they are called.
 WORKED, BY_HAND = TESTS / "prints.toml", "worked texts"

@@ -5,15 +5,15 @@ import subprocess
 import sys
 from pathlib import Path
 
-from case_files import TOP
 from run.report import NoUse
+from shared.crates import TOP
 
 # What rt ci calls the second build of a program.
 BUILDS = ("", ".by-rattle")
 # How many seconds a program may run.
 SECONDS, TRIED_SECONDS = 300, 1_500
 # What compiles and runs a program that isn't built.
-TRY = (sys.executable, str(TOP / "tools/try_alone.py"))
+TRY = (sys.executable, str(TOP / "tools/run/try_alone.py"))
 
 
 class Built:

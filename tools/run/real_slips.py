@@ -4,7 +4,7 @@
 
 FOLDER has the real files; docs/COMPARED.md says where one gets them. Of each kind N slips are made (60 if not said
 otherwise), each in another file, at a place that a generator with a fixed seed chooses, in files that are read whole and
-only where the file is refused then. What is said of them is by the rows of the grammar (row_hints.py, row_words.py);
+only where the file is refused then. What is said of them is by the rows of the grammar (rows/hints.py, rows/words.py);
 with PROGRAM, a built weedle_check, that must say the same.
 
 A hint that tells a change mends where the file with that change is read whole. A slip is pointed at where the furthest
@@ -14,13 +14,13 @@ be pointed at. The first N of those that don't mend or aren't pointed at are sho
 
 import random
 
-from compare_with_weedle2 import files_of
-from make_cases import wanted_of
-from row_ends import NOW
-from row_hints import KEYWORDS, kind_at
+from measure.compare_with_weedle2 import files_of
+from rows.ends import NOW
+from rows.hints import KEYWORDS, kind_at
 from run.programs import meant
 from run.slips import Counts, said_otherwise
-from slips import MARK, Told, changed
+from write.make_cases import wanted_of
+from write.slips import MARK, Told, changed
 
 SEED, EACH = 7, 60
 LETTERS = "abcdefghijklmnopqrstuvwxyz"

@@ -5,8 +5,8 @@ from __future__ import annotations
 from collections.abc import Iterable
 from typing import NamedTuple
 
-from case_files import compact
-from compare_with_weedle2 import NoUse
+from measure.compare_with_weedle2 import NoUse
+from shared.case_files import compact
 
 __all__ = ["Failure", "NoUse", "Report", "Wrong", "compared", "short"]
 

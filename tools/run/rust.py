@@ -15,11 +15,11 @@ are wanted, and of one that is refused the byte at which the unread rest begins.
 
 import tempfile
 
-from case_files import cases_of, compact, folders
-from compare_with_weedle2 import TOGETHER, Weedle2, in_files
-from make_cases import sum_of, texts_of_real
+from measure.compare_with_weedle2 import TOGETHER, Weedle2, in_files
 from run.report import NoUse, compared
-from tree_json import NoTree, plain
+from shared.case_files import cases_of, compact, folders
+from shared.tree_json import NoTree, plain
+from write.make_cases import sum_of, texts_of_real
 
 REAL = "real"
 

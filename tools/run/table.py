@@ -8,7 +8,7 @@ With --try it is the crate of weedle_table, which `rt try` builds and runs for e
 so let N be small.
 
 The worked texts stand in tests/table.toml, with what is wanted of each by hand. Then, of N texts of each folder of tests/
-(100 where N is left out, 0 for none), the rows of the grammar say what is wanted (tools/row_nodes.py):
+(100 where N is left out, 0 for none), the rows of the grammar say what is wanted (tools/rows/nodes.py):
 which parts of the text are definitions, members and values, which are names, and which rules fail at the furthest place. A text
 that isn't read whole has no places and no names.
 """
@@ -16,11 +16,11 @@ that isn't read whole has no places and no names.
 import re
 import tomllib
 
-from case_files import TESTS, cases_of, folders
-from row_ends import NOW
-from row_nodes import ONE_TEXT, nodes_of
+from rows.ends import NOW
+from rows.nodes import ONE_TEXT, nodes_of
 from run.programs import add_program, meant
 from run.report import Wrong
+from shared.case_files import TESTS, cases_of, folders
 
 WORKED = TESTS / "table.toml"
 # With what the lines begin that are counted, and what they are called.

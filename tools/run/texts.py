@@ -5,10 +5,10 @@ from argparse import ArgumentParser, Namespace
 from collections.abc import Callable, Iterable, Iterator
 from pathlib import Path
 
-from case_files import Case, cases_of, folders
-from command_line import runnable
-from compare_with_weedle2 import Weedle2, files_of
+from measure.compare_with_weedle2 import Weedle2, files_of
 from run.report import Report, Wrong
+from shared.case_files import Case, cases_of, folders
+from shared.command_line import runnable
 
 # How many texts a process is given, and of which folder weedle2 isn't asked, since it takes too long.
 TOGETHER, DEEP = 250, "deep"

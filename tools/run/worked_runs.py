@@ -35,9 +35,9 @@ import subprocess
 import tempfile
 from pathlib import Path
 
-from case_files import TESTS
 from run.report import compared
-from toml_files import loads
+from shared.case_files import TESTS
+from shared.toml_files import loads
 
 RUNS = "runs"
 SECONDS = 120

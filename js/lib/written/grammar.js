@@ -1,7 +1,7 @@
 /*
  * The rules of the grammar. What each reads stands in docs/GRAMMAR.md.
  *
- * Written by tools/javascript_types.py, and not edited by hand.
+ * Written by tools/write/javascript_types.py, and not edited by hand.
  */
 
 "use strict";

@@ -1,7 +1,7 @@
 /*
  * Which class each rule makes.
  *
- * Written by tools/javascript_types.py, and not edited by hand.
+ * Written by tools/write/javascript_types.py, and not edited by hand.
  */
 
 "use strict";

@@ -1,7 +1,7 @@
 /*
  * What names stand for.
  *
- * Written by tools/javascript_types.py, and not edited by hand.
+ * Written by tools/write/javascript_types.py, and not edited by hand.
  */
 
 /** What a name stands for in a text. */

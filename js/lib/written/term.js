@@ -1,7 +1,7 @@
 /*
  * Terminals: the words and signs of the grammar.
  *
- * Written by tools/javascript_types.py, and not edited by hand.
+ * Written by tools/write/javascript_types.py, and not edited by hand.
  */
 
 "use strict";

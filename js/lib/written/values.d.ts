@@ -1,7 +1,7 @@
 /*
  * The typed tree: literals, types, arguments, extended attributes, members and definitions.
  *
- * Written by tools/javascript_types.py, and not edited by hand.
+ * Written by tools/write/javascript_types.py, and not edited by hand.
  */
 
 import { Choice, DecimalNumber, Kind, Listed, Value, WholeNumber } from "../value.js";

@@ -1,0 +1,43 @@
+"""What today's rules read whole and refuse, of texts by hand, by the rows alone."""
+
+import tomllib
+import unittest
+
+from description import today, webidl
+from rows.ends import Ends
+from shared.crates import TOP
+
+TEXTS = tomllib.loads((TOP / "tests/today.toml").read_text(encoding="utf-8"))
+ROWS = Ends({rule.name: rule.row for rule in today.RULES})
+
+
+def is_whole(text, rule):
+    """Whether the rule reads the whole text."""
+    return ROWS.is_whole(text.encode(), rule)
+
+
+class TodayTest(unittest.TestCase):
+    def test_what_is_read(self):
+        for it in TEXTS["read"]:
+            with self.subTest(it["name"]):
+                self.assertTrue(is_whole(it["text"], "TODAY_DEFINITIONS"))
+                self.assertEqual(is_whole(it["text"], "DEFINITIONS"), it.get("weedle2", True))
+
+    def test_what_is_refused(self):
+        for it in TEXTS["refused"]:
+            with self.subTest(it["name"]):
+                self.assertFalse(is_whole(it["text"], "TODAY_DEFINITIONS"))
+                self.assertFalse(is_whole(it["text"], "DEFINITIONS"))
+
+    def test_names_are_told_apart(self):
+        for kind in ("read", "refused"):
+            names = [it["name"] for it in TEXTS[kind]]
+            self.assertEqual(len(names), len(set(names)))
+
+    def test_no_rule_of_weedle2_reads_one_of_today(self):
+        for rule in webidl.RULES:
+            for part in webidl.parts_of(rule.row):
+                self.assertIn(part, webidl.NUMBER)
+
+    def test_weedle2_comes_first(self):
+        self.assertEqual([it.name for it in today.RULES[:len(webidl.RULES)]], [it.name for it in webidl.RULES])

@@ -1,0 +1,1 @@
+"""The order in which the gate proves, and how long it takes."""

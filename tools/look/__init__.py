@@ -1,0 +1,1 @@
+"""What looks whether all is as it says."""

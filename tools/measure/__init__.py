@@ -1,0 +1,1 @@
+"""What measures, and what compares with weedle2."""

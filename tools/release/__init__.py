@@ -1,0 +1,1 @@
+"""What makes a release, and what its parts are held to."""

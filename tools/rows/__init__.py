@@ -1,0 +1,1 @@
+"""What the grammar's rows say of a text."""

@@ -1,0 +1,1 @@
+"""What writes files: of crates, of the packages, of docs/, man/ and tests/."""
