@@ -12,7 +12,7 @@ task for each proof, for each crate's tests, for each wrong body and the check t
 begin with (`seed`), for the static library and for each program of a release (`library`). Times are
 those of one job; by two, three or four jobs a proof takes SPEED of them, and where more jobs run
 than there are processors, they share them. With --memory so many GB are free when it begins, of
-which that uses 85 hundredths. With --slower the machine takes F times as long. It prints, for
+which the gate uses 85 hundredths. With --slower the machine takes F times as long. It prints, for
 each N (4 and 2 where none is given), the minutes by the clock and of processor time.
 
 With --costs it prints a row for each CRATE: how many crates stand above it, the minutes of

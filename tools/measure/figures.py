@@ -1,7 +1,8 @@
 #!/usr/bin/env python3
 """Measures readers, bindings and refusals: the figures of docs/COMPARED.md.
 
-    python3 tools/measure/figures.py readers|bindings|refusals|text|machine [--size BYTES] [--rounds N] [--seed N] [--folder FOLDER]..
+    python3 tools/measure/figures.py readers|bindings|refusals|text|machine
+        [--size BYTES] [--rounds N] [--seed N] [--folder FOLDER]..
 
 Texts are one of mixed definitions (mixed_text.py), and of each FOLDER its files that weedle2 reads whole, joined. weedle2's
 lines require the program of compare/ (its README.md says how), and are left out where it isn't built.

@@ -10,9 +10,9 @@
 # tools/release/try.sh installs and runs all of it, in empty folders.
 #
 # Nothing is downloaded: Cargo has nom from Debian's librust-nom-dev, or from the folder that NOM_REGISTRY names. A release has
-# all of these, and tools/release/next_version.py has to agree with the version's number. With --draft it only says what the number has
-# to become, and what the machine lacks a tool for is left out, and a line says so. The status is 0 where all that was made
-# passes.
+# all of these, and tools/release/next_version.py has to agree with the version's number. With --draft it only says what the
+# number has to become, and what the machine lacks a tool for is left out, and a line says so. The status is 0 where all that
+# was made passes.
 set -eu
 [ "${1:-}" != --help ] || { sed -n '2,${/^#/!q;s/^# \{0,1\}//p}' "$0"; exit; }
 

@@ -5,7 +5,7 @@
 
 The last version is that of COMMIT, and where none is given of the newest commit that CHANGELOG.md names, as `Commit
 0123456789ab`. Compared are the header for C, the public names of the Python package, the public items of the Rust package and
-the declarations of the JavaScript package, all as the sources have them (tools/release/surfaces). What each difference asks of callers:
+the declarations of the JavaScript package, all as the sources have them (surfaces/). What each difference asks of callers:
 
 - new: there is more to name;
 - ABI: a program in C has to be compiled anew, since a struct has grown, or a rule or a status has another number or is new;

@@ -3,14 +3,14 @@
     python3 tools/run errors [PROGRAM] [--texts N] [--errors N ..] [--seed N] [--verbose]
     python3 tools/run errors [PROGRAM] --files FILE.. [--errors N ..]
 
-Of N texts (100 where it is left out) of 3 kB and more, with 1, 3 and 10 errors each
-(tools/run/sown_errors.py), it looks at this. With --files the texts are those of files, which aren't the repository's.
+Of N texts (100 where it is left out) of 3 kB and more, with 1, 3 and 10 errors each (sown_errors.py), it looks at this. With
+--files the texts are those of files, which aren't the repository's.
 
-- By the rows of the grammar (tools/rows/ends.py): the parts join to the text; the rule of each part is read there from its start to
-  its end, or fails at its start; there are as many nodes as the rows give.
-- By what was sown: every definition and member in which no error stands is read; each error is told at its line, by an unread part
-  of its own whose reading comes furthest there, by the rows; a part that no error has is a false one, where unread parts that
-  stand side by side count as one.
+- By the rows of the grammar (tools/rows/ends.py): the parts join to the text; the rule of each part is read there from its
+  start to its end, or fails at its start; there are as many nodes as the rows give.
+- By what was sown: every definition and member in which no error stands is read; each error is told at its line, by an unread
+  part of its own whose reading comes furthest there, by the rows; a part that no error has is a false one, where unread parts
+  that stand side by side count as one.
 
 The line of each number of errors says how many of 100 are told, false, and kept. A text passes where the rows agree. With 3 errors
 a text 97 of 100 have to be told, 3 of 100 may be false at most, and all definitions and 99 of 100 members have to be kept.

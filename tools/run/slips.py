@@ -4,9 +4,9 @@
     python3 tools/run slips --try crates/weedle_check
 
 The texts stand in tests/slips.txt, each with one slip, and where that is, by hand. A built weedle_check reads all at once,
-and of each must say what the rows of the grammar say (tools/write/slips.py); with --try it is its crate, which `rt try` builds and
-runs. A line is printed for each change that is told and doesn't mend, so that the text isn't read whole with it, and for each
-slip from whose line neither the furthest place nor the hint is a line away at most. Of 100 changes 95 have to mend, and of
+and of each must say what the rows of the grammar say (tools/write/slips.py); with --try it is its crate, which `rt try` builds
+and runs. A line is printed for each change that is told and doesn't mend, so that the text isn't read whole with it, and for
+each slip from whose line neither the furthest place nor the hint is a line away at most. Of 100 changes 95 have to mend, and of
 100 slips 97 have to be pointed at.
 """
 

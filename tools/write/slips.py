@@ -4,7 +4,8 @@
     python3 tools/write/slips.py [--check]
 
 Each text has one slip, and where that is stands there by hand. What is said is by the rows of the grammar (rows/words.py,
-rows/hints.py); `tools/run slips` asks a built weedle_check for the same. What is measured in real files stands on the page by hand.
+rows/hints.py); `tools/run slips` asks a built weedle_check for the same. What is measured in real files stands on the page by
+hand.
 
 With --check nothing is written: a line says that the page is stale, and the status is 1.
 """
