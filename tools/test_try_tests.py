@@ -8,7 +8,7 @@ from pathlib import Path
 from shared.test_support import Room
 
 TOOLS = Path(__file__).resolve().parent
-PARTS = ("try_tests.sh", "run/try_alone.py", "shared/toolchain.py", "shared/command_line.py")
+PARTS = ("try_tests.sh", "run/try_alone.py", "shared/toolchain.py", "shared/command_line.py", "shared/crates.py")
 CRATES = """# NAME: what it stands on
 low: memchr
 late: low

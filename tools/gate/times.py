@@ -32,7 +32,7 @@ if not __package__:
     sys.path[0] = str(Path(__file__).resolve().parent.parent)
 
 from gate.ci import FIRST, LIBRARY, OF_A_JOB, PROGRAMS
-from shared.command_line import parser_of
+from shared.command_line import ended, parser_of
 from shared.crates import TOP
 
 
@@ -238,8 +238,4 @@ def main():
 
 
 if __name__ == "__main__":
-    try:
-        sys.exit(main())
-    except (OSError, ValueError) as why:
-        print(f"times: {why}", file=sys.stderr)
-        sys.exit(2)
+    sys.exit(ended(main, faults=[ValueError]))

@@ -22,8 +22,8 @@ from pathlib import Path
 if not __package__:
     sys.path[0] = str(Path(__file__).resolve().parent.parent)
 
-from shared.command_line import take_none, told
-from shared.crates import TOP, Unfit
+from shared.command_line import ended, take_none, told
+from shared.crates import TOP
 from write.write_all import sources, write_anew, writer_in, writers
 
 # What is looked at where it stands.
@@ -80,13 +80,9 @@ def found():
 
 
 def main():
-    try:
-        return told(found())
-    except (Unfit, OSError) as why:
-        print(f"check: {why}", file=sys.stderr)
-        return 2
+    return told(found())
 
 
 if __name__ == "__main__":
     take_none(__doc__)
-    sys.exit(main())
+    sys.exit(ended(main))

@@ -18,8 +18,8 @@ from pathlib import Path
 if not __package__:
     sys.path[0] = str(Path(__file__).resolve().parent.parent)
 
-from shared.command_line import parser_of
-from shared.crates import PARTS, TOP, Unfit, files_of, read_lines
+from shared.command_line import ended, parser_of
+from shared.crates import PARTS, TOP, files_of, read_lines
 from write.write_all import writer_in
 
 MAKERS = ("by hand", "written")
@@ -65,13 +65,8 @@ def report(root):
 def main():
     parser = parser_of(__doc__)
     parser.add_argument("folder", nargs="?", default=TOP, help="a checkout; without it this one")
-    try:
-        print(*report(parser.parse_args().folder), sep="\n")
-    except Unfit as why:
-        print(f"lines: {why}", file=sys.stderr)
-        return 2
-    return 0
+    print(*report(parser.parse_args().folder), sep="\n")
 
 
 if __name__ == "__main__":
-    sys.exit(main())
+    sys.exit(ended(main))

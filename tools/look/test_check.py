@@ -5,6 +5,7 @@ import unittest
 from unittest import mock
 
 from look import check
+from shared.command_line import ended
 from shared.crates import Unfit
 from shared.test_support import printed
 
@@ -35,7 +36,7 @@ class Stale(unittest.TestCase):
         self.assertEqual(rows, ["a: stale, a script or `rt fmt` has it otherwise"])
 
 
-def ended(status, said="", fault=""):
+def came(status, said="", fault=""):
     return subprocess.CompletedProcess([], status, said, fault)
 
 
@@ -49,19 +50,19 @@ class Found(unittest.TestCase):
             "look": lambda number: ends[number],
         }
         with mock.patch.multiple(check, **given):
-            return printed(check.main)
+            return printed(ended, check.main)
 
     def test_nothing(self):
-        self.assertEqual(self.run_main({"a": HEAD}, ended(0, "much"), ended(0)), (0, "", ""))
+        self.assertEqual(self.run_main({"a": HEAD}, came(0, "much"), came(0)), (0, "", ""))
 
     def test_stale_files_come_first_and_then_each_look_in_its_order(self):
-        found = self.run_main({}, *(ended(1, f"{it}\n") for it in range(5)))
+        found = self.run_main({}, *(came(1, f"{it}\n") for it in range(5)))
         rows = ["a: no script writes it, though it names tools/write/terminals.py", *"01234"]
         self.assertEqual(found, (1, "\n".join(rows) + "\n", ""))
 
     def test_a_look_that_fails_counts_as_found(self):
-        self.assertEqual(self.run_main({"a": HEAD}, ended(1, "", "why\n")), (1, "\n", "why\n"))
+        self.assertEqual(self.run_main({"a": HEAD}, came(1, "", "why\n")), (1, "\n", "why\n"))
 
     def test_where_nothing_can_be_written_no_look_is_told(self):
-        found = self.run_main(Unfit("why"), ended(1, "x", "y"))
+        found = self.run_main(Unfit("why"), came(1, "x", "y"))
         self.assertEqual(found, (2, "", "check: why\n"))

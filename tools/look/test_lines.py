@@ -3,6 +3,7 @@
 from unittest import mock
 
 from look import lines
+from shared.command_line import ended
 from shared.test_support import Room, printed
 
 TEXTS = {
@@ -33,7 +34,7 @@ class LinesTest(Room):
     def run_main(self):
         """The status, and what is printed of answers and of errors."""
         with mock.patch("sys.argv", ["lines.py", str(self.root)]):
-            return printed(lines.main)
+            return printed(ended, lines.main)
 
     def test_lines_are_counted_by_crate_and_kind(self):
         self.put(TEXTS)

@@ -9,6 +9,7 @@ from pathlib import Path
 from unittest import mock
 
 from look import try_edits, wrong_programs
+from shared.command_line import ended
 from shared.test_support import Room, printed
 
 ONE = "# A note.\nfile: src/lib.rt\nold: a < b\nnew: a <= b\n"
@@ -40,7 +41,7 @@ class TryEditsTest(Room):
 
     def run_main(self, *words):
         """The status, and the lines that are printed."""
-        status, out, err = printed(try_edits.main, [*words], self.root)
+        status, out, err = printed(ended, try_edits.main, [*words], self.root)
         return status, (err + out).splitlines()
 
 

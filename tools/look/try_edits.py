@@ -50,7 +50,7 @@ if not __package__:
     sys.path[0] = str(Path(__file__).resolve().parent.parent)
 
 from gate.edits import functions_of, is_refused, words_of
-from shared.command_line import parser_of
+from shared.command_line import ended, parser_of
 from shared.crates import PARTS, TOP, Unfit, closure, read_lines
 
 BY_HAND, PROGRAMS = Path("must-fail", "by-hand"), Path("tests", "wrong_programs")
@@ -295,22 +295,18 @@ def main(words=None, root=TOP):
     parser.add_argument("--programs", action="store_true", help="those that no contract refuses")
     parser.add_argument("names", metavar="NAME", nargs="*", help="a crate, or of programs an edit; else all")
     given = parser.parse_args(words)
-    try:
-        edits = find_edits(root, given.names, given.programs)
-        if given.check:
-            unfit = told(misfits(root, edits).items())[UNFIT]
-            print(f"{len(edits) - unfit} apply, {unfit} don't")
-            return 1 if unfit else 0
-        if not shutil.which("rt"):
-            raise Unfit("the toolchain's command rt isn't on PATH")
-        counts = told(outcomes(root, edits))
-    except Unfit as error:
-        print(f"try_edits: {error}", file=sys.stderr)
-        return 2
+    edits = find_edits(root, given.names, given.programs)
+    if given.check:
+        unfit = told(misfits(root, edits).items())[UNFIT]
+        print(f"{len(edits) - unfit} apply, {unfit} don't")
+        return 1 if unfit else 0
+    if not shutil.which("rt"):
+        raise Unfit("the toolchain's command rt isn't on PATH")
+    counts = told(outcomes(root, edits))
     kind, untried = FOUND if given.programs else REFUSED, counts[UNFIT] + counts[UNTRIED]
     print(f"{counts[kind]} {kind}, {counts[LET_THROUGH]} let through" + f", {untried} not tried" * bool(untried))
     return 0 if counts[kind] == len(edits) else 1
 
 
 if __name__ == "__main__":
-    sys.exit(main())
+    sys.exit(ended(main))

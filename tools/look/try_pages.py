@@ -44,7 +44,7 @@ if not __package__:
     sys.path[0] = str(Path(__file__).resolve().parent.parent)
 
 from look.doc_examples import USE, Piece, build_examples, code_of, examples_of
-from shared.command_line import parser_of
+from shared.command_line import ended, parser_of
 from shared.crates import LIST, TOP, Line, Unfit, line_of, read_lines
 from vendor import vendor
 
@@ -312,22 +312,18 @@ def main():
     given = parser.parse_args()
     if not given.examples and not set(given.names) <= set(MOST_LINES):
         parser.error(f"the pages are {', '.join(MOST_LINES)}")
-    try:
-        if given.examples:
-            examples = examples_of(TOP, given.names)
-            if given.no_run:
-                print("\n".join(code_of(*it) for it in examples.values()), end="")
-                return 0
-            status = try_examples(TOP, examples)
-            wrong, said = [f"{len(examples)} examples, not all hold"] * bool(status), [f"{len(examples)} examples, all hold"]
-        else:
-            wrong, said = try_pages(TOP, given.names or list(MOST_LINES), not given.no_run, given.files)
-    except (Unfit, OSError) as why:
-        print(f"try_pages: {why}", file=sys.stderr)
-        return 2
+    if given.examples:
+        examples = examples_of(TOP, given.names)
+        if given.no_run:
+            print("\n".join(code_of(*it) for it in examples.values()), end="")
+            return 0
+        status = try_examples(TOP, examples)
+        wrong, said = [f"{len(examples)} examples, not all hold"] * bool(status), [f"{len(examples)} examples, all hold"]
+    else:
+        wrong, said = try_pages(TOP, given.names or list(MOST_LINES), not given.no_run, given.files)
     print("\n".join(wrong or said))
     return 1 if wrong else 0
 
 
 if __name__ == "__main__":
-    sys.exit(main())
+    sys.exit(ended(main))

@@ -25,8 +25,8 @@ if not __package__:
 
 from description.readings import Declared
 from rows.random_texts import Maker
-from shared.command_line import parser_of
-from shared.crates import TOP
+from shared.command_line import ended, parser_of
+from shared.crates import TOP, Unfit
 from write.python_types import Package
 from write.rust_types import FRONT
 
@@ -66,10 +66,6 @@ Vec<Option<@term::Comma>>
 """.strip().split("\n")
 
 
-class NoUse(Exception):
-    """Why the program can't be built, in one line."""
-
-
 def types():
     """Each type, with `@` for the crate."""
     for module, declarations in Package(Declared.of(TOP)).modules.items():
@@ -103,7 +99,7 @@ def copy_of(folder, name, into, changes=()):
 def put(text, old, new, file):
     """A text with one piece in the place of another."""
     if text.count(old) != 1:
-        raise NoUse(f"{file} of weedle2 has {old} {text.count(old)} times")
+        raise Unfit(f"{file} of weedle2 has {old} {text.count(old)} times")
     return text.replace(old, new)
 
 
@@ -142,7 +138,7 @@ def build(room, config):
         [*words, "--target-dir", str(room / "target")], cwd=room, capture_output=True, text=True, check=False,
     )
     if ran.returncode:
-        raise NoUse(ran.stderr.strip())
+        raise Unfit(ran.stderr.strip())
     return room / "target/release/compare_types"
 
 
@@ -155,12 +151,8 @@ def main():
     arguments = parser.parse_args()
     with tempfile.TemporaryDirectory() as folder:
         room = Path(folder)
-        try:
-            lay(room, arguments.weedle2)
-            program = build(room, arguments.config)
-        except (NoUse, OSError) as why:
-            print(f"compare_rust_types: {why}", file=sys.stderr)
-            return 2
+        lay(room, arguments.weedle2)
+        program = build(room, arguments.config)
         files = []
         for number, text in enumerate(texts_of(arguments.seed, arguments.texts)):
             files.append(room / f"{number}.webidl")
@@ -169,4 +161,4 @@ def main():
 
 
 if __name__ == "__main__":
-    sys.exit(main())
+    sys.exit(ended(main))

@@ -41,8 +41,8 @@ from rows.ends import CHANGED
 from rows.random_texts import Maker
 from rows.table_reader import Table
 from shared.case_files import cases_of
-from shared.command_line import parser_of
-from shared.crates import TOP, read_lines
+from shared.command_line import ended, parser_of
+from shared.crates import TOP, Unfit, read_lines
 from shared.toml_files import loads
 from shared.tree_json import Held, Struct, definition_of, read, unescaped
 
@@ -67,10 +67,6 @@ RENAMED = {
     "Type_": "Type", "RecordTypes": None, "ParenthesizedArgumentList": "Parenthesized",
 }
 RENAMED_FIELDS = {"record_": "record"}
-
-
-class NoUse(Exception):
-    """Why a program doesn't serve, in one line."""
 
 
 class Answer:
@@ -109,9 +105,9 @@ def output_of(words, text=None):
     try:
         done = subprocess.run(words, input=text, capture_output=True, check=False)
     except OSError as fault:
-        raise NoUse(f"{words[0]}: {fault.strerror}") from None
+        raise Unfit(f"{words[0]}: {fault.strerror}") from None
     if done.returncode not in (0, 1):
-        raise NoUse(f"{words[0]}: status {done.returncode}: {done.stderr.decode(errors='replace').strip()}")
+        raise Unfit(f"{words[0]}: status {done.returncode}: {done.stderr.decode(errors='replace').strip()}")
     return done.stdout.decode()
 
 
@@ -123,7 +119,7 @@ class Weedle2:
         """The answers of the texts in files, in their order."""
         parts = re.split(r"^== .*\n", output_of([self.program, *files]), flags=re.M)[1:]
         if len(parts) != len(files):
-            raise NoUse(f"{self.program}: {len(parts)} answers of {len(files)} texts")
+            raise Unfit(f"{self.program}: {len(parts)} answers of {len(files)} texts")
         return [self.answer(part.splitlines()) for part in parts]
 
     def answer(self, lines):
@@ -151,7 +147,7 @@ class Port:
             words = [word for file in files for word in (file, str(between))]
             *parts, _ = parts_between(output_of([self.check, "--tree", *words]))
         if len(parts) != len(files):
-            raise NoUse(f"{self.check}: {len(parts)} trees of {len(files)} texts")
+            raise Unfit(f"{self.check}: {len(parts)} trees of {len(files)} texts")
         texts = [filter(None, map(definition_of, part.splitlines())) for part in parts]
         return [[renamed(read(it)) for it in part] for part in texts]
 
@@ -227,7 +223,7 @@ def folder_texts(files, wanted):
 def files_of(folder):
     files = sorted(file for file in Path(folder).rglob("*") if file.suffix in SUFFIXES)
     if not files:
-        raise NoUse(f"{folder} has no file of {', '.join(SUFFIXES)}")
+        raise Unfit(f"{folder} has no file of {', '.join(SUFFIXES)}")
     return files
 
 
@@ -306,8 +302,10 @@ def arguments():
     return words.parse_args()
 
 
-def main(wanted, port, weedle2):
+def main():
     sys.setrecursionlimit(DEPTH)
+    wanted = arguments()
+    port, weedle2 = Port(wanted.port, wanted.list), Weedle2(wanted.weedle2)
     total = Comparison(port, weedle2)
     compare([("the tests", sorted(set(worked_texts())))], port, weedle2, total)
     compare(made_texts(wanted), port, weedle2, total)
@@ -320,9 +318,4 @@ def main(wanted, port, weedle2):
 
 
 if __name__ == "__main__":
-    WANTED = arguments()
-    try:
-        sys.exit(main(WANTED, Port(WANTED.port, WANTED.list), Weedle2(WANTED.weedle2)))
-    except NoUse as fault:
-        print(fault, file=sys.stderr)
-        sys.exit(2)
+    sys.exit(ended(main))

@@ -33,10 +33,10 @@ from pathlib import Path
 if not __package__:
     sys.path[0] = str(Path(__file__).resolve().parent.parent)
 
-from measure.compare_with_weedle2 import LIST, PORT, WEEDLE2, NoUse, Weedle2, files_of, output_of
+from measure.compare_with_weedle2 import LIST, PORT, WEEDLE2, Weedle2, files_of, output_of
 from measure.mixed_text import Mixed
-from shared.command_line import parser_of
-from shared.crates import TOP
+from shared.command_line import ended, parser_of
+from shared.crates import TOP, Unfit
 
 MORE, PART = 10, 10
 # The function of weedle_check that times a reader, its readers, of which `parse_quick` is a look and descent, and what frees.
@@ -63,7 +63,7 @@ def instructions(words, text=""):
         command = ["valgrind", "--tool=callgrind", f"--callgrind-out-file={room}/out", *words]
         done = subprocess.run(command, input=text.encode(), capture_output=True, check=False)
         if not (found := re.search(rb"Collected : (\d+)", done.stderr)):
-            raise NoUse(f"valgrind {words[0]}: {done.stderr.decode(errors='replace').strip()}")
+            raise Unfit(f"valgrind {words[0]}: {done.stderr.decode(errors='replace').strip()}")
         return int(found[1]), Path(room, "out").read_text()
 
 
@@ -147,7 +147,7 @@ def ways():
         import weedle
         from weedle import _library
     except ImportError as fault:
-        raise NoUse(fault) from None
+        raise Unfit(fault) from None
 
     def looked_at(read, look):
         return lambda data: (found := read(data), look(found))
@@ -248,8 +248,4 @@ def main():
 
 
 if __name__ == "__main__":
-    try:
-        main()
-    except NoUse as fault:
-        print(fault, file=sys.stderr)
-        sys.exit(2)
+    sys.exit(ended(main))

@@ -24,18 +24,14 @@ from pathlib import Path
 if not __package__:
     sys.path[0] = str(Path(__file__).resolve().parent.parent)
 
-from shared.command_line import parser_of
-from shared.crates import TOP
+from shared.command_line import ended, parser_of
+from shared.crates import TOP, Unfit
 
 PACKAGE = TOP / "rust"
 NAME = "weedle"
 # What weedle2 hasn't: the nodes.
 ADDED = ("weedle::syntax",)
 JSON = ["--", "-Z", "unstable-options", "--output-format", "json"]
-
-
-class NoUse(Exception):
-    """Why a package can't be looked at, in one line."""
 
 
 # Types as they are written.
@@ -165,9 +161,9 @@ def documented(folder, config):
         try:
             ran = subprocess.run([*words, *JSON], cwd=folder, env=env, capture_output=True, text=True, check=False)
         except OSError as fault:
-            raise NoUse(f"{folder}: {fault}") from None
+            raise Unfit(f"{folder}: {fault}") from None
         if ran.returncode:
-            raise NoUse(f"{folder}: {ran.stderr.strip()}")
+            raise Unfit(f"{folder}: {ran.stderr.strip()}")
         return json.loads(Path(room, "doc", f"{NAME}.json").read_text(encoding="utf-8"))
 
 
@@ -176,13 +172,7 @@ def main():
     parser.add_argument("weedle2", type=Path, metavar="WEEDLE2", help="the folder of weedle2's package")
     parser.add_argument("--config", type=Path, metavar="FILE", help="what Cargo is given")
     arguments = parser.parse_args()
-    try:
-        theirs, ours = (
-            Surface(documented(folder, arguments.config)).items for folder in (arguments.weedle2, PACKAGE)
-        )
-    except NoUse as why:
-        print(f"rust_surface: {why}", file=sys.stderr)
-        return 2
+    theirs, ours = (Surface(documented(folder, arguments.config)).items for folder in (arguments.weedle2, PACKAGE))
     rows = list(differing(theirs, ours))
     print(*rows, sep="\n", end="\n" * bool(rows))
     same = sum(ours.get(path) == it for path, it in theirs.items())
@@ -191,4 +181,4 @@ def main():
 
 
 if __name__ == "__main__":
-    sys.exit(main())
+    sys.exit(ended(main))

@@ -4,6 +4,7 @@ import unittest
 
 from measure import compare_rust_types
 from measure.rust_surface import Surface, differing, type_text
+from shared.crates import Unfit
 from shared.test_support import Room
 
 
@@ -83,7 +84,7 @@ class Programs(Room):
     def test_a_change_applies_once_or_not_at_all(self):
         self.assertEqual(compare_rust_types.put("a b", "b", "c", "x.rs"), "a c")
         for text in ("a", "b b"):
-            with self.assertRaises(compare_rust_types.NoUse):
+            with self.assertRaises(Unfit):
                 compare_rust_types.put(text, "b", "c", "x.rs")
 
     def test_a_copy_has_another_name_and_the_changes(self):

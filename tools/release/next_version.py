@@ -34,7 +34,7 @@ if not __package__:
 
 from release.prebuilt import HEADER, version_in
 from release.surfaces import Change, c, javascript, python, rust
-from shared.command_line import parser_of
+from shared.command_line import ended, parser_of
 from shared.crates import TOP, Unfit
 
 LANGUAGES: dict[str, ModuleType] = {"C": c, "Python": python, "Rust": rust, "JavaScript": javascript}
@@ -163,12 +163,8 @@ def main() -> int:
     parser.add_argument("--all", action="store_true", help="print all differences")
     parser.add_argument("commit", metavar="COMMIT", nargs="?", help="the last version's commit")
     wanted = parser.parse_args()
-    try:
-        return run(TOP, wanted.commit, None if wanted.all else MOST)
-    except (Unfit, OSError, SyntaxError, subprocess.CalledProcessError) as why:
-        print(f"next_version: {why}", file=sys.stderr)
-        return 2
+    return run(TOP, wanted.commit, None if wanted.all else MOST)
 
 
 if __name__ == "__main__":
-    sys.exit(main())
+    sys.exit(ended(main, faults=[SyntaxError, subprocess.CalledProcessError]))

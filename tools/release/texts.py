@@ -19,7 +19,7 @@ if not __package__:
     sys.path[0] = str(Path(__file__).resolve().parent.parent)
 
 from release.prebuilt import FOLDER, HEADER, SUMS, SharedObject, read_sums, sum_of, version_in
-from shared.command_line import parser_of
+from shared.command_line import ended, parser_of
 from shared.crates import TOP, Unfit
 
 CHANGES = "CHANGES.md"
@@ -74,19 +74,14 @@ def write(folder: Path, top: Path, built: list[Path]) -> None:
     (folder / SUMS).write_text(sums_of(folder, top, built), encoding="utf-8")
 
 
-def main() -> int:
+def main() -> None:
     """Does what the arguments ask for."""
     parser = parser_of(__doc__)
     parser.add_argument("folder", metavar="FOLDER", type=Path)
     parser.add_argument("built", metavar="BUILT", type=Path, nargs="*")
     wanted = parser.parse_args()
-    try:
-        write(wanted.folder, TOP, wanted.built)
-    except (Unfit, OSError, ValueError) as why:
-        print(f"release_texts: {why}", file=sys.stderr)
-        return 1
-    return 0
+    write(wanted.folder, TOP, wanted.built)
 
 
 if __name__ == "__main__":
-    sys.exit(main())
+    sys.exit(ended(main, faults=[ValueError]))

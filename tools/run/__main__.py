@@ -30,8 +30,9 @@ if not __package__:
     sys.path[0] = str(Path(__file__).resolve().parent.parent)
 
 from measure.compare_with_weedle2 import DEPTH
-from run.report import NoUse, Report
+from run.report import Report
 from shared.command_line import parser_of
+from shared.crates import Unfit
 
 WHAT = tuple(line.split()[0] for line in __doc__.split("\n\n")[3].splitlines())
 
@@ -50,7 +51,7 @@ def main(words):
     sys.setrecursionlimit(DEPTH)
     try:
         module.run(wanted, report)
-    except (NoUse, subprocess.TimeoutExpired) as fault:
+    except (Unfit, subprocess.TimeoutExpired) as fault:
         print(f"run {what}: {fault}", file=sys.stderr)
         return 2
     return report.status()

@@ -25,9 +25,10 @@ from pathlib import Path
 from measure.compare_with_weedle2 import BETWEEN, parts_between, renamed
 from rows.nodes import nodes_of, printed
 from run.programs import Built, Tried, built_at, meant, told
-from run.report import Failure, NoUse, compared
+from run.report import Failure, compared
 from run.worked_runs import RUNS, failures_of, runs
 from shared.case_files import TESTS, cases_of, compact, folders, numbered
+from shared.crates import Unfit
 from shared.tree_json import NoTree, definition_of, plain, read
 
 PROGRAMS = CHECK, LIST = ("weedle_check", "weedle_list")
@@ -298,7 +299,7 @@ def programs_meant(path, is_tried):
         return [(meant(path, True), CHECK)]
     found = [] if is_tried else built_at(path, PROGRAMS)
     if not found or Path(path).is_dir() and {kind for _, kind in found} != set(PROGRAMS):
-        raise NoUse(f"{path} is neither of the built programs, and no folder with both below it")
+        raise Unfit(f"{path} is neither of the built programs, and no folder with both below it")
     return [(Built(program), kind) for program, kind in found]
 
 
@@ -309,11 +310,11 @@ def chosen_cases(wanted):
     names = wanted.folder or [name for name in there if name not in left_out + [RUNS] * wanted.tried]
     for name in names:
         if name not in there:
-            raise NoUse(f"tests has no {name}")
+            raise Unfit(f"tests has no {name}")
         if name in (RUNS, "real") and wanted.tried:
-            raise NoUse(f"{name} is run with a program that is built")
+            raise Unfit(f"{name} is run with a program that is built")
         if name == "real" and not wanted.real:
-            raise NoUse("real files are run with --real FOLDER alone")
+            raise Unfit("real files are run with --real FOLDER alone")
     found = {name: [] if name == RUNS else cases_of(name, wanted.tests) for name in names}
     texts = {name: cases for name, cases in found.items() if name not in (RUNS, "real")}
     if wanted.tried:

@@ -10,8 +10,8 @@ reader up to three times as long. Each family counts as passed; docs/USING.md ha
 import resource
 import subprocess
 
-from run.report import NoUse
 from shared.command_line import runnable
+from shared.crates import Unfit
 
 STACK, MOST = 8 << 20, 1 << 20
 NESTED = {
@@ -27,7 +27,7 @@ def became(words, text):
         resource.setrlimit(resource.RLIMIT_CORE, (0, 0))
     status = subprocess.run(words, input=text.encode(), preexec_fn=limit, capture_output=True).returncode
     if status == 3:
-        raise NoUse("out of memory")
+        raise Unfit("out of memory")
     return {0: "read", 1: "refused"}.get(status, "dies")
 
 

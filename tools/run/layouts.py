@@ -22,8 +22,8 @@ from measure.compare_with_weedle2 import Weedle2
 from run import texts
 from run.layout_runs import all_runs
 from run.programs import add_program, meant
-from run.report import NoUse
 from run.worked_runs import failures_of
+from shared.crates import Unfit
 
 # Which texts are sown.
 SOWN = ("random", "real files")
@@ -97,7 +97,7 @@ def output_of(program, option, names, room):
         return ""
     ended = program.run([option], names, room)
     if ended.returncode not in (0, 1):
-        raise NoUse(f"{program.program} {option}: status {ended.returncode}: {ended.stderr.decode(errors='replace')[:500]}")
+        raise Unfit(f"{program.program} {option}: status {ended.returncode}: {ended.stderr.decode(errors='replace')[:500]}")
     return ended.stdout.decode() + ended.stderr.decode()
 
 

@@ -27,10 +27,10 @@ from argparse import ArgumentParser, Namespace
 from pathlib import Path
 
 from run.programs import built_at
-from run.report import NoUse, Report, Wrong
+from run.report import Report, Wrong
 from run.worked_runs import Run, has_checks, runs, text_of
 from shared.case_files import TESTS
-from shared.crates import TOP
+from shared.crates import TOP, Unfit
 
 RUNS = TESTS / "memory.toml"
 # What may be there beside what grows with the text: room for the output, the arguments, a formatter's buffers.
@@ -142,7 +142,7 @@ def run(wanted: Namespace, report: Report) -> None:
     all_runs = runs(wanted.runs)
     found = built_at(wanted.programs, sorted({one.program for one in all_runs}))
     if not found:
-        raise NoUse(f"{wanted.programs} is none of the programs, and has none built below it")
+        raise Unfit(f"{wanted.programs} is none of the programs, and has none built below it")
     with tempfile.TemporaryDirectory() as room:
         library = built_library(room)
         for program, name in found:

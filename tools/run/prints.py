@@ -26,8 +26,9 @@ from measure.compare_with_weedle2 import Weedle2
 from rows.random_texts import Maker
 from run import texts
 from run.programs import Built, meant, place_of
-from run.report import Failure, NoUse, Report
+from run.report import Failure, Report
 from shared.case_files import TESTS
+from shared.crates import Unfit
 
 # The worked texts, and what they are called.
 WORKED, BY_HAND = TESTS / "prints.toml", "worked texts"
@@ -49,7 +50,7 @@ class Programs:
         """What a program writes with these arguments of the files of a folder."""
         ended = program.run(words, names, room)
         if ended.returncode not in (0, 1) or ended.stderr:
-            raise NoUse(f"{program.program} {words}: status {ended.returncode}: {ended.stderr.decode(errors='replace')[:500]}")
+            raise Unfit(f"{program.program} {words}: status {ended.returncode}: {ended.stderr.decode(errors='replace')[:500]}")
         return ended.stdout.decode()
 
     def refused(self, names: list[str], room: Path) -> set[str]:
@@ -62,7 +63,7 @@ class Programs:
         words = [word for name in names for word in (name, "between")]
         parts = re.split(separator, COUNT.sub("", self.output(self.check, [option], words, room)))
         if len(parts) != len(names) + 1 or parts[-1]:
-            raise NoUse(f"{self.check.program} {option}: {len(parts) - 1} answers of {len(names)} texts")
+            raise Unfit(f"{self.check.program} {option}: {len(parts) - 1} answers of {len(names)} texts")
         return parts[:-1]
 
     def trees(self, names: list[str], room: Path) -> list[str]:

@@ -5,8 +5,7 @@ import subprocess
 import sys
 from pathlib import Path
 
-from run.report import NoUse
-from shared.crates import TOP
+from shared.crates import TOP, Unfit
 
 # What rt ci calls the second build of a program.
 BUILDS = ("", ".by-rattle")
@@ -28,7 +27,7 @@ class Built:
             words = [self.program, *words, *names]
             return subprocess.run(words, input=given, capture_output=True, timeout=SECONDS, check=False, cwd=room)
         except OSError as fault:
-            raise NoUse(f"{self.program}: {fault.strerror}") from None
+            raise Unfit(f"{self.program}: {fault.strerror}") from None
         except subprocess.TimeoutExpired:
             return subprocess.CompletedProcess(words, -1, b"", f"it hadn't ended after {SECONDS} s".encode())
 
@@ -46,9 +45,9 @@ class Tried:
         try:
             ended = subprocess.run(words, input=given, capture_output=True, cwd=self.crate, check=False)
         except OSError as fault:
-            raise NoUse(f"{self.crate}: {fault.strerror}") from None
+            raise Unfit(f"{self.crate}: {fault.strerror}") from None
         if b"run=ended" not in ended.stderr:
-            raise NoUse(f"rt try gave no answer: {ended.stderr.decode(errors='replace')[-600:]}")
+            raise Unfit(f"rt try gave no answer: {ended.stderr.decode(errors='replace')[-600:]}")
         return subprocess.CompletedProcess(words, ended.returncode, ended.stdout, b"")
 
 
@@ -72,7 +71,7 @@ def add_program(parser, name, can_be_tried=False):
 def meant(path, is_tried=False):
     """The program that a path means."""
     if not (Path(path) / "src/main.rt" if is_tried else Path(path)).is_file():
-        raise NoUse(f"{path} is no {'crate of a program' if is_tried else 'program that is built'}")
+        raise Unfit(f"{path} is no {'crate of a program' if is_tried else 'program that is built'}")
     return (Tried if is_tried else Built)(str(Path(path).resolve()))
 
 

@@ -5,10 +5,7 @@ from __future__ import annotations
 from collections.abc import Iterable
 from typing import NamedTuple
 
-from measure.compare_with_weedle2 import NoUse
 from shared.case_files import compact
-
-__all__ = ["Failure", "NoUse", "Report", "Wrong", "compared", "short"]
 
 # How many failures of a kind are shown, and how much of each value.
 SHOWN, LENGTH = 10, 3_000

@@ -16,8 +16,9 @@ are wanted, and of one that is refused the byte at which the unread rest begins.
 import tempfile
 
 from measure.compare_with_weedle2 import TOGETHER, Weedle2, in_files
-from run.report import NoUse, compared
+from run.report import compared
 from shared.case_files import cases_of, compact, folders
+from shared.crates import Unfit
 from shared.tree_json import NoTree, plain
 from write.make_cases import sum_of, texts_of_real
 
@@ -62,7 +63,7 @@ def texts_in(folder, cases, real):
         return [case.text for case in cases]
     named = texts_of_real(real)
     if {case.name for case in cases} - named.keys():
-        raise NoUse(f"{real} hasn't all of the real files")
+        raise Unfit(f"{real} hasn't all of the real files")
     return [named[case.name] for case in cases]
 
 
@@ -78,12 +79,12 @@ def run(wanted, report):
     known = [it for it in folders() if it != REAL or wanted.real]
     chosen = wanted.folders or known
     if set(chosen) - set(known):
-        raise NoUse(f"no folder {' or '.join(sorted(set(chosen) - set(known)))} can be run")
+        raise Unfit(f"no folder {' or '.join(sorted(set(chosen) - set(known)))} can be run")
     program = Weedle2(wanted.program)
     for folder in chosen:
         cases = cases_of(folder)
         try:
             failures = list(failures_of(program, cases, texts_in(folder, cases, wanted.real)))
         except NoTree as why:
-            raise NoUse(f"{folder}: {why}") from why
+            raise Unfit(f"{folder}: {why}") from why
         report.add(folder, len(cases), failures)

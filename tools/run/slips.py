@@ -14,8 +14,9 @@ import tempfile
 
 from run.cases import last_line, parts_by_name, said_of, written
 from run.programs import add_program, meant, told
-from run.report import NoUse, Wrong, compared
+from run.report import Wrong, compared
 from shared.case_files import Case
+from shared.crates import Unfit
 from write.slips import slips
 
 # Of a hundred changes that are told so many mend at least, and of a hundred slips so many are pointed at.
@@ -35,7 +36,7 @@ def messages(program, found):
         ended = program.run(["--errors", "1"], names, room)
     parts = parts_by_name(ended.stdout.decode(errors="replace"), names, last_line(len(cases), len(cases)))
     if parts is None or ended.returncode != 1:
-        raise NoUse(told(ended)[:600])
+        raise Unfit(told(ended)[:600])
     return [(case, name, parts[name]) for case, name in zip(cases, names)]
 
 

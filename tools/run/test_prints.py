@@ -4,12 +4,13 @@ import tempfile
 import unittest
 from pathlib import Path
 
-from measure.compare_with_weedle2 import Answer, NoUse
+from measure.compare_with_weedle2 import Answer
 from rows.table_reader import Table
 from run import texts
 from run.layouts import has_blanks_at_end
 from run.prints import BETWEEN, Programs, failures_of_worked, one_wrong, worked, wrong_of
 from run.programs import Built
+from shared.crates import Unfit
 from shared.test_support import Room
 
 WORD = "between_two_texts"
@@ -118,7 +119,7 @@ class Worked(unittest.TestCase):
 class Between(Room):
     def test_answers_are_one_for_each_text(self) -> None:
         self.put({"between": "typedef any nothing;\n", "a": "a;\n"})
-        with self.assertRaises(NoUse):
+        with self.assertRaises(Unfit):
             Fake().written(["a"], self.root)
 
     def test_the_text_between_is_one_definition(self) -> None:

@@ -10,6 +10,8 @@ import shutil
 import sys
 from pathlib import Path
 
+from shared.crates import Unfit
+
 
 def parser_of(doc):
     """A parser of arguments whose `--help` prints the whole of a script's docstring."""
@@ -28,6 +30,15 @@ def told(rows):
     found = [str(row) for row in rows]
     print("".join(f"{row}\n" for row in found), end="")
     return 1 if found else 0
+
+
+def ended(do, *given, faults=()):
+    """The status of what a script does, or 2 where it can't: why stands on standard error, behind the script's name."""
+    try:
+        return do(*given) or 0
+    except (Unfit, OSError, *faults) as why:
+        print(f"{Path(do.__code__.co_filename).stem}: {why}", file=sys.stderr)
+        return 2
 
 
 def write_page(doc, top, path, text_of):

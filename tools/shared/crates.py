@@ -14,7 +14,7 @@ ROW = re.compile(r"(?P<name>\w+)(?P<more>[^:]*)(:(?P<uses>.*))?")
 
 
 class Unfit(Exception):
-    """Why a repository doesn't serve, in one line."""
+    """Why something can't be done, in one line."""
 
 
 class Line:

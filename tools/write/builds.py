@@ -339,7 +339,7 @@ def unbuilt(files):
     return [it.name for crate, file in crates.items() for it in file.built_of(crate) if it.name not in built]
 
 
-def run(root):
+def main(root=TOP):
     """Writes the files."""
     if said := lacking(CRATES, [*BY_OTHERS, *(it for _, *sources in FILES.values() for it in sources)]):
         raise Unfit(f"{said}: FILES says where it is built")
@@ -349,13 +349,6 @@ def run(root):
         raise Unfit(f"no file of FILES has {', '.join(names)}")
     for file in files:
         put(root, file.path, file.text())
-
-
-def main():
-    try:
-        run(TOP)
-    except Unfit as why:
-        sys.exit(f"builds: {why}")
 
 
 if __name__ == "__main__":

@@ -80,11 +80,7 @@ def header_of(root):
 
 
 def main():
-    try:
-        text = header_of(TOP)
-    except (Unfit, OSError) as why:
-        sys.exit(f"c_header: {why}")
-    place = TOP / PLACE
+    text, place = header_of(TOP), TOP / PLACE
     place.parent.mkdir(exist_ok=True)
     place.write_text(text, encoding="utf-8")
 

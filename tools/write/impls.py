@@ -28,25 +28,18 @@ if not __package__:
 
 from description.readings import IDL, LEAVES, TYPES
 from shared.command_line import refuse_writer
-from shared.crates import TOP, Unfit
+from shared.crates import TOP
 from shared.written_places import put
 from write.written.files import files_of
 
 CRATES = [*LEAVES[1:], TYPES, *IDL]
 
 
-def run(root):
+def main(root=TOP):
     """Writes the files."""
     for crate in CRATES:
         for path, text in list(files_of(root, crate)):
             put(root, path, text)
-
-
-def main():
-    try:
-        run(TOP)
-    except Unfit as why:
-        sys.exit(f"impls: {why}")
 
 
 if __name__ == "__main__":

@@ -310,7 +310,6 @@ def main():
     FOLDER.mkdir(parents=True, exist_ok=True)
     for name, text in texts():
         (FOLDER / name).write_text(text, encoding="utf-8")
-    return 0
 
 
 if __name__ == "__main__":

@@ -21,7 +21,7 @@ from typing import Iterator, NamedTuple
 if not __package__:
     sys.path[0] = str(Path(__file__).resolve().parent.parent)
 
-from shared.command_line import parser_of
+from shared.command_line import ended, parser_of
 from shared.crates import TOP, Unfit
 
 FOLDER = "man"
@@ -176,14 +176,10 @@ def main() -> int:
     parser = parser_of(__doc__)
     parser.add_argument("--check", action="store_true", help="change nothing")
     is_check = parser.parse_args().check
-    try:
-        rows = [*look(TOP, is_check)]
-    except (Unfit, OSError) as why:
-        print(f"man_pages: {why}", file=sys.stderr)
-        return 2
+    rows = [*look(TOP, is_check)]
     print(*rows, sep="\n", end="\n" if rows else "")
     return 1 if is_check and rows else 0
 
 
 if __name__ == "__main__":
-    sys.exit(main())
+    sys.exit(ended(main))

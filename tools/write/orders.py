@@ -297,7 +297,7 @@ def files_of(root):
     yield f"{LAWS}/specs/Places.antt", places_text(enums)
 
 
-def run(root):
+def main(root=TOP):
     """Writes the files."""
     # The terminals have their laws by terminals.py.
     named = [it for _, crates in MODULES.values() for it in crates]
@@ -305,13 +305,6 @@ def run(root):
         raise Unfit(f"{why}: MODULES says which modules have the laws")
     for path, text in files_of(root):
         put(root, path, text)
-
-
-def main():
-    try:
-        run(TOP)
-    except Unfit as why:
-        sys.exit(f"orders: {why}")
 
 
 if __name__ == "__main__":

@@ -292,11 +292,8 @@ def is_written(declaration: Declaration) -> bool:
 
 
 def main() -> None:
-    try:
-        for name, about, impls in [*handed_on(), *families()]:
-            put(TOP, f"{CRATE}/src/{name}.rt", text(about, impls))
-    except Unfit as why:
-        sys.exit(f"prints: {why}")
+    for name, about, impls in [*handed_on(), *families()]:
+        put(TOP, f"{CRATE}/src/{name}.rt", text(about, impls))
 
 
 if __name__ == "__main__":

@@ -388,7 +388,6 @@ def main():
     PACKAGE.mkdir(parents=True, exist_ok=True)
     for name, text in texts():
         (PACKAGE / f"{name}.py").write_text(text, encoding="utf-8")
-    return 0
 
 
 if __name__ == "__main__":

@@ -251,7 +251,6 @@ def main():
     SOURCE.mkdir(parents=True, exist_ok=True)
     for module, text in texts():
         (SOURCE / f"{module}.rs").write_text(text, encoding="utf-8")
-    return 0
 
 
 if __name__ == "__main__":

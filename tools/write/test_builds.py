@@ -35,31 +35,31 @@ class BuildsTest(Room):
     def test_a_module_without_types_is_refused(self):
         with mock.patch.dict(builds.FILES, {"build_low/low": ("What is low.", "low::none")}):
             with self.assertRaisesRegex(Unfit, "build_low/low is to build what low::none declares"):
-                builds.run(self.root)
+                builds.main(self.root)
 
     def test_a_crate_that_no_file_names_is_refused(self):
         with mock.patch.object(builds, "CRATES", ["weedle_base::term", "low", "high", "new"]):
             with self.assertRaisesRegex(Unfit, "no place is said for what is of new: FILES says"):
-                builds.run(self.root)
+                builds.main(self.root)
 
     def test_a_type_that_no_file_builds_is_refused(self):
         trees = TEXTS["crates/low/specs/Trees.antt"] + "abbrev pub inheritance_tree : Inheritance → Tree\n"
         declared = "pub struct Inheritance {\n    pub colon: Assign,\n}\n"
         self.put({"crates/low/specs/Trees.antt": trees, "crates/low/src/other.rt": declared})
         with self.assertRaisesRegex(Unfit, "no file of FILES has Inheritance"):
-            builds.run(self.root)
+            builds.main(self.root)
 
     def test_a_type_without_a_tree_is_refused(self):
         self.put({"crates/high/specs/Trees.antt": ""})
         with self.assertRaisesRegex(Unfit, "crates/high/specs states the tree of Definition"):
-            builds.run(self.root)
+            builds.main(self.root)
 
     def test_more_fields_than_one_call_builds_are_refused(self):
         fields = "".join(f"    pub f{k}: Assign,\n" for k in range(9))
         self.put({"crates/low/src/default.rt": "pub struct Default {\n" + fields + "}\n"})
         said = "Default has 9 fields, and crates/weedle_build_base/src/structs.rt builds 2 to 8 by one call"
         with self.assertRaisesRegex(Unfit, said):
-            builds.run(self.root)
+            builds.main(self.root)
 
     def test_each_function_for_fields_is_there(self):
         text = (builds.TOP / builds.STRUCTS).read_text(encoding="utf-8")
@@ -69,4 +69,4 @@ class BuildsTest(Room):
     def test_a_name_that_nothing_brings_in_is_refused(self):
         self.put({"crates/high/src/lib.rt": "//! High.\n"})
         with self.assertRaisesRegex(Unfit, "nothing that build_high stands on brings Default in"):
-            builds.run(self.root)
+            builds.main(self.root)

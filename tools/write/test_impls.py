@@ -48,14 +48,14 @@ class ImplsTest(Room):
     def test_a_parse_of_another_form_has_to_be_written_by_hand(self):
         self.put({"crates/low/src/member.rt": MODULE.replace("    pub word: Word,\n", "")})
         with self.assertRaisesRegex(Unfit, "the Parse of Member has no plain form"):
-            impls.run(self.root)
+            impls.main(self.root)
 
     def test_a_type_that_nothing_brings_in_is_refused(self):
         self.put({"crates/low/src/member.rt": MODULE.replace("{Label, List}", "List")})
         with self.assertRaisesRegex(Unfit, "Label is named, and no `use` brings it in"):
-            impls.run(self.root)
+            impls.main(self.root)
 
     def test_a_tree_that_is_stated_nowhere_is_refused(self):
         self.put({"crates/low/specs/Trees.antt": ""})
         with self.assertRaisesRegex(Unfit, "low: member_tree is stated nowhere"):
-            impls.run(self.root)
+            impls.main(self.root)

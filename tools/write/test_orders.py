@@ -14,7 +14,7 @@ class OrdersTest(unittest.TestCase):
         """What is said where these crates have the laws of all types."""
         with tempfile.TemporaryDirectory() as root, mock.patch.object(orders, "MODULES", {"all": ("all", crates)}):
             with self.assertRaises(Unfit) as caught:
-                orders.run(Path(root))
+                orders.main(Path(root))
         return str(caught.exception)
 
     def test_a_crate_that_is_not_there(self):

@@ -5,6 +5,7 @@ import sys
 import unittest
 from unittest import mock
 
+from shared.command_line import ended
 from shared.crates import Unfit
 from shared.test_support import Room, printed, put
 from write import write_all
@@ -103,10 +104,12 @@ class Layouts(Room):
 
 
 class Writers(Room):
-    def said(self, text):
+    def said(self, text, name=None):
         """What is said of a script with this `main`."""
+        files = [f"tools/shared/{it}.py" for it in ("command_line", "crates")]
+        self.put({it: (write_all.TOP / it).read_bytes() for it in files})
         self.put({"tools/write/x.py": text, "tools/shared/y.py": "WORD = 'why'\n"})
-        return write_all.call([sys.executable, "-c", write_all.RUN.format("x")], self.root)
+        return write_all.call([sys.executable, "-c", write_all.RUN.format("x")], self.root, name)
 
     def test_each_is_a_script(self):
         for script in write_all.WRITERS:
@@ -120,6 +123,8 @@ class Writers(Room):
         for text in ("def main():\n    raise SystemExit('why')\n", "def main():\n    print('why')\n    return 1\n", "why\n"):
             with self.assertRaisesRegex(Unfit, "(?s)failed:.*why"):
                 self.said(text)
+        with self.assertRaisesRegex(Unfit, r"^tools/write/x\.py failed:\nx: why$"):
+            self.said("from shared.crates import Unfit\ndef main():\n    raise Unfit('why')\n", "tools/write/x.py")
 
 
 class Whole(unittest.TestCase):
@@ -130,7 +135,7 @@ class Whole(unittest.TestCase):
             "bring": lambda top, files, anew: ["new a"],
         }
         with mock.patch.multiple(write_all, **given):
-            return printed(write_all.main)
+            return printed(ended, write_all.main)
 
     def test_the_pages_follow_what_is_brought(self):
         found = self.run_main({}, lambda words, folder: f"changed {words[1]}\n")
@@ -138,7 +143,7 @@ class Whole(unittest.TestCase):
 
     def test_a_page_that_fails(self):
         found = self.run_main({}, mock.Mock(side_effect=Unfit("why")))
-        self.assertEqual(found, (2, "new a\n", "write: why\n"))
+        self.assertEqual(found, (2, "new a\n", "write_all: why\n"))
 
 
 class Brought(Room):

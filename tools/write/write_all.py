@@ -28,7 +28,7 @@ from pathlib import Path
 if not __package__:
     sys.path[0] = str(Path(__file__).resolve().parent.parent)
 
-from shared.command_line import take_none
+from shared.command_line import ended, take_none
 from shared.crates import LIST, TOP, Unfit, files_of, read_lines
 
 # Where a script moves, its files below crates/ keep their heads: a crate with another head is proved anew.
@@ -41,7 +41,7 @@ BESIDE = ("include/*.h", "python/weedle/*.py", "rust/src/*.rs", "js/lib/written/
 WRITERS = (
     "grammar starts terminals idl_proofs builds spellings prints impls orders c_header python_types rust_types javascript_types"
 ).split()
-RUN = "import sys; sys.path[0] = 'tools'; from write.{} import main; sys.exit(main())"
+RUN = "import sys; sys.path[0] = 'tools'; from shared.command_line import ended; from write.{} import main; sys.exit(ended(main))"
 # The scripts that write pages of docs/ and of man/ from the sources, and print what they changed.
 PAGES = ("calling.py", "man_pages.py")
 # Where files are made in memory, on systems that have it: a disk takes long to make a thousand.
@@ -147,18 +147,13 @@ def bring(root, files, anew):
 
 
 def main():
-    try:
-        files = sources(TOP)
-        for row in bring(TOP, files, write_anew(TOP, files)):
-            print(row)
-        for page in PAGES:
-            print(call([sys.executable, f"tools/write/{page}"], TOP), end="")
-    except (Unfit, OSError) as why:
-        print(f"write: {why}", file=sys.stderr)
-        return 2
-    return 0
+    files = sources(TOP)
+    for row in bring(TOP, files, write_anew(TOP, files)):
+        print(row)
+    for page in PAGES:
+        print(call([sys.executable, f"tools/write/{page}"], TOP), end="")
 
 
 if __name__ == "__main__":
     take_none(__doc__)
-    sys.exit(main())
+    sys.exit(ended(main))
