@@ -1,4 +1,3 @@
-#!/usr/bin/env python3
 """Copies the parser into another repository of crates, or brings an earlier copy there up to date.
 
     python3 tools/vendor.py [--check] DEST
@@ -21,7 +20,6 @@ The status is 0 where DEST is up to date, 1 where it refuses, or where --check f
 change, 2 where the arguments are wrong.
 """
 
-import hashlib
 import json
 import os
 import re
@@ -31,7 +29,7 @@ import sys
 from pathlib import Path
 
 from shared.command_line import parser_of
-from shared.crates import LIST, TOP, Unfit, closure, files_of, is_repository, line_of, read_lines
+from shared.crates import LIST, TOP, Unfit, closure, files_of, is_repository, line_of, read_lines, sum_of
 
 LIBRARY = "weedle"
 LICENSE = f"crates/{LIBRARY}/LICENSE"
@@ -92,10 +90,6 @@ class Record:
 
     def paths(self):
         return {path for state in self.states for path in state.files}
-
-
-def sum_of(content):
-    return hashlib.sha256(content).hexdigest()
 
 
 def version_of(root):

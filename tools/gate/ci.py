@@ -1,4 +1,3 @@
-#!/usr/bin/env python3
 """Runs `rt ci`, with an order of its own: long proofs that all others wait for get more than one processor.
 
     python3 tools/gate/ci.py [--library FILE] [--programs]

@@ -1,4 +1,3 @@
-#!/usr/bin/env python3
 """Says how long a gate from nothing would take, and what a change would cost, from measured times.
 
     python3 tools/gate/plan.py TIMES [--processors N].. [--memory GB] [--slower F]

@@ -1,4 +1,3 @@
-#!/usr/bin/env python3
 """Says what the gate's time goes into, crate by crate.
 
     python3 tools/gate/times.py [--json FILE] [COMMAND..]

@@ -1,4 +1,3 @@
-#!/usr/bin/env python3
 """Finds what the gate can say without a proof: stale files, and types that aren't the grammar's.
 
     python3 tools/look/check.py

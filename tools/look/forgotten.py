@@ -1,4 +1,3 @@
-#!/usr/bin/env python3
 """Finds what was forgotten of a new type, field, word or file, where no proof would miss it.
 
     python3 tools/look/forgotten.py
@@ -32,6 +31,7 @@ from description.following import NAME_BEFORE, read_behind
 from description.names import upper
 from description.public import public_items
 from description.readings import Declared
+from description.uses import grouped
 from description.webidl import BY_NAME, RULES
 from shared.command_line import take_none, told
 from shared.crates import TOP, read_lines
@@ -87,10 +87,8 @@ def of_files(root):
 
 def of_types(root, declared):
     """The types that lack an implementation, or a path below `weedle`."""
-    found = {}
-    for path in (root / "crates").glob("*/src/**/*.rt"):
-        for trait, type_ in IMPL.findall(path.read_text(encoding="utf-8")):
-            found.setdefault(type_, set()).add(trait)
+    texts = (path.read_text(encoding="utf-8") for path in (root / "crates").glob("*/src/**/*.rt"))
+    found = grouped((type_, trait) for text in texts for trait, type_ in IMPL.findall(text))
     given = {name for names in public_items(root, "weedle").values() for name in names}
     for name, it in declared.types.items():
         wanted = {"Parse"} if it.is_copied or "TryClone" in it.derived else {"Parse", "TryClone"}

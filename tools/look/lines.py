@@ -1,4 +1,3 @@
-#!/usr/bin/env python3
 """Counts the lines of a checkout by crate: by hand or written by a script, of code, specs and proofs.
 
     python3 tools/look/lines.py [FOLDER]

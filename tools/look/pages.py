@@ -1,4 +1,3 @@
-#!/usr/bin/env python3
 """Finds what the pages say and isn't so, and which public fields and variants have no doc line.
 
     python3 tools/look/pages.py

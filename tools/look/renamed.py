@@ -1,4 +1,3 @@
-#!/usr/bin/env python3
 """Finds what still has the old name of a field, a variant, a type or a public function.
 
     python3 tools/look/renamed.py

@@ -1,4 +1,3 @@
-#!/usr/bin/env python3
 """Tries wrong bodies by hand: the prover has to refuse each, or a run of tests/ to find it.
 
     python3 tools/look/try_edits.py [--check] [CRATE..]

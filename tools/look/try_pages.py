@@ -1,4 +1,3 @@
-#!/usr/bin/env python3
 """Holds the programs and pieces of Rust in pages and doc lines to what is there, what is proved and what they print.
 
     python3 tools/look/try_pages.py [--no-run] [--files FOLDER] [PAGE..]

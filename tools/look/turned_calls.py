@@ -1,4 +1,3 @@
-#!/usr/bin/env python3
 """Turns calls of the library for C, one in one way at a time, and says which of its tests find that.
 
     python3 tools/look/turned_calls.py [CALL-HOW ..]

@@ -1,4 +1,3 @@
-#!/usr/bin/env python3
 """Finds where the declared types and the grammar's rows differ.
 
     python3 tools/look/unmatched.py

@@ -1,4 +1,3 @@
-#!/usr/bin/env python3
 """Reads every type at every word of random texts by the Rust package and by weedle2 itself, by hand.
 
     python3 tools/measure/compare_rust_types.py WEEDLE2 [--config FILE] [--seed N] [--texts N]
@@ -24,8 +23,10 @@ if not __package__:
     sys.path[0] = str(Path(__file__).resolve().parent.parent)
 
 from description.readings import Declared
+from measure.compare_with_weedle2 import in_files
+from measure.rust_surface import cargo, parser_with_weedle2
 from rows.random_texts import Maker
-from shared.command_line import ended, parser_of
+from shared.command_line import ended
 from shared.crates import TOP, Unfit
 from write.python_types import Package
 from write.rust_types import FRONT
@@ -131,33 +132,17 @@ def texts_of(seed, count):
         yield (str, maker.near, maker.with_a_byte_changed)[number % 3](text)
 
 
-def build(room, config):
-    """The program, built."""
-    words = ["cargo", "build", "--release", "--quiet", *(["--config", str(config.resolve())] if config else [])]
-    ran = subprocess.run(
-        [*words, "--target-dir", str(room / "target")], cwd=room, capture_output=True, text=True, check=False,
-    )
-    if ran.returncode:
-        raise Unfit(ran.stderr.strip())
-    return room / "target/release/compare_types"
-
-
 def main():
-    parser = parser_of(__doc__)
-    parser.add_argument("weedle2", type=Path, metavar="WEEDLE2", help="the folder of weedle2's package")
-    parser.add_argument("--config", type=Path, metavar="FILE", help="what Cargo is given")
+    parser = parser_with_weedle2(__doc__)
     parser.add_argument("--seed", type=int, default=1, metavar="N", help="of which the texts are made, 1 if left out")
     parser.add_argument("--texts", type=int, default=500, metavar="N", help="how many texts, 500 if left out")
     arguments = parser.parse_args()
     with tempfile.TemporaryDirectory() as folder:
         room = Path(folder)
         lay(room, arguments.weedle2)
-        program = build(room, arguments.config)
-        files = []
-        for number, text in enumerate(texts_of(arguments.seed, arguments.texts)):
-            files.append(room / f"{number}.webidl")
-            files[-1].write_bytes(text.encode())
-        return subprocess.run([program, *files], check=False).returncode
+        cargo(["build", "--release"], room, arguments.config, CARGO_TARGET_DIR=str(room / "target"))
+        files = in_files([*texts_of(arguments.seed, arguments.texts)], room)
+        return subprocess.run([room / "target/release/compare_types", *files], check=False).returncode
 
 
 if __name__ == "__main__":

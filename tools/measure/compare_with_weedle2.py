@@ -1,4 +1,3 @@
-#!/usr/bin/env python3
 """Reads texts with the port and with weedle2, and says of how many the answers are the same.
 
     python3 tools/measure/compare_with_weedle2.py [--seed N] [--random N] [--near N] [--prefixes BYTES]

@@ -1,4 +1,3 @@
-#!/usr/bin/env python3
 """Measures readers, bindings and refusals: the figures of docs/COMPARED.md.
 
     python3 tools/measure/figures.py readers|bindings|refusals|text|machine

@@ -1,4 +1,3 @@
-#!/usr/bin/env python3
 """Compares the public items of the Rust package with those of weedle2 itself, by hand.
 
     python3 tools/measure/rust_surface.py WEEDLE2 [--config FILE]
@@ -153,25 +152,31 @@ def differing(theirs, ours):
             yield f"{path}\n  weedle2: {theirs.get(path, 'none')}\n  here:    {ours.get(path, 'none')}"
 
 
+def cargo(words, folder, config, more=(), **env):
+    """Runs Cargo on a package, with what --config names."""
+    words = ["cargo", *words, "--quiet", *(["--config", str(config.resolve())] if config else []), *more]
+    ran = subprocess.run(words, cwd=folder, env=os.environ | env, capture_output=True, text=True, check=False)
+    if ran.returncode:
+        raise Unfit(f"{folder}: {ran.stderr.strip()}")
+
+
 def documented(folder, config):
     """The JSON that rustdoc makes of a package."""
-    words = ["cargo", "rustdoc", "--lib", "--quiet", *(["--config", str(config.resolve())] if config else [])]
     with tempfile.TemporaryDirectory() as room:
-        env = {**os.environ, "RUSTC_BOOTSTRAP": "1", "CARGO_TARGET_DIR": room}
-        try:
-            ran = subprocess.run([*words, *JSON], cwd=folder, env=env, capture_output=True, text=True, check=False)
-        except OSError as fault:
-            raise Unfit(f"{folder}: {fault}") from None
-        if ran.returncode:
-            raise Unfit(f"{folder}: {ran.stderr.strip()}")
+        cargo(["rustdoc", "--lib"], folder, config, JSON, RUSTC_BOOTSTRAP="1", CARGO_TARGET_DIR=room)
         return json.loads(Path(room, "doc", f"{NAME}.json").read_text(encoding="utf-8"))
 
 
-def main():
-    parser = parser_of(__doc__)
+def parser_with_weedle2(doc):
+    """A parser of arguments that takes weedle2's package, and what Cargo is given."""
+    parser = parser_of(doc)
     parser.add_argument("weedle2", type=Path, metavar="WEEDLE2", help="the folder of weedle2's package")
     parser.add_argument("--config", type=Path, metavar="FILE", help="what Cargo is given")
-    arguments = parser.parse_args()
+    return parser
+
+
+def main():
+    arguments = parser_with_weedle2(__doc__).parse_args()
     theirs, ours = (Surface(documented(folder, arguments.config)).items for folder in (arguments.weedle2, PACKAGE))
     rows = list(differing(theirs, ours))
     print(*rows, sep="\n", end="\n" * bool(rows))

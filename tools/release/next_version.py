@@ -1,4 +1,3 @@
-#!/usr/bin/env python3
 """Says what the version's number has to become, by what callers could name in the last version and can name now.
 
     python3 tools/release/next_version.py [--all] [COMMIT]

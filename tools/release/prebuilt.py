@@ -1,4 +1,3 @@
-#!/usr/bin/env python3
 """Holds the built libraries in prebuilt/ to those that were built anew, or takes those in their place.
 
     python3 tools/release/prebuilt.py [--make | --check] [--target TARGET [ARCHIVE]]
@@ -23,7 +22,6 @@ It prints a line for each thing that isn't so. The status is 0 where there is no
 """
 
 import argparse
-import hashlib
 import os
 import platform
 import re
@@ -37,7 +35,7 @@ if not __package__:
     sys.path[0] = str(Path(__file__).resolve().parent.parent)
 
 from shared.command_line import parser_of
-from shared.crates import TOP, Unfit
+from shared.crates import TOP, Unfit, sum_of
 
 sys.path.insert(0, str(TOP / "python"))
 
@@ -96,11 +94,6 @@ def compiler_for(target: str) -> str:
     return f"{processor}-linux-gnu-gcc"
 
 
-def sum_of(file: Path) -> str:
-    """The SHA-256 of a file."""
-    return hashlib.sha256(file.read_bytes()).hexdigest()
-
-
 def read_sums(folder: Path) -> Sums:
     """What a folder's SUMS says."""
     file = folder / SUMS
@@ -147,7 +140,7 @@ def faults(top: Path, target: str = FIRST) -> Iterator[str]:
     for name in BUILT_FILES:
         if not (folder / name).exists():
             yield f"there is no {name_of}/{name}: {ANEW}"
-        elif sum_of(folder / name) != sums.files.get(name):
+        elif sum_of((folder / name).read_bytes()) != sums.files.get(name):
             yield f"{name_of}/{name} isn't what {SUMS} has: {ANEW}"
     for name, calls in ((SHARED, calls_in(header)), (ADDON, ASKED)):
         if (folder / name).exists():
@@ -186,7 +179,7 @@ def compared(top: Path, archive: Path, found: str | None, target: str = FIRST) -
         print(f"prebuilt: nothing was compared: {folder} was built by {sums.kit}, and {told}")
     elif not archive.exists():
         yield f"there is no {archive} to compare with: c/build.sh builds it"
-    elif sum_of(archive) != sums.files[ARCHIVE]:
+    elif sum_of(archive.read_bytes()) != sums.files[ARCHIVE]:
         yield f"{archive} isn't {folder}/{ARCHIVE}, which has to be built anew: {ANEW}"
 
 
@@ -208,7 +201,7 @@ def make(top: Path, archive: Path, found: str | None, target: str = FIRST) -> No
     for name in BUILT_FILES:
         (folder / name).chmod(0o644)
     version = version_in((top / HEADER).read_text(encoding="utf-8"))
-    files = {name: sum_of(folder / name) for name in BUILT_FILES}
+    files = {name: sum_of((folder / name).read_bytes()) for name in BUILT_FILES}
     (folder / SUMS).write_text(Sums(version, found, files).text(), encoding="utf-8")
 
 

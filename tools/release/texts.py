@@ -1,4 +1,3 @@
-#!/usr/bin/env python3
 """Writes the texts of a release: CHANGES.md, what is new in this version, and SUMS.
 
     python3 tools/release/texts.py FOLDER [BUILT..]
@@ -18,9 +17,9 @@ from pathlib import Path
 if not __package__:
     sys.path[0] = str(Path(__file__).resolve().parent.parent)
 
-from release.prebuilt import FOLDER, HEADER, SUMS, SharedObject, read_sums, sum_of, version_in
+from release.prebuilt import FOLDER, HEADER, SUMS, SharedObject, read_sums, version_in
 from shared.command_line import ended, parser_of
-from shared.crates import TOP, Unfit
+from shared.crates import TOP, Unfit, sum_of
 
 CHANGES = "CHANGES.md"
 LINK = re.compile(r"\[([^\[\]]+)\]\((?!https?:)[^()]+\)")
@@ -61,7 +60,7 @@ def sums_of(folder: Path, top: Path, built: list[Path]) -> str:
     sums = read_sums(top / FOLDER)
     files = sorted(it for it in folder.iterdir() if it.is_file() and it.name != SUMS)
     heads = [f"weedle {sums.version}", sums.kit, *map(wants_of, built)]
-    rows = [*(f"# {it}" for it in heads), *(f"{sum_of(it)}  {it.name}" for it in files)]
+    rows = [*(f"# {it}" for it in heads), *(f"{sum_of(it.read_bytes())}  {it.name}" for it in files)]
     return "".join(f"{row}\n" for row in rows)
 
 

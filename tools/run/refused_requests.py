@@ -1,4 +1,3 @@
-#!/usr/bin/env python3
 """Refuses tests or built programs their requests for memory: the first in the first run, the second in the second, and so on.
 
     python3 tools/run/refused_requests.py [CRATE..]

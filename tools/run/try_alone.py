@@ -1,4 +1,3 @@
-#!/usr/bin/env python3
 """Runs `rt try` alone, without the check that it runs beside itself: that takes as long again.
 
     python3 tools/run/try_alone.py [WORD..]

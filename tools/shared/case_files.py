@@ -4,14 +4,13 @@ In FOLDER.tar.xz stand NAME.webidl, a text, and NAME.json, what is wanted of it.
 is kept, so the same cases give the same bytes. tests/README.md says what a wanted value holds.
 """
 
-import hashlib
 import io
 import json
 import lzma
 import tarfile
 from pathlib import Path
 
-from shared.crates import TOP
+from shared.crates import TOP, sum_of
 
 TESTS = TOP / "tests"
 INDEX = "INDEX"
@@ -88,7 +87,7 @@ def line_of(folder, content, cases):
     """The line of an archive in the list."""
     read = sum(case.is_read for case in cases)
     by_rows = sum(not case.wanted["by"].startswith("weedle2") for case in cases)
-    return (f"{hashlib.sha256(content).hexdigest()}  {archive_of(folder)}  {len(content)} bytes, {len(cases)} texts: "
+    return (f"{sum_of(content)}  {archive_of(folder)}  {len(content)} bytes, {len(cases)} texts: "
             f"{read} read, {len(cases) - read} refused, {by_rows} by the rows\n")
 
 
@@ -103,7 +102,7 @@ def wrong_sums(tests=TESTS):
     for name in sorted({*listed, *found}):
         if name not in found:
             yield f"tests/{name}: lacking, and listed in tests/{INDEX}"
-        elif listed.get(name) != hashlib.sha256(found[name]).hexdigest():
+        elif listed.get(name) != sum_of(found[name]):
             yield f"tests/{name}: not what tests/{INDEX} lists"
     if sum(map(len, found.values())) > MOST_BYTES:
         yield f"tests: more than {MOST_BYTES} bytes"

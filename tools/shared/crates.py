@@ -1,5 +1,6 @@
 """Reads crates.txt: which crates a repository has, and what each of them stands on."""
 
+import hashlib
 import os
 import re
 import shutil
@@ -11,6 +12,11 @@ LIST = "crates.txt"
 # The folders of a crate that a check reads.
 PARTS = ("src", "specs", "proofs")
 ROW = re.compile(r"(?P<name>\w+)(?P<more>[^:]*)(:(?P<uses>.*))?")
+
+
+def sum_of(content):
+    """The SHA-256 of bytes."""
+    return hashlib.sha256(content).hexdigest()
 
 
 class Unfit(Exception):

@@ -1,4 +1,3 @@
-#!/usr/bin/env python3
 """Writes how members, definitions and what they hold are built in the second pass, from their declarations.
 
 tools/write/write_all.py runs it.

@@ -1,4 +1,3 @@
-#!/usr/bin/env python3
 """Writes include/weedle.h, which declares to C and C++ what `weedle_c` exports, with the grammar's rules.
 
 tools/write/write_all.py runs it.

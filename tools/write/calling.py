@@ -1,4 +1,3 @@
-#!/usr/bin/env python3
 """Writes docs/CALLING.md: what a caller of the crate `weedle` can name, as it stands in the sources.
 
     python3 tools/write/calling.py [--check]

@@ -1,4 +1,3 @@
-#!/usr/bin/env python3
 """Writes the tables of `weedle_grammar`, and the filling of those of `weedle_rules`, from the grammar.
 
 tools/write/write_all.py runs it.

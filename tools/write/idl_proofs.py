@@ -1,4 +1,3 @@
-#!/usr/bin/env python3
 """Writes the proofs that members and definitions read what their rules read.
 
 tools/write/write_all.py runs it.

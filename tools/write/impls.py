@@ -1,4 +1,3 @@
-#!/usr/bin/env python3
 """Writes the code that follows from the declarations of types, members and definitions.
 
 tools/write/write_all.py runs it.

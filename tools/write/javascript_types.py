@@ -1,4 +1,3 @@
-#!/usr/bin/env python3
 """Writes the modules of the JavaScript package that hold the grammar's rules and its values' classes.
 
 tools/write/write_all.py runs it. It writes below js/lib/written

@@ -1,4 +1,3 @@
-#!/usr/bin/env python3
 """Makes again what the rows say of the texts of tests/, and holds it to what is known by hand.
 
     python3 tools/write/make_cases.py [--real FOLDER]

@@ -1,4 +1,3 @@
-#!/usr/bin/env python3
 """Writes the man pages of the commands, man/*.1, from what each says of itself with `--help`.
 
     python3 tools/write/man_pages.py [--check]

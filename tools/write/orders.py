@@ -1,4 +1,3 @@
-#!/usr/bin/env python3
 """Writes the laws of orders, from the declarations of the types whose `Ord` is derived.
 
 A type's law is a function that does nothing when it runs. Its contract says of two values of the type

@@ -1,4 +1,3 @@
-#!/usr/bin/env python3
 """Writes how members, definitions and what they hold are written as WebIDL, from their declarations.
 
 tools/write/write_all.py runs it.
@@ -25,11 +24,11 @@ from pathlib import Path
 if not __package__:
     sys.path[0] = str(Path(__file__).resolve().parent.parent)
 
+from description import uses
 from description.declarations import Declaration, Type, type_of
 from description.docs import comment
 from description.layout import use_line
 from description.readings import IDL, LEAVES, TYPES
-from description.uses import ghost_line
 from shared.command_line import refuse_writer
 from shared.crates import TOP, Unfit
 from shared.written_places import files_in, module_in, put
@@ -223,10 +222,7 @@ def paths_of(it: Own | HandedOn) -> set[str]:
 
 def use_lines(paths: Iterable[str]) -> str:
     """The lines that bring these in."""
-    found = {}
-    for path in paths:
-        module, _, name = path.rpartition("::")
-        found.setdefault(module, set()).add(name)
+    found = uses.grouped(path.rpartition("::")[::2] for path in paths)
     order = sorted(found, key=lambda module: (not module.startswith("crate"), module))
     return "".join(use_line(module, found[module]) for module in order)
 
@@ -254,12 +250,11 @@ def spelling_of(type_: Type) -> str:
 
 def ghost_lines(impls: Iterable[Own | HandedOn]) -> str:
     """The lines that bring in the spellings that these name."""
-    found, homes = {}, stated()[0]
+    homes = stated()[0]
     for it in impls:
         if it.spelling not in homes:
             raise Unfit(f"{it.type} has no spelling {it.spelling}")
-        found.setdefault(homes[it.spelling], set()).add(it.spelling)
-    return "".join(ghost_line(module, sorted(names)) for module, names in sorted(found.items()))
+    return uses.ghost_lines((homes[it.spelling], it.spelling) for it in impls)
 
 
 def text(about: str, impls: list[Own | HandedOn]) -> str:

@@ -1,4 +1,3 @@
-#!/usr/bin/env python3
 """Writes the modules of the Rust package that hold the types and the grammar's rules.
 
 tools/write/write_all.py runs it. It writes below rust/src

@@ -1,4 +1,3 @@
-#!/usr/bin/env python3
 """Writes docs/SLIPS.md: the texts of tests/slips.txt, and what is said of each.
 
     python3 tools/write/slips.py [--check]

@@ -1,4 +1,3 @@
-#!/usr/bin/env python3
 """Writes how values of types, members and definitions are spelt, the proofs of it, and the laws.
 
 tools/write/write_all.py runs it.

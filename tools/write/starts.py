@@ -1,4 +1,3 @@
-#!/usr/bin/env python3
 """Writes the rows of all rules for `weedle_starts`, and the bytes that each can begin with, from the grammar.
 
 tools/write/write_all.py runs it.

@@ -1,4 +1,3 @@
-#!/usr/bin/env python3
 """Writes the terminals of `weedle_base`, and how each is built, from the lists in description/webidl.py.
 
 tools/write/write_all.py runs it.

@@ -10,7 +10,6 @@ from shared.crates import TOP, Unfit
 from write.javascript_types import ROLES, Classes, JavaScriptMakers, Package, role_rows
 
 
-
 class Types(unittest.TestCase):
     @classmethod
     def setUpClass(cls):

@@ -13,7 +13,6 @@ from write import python_types
 from write.python_types import Makers, Package, class_text
 
 
-
 class Types(unittest.TestCase):
     @classmethod
     def setUpClass(cls):

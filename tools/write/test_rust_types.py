@@ -15,7 +15,6 @@ from write.rust_rules import tables
 from write.rust_types import Writer
 
 
-
 class Types(unittest.TestCase):
     @classmethod
     def setUpClass(cls):

@@ -1,4 +1,4 @@
-"""Tests write_all.py over made-up files, in a second; the repository itself is not looked at."""
+"""Tests write_all.py over made-up files, and the heads of the repository's written files, in seconds."""
 
 import os
 import sys
@@ -6,7 +6,7 @@ import unittest
 from unittest import mock
 
 from shared.command_line import ended
-from shared.crates import Unfit
+from shared.crates import TOP, Unfit
 from shared.test_support import Room, printed, put
 from write import write_all
 
@@ -27,6 +27,15 @@ class Heads(unittest.TestCase):
             '"""By hand."""\n"""Written by tools/x.py."""\n',
         ):
             self.assertIsNone(write_all.writer_in(text), text)
+
+    def test_each_written_file_of_the_repository_names_its_script_and_is_not_edited_by_hand(self):
+        files = write_all.sources(TOP)
+        for path, script in write_all.writers(files).items():
+            with self.subTest(path):
+                said = script.replace("write/", "") if path.startswith("crates/") else script
+                head = write_all.HEAD.match(files[path].decode())[0]
+                self.assertIn(f"Written by {said}, and not edited by hand.", head)
+                self.assertTrue((TOP / script).is_file())
 
 
 class Copies(Room):
@@ -107,13 +116,13 @@ class Writers(Room):
     def said(self, text, name=None):
         """What is said of a script with this `main`."""
         files = [f"tools/shared/{it}.py" for it in ("command_line", "crates")]
-        self.put({it: (write_all.TOP / it).read_bytes() for it in files})
+        self.put({it: (TOP / it).read_bytes() for it in files})
         self.put({"tools/write/x.py": text, "tools/shared/y.py": "WORD = 'why'\n"})
         return write_all.call([sys.executable, "-c", write_all.RUN.format("x")], self.root, name)
 
     def test_each_is_a_script(self):
         for script in write_all.WRITERS:
-            self.assertTrue((write_all.TOP / f"tools/write/{script}.py").is_file(), script)
+            self.assertTrue((TOP / f"tools/write/{script}.py").is_file(), script)
 
     def test_main_is_run_and_not_what_stands_behind_it(self):
         text = "from shared import y\ndef main():\n    print(y.WORD, __name__)\nif __name__ == '__main__':\n    1 / 0\n"

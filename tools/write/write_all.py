@@ -1,4 +1,3 @@
-#!/usr/bin/env python3
 """Writes all that scripts write, and lays it out: the one command after a change to grammar or types.
 
     python3 tools/write/write_all.py

@@ -4,11 +4,12 @@ import re
 
 from description.declarations import Declaration, Part, declared_by, split
 from description.names import snake
+from description.uses import ghost_lines
 from shared.written_places import FOLDER
 from write.written.conversions import conversions
 from write.written.copies import copies
 from write.written.fields import methods
-from write.written.imports import ghost_lines, imported, paths_in, use_lines
+from write.written.imports import imported, paths_in, use_lines
 from write.written.parses import parses
 from write.written.stated import Stated
 

@@ -4,7 +4,6 @@ import re
 
 from description.declarations import declared_in
 from description.layout import use_line
-from description.uses import ghost_line
 from shared.crates import Unfit
 
 USE = re.compile(r"^use ([^;]+);", re.M)
@@ -52,11 +51,3 @@ def use_lines(code, paths):
         wanted.setdefault(path, set()).add("self" if path.endswith(f"::{name}") else name)
     order = sorted(wanted, key=lambda path: (not path.startswith("super"), path != "crate", path))
     return "".join(use_line(path, wanted[path]) for path in order)
-
-
-def ghost_lines(names):
-    """What ghost clauses name, as (module, name), brought in."""
-    wanted = {}
-    for module, name in names:
-        wanted.setdefault(module, set()).add(name)
-    return "".join(ghost_line(module, sorted(wanted[module])) for module in sorted(wanted))
