@@ -7,7 +7,7 @@ version of include/weedle.h, with links that lead nowhere from there left out. S
 the library, for each BUILT file, a program or a shared object, which processors and which glibc it wants, and a SHA-256 of
 each file, as `sha256sum -c` reads it.
 
-The status is 0, or 1 where CHANGELOG.md has no such section, and a line says so.
+The status is 0, or 2 where CHANGELOG.md has no such section, and a line says so.
 """
 
 import re

@@ -198,23 +198,10 @@ def numbered(name, number):
 class JavaScriptMakers(Makers):
     """What each rule makes, in JavaScript."""
 
-    def maker(self, type_, rule):
-        if type_.name in LISTS:
-            separator = self.name(type_.arguments[1])
-            self.add_parts(BY_NAME[rule.upper()].row)
-            return f"new One({self.name(type_)}, {separator})"
-        if type_.name in ("Option", "Vec", "()", TUPLE):
-            names = {"Option": "new Maybe()", "Vec": "new Many()", "()": "new Together()"}
-            return names.get(type_.name, f"new Together({string(TUPLE)})")
-        declaration = self.declared.types[type_.name]
-        return self.chosen(type_) if declaration.is_enum else self.name(type_)
+    NEW = "new "
 
-    def add_parts(self, row):
-        """Adds the rules of which a list with separators is made."""
-        if row[0] == "Seq":
-            self.makers[row[1][0].lower()] = "new Between(ITEMS)"
-            row = BY_NAME[row[1][0]].row
-        self.makers[row[2].lower()] = "new Between(FOLLOWING)"
+    def listed(self, type_, rule):
+        return f"new One({self.name(type_)}, {self.name(type_.arguments[1])})"
 
     def chosen(self, type_):
         rows = []

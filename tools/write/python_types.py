@@ -250,6 +250,9 @@ def union_of(name, variants):
 class Makers:
     """What each rule makes, found from the type of all definitions on."""
 
+    # What stands before the call of a class.
+    NEW = ""
+
     def __init__(self, package):
         self.package, self.declared = package, package.declared
         self.makers, self.separators = {}, {}
@@ -279,20 +282,23 @@ class Makers:
     def maker(self, type_, rule):
         if type_.name in ("Option", "Vec", "()", TUPLE):
             names = {"Option": "Maybe()", "Vec": "Many()", "()": "Together()"}
-            return names.get(type_.name, f'Together("{TUPLE}")')
+            return self.NEW + names.get(type_.name, f'Together("{TUPLE}")')
         if type_.name in LISTS:
-            self.separators[rule] = self.name(type_.arguments[1])
             self.add_parts(BY_NAME[rule.upper()].row)
-            return self.name(type_)
+            return self.listed(type_, rule)
         declaration = self.declared.types[type_.name]
         return self.chosen(type_) if declaration.is_enum else self.name(type_)
+
+    def listed(self, type_, rule):
+        self.separators[rule] = self.name(type_.arguments[1])
+        return self.name(type_)
 
     def add_parts(self, row):
         """Adds the rules of which a list with separators is made."""
         if row[0] == "Seq":
-            self.makers[row[1][0].lower()] = "Between(ITEMS)"
+            self.makers[row[1][0].lower()] = f"{self.NEW}Between(ITEMS)"
             row = BY_NAME[row[1][0]].row
-        self.makers[row[2].lower()] = "Between(FOLLOWING)"
+        self.makers[row[2].lower()] = f"{self.NEW}Between(FOLLOWING)"
 
     def chosen(self, type_):
         rows = []
