@@ -1,6 +1,7 @@
 -- What an answer says of a text, by its status.
 use Rattle.std.specs.Prelude.{◌≡◌, ◌⊎◌, ◌≤◌, ◌<◌, ◌^◌, ◌++◌, ℕ, List, All, length, drop, map}
-use Rattle.weedle_c.specs.Nodes.{Fits, c_node}
+use Rattle.weedle_c.specs.Nodes.{c_node}
+use Rattle.weedle_syntax.specs.Compact.{IsNarrow}
 use Rattle.weedle_c.specs.declared.node.WeedleNode.{WeedleNode}
 use Rattle.weedle_c.specs.declared.reader.WeedleAnswer.{WeedleAnswer}
 use Rattle.weedle_rules.specs.Outcomes.{EndsAt}
@@ -46,7 +47,7 @@ pub record IsRuleCounted (text : List ℕ) (rule room : ℕ) (answer : WeedleAns
 
 -- 32 bits don't hold the length of the text, or a place or the depth of a node of the tree that this says it has
 abbrev pub IsTooLong : (List Node → Type 0) → List ℕ → Type 0
-IsTooLong Has text = (2 ^ 32 ≤ length text) ⊎ ((tree : List Node) × Has tree × ¬ All Fits tree)
+IsTooLong Has text = (2 ^ 32 ≤ length text) ⊎ ((tree : List Node) × Has tree × ¬ All IsNarrow tree)
 
 -- the text isn't read whole, and the answer says where the unread rest begins
 pub record IsUnread (text : List ℕ) (answer : WeedleAnswer) : Type 0 where

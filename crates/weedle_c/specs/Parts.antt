@@ -1,6 +1,7 @@
 -- Parts as C has them, and what an answer says of them.
 use Rattle.std.specs.Prelude.{◌≡◌, ◌⊎◌, ◌≤◌, ◌<◌, ◌^◌, ◌==◌, ◌||◌, ◌++◌, not, nat_le, if◌then◌else◌, ℕ, Bool, List, All, count_by, length, drop, map}
-use Rattle.weedle_c.specs.Nodes.{Fits, c_node}
+use Rattle.weedle_c.specs.Nodes.{c_node}
+use Rattle.weedle_syntax.specs.Compact.{IsNarrow}
 use Rattle.weedle_c.specs.declared.node.WeedleNode.{WeedleNode}
 use Rattle.weedle_c.specs.declared.part.WeedlePart.{WeedlePart}
 use Rattle.weedle_c.specs.declared.recovered.WeedleRecovered.{WeedleRecovered}
@@ -80,4 +81,4 @@ pub record AreUncounted (text : List ℕ) (room node_room : ℕ) (answer : Weedl
 -- 32 bits don't hold the length of the text, a place of a part, or a place or the depth of a node
 abbrev pub AreTooLong : List ℕ → Type 0
 AreTooLong text =
-    (2 ^ 32 ≤ length text) ⊎ ((parts : List Part) × (nodes : List Node) × IsRecovery text parts nodes × (¬ All PartFits parts ⊎ ¬ All Fits nodes))
+    (2 ^ 32 ≤ length text) ⊎ ((parts : List Part) × (nodes : List Node) × IsRecovery text parts nodes × (¬ All PartFits parts ⊎ ¬ All IsNarrow nodes))

@@ -5,7 +5,7 @@ ghost use Rattle.std.specs.Str.{IsValidUpTo};
 ghost use Rattle.weedle_c.specs.Answers.{IsCounted, IsTooLong, IsTree, IsUnread};
 ghost use Rattle.weedle_syntax.specs.Syntax.{IsFront, IsSyntax};
 
-use crate::node::{MOST, WeedleNode, fill_compact};
+use crate::node::{MOST, WeedleNode};
 use crate::status::{NO_MEMORY, NO_ROOM, NOT_UTF8, READ, REFUSED, TOO_LONG};
 use std::alloc::Global;
 use weedle_syntax::{Compact, compact_of_front};
@@ -96,6 +96,6 @@ fn answer_of(raw: &str, found: &Compact, nodes: &mut [WeedleNode], answer: &mut 
     if count > nodes.len() {
         return NO_ROOM;
     }
-    fill_compact(found, nodes);
+    found.write_to(nodes);
     READ
 }

@@ -6,7 +6,7 @@ ghost use Rattle.weedle_c.specs.Answers.{IsTooLong, IsRuleTree, IsRuleCounted};
 ghost use Rattle.weedle_rules.specs.Outcomes.{FailsAt};
 ghost use Rattle.weedle_syntax.specs.Syntax.{IsRuleFront};
 
-use crate::node::{MOST, WeedleNode, fill_compact};
+use crate::node::{MOST, WeedleNode};
 use crate::reader::{NOTHING, WeedleAnswer};
 use crate::status::{NO_MEMORY, NO_ROOM, NO_RULE, NOT_UTF8, READ, REFUSED, TOO_LONG};
 use std::alloc::Global;
@@ -107,6 +107,6 @@ fn rule_answer(
     if count > nodes.len() {
         return NO_ROOM;
     }
-    fill_compact(found, nodes);
+    found.write_to(nodes);
     READ
 }

@@ -28,11 +28,6 @@ all_nodes shorts longs runs = flat_map (run_nodes shorts longs) runs
 abbrev pub IsInside : ℕ → ℕ → Run → Type 0
 IsInside shorts longs run = run.from + run.many ≤ (if run.is_long then longs else shorts)
 
--- what is left of the nodes of runs, of the first of which so many are done
-abbrev pub nodes_from : List Short → List Node → List Run → ℕ → List Node
-nodes_from shorts longs [] next = []
-nodes_from shorts longs (run ∷ runs) next = drop next (run_nodes shorts longs run) ++ all_nodes shorts longs runs
-
 -- the nodes of all runs
 abbrev pub nodes_of : Runs → List Node
 nodes_of nodes = all_nodes nodes.shorts.items nodes.longs.items nodes.runs.items
@@ -48,3 +43,8 @@ pub record IsShortened (base : ℕ) (found : List Node) (old new : List Short) :
   pub more : List Short
   pub are : new ≡ old ++ more
   pub same : map (node_of base) more ≡ found
+
+-- these stand in a room from number `at` on, and all else as it stood
+pub record IsWrittenAt {T : Type 0} (at : ℕ) (these old new : List T) : Type 0 where
+  pub within : at + length these ≤ length old
+  pub is : new ≡ take at old ++ these ++ drop (at + length these) old

@@ -1,15 +1,12 @@
 //! The nodes of a text in 8 bytes each, for callers in other languages.
 
-ghost use Rattle.std.specs.Iterator.{YieldsFirst, item_count};
-ghost use Rattle.std.specs.Prelude.{◌≡◌, ◌<◌, All, length, IfOk};
-ghost use Rattle.weedle_syntax.specs.Compact.{IsNarrow};
+ghost use Rattle.std.specs.Prelude.{◌≡◌, ◌<◌, ◌≤◌, ◌++◌, drop, length, map, IfOk};
 ghost use Rattle.weedle_syntax.specs.Syntax.{rest_of};
 
+use crate::fill::{FromNode, write_run};
 use crate::narrow::Narrow;
-use crate::node::Node;
-use crate::runs::{Run, Runs, Short, are_narrow};
+use crate::runs::{Run, Runs, are_narrow};
 use std::alloc::{AllocError, Global};
-use std::iter::FusedIterator;
 use std::marker::Model;
 
 /// The nodes of a rule that was read, in preorder: the node of the rule, and all below it in 8 bytes
@@ -70,82 +67,16 @@ impl Compact {
         self.root.node().end
     }
 
-    /// That each node's numbers are below 2³².
-    pub fn are_narrow(&self)
-        ensures { All IsNarrow self.now }
+    /// Writes the nodes to the front of the room, as the caller holds them.
+    pub fn write_to<T: FromNode>(&self, room: &mut [T])
+        requires { length self.now ≤ length room.old }
+        ensures { room.new ≡ map T.of self.now ++ drop (length self.now) room.old }
     {
-        self.root.node();
-    }
-
-    /// The nodes, one after another.
-    pub fn nodes(&self) -> CompactNodes<'_>
-        ensures { result ≡ self.now }
-    {
-        CompactNodes {
-            root: Some(self.root),
-            runs: &self.below.runs,
-            shorts: &self.below.shorts,
-            longs: &self.below.longs,
-            next: 0,
+        room[0] = T::from_node(self.root.node());
+        let mut at = 1;
+        for run in &self.below.runs {
+            write_run(&self.below, *run, room, at);
+            at += run.many;
         }
     }
 }
-
-/// The nodes of a [`Compact`], one after another. From [`Compact::nodes`].
-#[derive(Drop)]
-pub struct CompactNodes<'c> {
-    root: Option<Narrow>,
-    runs: &'c [Run],
-    shorts: &'c [Short],
-    longs: &'c [Narrow],
-    // how many of the first run are done
-    next: usize,
-}
-
-impl<'c> Model for CompactNodes<'c> {
-    ghost use Rattle.std.specs.Prelude.{List, ◌++◌, All, length};
-    ghost use Rattle.std.specs.Option.{option_to_list};
-    ghost use Rattle.weedle_syntax.specs.declared.node.Node.{Node as TheNode};
-    ghost use Rattle.weedle_syntax.specs.Compact.{IsInside, nodes_from};
-
-    ghost Value = { List TheNode };
-
-    ghost view = { λ c. option_to_list c.root
-        ++ nodes_from c.shorts.now c.longs.now c.runs.now c.next };
-
-    ghost invariant = { λ c.
-        All (IsInside (length c.shorts.now) (length c.longs.now)) c.runs.now };
-}
-
-impl<'c> Iterator for CompactNodes<'c> {
-    type Item = Node;
-
-    ghost next_gives = { YieldsFirst (λ rest. rest) };
-
-    ghost remaining = { item_count (λ rest. rest) };
-
-    fn next(&mut self) -> Option<Node> {
-        if let Some(root) = self.root {
-            self.root = None;
-            return Some(root.node());
-        }
-        while !self.runs.is_empty() {
-            let run = self.runs[0];
-            if self.next < run.many {
-                let at = run.from + self.next;
-                self.next += 1;
-                let node = if run.is_long {
-                    self.longs[at].node()
-                } else {
-                    self.shorts[at].node(run.base)
-                };
-                return Some(node);
-            }
-            self.runs = &self.runs[1..];
-            self.next = 0;
-        }
-        None
-    }
-}
-
-impl<'c> FusedIterator for CompactNodes<'c> {}

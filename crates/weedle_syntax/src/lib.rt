@@ -21,6 +21,7 @@ mod below;
 mod compact;
 mod descent;
 mod empty;
+mod fill;
 mod front;
 mod iter;
 mod kinds;
@@ -39,7 +40,8 @@ mod tree;
 mod trivia;
 mod walk;
 
-pub use compact::{Compact, CompactNodes};
+pub use compact::Compact;
+pub use fill::FromNode;
 pub use front::{compact_of_front, compact_of_rule};
 pub use iter::{Children, Leaves};
 pub use lay::lay_by_descent;

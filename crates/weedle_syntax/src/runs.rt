@@ -102,9 +102,10 @@ fn shorten(shorts: &mut Vec<Short>, found: &[Narrow], base: u32) -> Result<bool,
     ensures none { IfOk result (λ all. OnFalse all (shorts.new.items ≡ shorts.old.items)) }
 {
     let from = shorts.len();
+    shorts.reserve(found.len())?;
     for i in 0..found.len() {
         match shortened(found[i].node(), base) {
-            Some(short) => shorts.push(short)?,
+            Some(short) => shorts.push_reserved(short),
             None => {
                 shorts.truncate(from);
                 return Ok(false);

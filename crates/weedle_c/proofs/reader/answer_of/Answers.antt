@@ -32,5 +32,5 @@ returns-clause-read c =
     λ _. record {
       tree = c.args.found.now;
       has = has_tree c.requires.front done rest many;
-      written = c.fill_compact.ensures;
+      written = c.write_to.ensures;
     }

@@ -18,5 +18,5 @@ returns-clause-read c =
     λ _. record {
       tree = c.args.found.now;
       has = has_rule c.requires.front c.end.ensures many;
-      written = c.fill_compact.ensures;
+      written = c.write_to.ensures;
     }
