@@ -39,6 +39,15 @@
 //! assert_eq!(rt; text.as_str(), "interface A {\n  attribute long x;\n};\n");
 //! ```
 //!
+//! A whole text is written anew by one call, which reads what it wrote and compares:
+//!
+//! ```rust
+//! use weedle::write_whole;
+//!
+//! let written = write_whole(rt.alloc(), "interface A{attribute long x;}; // of A")?;
+//! assert_eq!(rt; written.as_deref(), Some("interface A {\n  attribute long x;\n};\n"));
+//! ```
+//!
 //! Members and definitions are taken apart by move. These are all members of an interface, those of
 //! its parts too, with no copy:
 //!
@@ -115,3 +124,4 @@ pub use weedle_view::{
     included_into, inheritance_of, members_of, parts_named, type_names, type_names_of_arguments,
     type_names_of_attributes, type_names_of_return,
 };
+pub use weedle_whole::{WholeError, write_whole};

@@ -74,6 +74,10 @@
 #![tactic(auto)]
 
 #[cfg(test)]
+mod ancestors;
+#[cfg(test)]
+mod anew;
+#[cfg(test)]
 mod lists;
 #[cfg(test)]
 mod outcomes;
