@@ -1,10 +1,9 @@
-"""Writes docs/SLIPS.md: the texts of tests/slips.txt, and what is said of each.
+"""Writes docs/SLIPS.md: the texts of tests/slips.txt, and the message of each.
 
     python3 tools/write/slips.py [--check]
 
-Each text has one slip, and where that is stands there by hand. What is said is by the rows of the grammar (rows/words.py,
-rows/hints.py); `tools/run slips` asks a built weedle_check for the same. What is measured in real files stands on the page by
-hand.
+Each text has one syntax error, whose place the file has by hand. The messages are by the rows of the grammar (rows/words.py,
+rows/hints.py); `tools/run slips` compares those of a built weedle_check. What is measured in real files is by hand on the page.
 
 With --check nothing is written: a line says that the page is stale, and the status is 1.
 """
@@ -26,27 +25,26 @@ from write.make_cases import wanted_of
 
 SLIPS = TESTS / "slips.txt"
 PAGE = "docs/SLIPS.md"
-# What is measured in real files stands on the page too, by hand.
+# What is measured in real files is on the page too, by hand.
 MEASURED = "## In real files"
 MARK = "\u2038"
 # A message begins with a place, and so does a hint.
 PLACE = re.compile(r"(\d+):(\d+): ")
-HEAD = """# Slips
+HEAD = """# Syntax errors and their messages
 
-Texts with one slip each, from `tests/slips.txt`, and what `weedle_check` says of them. Where the slip is, marked by
-`{mark}`, is by hand. What is said is by the rows of the grammar alone; `tools/write/slips.py` writes this page but for its last
-part, and `tools/run slips` asks a built program for the same. The first line says where the reading stops, and the second one,
-[the hint](USING.md#what-is-said-of-a-refused-text), stands below it where there is one.
+Texts with one syntax error each, from `tests/slips.txt`, and what `weedle_check` says of them. Where the error is, marked by `{mark}`,
+is by hand. The messages are by the rows of the grammar alone: `tools/slips.py` writes this page except for its last part, and
+`tools/run slips` compares a built program with it. The first line of a message says where the reading stops. The second one, if
+any, is [the hint](USING.md#what-is-said-of-a-refused-text).
 
-Of {count} slips a hint is told of {hints}. {changes} of them tell a change, and with it {mended} texts are read whole.
-At {before} slips the first line points at the slip itself, and with the hint {now}; the others are marked by *no*.
-Within a line of the slip stand {near}.
+{hints} of {count} errors have a hint. {changes} hints are changes, with which {mended} texts are read whole. The first line points at
+the error itself for {before} errors, and one of the two lines for {now}; the others are marked by *no*. {near} are within a line of it.
 
 """
 
 
 class Slip:
-    """A text with one slip, and the place of it in characters."""
+    """A text with one syntax error, and its place in characters."""
 
     def __init__(self, line):
         self.line = line
@@ -54,14 +52,14 @@ class Slip:
         self.text, self.place = front + back, len(front)
 
     def wanted(self):
-        """What is to be said of it, by the rows."""
+        """What is expected of it, by the rows."""
         return wanted_of(self.text)
 
     def told(self):
         return Told(self.text.encode(), len(self.text[:self.place].encode()))
 
     def is_at(self, line):
-        """Whether a line of a message points at the slip."""
+        """Whether a line of a message points at the error."""
         match = PLACE.match(line)
         if not match:
             return False
@@ -72,8 +70,8 @@ class Slip:
 
 
 class Told:
-    """What the rows tell of bytes with a slip at a place: whether there is a hint, a change, one that mends, and whether
-    the furthest place or the hint stands within a line of the slip.
+    """What the rows tell of bytes with an error at a place: whether there is a hint, a change, one that mends, and whether
+    the furthest place or the hint is within a line of the error.
     """
 
     def __init__(self, text, slip):
@@ -115,7 +113,7 @@ def page():
         near=sum(it.is_near for _, _, it in found),
     )
     rows = [f"| `{cell(slip.line)}` | {'<br>'.join(map(cell, lines))}{'' if any(map(slip.is_at, lines)) else ' *no*'} |" for slip, lines, _ in found]
-    return head + "\n".join(["| Text | What is said |", "|---|---|", *rows, ""]) + measured()
+    return head + "\n".join(["| Text | Message |", "|---|---|", *rows, ""]) + measured()
 
 
 def measured():
