@@ -33,7 +33,7 @@ PLACE = re.compile(r"(\d+):(\d+): ")
 HEAD = """# Syntax errors and their messages
 
 Texts with one syntax error each, from `tests/slips.txt`, and what `weedle_check` says of them. Where the error is, marked by `{mark}`,
-is by hand. The messages are by the rows of the grammar alone: `tools/slips.py` writes this page except for its last part, and
+is by hand. The messages are by the rows of the grammar alone: `tools/write/slips.py` writes this page except for its last part, and
 `tools/run slips` compares a built program with it. The first line of a message says where the reading stops. The second one, if
 any, is [the hint](USING.md#what-is-said-of-a-refused-text).
 
