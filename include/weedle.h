@@ -74,15 +74,15 @@ struct weedle_answer {
 /* Kinds of hints: what would fix a text, or what it lacks. */
 enum weedle_hint {
     WEEDLE_HINT_NONE = 0, /* There is none. */
-    WEEDLE_HINT_KEYWORD = 1, /* A keyword in place of the word that stands there. */
+    WEEDLE_HINT_KEYWORD = 1, /* A keyword in place of the word there. */
     WEEDLE_HINT_MISSING = 2, /* A sign is missing there. */
-    WEEDLE_HINT_EXTRA = 3, /* The sign that stands there is too many. */
-    WEEDLE_HINT_WRONG_SIGN = 4, /* Another sign in place of the one that stands there. */
-    WEEDLE_HINT_WORD_ORDER = 5, /* The two words that stand there, in the other order. */
-    WEEDLE_HINT_DOCSTRING = 6, /* The docstring that stands there belongs elsewhere. */
+    WEEDLE_HINT_EXTRA = 3, /* The sign there is too many. */
+    WEEDLE_HINT_WRONG_SIGN = 4, /* Another sign in place of the one there. */
+    WEEDLE_HINT_WORD_ORDER = 5, /* The two words there, in the other order. */
+    WEEDLE_HINT_DOCSTRING = 6, /* The docstring there belongs elsewhere. */
     WEEDLE_HINT_OPEN_STRING = 7, /* The string that opens there isn't closed. */
     WEEDLE_HINT_SPLIT_STRING = 8, /* The string that opens there ends in another line. */
-    WEEDLE_HINT_BYTE_ORDER_MARK = 9, /* A byte order mark stands there. */
+    WEEDLE_HINT_BYTE_ORDER_MARK = 9, /* A byte order mark is there. */
     WEEDLE_HINT_NO_DEFINITIONS = 10 /* The text has no definitions. */
 };
 

@@ -30,7 +30,7 @@ filled_all {found} {old} {now} h =
     let n = length found in
     sym (take-append-drop n now) ∙ ap (λ xs. xs ++ drop n now) (h.front ∙ ap (map c_node) (take_all n found (omega arith))) ∙ ap (λ xs. map c_node found ++ xs) h.behind
 
--- a room that is being filled: the first k nodes stand there, and these are left
+-- a room that is being filled: the first k nodes are there, and these are left
 pub record IsFilling (found : List Node) (old now : List WeedleNode) (k : ℕ) (left : List Node) : Type 0 where
   pub filled : IsFilled found old now k
   pub within : k ≤ length found
