@@ -85,7 +85,7 @@ module _ (shorts : List Short) (longs : List Node) (runs : List Run) (next : ℕ
 pub others_inside : (s l : ℕ) (runs : List Run) → All (IsInside s l) runs → All (IsInside s l) (take (length runs - 1) (drop 1 runs))
 others_inside s l runs h = All-same (IsInside s l) (take (length runs - 1) (drop 1 runs)) (drop 1 runs) (take_rest runs 1) (All-drop (IsInside s l) 1 runs h)
 
--- what was laid down behind one node is put behind other nodes
+-- what was written behind one node is put behind other nodes
 pub packed_on : (text : List ℕ) (inner old new front behind : List Node) → length old ≡ 1 → Adds text inner old new
     → behind ≡ front ++ take (length new - 1) (drop 1 new) → Adds text inner front behind
 packed_on text inner old new front behind one (more, is, trees) b =
