@@ -57,7 +57,7 @@ enum weedle_status {
 /* A rule that was read, and the bytes that it took. */
 struct weedle_node {
     uint32_t rule;  /* an enum weedle_rule */
-    uint32_t depth; /* how many nodes it stands in */
+    uint32_t depth; /* how many nodes it is in */
     uint32_t start; /* where it begins, in bytes from the front of the text */
     uint32_t end;   /* where it ends: the place behind its last byte */
 };
@@ -65,24 +65,24 @@ struct weedle_node {
 /* What weedle_syntax and weedle_syntax_of say beside their status. */
 struct weedle_answer {
     size_t count; /* WEEDLE_STATUS_READ, WEEDLE_STATUS_NO_ROOM: how many nodes there are; else 0 */
-    size_t rest;  /* WEEDLE_STATUS_READ, WEEDLE_STATUS_NO_ROOM: where the unread rest begins, in bytes from the front of
-                     the text: of weedle_syntax at its end;
+    size_t rest;  /* WEEDLE_STATUS_READ, WEEDLE_STATUS_NO_ROOM: where the remaining input begins, in bytes from the front
+                     of the text: of weedle_syntax at its end;
                      WEEDLE_STATUS_REFUSED: the same of weedle_syntax, and 0 of weedle_syntax_of;
                      WEEDLE_STATUS_NOT_UTF8: the byte up to which the text is UTF-8; else 0 */
 };
 
-/* Kinds of hints: what would mend a text, or what it lacks. */
+/* Kinds of hints: what would fix a text, or what it lacks. */
 enum weedle_hint {
     WEEDLE_HINT_NONE = 0, /* There is none. */
-    WEEDLE_HINT_KEYWORD = 1, /* A keyword in place of the word that stands there. */
+    WEEDLE_HINT_KEYWORD = 1, /* A keyword in place of the word there. */
     WEEDLE_HINT_MISSING = 2, /* A sign is missing there. */
-    WEEDLE_HINT_EXTRA = 3, /* The sign that stands there is too many. */
-    WEEDLE_HINT_WRONG_SIGN = 4, /* Another sign in place of the one that stands there. */
-    WEEDLE_HINT_WORD_ORDER = 5, /* The two words that stand there, in the other order. */
-    WEEDLE_HINT_DOCSTRING = 6, /* The docstring that stands there belongs elsewhere. */
+    WEEDLE_HINT_EXTRA = 3, /* The sign there is too many. */
+    WEEDLE_HINT_WRONG_SIGN = 4, /* Another sign in place of the one there. */
+    WEEDLE_HINT_WORD_ORDER = 5, /* The two words there, in the other order. */
+    WEEDLE_HINT_DOCSTRING = 6, /* The docstring there belongs elsewhere. */
     WEEDLE_HINT_OPEN_STRING = 7, /* The string that opens there isn't closed. */
     WEEDLE_HINT_SPLIT_STRING = 8, /* The string that opens there ends in another line. */
-    WEEDLE_HINT_BYTE_ORDER_MARK = 9, /* A byte order mark stands there. */
+    WEEDLE_HINT_BYTE_ORDER_MARK = 9, /* A byte order mark is there. */
     WEEDLE_HINT_NO_DEFINITIONS = 10 /* The text has no definitions. */
 };
 
@@ -90,7 +90,7 @@ enum weedle_hint {
    front of the text. With any status but WEEDLE_STATUS_REFUSED all of it is 0, but `place` with
    WEEDLE_STATUS_NOT_UTF8. */
 struct weedle_refusal {
-    size_t start;       /* where the unread rest begins, or the unread part */
+    size_t start;       /* where the remaining input begins, or the unread part */
     size_t place;       /* the furthest place to which the reading comes;
                            WEEDLE_STATUS_NOT_UTF8: the byte up to which the text is UTF-8 */
     size_t line;        /* the line of that place, from 1 on */
@@ -98,7 +98,7 @@ struct weedle_refusal {
     size_t length;      /* how many bytes the whole message has, without the zero behind it */
     size_t hint;        /* an enum weedle_hint */
     size_t hint_place;  /* where the hint is; 0 where there is none */
-    size_t hint_length; /* how many bytes stand there that it speaks of: the word, the sign, both words and what stands
+    size_t hint_length; /* how many bytes are there that it speaks of: the word, the sign, both words and what is
                            between them, the lines of the docstring, the quote or the mark; 0 where something is missing */
     size_t hint_offset; /* where the hint's line begins in the message, which is `length` where there is none */
 };
@@ -132,7 +132,7 @@ struct weedle_recovered {
 struct weedle_formatted {
     size_t length;      /* WEEDLE_STATUS_READ, WEEDLE_STATUS_NO_ROOM: how many bytes there are; else 0 */
     size_t rest;        /* as weedle_answer has it of weedle_syntax */
-    size_t is_laid_out; /* WEEDLE_STATUS_READ, WEEDLE_STATUS_NO_ROOM: 0 where the text is as it stood, since the layout
+    size_t is_laid_out; /* WEEDLE_STATUS_READ, WEEDLE_STATUS_NO_ROOM: 0 where the text is as it was, since the layout
                            would have changed what it says (tested), and else 1; with other statuses 0 */
 };
 
@@ -140,10 +140,10 @@ struct weedle_formatted {
  * Reads a text as WebIDL definitions, and writes the nodes of its syntax tree.
  *
  * WEEDLE_STATUS_READ: the grammar reads the whole text, and the first `count` of `nodes` are its tree, in preorder:
- *     behind a node stand those that it reads directly, each before its own. So what is below a node are the nodes
+ *     behind a node are those that it reads directly, each before its own. So what is below a node are the nodes
  *     behind it as long as they are deeper. The bytes of the nodes that have none below them, one after another, are
- *     the text. What stands behind them in `nodes` stays as it was.
- * WEEDLE_STATUS_REFUSED: it doesn't, and leaves what stands from `rest` on.
+ *     the text. What follows them in `nodes` stays as it was.
+ * WEEDLE_STATUS_REFUSED: it doesn't, and leaves the text from `rest` on.
  * WEEDLE_STATUS_NOT_UTF8: exactly where the bytes aren't UTF-8.
  * WEEDLE_STATUS_NO_MEMORY: memory was refused (tested).
  * WEEDLE_STATUS_NO_ROOM: the grammar reads the whole text, and there are `count` nodes, more than `room`. So with a
@@ -167,13 +167,13 @@ uint32_t weedle_syntax(
     struct weedle_answer *answer);
 
 /*
- * Reads a rule at the front of a text, whatever stands behind it, and writes the nodes of its syntax tree: of
+ * Reads a rule at the front of a text, whatever follows it, and writes the nodes of its syntax tree: of
  * WEEDLE_TYPE and `long? x` those of `long? `. `rule` is an enum weedle_rule.
  *
  * WEEDLE_STATUS_READ: the rule is read from the front of the text up to `rest`, and the first `count` of `nodes` are
- *     its tree, as weedle_syntax writes them. What stands behind them in `nodes` stays as it was.
+ *     its tree, as weedle_syntax writes them. What follows them in `nodes` stays as it was.
  * WEEDLE_STATUS_REFUSED: the rule fails at the front of the text.
- * WEEDLE_STATUS_NOT_UTF8: exactly where there is such a rule and the bytes aren't UTF-8, what stands behind included.
+ * WEEDLE_STATUS_NOT_UTF8: exactly where there is such a rule and the bytes aren't UTF-8, what follows included.
  * WEEDLE_STATUS_NO_MEMORY: memory was refused (tested).
  * WEEDLE_STATUS_NO_ROOM: the rule is read up to `rest`, and there are `count` nodes, more than `room`.
  * WEEDLE_STATUS_TOO_LONG: 32 bits don't hold the length of the text, or a place or a depth of the rule's tree.
@@ -195,7 +195,7 @@ uint32_t weedle_syntax_of(
  * WEEDLE_STATUS_READ: the grammar reads the whole text; there is nothing to say.
  * WEEDLE_STATUS_REFUSED: it doesn't, and `refusal` says where. The message is written to `message`, as
  *     `weedle_check` prints it behind the name of a file: line, column and what would have been read there, the line
- *     of the text, a mark below the place, and, where it is known, what would mend the text, with a line and a column.
+ *     of the text, a mark below the place, and, where it is known, what would fix the text, with a line and a column.
  *     It is cut behind the last character that there is room for, and ended by a zero; so it needs a room of
  *     `length` + 1. 1,024 bytes hold any (tested). With a room of 0 nothing is written.
  * WEEDLE_STATUS_NOT_UTF8: exactly where the bytes aren't UTF-8.
@@ -204,11 +204,12 @@ uint32_t weedle_syntax_of(
  *
  * It reads the text as weedle_syntax does, and then goes by descent over the first definition that isn't read, in some 200
  * to 300 nanoseconds for each byte of it and with no more memory than for a list. Where that would take too long or too
- * much of the stack, since the rest nests deep, it takes a table of the rest: some 1,600 bytes for each byte.
- * Descent goes over the definition again with up to sixteen changes, for what would mend it, and once more with each where
+ * much of the stack, since the remaining input nests deep, it takes a table of that: some 1,600 bytes for each byte.
+ * Descent goes over the definition again with up to sixteen changes, for what would fix it, and once more with each where
  * none does. All of them together try at most 16 rules for each byte of the definition, up to 64 kB behind the furthest place,
- * and 100,000, and take no table; where that isn't enough, no more changes are told. Of `[A, A, A` that isn't closed or of many
- * comments in front of a definition tables of the text and of its rest are filled, in some 20,000 to 35,000 instructions a byte.
+ * and 100,000, and take no table; where that isn't enough, no more changes are told. For `[A, A, A` that isn't closed, or
+ * many comments in front of a definition, tables of the text and of its remaining input are filled, in some 20,000 to
+ * 35,000 instructions a byte.
  */
 uint32_t weedle_explain(
     const char *text, size_t length,
@@ -216,11 +217,11 @@ uint32_t weedle_explain(
     struct weedle_refusal *refusal);
 
 /*
- * The same of what stands from `start` on: what stands before it isn't read. Places, line and column are those of the
+ * The same of the text from `start` on: what precedes it isn't read. Places, line and column are those of the
  * whole text, and so is the line in the message. With the `rest` that weedle_syntax left, it says what weedle_explain
  * says (tested), and reads nothing again.
  *
- * WEEDLE_STATUS_READ: the grammar reads whole what stands from `start` on.
+ * WEEDLE_STATUS_READ: the grammar reads whole the text from `start` on.
  * WEEDLE_STATUS_REFUSED: it doesn't.
  * WEEDLE_STATUS_NOT_UTF8: exactly where the bytes aren't UTF-8, those before `start` included.
  * WEEDLE_STATUS_NO_MEMORY: memory was refused (tested).
@@ -237,7 +238,7 @@ uint32_t weedle_explain_from(
  * "a name", as the message of weedle_explain has up to six of them, with a zero behind each. Of what is read whole too:
  * what could follow at its end.
  *
- * WEEDLE_STATUS_READ: the first `length` bytes of `words` are the `count` words. What stands behind them stays as it was.
+ * WEEDLE_STATUS_READ: the first `length` bytes of `words` are the `count` words. What follows them stays as it was.
  * WEEDLE_STATUS_NOT_UTF8: exactly where the bytes aren't UTF-8.
  * WEEDLE_STATUS_NO_MEMORY: memory was refused (tested).
  * WEEDLE_STATUS_NO_ROOM: they need `length` bytes, more than `room`. 2,048 bytes hold any (tested).
@@ -257,8 +258,8 @@ uint32_t weedle_expected(
  * WEEDLE_STATUS_READ: the first `recovered.parts` of `parts` join to the text. The rule of a part that is read is read
  *     from its start to its end, and that of one that isn't fails at its start; that one has no byte, or ends at the first
  *     synchronisation point. The first `recovered.nodes` of `nodes` are the trees of the parts that are read, in their
- *     order, as weedle_syntax_of writes them: the first node of each has the depth 0. Of a text that weedle_syntax reads
- *     each part is a definition that is read. What stands behind them in `parts` and `nodes` stays as it was.
+ *     order, as weedle_syntax_of writes them: the first node of each has the depth 0. For a text that weedle_syntax
+ *     reads each part is a definition that is read. What follows them in `parts` and `nodes` stays as it was.
  * WEEDLE_STATUS_NOT_UTF8: exactly where the bytes aren't UTF-8.
  * WEEDLE_STATUS_NO_MEMORY: memory was refused (tested).
  * WEEDLE_STATUS_NO_ROOM: the parts are more than `part_room`, or the nodes more than `room`. So with rooms of 0 it
@@ -278,7 +279,7 @@ uint32_t weedle_recover(
 /*
  * Says why a part that weedle_recover left unread is so, and writes a message, as weedle_explain does. A member is read
  * as the only one of a definition, all else behind what is read of its definition, up to the end of the part. Where a
- * sign is missing, and the part has no byte, the sign alone is expected. What stands elsewhere in the text isn't looked
+ * sign is missing, and the part has no byte, the sign alone is expected. What is elsewhere in the text isn't looked
  * at.
  *
  * WEEDLE_STATUS_REFUSED: `refusal` says where, and the message is written to `message`, cut and ended as that
@@ -304,21 +305,21 @@ uint32_t weedle_expected_part(
     struct weedle_expected_words *expected);
 
 /*
- * Lays a text out anew, as `weedle_format` does: blanks are moved, and nothing else changes.
+ * Formats a text, as `weedle_format` does: whitespace is moved, and nothing else changes.
  *
- * WEEDLE_STATUS_READ: the grammar reads the whole text, and the first `length` of `out` are the text laid out. The
- *     grammar reads it whole too, by the same rules, each as deep, and all bytes but those of blanks and of the ends
- *     of line comments are the same, in the same order. What stands behind them in `out` stays as it was; no zero is
- *     written.
- * WEEDLE_STATUS_REFUSED: it doesn't, and leaves what stands from `rest` on.
+ * WEEDLE_STATUS_READ: the grammar reads the whole text, and the first `length` of `out` are the formatted text. The
+ *     grammar reads it whole too, by the same rules, each as deep, and all bytes except for those of whitespace and of
+ *     the ends of line comments are the same, in the same order. What follows them in `out` stays as it was; no zero
+ *     is written.
+ * WEEDLE_STATUS_REFUSED: it doesn't, and leaves the text from `rest` on.
  * WEEDLE_STATUS_NOT_UTF8: exactly where the bytes aren't UTF-8.
  * WEEDLE_STATUS_NO_MEMORY: memory was refused (tested).
  * WEEDLE_STATUS_NO_ROOM: it needs `length` bytes, more than `room`. So with a room of 0 it tells how much is needed.
  * Only with WEEDLE_STATUS_READ is anything written to `out`, which `text` isn't a part of.
  *
  * It reads the text as weedle_syntax does, and what was made of it once more where that isn't the text itself: so it
- * takes a third more of its time where the text is laid out already, and else 2.4 times as much. Its nodes take 32 bytes: of
- * what people write it asked for 2.1 to 2.4 times as many bytes as weedle_syntax, of the densest texts for 4.5 times as many.
+ * takes a third more of its time where the text is formatted already, and else 2.4 times as much. Its nodes take 32
+ * bytes: of what people write it asked for 2.1 to 2.4 times as many bytes as weedle_syntax, of the densest texts for 4.5 times as many.
  * Where the layout alone needs a table, or comments follow one another with nothing between, it was up to nine times.
  */
 uint32_t weedle_format(

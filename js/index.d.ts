@@ -28,10 +28,10 @@ export declare function parse(text: string | Uint8Array): Definitions;
 export declare function syntax(text: string | Uint8Array): Node;
 
 /**
- * The text laid out anew: a string of a string, a Buffer of bytes.
+ * The formatted text: a string of a string, a Buffer of bytes.
  *
- * Blanks are moved, and nothing else changes: the answer is read by the same rules, with the same words, strings and
- * comments. A text of whitespace and comments alone stays as it stands. It throws what `parse` throws.
+ * Whitespace is moved, and nothing else changes: the answer is read by the same rules, with the same words, strings and
+ * comments. A text of whitespace and comments alone stays as it is. It throws what `parse` throws.
  */
 export declare function format<T extends string | Uint8Array>(text: T): T extends string ? string : T;
 
@@ -61,7 +61,7 @@ export declare class Part {
   readonly rule: string;
   /** Whether it is read. */
   readonly isRead: boolean;
-  /** All that it takes, blanks and comments included, in UTF-16 units; nothing where something is missing. */
+  /** All that it takes, whitespace and comments included, in UTF-16 units; nothing where something is missing. */
   readonly span: Span;
   /** The same in bytes of UTF-8. */
   readonly byteSpan: Span;
@@ -103,7 +103,7 @@ export declare class Definitions extends Array<Definition> {
 }
 
 /**
- * A name that stands in a text, and what it stands for.
+ * A name in a text, and what it stands for.
  *
  * In `interface _A {};` the text is `A`, the role `Interface`, and the span from 10 to 12 has the underscore in it.
  */
@@ -115,7 +115,7 @@ export declare class Name {
   readonly role: Role;
   /** The value of the name. */
   readonly value: Identifier;
-  /** Where it stands, with an underscore in front, in UTF-16 units. */
+  /** Where it is, with an underscore in front, in UTF-16 units. */
   readonly span: Span;
   /** The same in bytes of UTF-8. */
   readonly byteSpan: Span;
@@ -130,9 +130,9 @@ export declare class Node {
   readonly rule: number;
   /** The name of the rule, as `interface_definition`. */
   readonly name: string;
-  /** How many nodes it stands in. */
+  /** How many nodes it is in. */
   readonly depth: number;
-  /** All that was read, blanks and comments around words included, in UTF-16 units. */
+  /** All that was read, whitespace and comments around words included, in UTF-16 units. */
   readonly span: Span;
   /** The same in bytes of UTF-8. */
   readonly byteSpan: Span;
@@ -142,7 +142,7 @@ export declare class Node {
   readonly text: string;
   /** The nodes right below it. Where there are some, they take all its text in turn. */
   readonly children: Node[];
-  /** Whether no node stands below it. */
+  /** Whether no node is below it. */
   readonly isLeaf: boolean;
   /** The node right above it; null of the whole text's. */
   readonly parent: Node | null;
@@ -156,7 +156,7 @@ export declare class Node {
   equals(other: unknown): boolean;
 }
 
-/** Kinds of hints: what would mend a text, or what it lacks. */
+/** Kinds of hints: what would fix a text, or what it lacks. */
 export type HintKind =
   | "Keyword"
   | "Missing"
@@ -177,7 +177,7 @@ export type HintKind =
  */
 export declare class Refused extends SyntaxError {
   private constructor();
-  /** Where the unread rest begins, in UTF-16 units: at the first definition that isn't read. */
+  /** Where the remaining input begins, in UTF-16 units: at the first definition that isn't read. */
   readonly start: number;
   /** The same in bytes of UTF-8. */
   readonly byteStart: number;
@@ -193,7 +193,7 @@ export declare class Refused extends SyntaxError {
   readonly expected: string;
   /** All that would have been read there, as ["`,`", "`}`"]. */
   readonly words: readonly string[];
-  /** What would mend the text, as "1:15: `attribute` in place of `atribute`?", or null. */
+  /** What would fix the text, as "1:15: `attribute` in place of `atribute`?", or null. */
   readonly hint: string | null;
   /** Which kind of hint that is. */
   readonly hintKind: HintKind | null;

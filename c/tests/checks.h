@@ -40,7 +40,7 @@ static inline int run_tests(const struct test *tests, size_t count) {
     return failed ? EXIT_FAILURE : EXIT_SUCCESS;
 }
 
-/* How often a piece of a large text is to stand there. */
+/* How often a piece of a large text is to be there. */
 static inline size_t large(size_t times) {
     size_t part = getenv("WEEDLE_SMALL") ? times / 100 : times;
     return part ? part : 1;

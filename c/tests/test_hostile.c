@@ -3,7 +3,7 @@
  *
  *     c/run_tests.sh
  *
- * builds and runs them. The families of texts, and what has to be said of each, stand in tests/families.txt, which the
+ * builds and runs them. The families of texts, and what has to be said of each, are in tests/families.txt, which the
  * program is given. A call may take a second of processor time, and 20 where WEEDLE_EMULATED is set.
  */
 #define _POSIX_C_SOURCE 200809L
@@ -106,7 +106,7 @@ struct family {
     struct call call;
 };
 
-/* The byte at a place of a piece, which it goes past: `\x` and two digits, `\n` and its like, or as it stands. */
+/* The byte at a place of a piece, which it goes past: `\x` and two digits, `\n` and its like, or as it is. */
 static int byte_at(const char **at) {
     static const char letters[] = "ntr", meant[] = "\n\t\r";
     char digits[3] = {0};
@@ -160,7 +160,7 @@ static struct family family_of(char *line) {
     return family;
 }
 
-/* Reads the text of a family, explains it and lays it out. */
+/* Reads the text of a family, explains it and formats it. */
 static int is_right(struct family *family) {
     struct call *call = &family->call;
     uint32_t said = family->status == WEEDLE_STATUS_NO_ROOM ? WEEDLE_STATUS_READ : family->status;

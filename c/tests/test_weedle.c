@@ -136,7 +136,7 @@ static void test_a_rule_at_the_front(void) {
     CHECK(weedle_syntax_of(rule, STATEMENT, strlen(STATEMENT), nodes, COUNT, &answer) == WEEDLE_STATUS_READ);
     CHECK(answer.count == COUNT - 2 && answer.rest == 17);
     CHECK(memcmp(nodes, wanted + 2, (COUNT - 2) * sizeof *nodes) == 0);
-    /* What stands behind it is left, also where no definition is. */
+    /* What follows it is left, also where no definition is. */
     CHECK(weedle_syntax_of(WEEDLE_TYPE, "long? x", 7, nodes, COUNT, &answer) == WEEDLE_STATUS_READ);
     CHECK(nodes[0].rule == WEEDLE_TYPE && nodes[0].start == 0 && nodes[0].end == 6 && answer.rest == 6);
     CHECK(weedle_syntax_of(WEEDLE_DEFINITIONS, "A includes B; foo", 17, nodes, 0, &answer) == WEEDLE_STATUS_NO_ROOM);
@@ -219,7 +219,7 @@ static void test_any_message_has_room_in_1024_bytes(void) {
     free(text);
 }
 
-/* A blank that doesn't break is shown as U+00A0, and the mark stands behind what that takes. */
+/* A no-break space is shown as U+00A0, and the mark follows what that takes. */
 static void test_what_cannot_be_seen_has_room_too(void) {
     size_t length;
     char *text = repeated("/*", "\xc2\xa0", 300, "*/ typedef unsiged long T; // ", &length);
@@ -340,7 +340,7 @@ static void test_memory_that_is_refused(void) {
     free(deep);
 }
 
-/* The same of a text that is laid out. */
+/* The same of a text that is formatted. */
 static void test_memory_of_a_layout_that_is_refused(void) {
     static const char text[] = "interface A{};enum E{\"a\",};";
     struct weedle_formatted ample, formatted;
@@ -399,7 +399,7 @@ static const struct {
 enum { CALLS = sizeof ASKING / sizeof *ASKING };
 
 /*
- * Texts of 1 to 300 kB ask for what their nodes need, each time that the list of them grows, and for no table of ends,
+ * Texts of 1 to 300 kB ask for what their nodes need, each time that the list of them grows, and for no packrat table,
  * which has 1,544 bytes for each byte of them. A layout is read once more.
  */
 static void test_bytes_that_are_asked_for(void) {
@@ -465,7 +465,7 @@ static void test_bytes_for_short_nodes(void) {
     free(text);
 }
 
-/* What is laid out already isn't read again: it asks for half as much as what isn't. */
+/* What is formatted already isn't read again: it asks for half as much as what isn't. */
 static void test_bytes_for_what_is_laid_out(void) {
     static const char member[] = "[A]\ninterface A {\n  [B] attribute long x;\n};\n\n";
     size_t length;
@@ -475,7 +475,7 @@ static void test_bytes_for_what_is_laid_out(void) {
     free(text);
 }
 
-/* Half a megabyte is laid out as a line of it is, and what it gives stands there already. */
+/* Half a megabyte is formatted as a line of it is, and what it gives is there already. */
 static void test_a_long_layout(void) {
     static const char member[] = "interface A{attribute long x;};", wanted[] = "interface A {\n  attribute long x;\n};\n\n";
     size_t times = large(16000), length, laid_out_length;

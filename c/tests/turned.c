@@ -101,7 +101,7 @@ CALL(recover,
      (text, length, parts, part_room, nodes, room, recovered), (text, length, parts, 0, nodes, 0, recovered),
      recovered, status)
 
-/* A long text that stays as it stood, as if its layout said something else. */
+/* A long text that stays as it was, as if its layout said something else. */
 static uint32_t laid(const char *text, size_t length, char *out, size_t room, struct weedle_formatted *it, uint32_t status) {
     int is_done = status == WEEDLE_STATUS_READ || status == WEEDLE_STATUS_NO_ROOM;
     if (!is("format", "stands") || !is_done || length <= LONG)

@@ -1,6 +1,6 @@
 #!/usr/bin/env node
 // Writes TypeScript declarations of files of WebIDL: node dts.js FILE.. > web.d.ts
-// Constructors, constants and what is static stand in `NameConstructor`. What it leaves out it says on standard error.
+// Constructors, constants and what is static are in `NameConstructor`. What it leaves out it says on standard error.
 
 import fs from "node:fs";
 import { IncludesStatementDefinition, Refused, parse } from "weedle";

@@ -11,7 +11,7 @@ from typing import Any, List, Tuple
 import weedle
 from weedle import Definition, Definitions, Index, Span, Value, kind_of, members_of
 
-# What is shown otherwise than it stands in a text, by its bytes: names that are links, and comments.
+# What is shown otherwise than it is in a text, by its bytes: names that are links, and comments.
 Cuts = List[Tuple[Span, str]]
 
 
@@ -36,7 +36,7 @@ def shown(data: bytes, cuts: Cuts, span: Span) -> str:
 
 
 def write_definition(index: Index, data: bytes, cuts: Cuts, it: Definition.Variants) -> None:
-    """Writes a definition: what stands in front of its body, its doc, and its members."""
+    """Writes a definition: what is in front of its body, its doc, and its members."""
     inner: Any = it.value
     body: Any = getattr(inner, "members", None) or getattr(inner, "values", None)
     head = Span(it.span.start, body.open_brace.span.start if body else it.span.end)

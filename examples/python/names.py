@@ -32,7 +32,7 @@ PATTERNS = {
     "const_member": CONSTANT,
     "enum_variant": VALUE,
 }
-# Where a name stands, and what of it is compared.
+# Where a name is, and what of it is compared.
 PARTS = {
     "identifier": "identifier_text", "opt_identifier": "identifier_text",
     "string_lit": "run_not_quote",

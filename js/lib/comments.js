@@ -10,9 +10,9 @@ const { NUMBERS } = require("./written/grammar.js");
 const COMMENTS = [NUMBERS.line_comment, NUMBERS.block_comment];
 const LINE_FEED = "\n";
 const BLANK = " \t\r\n";
-/** What may stand between a value and a comment that trails it. */
+/** What may be between a value and a comment that trails it. */
 const SIGNS = " \t,;";
-/** What a comment has on each line beside what it says: blanks, asterisks, and the signs of its ends. */
+/** What a comment has on each line beside what it says: whitespace, asterisks, and the signs of its ends. */
 const [FRONT, BACK] = [/^\s*(?:\*+(?!\/))?[ \t]?/, /\s+$/];
 
 const known = new WeakMap();
@@ -66,7 +66,7 @@ function commentsBefore(tree, place) {
 /** How many lines end in a part. */
 const countLines = (tree, start, end) => tree.text.raw(start, end).split(LINE_FEED).length - 1;
 
-/** Whether a comment trails what stands before it on its line; the next thing begins at `start`. */
+/** Whether a comment trails what precedes it on its line; the next thing begins at `start`. */
 function trails(tree, span, start) {
   const front = tree.text.skipBack(span.start, " \t\r");
   const isFirst = front === 0 || tree.text.raw(front - 1, front) === LINE_FEED;

@@ -38,7 +38,7 @@ function wordsOf(text, start, part) {
 }
 
 /**
- * Where and why a text is refused whose unread rest begins at `start`, or why the part is unread that begins there; no
+ * Where and why a text is refused whose remaining input begins at `start`, or why the part is unread that begins there; no
  * more than that where memory runs out.
  * @returns {{place: number, hint: string | null, hintKind: string | null, hintPlace: number, hintLength: number,
  *   message: string}} places in bytes

@@ -1,7 +1,7 @@
 "use strict";
 
 /**
- * A text laid out anew.
+ * A formatted text.
  * @module
  */
 
@@ -21,7 +21,7 @@ function isBlank(string) {
   return place === string.length;
 }
 
-/** The text laid out, as a string of a string, and as a Buffer of bytes. */
+/** The formatted text, as a string of a string, and as a Buffer of bytes. */
 function format(given) {
   const text = textOf(given);
   let laidOut = library.format(text.bytes);

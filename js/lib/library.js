@@ -17,7 +17,7 @@ const HOME = path.resolve(__dirname, "..");
 const TARGET = `${{ x64: "x86_64", arm64: "aarch64" }[process.arch] ?? process.arch}-${process.platform}`;
 /**
  * Where one is looked for otherwise: the one that was built here, the one that the package brought, and the one in the
- * repository that the package stands in.
+ * repository that the package is in.
  */
 const PLACES = ["weedle.node", `native/${TARGET}/weedle.node`, `../prebuilt/${TARGET}/weedle.node`].map((it) =>
   path.join(HOME, it),

@@ -72,7 +72,7 @@ class Maybe extends Other {
   }
 }
 
-/** Makes a list of items that stand one behind another. */
+/** Makes a list of items that are one behind another. */
 class Many extends Other {
   form = new Form("[", [""], "]", [", "]);
 

@@ -12,7 +12,7 @@ const { LATER, ROLES } = require("./written/roles.js");
 const byRule = (roles) => RULES.map((name) => roles[name]);
 const [FIRST_ROLES, LATER_ROLES] = [byRule(ROLES), byRule(LATER)];
 
-/** A name that stands in a text, and what it stands for. */
+/** A name in a text, and what it stands for. */
 class Name {
   #tree;
 

@@ -1,7 +1,7 @@
 "use strict";
 
 /**
- * The program `weedle`: reads files of WebIDL, and writes what stands in them.
+ * The program `weedle`: reads files of WebIDL, and writes what is in them.
  * @module
  */
 
@@ -95,7 +95,7 @@ class Run {
     return status;
   }
 
-  /** Reads the file that an argument names, and writes what stands in it. */
+  /** Reads the file that an argument names, and writes what is in it. */
   #read(word) {
     const name = word === DASH ? STANDARD_INPUT : word;
     let bytes;

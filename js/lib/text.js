@@ -60,13 +60,13 @@ class Text {
     return this.#isAscii;
   }
 
-  /** The byte at which a lone surrogate of the given string stands, or -1. UTF-8 has none. */
+  /** The byte at which a lone surrogate of the given string is, or -1. UTF-8 has none. */
   get surrogate() {
     const at = this.isAscii ? -1 : this.string.search(/\p{Surrogate}/u);
     return at < 0 ? -1 : Buffer.byteLength(this.string.slice(0, at));
   }
 
-  /** How many UTF-16 units stand before a place. */
+  /** How many UTF-16 units come before a place. */
   units(place) {
     if (this.isAscii) {
       return place;
@@ -136,7 +136,7 @@ class Text {
     return count;
   }
 
-  /** How many units stand before each place that is a multiple of STEP. */
+  /** How many units come before each place that is a multiple of STEP. */
   #countBefore() {
     const found = new Uint32Array(Math.floor(this.bytes.length / STEP) + 1);
     for (let step = 1; step < found.length; step++) {

@@ -11,7 +11,7 @@ const { NUMBERS } = require("./written/grammar.js");
 const STRIDE = 4;
 const [RULE, DEPTH, START, END] = [0, 1, 2, 3];
 const TRIVIA = NUMBERS.trivia;
-/** A docstring's line: blanks, `///` and what follows it up to an LF. */
+/** A docstring's line: whitespace, `///` and what follows it up to an LF. */
 const [DOC_LINE, DOC_TEXT] = [NUMBERS.doc_line, NUMBERS.past_lf];
 
 /** A text that was read, with its nodes, and the values that were made of them. */
@@ -54,7 +54,7 @@ class Tree {
     return this.#behind[node];
   }
 
-  /** The node right above a node; of one that stands in no other it is that itself. */
+  /** The node right above a node; of one in no other it is that itself. */
   above(node) {
     if (!this.#above) {
       this.#above = Uint32Array.from({ length: this.count }, (_, node) => node);
@@ -73,7 +73,7 @@ class Tree {
     return child < end ? child : -1;
   }
 
-  /** The nodes that stand in no other. */
+  /** The nodes in no other. */
   roots() {
     const found = [];
     for (let node = 0; node < this.count; node = this.behind(node)) {
@@ -92,12 +92,12 @@ class Tree {
     return found;
   }
 
-  /** All that a node takes, in bytes, blanks and comments included. */
+  /** All that a node takes, in bytes, whitespace and comments included. */
   wholeSpan(node) {
     return { start: this.start(node), end: this.end(node) };
   }
 
-  /** What a node takes, in bytes, without blanks and comments before and behind it. */
+  /** What a node takes, in bytes, without whitespace and comments before and behind it. */
   span(node) {
     return { start: this.coreStart(node), end: this.#coreEnd(node) };
   }
@@ -132,10 +132,10 @@ class Tree {
     return end;
   }
 
-  /** Which node stands behind each and all below it; calls `child(node, parent)` for each that stands in one. */
+  /** Which node follows each and all below it; calls `child(node, parent)` for each in one. */
   #link(child = () => {}) {
     const behind = new Uint32Array(this.count).fill(this.count);
-    // the nodes that the next one may stand in, by their depths
+    // the nodes that the next one may be in, by their depths
     const open = [];
     for (let node = 0; node < this.count; node++) {
       const depth = this.depth(node);

@@ -19,7 +19,7 @@ export type Kind<V> = abstract new (...none: never[]) => V;
 export abstract class Value {
   /** The name of its class, as `InterfaceDefinition` or `Definition.Interface`. */
   readonly kind: string;
-  /** What was read, without blanks and comments around it, in UTF-16 units: for a slice of a string. */
+  /** What was read, without whitespace and comments around it, in UTF-16 units: for a slice of a string. */
   readonly span: Span;
   /** The same in bytes of UTF-8: for a part of a Buffer. */
   readonly byteSpan: Span;
@@ -27,7 +27,7 @@ export abstract class Value {
   readonly position: Position;
   /** The part of the text at `span`. */
   readonly text: string;
-  /** The value that it stands in; null of a definition. */
+  /** The value that it is in; null of a definition. */
   readonly parent: Value | null;
   /** The comments right in front of it: up to an empty line, and none that trails something else. */
   readonly comments: string[];
@@ -39,7 +39,7 @@ export abstract class Value {
   walk(): Generator<Value, void>;
   /** Those of `walk` that are of a class, as `find(Identifier)`. */
   find<V extends Value>(kind: Kind<V>): Generator<V, void>;
-  /** Whether another value is of the same class and says the same, wherever both stand. */
+  /** Whether another value is of the same class and says the same, wherever both are. */
   equals(other: unknown): boolean;
   /** The value as JSON on one line, with weedle2's names. */
   jsonText(): string;

@@ -1,7 +1,7 @@
 "use strict";
 
 /**
- * What all values of the typed tree have. Their classes stand in `lib/written`.
+ * What all values of the typed tree have. Their classes are in `lib/written`.
  * @module
  */
 
@@ -99,7 +99,7 @@ class Value {
     return depth < 0 ? `[${this.kind}]` : `${this.kind} ${inspect(this.shown(), more)}`;
   }
 
-  /** What `console.log` shows of it: its fields, but for words that are the same in each such value. */
+  /** What `console.log` shows of it: its fields, except for words that are the same in each such value. */
   shown() {
     const names = Object.keys(this.constructor.fields);
     const pairs = names.map((name) => [name, this[name]]);
@@ -174,7 +174,7 @@ class Truth extends Leaf {
 
 /** A whole number. */
 class Whole extends Leaf {
-  /** What stands before its digits in JavaScript, but not in WebIDL. */
+  /** What precedes its digits in JavaScript, but not in WebIDL. */
   static prefix = "";
 
   get bigint() {
@@ -298,7 +298,7 @@ class Listed extends Value {
   }
 }
 
-/** The same, one item at least, and one separator more where it stands. */
+/** The same, one item at least, and one further separator where present. */
 class FilledList extends Listed {
   listing() {
     return treeOf(this).child(nodeOf(this), 0);

@@ -30,7 +30,7 @@ function* valuesOf(tree, node, behind, kind) {
 /** Whether a class is another, or derives from it. */
 const isOf = (one, other) => one === other || one.prototype instanceof other;
 
-/** The value that a node stands in, or null. */
+/** The value that a node is in, or null. */
 function parentOf(tree, node) {
   const values = rulesOfAll();
   let [below, above] = [node, tree.above(node)];

@@ -3,15 +3,15 @@
 /**
  * Values as JSON, as docs/USING.md has it.
  *
- * A value is written in one pass over its nodes, which stand in preorder. So nothing here calls itself, values may
+ * A value is written in one pass over its nodes, which are in preorder. So nothing here calls itself, values may
  * nest as deep as they will, and their parts aren't made for it.
  * @module
  */
 
 /**
- * How a value is written that has parts: what stands around them, and before each.
+ * How a value is written that has parts: what is around them, and before each.
  *
- * `fronts` stand before the first parts, and `others` in turn before all that follow; null leaves a part out. Where
+ * `fronts` come before the first parts, and `others` in turn before all that follow; null leaves a part out. Where
  * parts are lacking, `absent` is written in their place, if it isn't null.
  */
 class Form {
@@ -23,13 +23,13 @@ class Form {
     this.absent = absent;
   }
 
-  /** What stands before the part of this number. */
+  /** What precedes the part of this number. */
   front(number) {
     const { fronts, others } = this;
     return number < fronts.length ? fronts[number] : others[(number - fronts.length) % others.length];
   }
 
-  /** What stands behind so many parts. */
+  /** What follows so many parts. */
   end(number) {
     if (this.absent === null || number >= this.fronts.length) {
       return this.closing;
@@ -59,7 +59,7 @@ function entries(names) {
 /** The form of a value of one part. */
 const wrapped = (name) => new Form(`{"${name}": `, [""], "}");
 
-/** The form of a list with separators, whose items stand behind these. */
+/** The form of a list with separators, whose items follow these. */
 const listed = (fronts, separator) => new Form('{"list": [', fronts, `], "separator": "${separator}"}`);
 
 /** The form of a node, or its whole text. */
@@ -107,7 +107,7 @@ function end(pieces, frames, depth) {
   }
 }
 
-/** Goes on to a part of this depth: writes what stands before it, unless it is left out. */
+/** Goes on to a part of this depth: writes what precedes it, unless it is left out. */
 function isWanted(pieces, frames, depth) {
   end(pieces, frames, depth);
   const frame = frames[frames.length - 1];

@@ -3,13 +3,13 @@
  *
  *     syntax(bytes, room)   writes four numbers a node to a Uint32Array where there is room for all, and answers {status,
  *                           count}; or {status, rest} of a text that isn't read whole
- *     explain(bytes, start) why what stands from a byte on is refused: {status, place, message, hint, hintKind, hintPlace,
+ *     explain(bytes, start) why the text from a byte on is refused: {status, place, message, hint, hintKind, hintPlace,
  *                           hintLength}; `hint` is the line of the message that has it
  *     expected(bytes, start)  what would go on there: {status, words}, with a zero behind each word
  *     explainPart(bytes, part), expectedPart(bytes, part)  the same of an unread part, which is a Uint32Array of its numbers
  *     recover(bytes, parts, nodes)  writes five numbers a part, and four a node, to Uint32Arrays where there is room for
  *                           all, and answers {status, parts, nodes, rest}
- *     format(bytes)         the bytes laid out; or {status, rest}
+ *     format(bytes)         the bytes formatted; or {status, rest}
  *     version()             the version of the library, a byte each for its three numbers
  *     rules()               how many rules its grammar has
  *     describe(code)        what the system says of an error's number
@@ -256,7 +256,7 @@ static napi_value recover(napi_env env, napi_callback_info info) {
     return object;
 }
 
-/* Lays a text out, with so much room, and answers the status. `out` is to be freed. */
+/* Formats a text, with so much room, and answers the status. `out` is to be freed. */
 static uint32_t lay_out(struct bytes bytes, size_t room, char **out, struct weedle_formatted *formatted) {
     *out = room <= PTRDIFF_MAX ? malloc(room ? room : 1) : NULL;
     if (*out == NULL) {

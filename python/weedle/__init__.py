@@ -60,7 +60,7 @@ def parse(text: Union[str, bytes], *, recover: bool = False) -> Definitions:
     Parts are made when they are asked for. It raises `Refused` where the grammar doesn't read the
     whole text, UnicodeDecodeError or UnicodeEncodeError of what is no UTF-8, MemoryError, and
     ValueError of more than 4 GB. With `recover=True` it never raises `Refused`: it gives the
-    definitions that are read, whatever stands between them, and `errors` of the list says why each
+    definitions that are read, whatever is between them, and `errors` of the list says why each
     other part is unread.
     """
     if recover:

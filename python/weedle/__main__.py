@@ -1,4 +1,4 @@
-"""Reads files of WebIDL, and writes what stands in them.
+"""Reads files of WebIDL, and writes what is in them.
 
     weedle [--json | --syntax | --format [--check | --write] [--partial]] [--errors N] [FILE..]
     weedle lint [--json] [--ignore CODE].. [--known FILE].. FILE..
@@ -10,7 +10,7 @@ weedle/lsp. The first reads: without a file it reads
 standard input, which `-` names too. With
 `--json` it writes each definition as JSON on a line; of several files each line is an object with
 the `file` and the `definition`. With `--syntax` it writes each node on a line, indented by its
-depth, with `--format` the text laid out; what is refused, and why, it then says on standard error.
+depth, with `--format` the formatted text; what is refused, and why, it then says on standard error.
 With none of them it says that on standard output, and last how many files were read and refused, as
 weedle_check does. Of each file it says the first N errors, 20 where no number is given, and how many
 more there are; where files have more errors than one, the last line has their number. With 1 no
@@ -18,7 +18,7 @@ others are looked for. With
 `--format --check` it names the files whose layout would change, and with `--format --write` it
 replaces each of them at once; both say on standard output what is refused, of each file the first
 error, and how many there were, as weedle_format does. With `--partial` beside `--format` the
-definitions that are read of a file that is refused are laid out too, and all else of it stays byte
+definitions that are read of a file that is refused are formatted too, and all else of it stays byte
 for byte. The status is 0 where all is read, 1 where something is refused or would change, 2 where a
 file can't be read or isn't UTF-8, 3 where memory ran out, 4 where a file or the output can't be
 written, and 5 where the arguments are others; of several the greatest.
@@ -104,14 +104,14 @@ def write_syntax(data: bytes, out: BinaryIO, name: Optional[str]) -> None:
 
 
 def format_partly(data: bytes) -> bytes:
-    """The text of which the definitions that are read are laid out."""
+    """The text of which the definitions that are read are formatted."""
     return format(data, partial=True)
 
 
 def write_format(
     data: bytes, out: BinaryIO, name: Optional[str], lay: Callable[[bytes], bytes] = format
 ) -> bool:
-    """Writes the text laid out."""
+    """Writes the formatted text."""
     out.write(lay(data))
     return False
 
@@ -129,7 +129,7 @@ def write_name(
 def write_file(
     data: bytes, out: BinaryIO, name: Optional[str], lay: Callable[[bytes], bytes] = format
 ) -> bool:
-    """Replaces the file by what was laid out, and writes its name, where that changes it."""
+    """Replaces the file by what was formatted, and writes its name, where that changes it."""
     laid_out = lay(data)
     changes = laid_out != data
     if changes:
@@ -173,7 +173,7 @@ PARTLY: Dict[Write, Write] = {
 
 
 def bytes_of(word: str) -> bytes:
-    """What stands in a file, or comes from standard input."""
+    """What is in a file, or comes from standard input."""
     if word == DASH:
         if sys.stdin is None:
             raise OSError(errno.EBADF, os.strerror(errno.EBADF))
@@ -185,7 +185,7 @@ def bytes_of(word: str) -> bytes:
 class Run:
     """A run of the program over some files, each written by the same function.
 
-    The function is told the name of the file where there are several, or where it is laid out.
+    The function is told the name of the file where there are several, or where it is formatted.
     Of a file that is refused another one may write what is read of it.
     """
 
@@ -198,7 +198,7 @@ class Run:
         self.files = self.refused = self.unread = self.changed = self.errors = 0
 
     def read(self, word: str) -> Status:
-        """Reads the file that an argument names, and writes what stands in it."""
+        """Reads the file that an argument names, and writes what is in it."""
         name = STANDARD_INPUT if word == DASH else word
         try:
             data = bytes_of(word)

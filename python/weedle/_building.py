@@ -1,4 +1,4 @@
-"""Values that were built of their parts: they stand in no text, and say the same as one that was read."""
+"""Values that were built of their parts: they are in no text, and say the same as one that was read."""
 
 from __future__ import annotations
 
@@ -10,7 +10,7 @@ from weedle._formatting import format
 from weedle._making import Parts, entries_of, parts_of
 from weedle._placed import UNPLACED
 
-# Definitions of one of these kinds that take a line each stand below one another.
+# Definitions of one of these kinds that take a line each are below one another.
 STATEMENTS = frozenset({"Callback", "Typedef", "IncludesStatement", "Implements"})
 
 
@@ -42,7 +42,7 @@ def built(kind: Any, own: Dict[str, Any], value: Any = None) -> Any:
 
 
 def replaced(value: Any, parts: Dict[str, Any]) -> Any:
-    """A value of the same parts, but for these."""
+    """A value of the same parts, except for these."""
     for name in parts:
         if name not in value._names:
             raise TypeError(f"{type(value).__qualname__} has no field {name!r}")
@@ -98,8 +98,8 @@ def written_parts(it: Any, style: Any) -> Iterator[Tuple[bool, Any]]:
 
 
 def to_webidl(value: Any) -> str:
-    """The value as WebIDL, laid out where it is a definition, or a list of such."""
-    from weedle import parse  # it stands above the values
+    """The value as WebIDL, formatted where it is a definition, or a list of such."""
+    from weedle import parse  # it is above the values
 
     items = value if isinstance(value, list) else [value]
     if not items or not all(map(is_definition, items)):
@@ -112,7 +112,7 @@ def to_webidl(value: Any) -> str:
 
 
 def apart(definitions: List[Any]) -> str:
-    """The words of definitions: statements of one kind stand below one another, and others apart."""
+    """The words of definitions: statements of one kind are below one another, and others apart."""
     text, before = "", ""
     for it in definitions:
         kind = getattr(it, "variant", "")

@@ -8,11 +8,11 @@ from typing import Any, List
 
 from weedle._tree import Tree
 
-# What a comment has on each line beside what it says: blanks, asterisks, and the signs of its ends.
+# What a comment has on each line beside its words: whitespace, asterisks, and the signs of its ends.
 FRONT, BACK = re.compile(r"^\s*(?:\*+(?!/))?[ \t]?"), re.compile(r"\s+$")
 # A line that has no more.
 LINE_END = re.compile(rb"[ \t\r]*(?:\n|\Z)")
-# What may stand between a value and the comment that trails it.
+# What may be between a value and the comment that trails it.
 SIGNS = b" \t,;"
 
 
@@ -34,7 +34,7 @@ def comments_before(tree: Tree, start: int) -> List[str]:
 
 
 def trails(tree: Tree, number: int, start: int) -> bool:
-    """Whether a comment trails what stands before it on its line; the next thing is at `start`."""
+    """Whether a comment trails what precedes it on its line; the next thing is at `start`."""
     data, span = tree.text.data, tree.comments[number]
     if data.find(b"\n", span.start, start) < 0:
         return False

@@ -1,4 +1,4 @@
-"""A text laid out anew."""
+"""A formatted text."""
 
 from __future__ import annotations
 
@@ -31,19 +31,19 @@ def is_blank(data: bytes) -> bool:
 def format(  # the name that every formatter has, though Python has one of it
     text: Given, *, partial: bool = False
 ) -> Given:
-    """The text laid out anew, of the type that it has.
+    """The formatted text, of the type that it has.
 
     >>> print(format("interface Window{readonly attribute long x;};"), end="")
     interface Window {
       readonly attribute long x;
     };
 
-    Blanks are moved, and nothing else changes: the answer is read by the same rules, with the same
-    words, strings and comments. A text of whitespace and comments alone stays as it stands. It
+    Whitespace is moved, and nothing else changes: the answer is read by the same rules, with the same
+    words, strings and comments. A text of whitespace and comments alone stays as it is. It
     raises what `weedle.parse` raises.
 
     With `partial` it raises no `Refused`: of a text that isn't read whole the definitions that are
-    read are laid out, those one behind another together, and all else stays byte for byte.
+    read are formatted, those one behind another together, and all else stays byte for byte.
 
     >>> format("A   includes B ;  typedef ;", partial=True)
     'A includes B;  typedef ;'
@@ -59,7 +59,7 @@ def format(  # the name that every formatter has, though Python has one of it
 
 
 def _laid_out(given: Text) -> bytes:
-    """The bytes of a text laid out."""
+    """The bytes of a formatted text."""
     if is_blank(given.data):
         given.data.decode()  # what isn't UTF-8 raises
         return given.data
@@ -70,7 +70,7 @@ def _laid_out(given: Text) -> bytes:
 
 
 def _laid_out_partly(data: bytes) -> bytes:
-    """The bytes of a text in which the definitions that are read are laid out."""
+    """The bytes of a text in which the definitions that are read are formatted."""
     made = []
     for is_read, run in groupby(recover(data).parts, _is_definition):
         spans = [it.span for it in run]
@@ -85,7 +85,7 @@ def _is_definition(part: Part) -> bool:
 
 
 def _run(data: bytes, is_first: bool, is_last: bool) -> bytes:
-    """Definitions laid out; the blanks around them stay, where the text goes on there."""
+    """Formatted definitions; the whitespace around them stays, where the text goes on there."""
     inner = data.lstrip(BLANKS)
     front = b"" if is_first else data[:len(data) - len(inner)]
     if is_last:

@@ -12,7 +12,7 @@ from typing import Any, Callable, List, NamedTuple, Optional, Tuple, Union
 from weedle.grammar import RULES, VERSION
 
 # The variable that names another shared object, and where one is looked for where it isn't set:
-# beside the package, and in the repository that the package stands in, for this processor.
+# beside the package, and in the repository that the package is in, for this processor.
 VARIABLE = "WEEDLE_SO"
 HOME = Path(__file__).resolve().parent
 OWN = HOME / "libweedle.so"
@@ -40,7 +40,7 @@ Buffer = Union[bytearray, mmap.mmap]
 
 
 class SyntaxAnswer(Structure):
-    """How many nodes there are, and where the unread rest begins."""
+    """How many nodes there are, and where the remaining input begins."""
 
     _fields_ = [("count", c_size_t), ("rest", c_size_t)]
 
@@ -74,7 +74,7 @@ class RecoverAnswer(Structure):
 
 
 class FormatAnswer(Structure):
-    """How long the text laid out is, where the unread rest begins, and whether it was laid out."""
+    """How long the formatted text is, where the remaining input begins, and whether it was formatted."""
 
     _fields_ = [("length", c_size_t), ("rest", c_size_t), ("is_laid_out", c_size_t)]
 
@@ -255,7 +255,7 @@ def _numbers(part: Part) -> PartNumbers:
 
 
 def explain(data: bytes, start: int) -> Explanation:
-    """Why what stands from a byte on is refused; MemoryError where there is no room to find it."""
+    """Why the text from a byte on is refused; MemoryError where there is no room to find it."""
     call = LIBRARY.weedle_explain_from
     return _explained(lambda *room: call(data, len(data), start, *room))
 
@@ -276,7 +276,7 @@ def _explained(call: Callable[..., int]) -> Explanation:
             raise MemoryError("no memory to explain why the text is refused")
         if answer.length < size:
             break
-        # A zero stands behind the message.
+        # A zero follows the message.
         size = answer.length + 1
     message, hint = (room[at:answer.length].decode() for at in (0, answer.hint_offset))
     return Explanation(
@@ -342,7 +342,7 @@ def _most_nodes(data: bytes) -> int:
 
 
 def lay_out(data: bytes) -> bytes:
-    """The text laid out, or Unread."""
+    """The formatted text, or Unread."""
     size = 2 * len(data) + LEAST_NODES
     while True:
         room, answer = _room(size), FormatAnswer()

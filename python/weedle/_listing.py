@@ -21,7 +21,7 @@ WHOLE, DEFINITION = NUMBERS["definitions"], NUMBERS["definition"]
 
 
 class Listing(List[D]):
-    """A list of what stands in a text, which knows that text."""
+    """A list of what is in a text, which knows that text."""
 
     _tree: Tree
     #: Why parts of the text are unread; none where it is read whole.
@@ -60,7 +60,7 @@ class Listing(List[D]):
         return (name for it in self._roots() for name in names_in(self._tree, it))
 
     def to_webidl(self) -> str:
-        """The definitions as WebIDL, laid out as `weedle.format` does it, without comments."""
+        """The definitions as WebIDL, formatted as `weedle.format` does it, without comments."""
         return _building.to_webidl(self)
 
 

@@ -45,7 +45,7 @@ class Maybe:
 
 
 class Many:
-    """Makes a list of items that stand one behind another."""
+    """Makes a list of items that are one behind another."""
 
     def __call__(self, tree: Tree, node: int) -> List[Any]:
         rules = tree.rules

@@ -1,4 +1,4 @@
-"""What stands at a place of a text."""
+"""What is at a place of a text."""
 
 from __future__ import annotations
 
@@ -9,7 +9,7 @@ from weedle._tree import Tree
 
 
 class Unplaced:
-    """In place of the tree of a value that was built: such a value stands in no text."""
+    """In place of the tree of a value that was built: such a value is in no text."""
 
     def __getattr__(self, name: str) -> Any:
         if name.startswith("__"):
@@ -22,7 +22,7 @@ UNPLACED: Any = Unplaced()
 
 
 class Placed:
-    """What stands at a place of a text: the node of a tree, without blanks and comments around it."""
+    """What is at a place of a text: the node of a tree, without whitespace and comments around it."""
 
     __slots__ = ()
 
@@ -31,7 +31,7 @@ class Placed:
 
     @property
     def span(self) -> Span:
-        """The bytes of the text that were read, without blanks and comments around them."""
+        """The bytes of the text that were read, without whitespace and comments around them."""
         return self._tree.span(self._node)
 
     @property

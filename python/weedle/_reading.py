@@ -13,7 +13,7 @@ from weedle.grammar import RULES, VERSION
 
 
 def tree_of(given: Union[str, bytes], rule: Optional[int] = None) -> Tree:
-    """The nodes of a text, or of a rule at its front, whatever stands behind that."""
+    """The nodes of a text, or of a rule at its front, whatever follows that."""
     text = Text(given)
     try:
         return Tree(text, _library.read_nodes(text.data, rule), rule)

@@ -76,7 +76,7 @@ class Text:
         return Position(line, before + 1)
 
     def characters(self, place: int) -> int:
-        """How many characters stand before a place in bytes."""
+        """How many characters come before a place in bytes."""
         if self.is_ascii:
             return place
         step = place // STEP

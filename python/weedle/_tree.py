@@ -14,7 +14,7 @@ from weedle.grammar import NUMBERS, VERSION
 TRIVIA = NUMBERS["trivia"]
 # The rules that read comments. A docstring is none.
 COMMENTS = frozenset(NUMBERS[name] for name in ("line_comment", "block_comment"))
-# A docstring's line: blanks, `///` and what follows it up to an LF.
+# A docstring's line: whitespace, `///` and what follows it up to an LF.
 DOC_LINE, DOC_TEXT = NUMBERS["doc_line"], NUMBERS["past_lf"]
 # After so many nodes the end of a subtree is searched for by its place in the text.
 NEAR = 16
@@ -93,11 +93,11 @@ class Tree:
         return found
 
     def whole_span(self, node: int) -> Span:
-        """All that a node takes, blanks and comments included."""
+        """All that a node takes, whitespace and comments included."""
         return Span(self.starts[node], self.ends[node])
 
     def span(self, node: int) -> Span:
-        """What a node takes without blanks and comments before and behind it."""
+        """What a node takes without whitespace and comments before and behind it."""
         start, end = self.starts[node], self.ends[node]
         if start == end:
             return Span(start, end)
@@ -141,7 +141,7 @@ class Tree:
         return self.text.data[self.starts[node]:self.ends[node]].decode()
 
     def above(self, node: int) -> int:
-        """The node that a node stands in, or -1."""
+        """The node that a node is in, or -1."""
         if self.depths[node] == 0:
             return -1
         if self.levels is not None:
@@ -171,7 +171,7 @@ class Tree:
         return self
 
     def roots(self) -> Iterator[int]:
-        """The nodes that stand in no other."""
+        """The nodes in no other."""
         node = 0
         while node < self.count:
             yield node

@@ -60,14 +60,14 @@ def word(doc: str) -> Any:
 class Value(Placed):
     """What was read of a text. Its parts are made when they are asked for.
 
-    Two values are equal where all their parts are, wherever they stand.
+    Two values are equal where all their parts are, wherever they are.
     """
 
     __slots__ = ("_tree", "_node", "__dict__", "__weakref__")
 
     # Whether each part has a node: a default that may only follow `optional` can lack it.
     _is_whole: ClassVar[bool] = True
-    # The names of fields, the same but for the last and the last, and their names in JSON, where they
+    # The names of fields, the same except for the last and the last, and their names in JSON, where they
     # are others.
     _names: ClassVar[Tuple[str, ...]] = ()
     _split: ClassVar[Tuple[Tuple[str, ...], str]] = ((), "")
@@ -88,7 +88,7 @@ class Value(Placed):
 
     @property
     def parent(self) -> Optional[Value]:
-        """The value that it stands in; None of a definition, and of what was built."""
+        """The value that it is in; None of a definition, and of what was built."""
         return None if self._tree is UNPLACED else _walking.parent_of(self._tree, self._node)
 
     @property
@@ -114,16 +114,16 @@ class Value(Placed):
         return _comments.doc_of(self)
 
     def replace(self: V, **parts: Any) -> V:
-        """A value that was built of its parts, but for these, as `value.replace(identifier=name)`."""
+        """A value built of its parts, except for these, as `value.replace(identifier=name)`."""
         found: V = _building.replaced(self, parts)
         return found
 
     def to_webidl(self) -> str:
         """The value as WebIDL, without comments.
 
-        A definition is laid out as `weedle.format` does it, with a line end behind it, and any
+        A definition is formatted as `weedle.format` does it, with a line end behind it, and any
         other value takes one line. It raises `Refused` of a definition that was built of what can't
-        be read, as a name with a blank in it.
+        be read, as a name with a space in it.
         """
         return _building.to_webidl(self)
 
@@ -181,7 +181,7 @@ class Value(Placed):
                 set_node(value, node)
                 keep(self, name, value)
             elif rule in OPTIONS and levels[node + 1] == below:
-                # nothing stands below what is absent, and another part follows
+                # nothing is below what is absent, and another part follows
                 keep(self, name, None)
                 node += 1
                 continue
@@ -227,7 +227,7 @@ class Value(Placed):
         return style.struct(cls.__name__, parts)
 
 
-# What makes a value of a class, and says where it stands: values are frozen.
+# What makes a value of a class, and says where it is: values are frozen.
 new: Any = object.__new__
 set_tree, set_node = vars(Value)["_tree"].__set__, vars(Value)["_node"].__set__
 
@@ -306,7 +306,7 @@ class Choice(Wrapped):
 
 
 class Result(Choice):
-    """The type of a result, behind which arguments stand apart."""
+    """The type of a result, behind which arguments are apart."""
 
     def _put(self, writer: Any) -> Iterator[Any]:
         return iter((self.value, _words.TYPE_ENDS))
@@ -346,7 +346,7 @@ class Listed(Value, Generic[T, S]):
         default=Part("A separator: the first one, or one without text where none was read."),  # type: ignore[assignment]
         repr=False,
     )
-    # What stands before the parts of its node: an item, and what follows it.
+    # What precedes the parts of its node: an item, and what follows it.
     _fronts: ClassVar[Any] = ("", "")
 
     def __init__(self, list: List[T], separator: S) -> None:
@@ -382,7 +382,7 @@ class Listed(Value, Generic[T, S]):
         between = tree.children(parts[1]) if parts else []
         items = [parts[0], *between[1::2]] if parts else []
         keep(self, "list", [MAKE[rules[it]](tree, it) for it in items])
-        # where there is none, it has no text, and stands at the end of the items
+        # where there is none, it has no text, and is at the end of the items
         at = between[0] if between else parts[1] if parts else self._node
         keep(self, "separator", _placed_at(kind, tree, at))
 

@@ -10,7 +10,7 @@ from weedle._tree import Tree
 
 def values_in(tree: Tree, node: int) -> Iterator[Any]:
     """The values of a node and of all nodes below it, in preorder."""
-    from weedle._values import new, set_node, set_tree  # they stand above
+    from weedle._values import new, set_node, set_tree  # they are above
 
     kinds, makes = KINDS, MAKE_VALUE
     for at, rule in enumerate(tree.rules[node:tree.behind(node)], node):
@@ -37,7 +37,7 @@ def values_of(tree: Tree, node: int, kind: type) -> Iterator[Any]:
 
 
 def parent_of(tree: Tree, node: int) -> Optional[Any]:
-    """The value that a node stands in, or None."""
+    """The value that a node is in, or None."""
     above = tree.above(node)
     while above >= 0:
         make = MAKE_VALUE[tree.rules[above]]

@@ -7,18 +7,18 @@ from typing import Any, Iterator, List
 
 from weedle.grammar import KEYWORDS, READ_BEHIND
 
-# What stands among words: nothing is to stand between the words beside it; a type ends here; arguments
-# begin, which stand apart behind a type alone.
+# What is among words: nothing is to be between the words beside it; a type ends here; arguments
+# begin, which are apart behind a type alone.
 JOINED, TYPE_ENDS, ARGUMENTS = object(), object(), object()
 # Words with nothing in front of them, or behind them.
 TIGHT_IN_FRONT = frozenset([";", ",", ")", "]", "<", ">", "?", "..."])
 TIGHT_BEHIND = frozenset(["(", "[", "<"])
-# A name, and what may stand between quotes.
+# A name, and what may be between quotes.
 NAME, STRING = re.compile(r"[A-Za-z][A-Za-z0-9_-]*"), re.compile(r'[^"]*')
 
 
 class Unwritable(ValueError):
-    """A value that was built of what no text says, as of a name with a blank in it."""
+    """A value that was built of what no text says, as of a name with a space in it."""
 
 
 def is_record(parts: Any) -> bool:
@@ -27,7 +27,7 @@ def is_record(parts: Any) -> bool:
 
 
 class Writer:
-    """Writes words, with a blank between two where one belongs."""
+    """Writes words, with a space between two where one belongs."""
 
     def __init__(self) -> None:
         self.pieces: List[str] = []
@@ -36,7 +36,7 @@ class Writer:
         self.is_joined, self.is_behind_type = True, False
 
     def mark(self, mark: object) -> None:
-        """Takes what stands among the words."""
+        """Takes what is among the words."""
         if mark is TYPE_ENDS:
             self.is_behind_type = True
         elif mark is JOINED or not self.is_behind_type:
@@ -85,7 +85,7 @@ class Writer:
 
 
 def marked(value: Any) -> Iterator[Any]:
-    """The parts of a value, with what stands among them."""
+    """The parts of a value, with what is among them."""
     is_attribute = type(value).__name__.startswith("ExtendedAttribute")
     for it in value._in_order():
         is_joined = is_attribute and type(it).__name__ == "Assign"
@@ -102,7 +102,7 @@ def is_arguments(it: Any) -> bool:
 
 
 def one_line(value: Any) -> str:
-    """The words of a value, or of several, on a line but for docstrings."""
+    """The words of a value, or of several, on a line except for docstrings."""
     writer = Writer()
     writer.write(value)
     return "".join(writer.pieces)

@@ -1,6 +1,6 @@
 """Values as text: as JSON, and as `repr` shows them.
 
-A value is written in one pass over its nodes, which stand in preorder. So nothing here calls
+A value is written in one pass over its nodes, which are in preorder. So nothing here calls
 itself, values may nest as deep as they will, and their parts aren't made for it.
 """
 
@@ -11,14 +11,14 @@ from typing import Any, Callable, Iterable, List, Optional, Sequence, Tuple, Uni
 
 from weedle._tree import Tree
 
-# What stands before a part. None leaves the part out.
+# What precedes a part. None leaves the part out.
 Front = Optional[str]
 
 
 class Form:
-    """How a value is written that has parts: what stands around them, and before each.
+    """How a value is written that has parts: what is around them, and before each.
 
-    `fronts` stand before the first parts, and `others` in turn before all that follow. Where parts
+    `fronts` come before the first parts, and `others` in turn before all that follow. Where parts
     are lacking, `absent` is written in their place, if it isn't None.
     """
 
@@ -30,13 +30,13 @@ class Form:
         self.others, self.absent = others, absent
 
     def front(self, number: int) -> Front:
-        """What stands before the part of this number."""
+        """What precedes the part of this number."""
         if number < len(self.fronts):
             return self.fronts[number]
         return self.others[(number - len(self.fronts)) % len(self.others)]
 
     def end(self, number: int) -> str:
-        """What stands behind so many parts."""
+        """What follows so many parts."""
         if self.absent is None:
             return self.closing
         lacking = [it + self.absent for it in self.fronts[number:] if it is not None]
@@ -61,7 +61,7 @@ ITEMS, FOLLOWING = Form("", ("", ""), ""), Form("", (), "", others=(None, ", "))
 
 
 def separated(fronts: Iterable[Tuple[str, bool]]) -> List[Front]:
-    """What stands before parts with commas between them, of which some are left out."""
+    """What precedes parts with commas between them, of which some are left out."""
     found: List[Front] = []
     comma = ""
     for front, is_shown in fronts:

@@ -1,4 +1,4 @@
-"""Parts that stand anywhere in the grammar: brackets, lists, names and docstrings.
+"""Parts that are anywhere in the grammar: brackets, lists, names and docstrings.
 
 Written by tools/write/python_types.py, and not edited by hand.
 """

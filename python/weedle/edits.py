@@ -33,7 +33,7 @@ Edit = Tuple[int, int, int, bytes]
 
 def parsed(text: Union[str, bytes]) -> Definitions:
     """The definitions of a text."""
-    from weedle import parse  # it stands above
+    from weedle import parse  # it is above
 
     return parse(text)
 

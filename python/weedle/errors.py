@@ -18,32 +18,32 @@ MEMBERS = frozenset(
     NUMBERS[name]
     for name in ("interface_member", "dictionary_member", "mixin_member", "namespace_member")
 )
-# So many bytes in front of a part are given with it: what stands at the front of a text may mean more.
+# So many bytes in front of a part are given with it: what is at the front of a text may mean more.
 BEFORE = 8
 # A line and a column, in front of a hint.
 POSITION = re.compile(r"\d+:\d+: ")
 
 
 class Hint(Enum):
-    """What would mend a text, or what it lacks: what is said of the bytes at `hint_span`."""
+    """What would fix a text, or what it lacks: what is said of the bytes at `hint_span`."""
 
     #: A keyword belongs there in place of a word that differs by a letter.
     KEYWORD = 1
     #: A sign is missing there.
     MISSING = 2
-    #: The sign that stands there is too many.
+    #: The sign there is too many.
     EXTRA = 3
     #: Another sign belongs there.
     WRONG_SIGN = 4
-    #: Two words stand there in the wrong order.
+    #: Two words are there in the wrong order.
     WORD_ORDER = 5
-    #: A docstring stands where none may.
+    #: A docstring is where none may.
     DOCSTRING = 6
     #: A string opens there that isn't closed.
     OPEN_STRING = 7
     #: A string opens there that ends in another line.
     SPLIT_STRING = 8
-    #: A byte order mark stands there.
+    #: A byte order mark is there.
     BYTE_ORDER_MARK = 9
     #: The text has no definitions.
     NO_DEFINITIONS = 10
@@ -57,7 +57,7 @@ class Refused(ValueError):
 
     What is expected is found when it is asked for: mostly in some 300 nanoseconds for each byte of
     the definition that isn't read, and up to sixteen changes are tried for a hint, each once or
-    twice. What stands before that definition isn't read again. Where the text nests deep, by a
+    twice. What precedes that definition isn't read again. Where the text nests deep, by a
     table of it from `start` on, which takes some 1,600 bytes of memory and 2 microseconds a byte.
     """
 
@@ -116,7 +116,7 @@ class Refused(ValueError):
 
     @property
     def hint(self) -> Optional[str]:
-        """What would mend the text, or what it lacks, with line and column; None where nothing was found.
+        """What would fix the text, or what it lacks, with line and column; None where nothing was found.
 
         Of `interface A { atribute long x; };`, which is read up to column 29, it is
         "1:15: `attribute` in place of `atribute`?". A change is told only where the text was read
@@ -175,10 +175,10 @@ class RuleRefused(Refused):
 
 
 class PartRefused(Refused):
-    """An unread part of a text: why that part is unread, whatever stands elsewhere.
+    """An unread part of a text: why that part is unread, whatever is elsewhere.
 
     Only what is read for that is looked at: a member alone, and else its definition up to its end. So
-    what it costs doesn't grow with the text, but for `message`.
+    what it costs doesn't grow with the text, except for `message`.
     """
 
     def __init__(self, text: Text, numbers: _library.Part) -> None:

@@ -1,4 +1,4 @@
-"""The rules of the grammar. What each reads stands in docs/GRAMMAR.md.
+"""The rules of the grammar. What each reads is in docs/GRAMMAR.md.
 
 Written by tools/write/python_types.py, and not edited by hand.
 """
@@ -411,7 +411,7 @@ KEYWORDS = frozenset(
         "true typedef undefined unrestricted unsigned".split()
 )
 
-#: Which of them are read behind which word, where a name could stand too. The word is `a` for any
+#: Which of them are read behind which word, where a name could be too. The word is `a` for any
 #: name.
 READ_BEHIND = {
     "(": frozenset(

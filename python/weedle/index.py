@@ -58,7 +58,7 @@ class Member:
     def __init__(self, value: Any, definition: Definition.Variants) -> None:
         #: The member, as `InterfaceMember.Attribute` or `DictionaryMember`.
         self.value = value
-        #: The definition that it stands in, a part or a mixin perhaps.
+        #: The definition that it is in, a part or a mixin perhaps.
         self.definition = definition
 
     @property
@@ -228,7 +228,7 @@ class Index(Mapping[str, Entry]):
 
     def add(self, text: Union[str, bytes, Definitions], file: str = "") -> Definitions:
         """Takes the definitions of a text, which `file` names. It raises what `weedle.parse` raises."""
-        from weedle import parse  # it stands above
+        from weedle import parse  # it is above
 
         definitions = text if isinstance(text, Definitions) else parse(text)
         self.texts.append(definitions)
@@ -254,11 +254,11 @@ class Index(Mapping[str, Entry]):
         return len(self._entries)
 
     def file_of(self, value: Value) -> str:
-        """The name of the file that a value stands in."""
+        """The name of the file that a value is in."""
         return self._files[id(value._tree)]
 
     def place_of(self, value: Value) -> str:
-        """Where a value stands, as "dom.webidl:3:11"."""
+        """Where a value is, as "dom.webidl:3:11"."""
         line, column = value.position
         return f"{self.file_of(value)}:{line}:{column}"
 

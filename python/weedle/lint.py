@@ -4,7 +4,7 @@
 
 `python3 -m weedle lint` is the same. Each problem has a line: file, line, column, its code, and
 why; with `--json` it is an object. A comment `// weedle-ignore: CODE` leaves out the problems of its
-line, or of the next one where it stands alone; without a code all of them. A FILE of `--known` has
+line, or of the next one where it is alone; without a code all of them. A FILE of `--known` has
 names of extended attributes. The status is 0 where there is no problem, 1 where there is one, and 2
 where a file can't be read or the arguments are others.
 """
@@ -364,7 +364,7 @@ def lint(files: Dict[str, bytes], known: AbstractSet[str] = KNOWN) -> List[Probl
 
 
 def read(name: str) -> bytes:
-    """What stands in a file; `-` is standard input."""
+    """What is in a file; `-` is standard input."""
     data = sys.stdin.buffer.read() if name == "-" else Path(name).read_bytes()
     data.decode()
     return data

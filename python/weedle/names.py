@@ -67,7 +67,7 @@ class Role(Enum):
     INHERITED = "Inherited"
     #: An extended attribute, as `Exposed` in `[Exposed=Window]`.
     EXTENDED_ATTRIBUTE = "ExtendedAttribute"
-    #: What stands behind its `=`, as `Window` in `[Exposed=(Window,Worker)]`, and `Image` in
+    #: What follows its `=`, as `Window` in `[Exposed=(Window,Worker)]`, and `Image` in
     #: `[NamedConstructor=Image(long x)]`.
     EXTENDED_ATTRIBUTE_VALUE = "ExtendedAttributeValue"
 
@@ -124,7 +124,7 @@ FIRST_ROLES, LATER_ROLES = by_number(FIRST), {**by_number(FIRST), **by_number(LA
 
 
 class Name:
-    """A name that stands in a text, and what it stands for.
+    """A name in a text, and what it stands for.
 
     In `interface _A {};` the text is `A`, the role `Role.INTERFACE`, and the span from 10 to 12 has
     the underscore in it.

@@ -31,12 +31,12 @@ class Node:
 
     @property
     def depth(self) -> int:
-        """How many nodes it stands in."""
+        """How many nodes it is in."""
         return self._tree.depths[self._node]
 
     @property
     def span(self) -> Span:
-        """All bytes that were read, blanks and comments around words included."""
+        """All bytes that were read, whitespace and comments around words included."""
         return self._tree.whole_span(self._node)
 
     @property
@@ -104,7 +104,7 @@ def syntax(text: Union[str, bytes], rule: Optional[str] = None) -> Node:
     ['Request', 'Body']
 
     With the name of a rule, as "type", it is the node of that rule at the front of the text, whatever
-    stands behind: of "long? x" the node of `long? `. It raises what `weedle.parse` raises, ValueError
+    follows: of "long? x" the node of `long? `. It raises what `weedle.parse` raises, ValueError
     where no rule has that name, and NotImplementedError where the shared object is too old for it.
     """
     if rule is not None and rule not in NUMBERS:

@@ -36,7 +36,7 @@ class Part:
 
     @property
     def span(self) -> Span:
-        """All its bytes, blanks and comments included; none where something is missing."""
+        """All its bytes, whitespace and comments included; none where something is missing."""
         return Span(self._numbers.start, self._numbers.end)
 
     @property

@@ -4,7 +4,7 @@ use crate::syntax::{Fault, Node};
 use crate::{library, rules, Err, Error, IResult, Parse};
 use nom::error::ErrorKind;
 
-/// How deep nodes may stand in one another. Values are made and dropped by recursion: without optimization that takes
+/// How deep nodes may be in one another. Values are made and dropped by recursion: without optimization that takes
 /// up to 300 bytes of stack a node, and the 2 MB of a thread have to hold it.
 const MOST_DEPTH: u32 = 6_100;
 
@@ -51,7 +51,7 @@ impl<'a> Cursor<'a> {
         self.nodes[self.at]
     }
 
-    /// Whether the node here stands below one of this depth, which was left last.
+    /// Whether the node here is below one of this depth, which was left last.
     #[inline]
     pub(crate) fn is_below(&self, depth: u32) -> bool {
         self.here().depth > depth
@@ -102,7 +102,7 @@ impl<'a> Cursor<'a> {
         }
     }
 
-    /// All that stand below the node here.
+    /// All below the node here.
     pub(crate) fn all<T: Parse<'a>>(&mut self) -> Vec<T> {
         let depth = self.enter();
         let mut list = Vec::new();
@@ -127,7 +127,7 @@ impl<'a> Cursor<'a> {
         list
     }
 
-    /// What a rule read that stands below the node here.
+    /// What a rule read below the node here.
     #[inline]
     pub(crate) fn kept(&mut self, rule: u16) -> &'a str {
         let depth = self.enter();
@@ -142,7 +142,7 @@ impl<'a> Cursor<'a> {
         found
     }
 
-    /// The lines of a docstring, without what stands in front of them, and joined by LFs.
+    /// The lines of a docstring, without what is in front of them, and joined by LFs.
     pub(crate) fn lines(&mut self) -> String {
         let depth = self.enter();
         let mut lines = Vec::new();

@@ -3,7 +3,7 @@
 use crate::cursor::{self, Cursor};
 use crate::{rules, IResult, Parse};
 
-/// Reads a value where one stands: `None` is read everywhere.
+/// Reads a value where one is: `None` is read everywhere.
 impl<'a, T: Parse<'a>> Parse<'a> for Option<T> {
     const __RULE: u16 = rules::option(T::__RULE);
 

@@ -9,7 +9,7 @@
 //! println!("{:?}", parsed);
 //! ```
 //!
-//! This package stands in for `weedle2` 5.0.0: its modules, types, fields, variants, derives and conversions are the
+//! This package takes the place of `weedle2` 5.0.0: its modules, types, fields, variants, derives and conversions are the
 //! same, and so are [`parse`] and [`Parse`]. The text is read by a C library that is proved against a written grammar;
 //! how values are made of what it reads is plain Rust, and tested against weedle2.
 //!
@@ -56,7 +56,7 @@ pub use syntax::syntax;
 ///
 /// # Errors
 ///
-/// - [`Err::Error`] with the code [`ErrorKind::Eof`]: the grammar leaves a rest, which is the input of the error. The
+/// - [`Err::Error`] with the code [`ErrorKind::Eof`]: the grammar leaves input, which is the input of the error. The
 ///   definitions before it are given by `Definitions::parse`.
 /// - [`Err::Failure`] with the code [`ErrorKind::TooLarge`]: memory is refused, the text is longer than 4 GB, or it
 ///   nests too deep, as more than 1,000 times `sequence<`.
@@ -71,14 +71,14 @@ pub fn parse(raw: &str) -> Result<Definitions<'_>, Err<Error<&str>>> {
 
 /// A value that is read at the front of a text.
 ///
-/// A type of your own needs [`parse`](Parse::parse) alone, and can then stand in `Option`, `Vec`, `Box`, tuples and
+/// A type of your own needs [`parse`](Parse::parse) alone, and can then be in `Option`, `Vec`, `Box`, tuples and
 /// the generic types of [`common`].
 pub trait Parse<'a>: Sized {
     /// Reads a value at the front of a text, as a type of `long? x`, and gives the rest with it.
     ///
     /// # Errors
     ///
-    /// [`Err::Error`] where no value stands there, and [`Err::Failure`] as [`crate::parse`] has it.
+    /// [`Err::Error`] where no value is there, and [`Err::Failure`] as [`crate::parse`] has it.
     fn parse(input: &'a str) -> IResult<&'a str, Self>;
 
     /// The grammar's rule that reads such a value, if there is one.

@@ -27,7 +27,7 @@ macro_rules! terminal {
     };
 }
 
-/// A struct with named fields. What stands behind `;` is read only where the field before it is there.
+/// A struct with named fields. What follows `;` is read only where the field before it is there.
 macro_rules! record {
     ($own:ty = $rule:ident { $($field:ident),+ $(; $last:ident)? }) => {
         impl<'a> $crate::Parse<'a> for $own {
@@ -183,7 +183,7 @@ macro_rules! punctuated {
     };
 }
 
-/// The same with one item at least, and with a separator behind the last where one stands.
+/// The same with one item at least, and with a separator behind the last where present.
 macro_rules! punctuated_non_empty {
     ($own:ident) => {
         impl<'a, T, S> $crate::Parse<'a> for $own<T, S>

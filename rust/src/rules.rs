@@ -367,7 +367,7 @@ pub const fn triple(first: u16, second: u16, third: u16) -> u16 {
     }
 }
 
-/// The rule that reads what another one reads, and a `?` where one stands.
+/// The rule that reads what another one reads, and a `?` where one is.
 pub const fn may_be_null(item: u16) -> u16 {
     match item {
         INTEGER_TYPE => MAY_BE_NULL_INTEGER_TYPE,

@@ -9,7 +9,7 @@ use std::fmt;
 pub struct Node {
     /// The number of the rule, which belongs to a version of the library.
     pub rule: u32,
-    /// How many nodes it stands in.
+    /// How many nodes it is in.
     pub depth: u32,
     /// Where it begins, in bytes from the front of the text.
     pub start: u32,
@@ -40,7 +40,7 @@ impl Node {
 /// Why there is no syntax tree.
 #[derive(Clone, Copy, Debug, PartialEq, Eq, Hash)]
 pub enum Fault {
-    /// The grammar leaves what stands from this byte on.
+    /// The grammar leaves the text from this byte on.
     Refused(usize),
     /// Memory was refused.
     NoMemory,
@@ -62,7 +62,7 @@ impl std::error::Error for Fault {}
 
 /// Reads a whole text as definitions, and gives the nodes of its syntax tree, as of `interface A {};`.
 ///
-/// They stand in preorder: those below a node are the nodes behind it, as long as they are deeper. The texts of those
+/// They are in preorder: those below a node are the nodes behind it, as long as they are deeper. The texts of those
 /// with none below them, one after another, are the text. A text has some 0.8 to 1.6 nodes a byte, of 16 bytes each.
 ///
 /// ```

@@ -285,7 +285,7 @@ def texts():
     yield "makers.js", module("Which class each rule makes.", [JavaScriptMakers(package).text()])
     names = "".join(f"  {string(it.name.lower())},\n" for it in RULES)
     version = found_in(VERSION, (TOP / LIBRARY).read_text(encoding="utf-8"), LIBRARY)
-    about = "The rules of the grammar. What each reads stands in docs/GRAMMAR.md."
+    about = "The rules of the grammar. What each reads is in docs/GRAMMAR.md."
     yield "grammar.js", module(about, [GRAMMAR.format(version=version, names=names)])
     code, declared = roles((TOP / ROLES).read_text(encoding="utf-8"))
     yield "roles.js", module("What names stand for.", [code])

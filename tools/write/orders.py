@@ -228,7 +228,7 @@ def places_text(items):
         laws.append(f"\n-- `{item.name}`\nabbrev pub {item.place} : {over}{whole} → ℕ")
         for i, (name, _) in enumerate(item.parts):
             laws.append(f"{item.place} ({constructor(item, name, True)}) = {i}")
-    head = "-- The place of each variant in its declaration, counted from 0. Of a type that leads back to itself the variants\n-- stand as the logic holds them, flat, with the parts of what they hold. " + HEAD
+    head = "-- The place of each variant in its declaration, counted from 0. For a type that leads back to itself the variants\n-- are as the logic holds them, flat, with the parts of what they hold. " + HEAD
     return "\n".join([head, *uses, *laws]) + "\n"
 
 

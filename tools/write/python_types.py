@@ -45,7 +45,7 @@ MODULES = {
 }
 ABOUT = {
     "term": "Terminals: the words and signs of the grammar.",
-    "common": "Parts that stand anywhere in the grammar: brackets, lists, names and docstrings.",
+    "common": "Parts that are anywhere in the grammar: brackets, lists, names and docstrings.",
     "literal": "Literals.",
     "types": "Types.",
     "argument": "Arguments.",
@@ -342,7 +342,7 @@ fill([MAKERS.get(name) for name in RULES], {{NUMBERS[name]: it for name, it in S
 '''
 
 GRAMMAR = '''\
-"""The rules of the grammar. What each reads stands in docs/GRAMMAR.md.
+"""The rules of the grammar. What each reads is in docs/GRAMMAR.md.
 
 Written by tools/write/python_types.py, and not edited by hand.
 """
@@ -361,7 +361,7 @@ NUMBERS = {{name: number for number, name in enumerate(RULES)}}
 KEYWORDS = frozenset(
 {keywords})
 
-#: Which of them are read behind which word, where a name could stand too. The word is `{before}` for any
+#: Which of them are read behind which word, where a name could be too. The word is `{before}` for any
 #: name.
 READ_BEHIND = {{
 {behind}}}

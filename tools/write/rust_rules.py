@@ -24,7 +24,7 @@ ABOUT = {
     "vec": "The rule that reads what another one reads, again and again.",
     "pair": "The rule that reads what two others read.",
     "triple": "The rule that reads what three others read.",
-    "may_be_null": "The rule that reads what another one reads, and a `?` where one stands.",
+    "may_be_null": "The rule that reads what another one reads, and a `?` where one is.",
     "punctuated": "The rule that reads items of one rule with separators of another between them.",
     "punctuated_non_empty": "The same with one item at least, and perhaps a separator behind them.",
     "parenthesized": "The rule that reads what another one reads, between parentheses.",

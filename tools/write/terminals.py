@@ -112,7 +112,7 @@ def displayed_terminals(file):
 
 
 def tests():
-    out = [f"""//! Each terminal, with and without blanks round it.
+    out = [f"""//! Each terminal, with and without whitespace around it.
 //!
 {HEAD}
 
@@ -122,8 +122,8 @@ use weedle_testing::Wanted;
 use weedle_base::Parse;
 use weedle_base::term::*;
 
-/// Reads a terminal that stands between blanks and before `anything`: with all of it, and alone,
-/// with the blanks before it, with those behind it, and with both.
+/// Reads a terminal between whitespace and before `anything`: with all of it, and alone, with the
+/// whitespace before it, with that behind it, and with both.
 fn reads<'a, T: Parse<'a>>(rt: &impl Abort, alloc: Global, text: &'a str) {{
     let padded = text.strip_suffix("anything").unwrap_or("");
     for (text, rest) in [
@@ -230,7 +230,7 @@ def laws():
         about = file.about.rstrip(".").lower()
         out += law(file, "defaults", f"the default of each of the {about} is its one value.", "v",
                    "⟦<{0} as Default>⟧.is_default v ↔ v ≡ record {{}}")
-        out += law(file, "orders", f"of two values of one of the {about} neither stands before the other.", "a b",
+        out += law(file, "orders", f"of two values of one of the {about} neither comes before the other.", "a b",
                    "⟦<{0} as Ord>⟧.cmp a b ≡ Ordering.Equal")
     return "\n".join(out) + "\n"
 

@@ -1,4 +1,4 @@
-//! Parts that stand anywhere in the grammar: brackets, lists with separators, names, docstrings and
+//! Parts that are anywhere in the grammar: brackets, lists with separators, names, docstrings and
 //! defaults.
 
 pub use weedle_parts::common::{

@@ -2,7 +2,7 @@
 //!
 //! [`parse`] reads a text as a list of definitions, or says from where on it is none;
 //! [`parse_counted`] counts what that takes. [`parse_by_descent`] answers the same with little
-//! memory, and [`parse_quick`] takes it where the text lets it; [`nesting`] says how deep a text
+//! memory, and [`parse_quick`] takes it where the text suits it; [`nesting`] says how deep a text
 //! nests. [`outline`] gives kinds, names and docstrings, and [`lend`] lends it a list that a
 //! function owns. [`members_of`], [`type_names`] and [`parts_named`] say of definitions what many
 //! kinds have, and [`WriteIdl`] writes values as WebIDL. [`run`] is the program: it reads its input
@@ -92,9 +92,9 @@
 //! assert_eq!(rt; members.len(), 2);
 //! ```
 //!
-//! The calls and the types stand in the crates below, and under one path each here. What the
-//! grammar reads of a text is said in the crate `weedle_grammar`, and in each crate's `specs/`
-//! which of its trees a value stands for.
+//! The calls and the types are in the crates below, and have one path each here. What the grammar
+//! reads of a text is defined in the crate `weedle_grammar`, and in each crate's `specs/` which of
+//! its trees a value stands for.
 #![tactic(auto)]
 
 pub mod common;

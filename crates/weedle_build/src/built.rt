@@ -13,7 +13,7 @@ use weedle_rules::Ends;
 /// What was built of a text.
 #[derive(Drop)]
 pub struct Built<'a> {
-    /// The definitions that stand at the front of the text, in order.
+    /// The definitions at the front of the text, in order.
     pub list: Definitions<'a>,
     /// What follows the definitions.
     pub rest: &'a str,
@@ -21,12 +21,12 @@ pub struct Built<'a> {
     pub visits: u128,
 }
 
-/// Builds the definitions that stand at the front of a text along its table of ends: of
-/// `enum E {"a"}; x` the list is the enum, the rest `x`. `raw` is the text that the table is over.
+/// Builds the definitions at the front of a text along its packrat table: of `enum E {"a"}; x` the
+/// list is the enum, the remaining input `x`. `raw` is the text that the table is over.
 ///
 /// It works no rule out and changes nothing in the table: it looks at ends alone, in no more steps
 /// than the tree has nodes and its docstrings have lines, up to a factor that the grammar fixes. It
-/// takes the memory that the list holds, and is refused for want of it alone.
+/// takes the memory that the list holds, and is refused for lack of it alone.
 pub fn build_definitions<'a>(
     alloc: Global,
     ends: &Ends<'a>,

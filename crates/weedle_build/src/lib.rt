@@ -1,4 +1,4 @@
-//! The second pass over a text: the list of its definitions, built along its table of ends.
+//! The second pass over a text: the list of its definitions, built along its packrat table.
 //!
 //! ```rust
 //! use weedle_build::build_definitions;
@@ -10,8 +10,8 @@
 //! assert!(rt; built.list.len() == 2 && built.rest == "x");
 //! ```
 //!
-//! How the values of each type are built stands in the crates below: in `weedle_build_base` for
-//! what holds no other type, in `weedle_build_types` for the types that hold one another, in
+//! How the values of each type are built is in the crates below: in `weedle_build_base` for what
+//! holds no other type, in `weedle_build_types` for the types that hold one another, in
 //! `weedle_build_members` for the members of interfaces, in `weedle_build_interfaces` for
 //! interfaces, and in `weedle_build_definitions` for the other kinds of definitions.
 #![tactic(auto)]

@@ -61,7 +61,7 @@ module _ {text : List ℕ} {p : ℕ} (d : Due text DOC_LINE p) where
   rest_here : Rest text (RUN_BLANK ∷ BYTES_THREE_SLASHES ∷ PAST_LF ∷ []) p
   rest_here = rest_of_row d refl
 
-  -- the blanks in front of a line
+  -- the whitespace in front of a line
   pub blanks_due : Due text RUN_BLANK p
   blanks_due = front rest_here
 
@@ -94,7 +94,7 @@ module _ {text : List ℕ} {p : ℕ} (d : Due text DOC_LINE p) where
         end_inside : e ≤ length text
         end_inside = let h = ends in let a = h.1.inside in let b = start_inside in omega (arith, length-drop s text, h.2)
 
-        -- the LF stands behind the text of the line
+        -- the LF follows the text of the line
         pub line_after : s + 1 ≤ e
         line_after = let h = ends in let a = h.1.some in omega (arith, h.2)
 

@@ -76,7 +76,7 @@ next_found {text} {rs} {r} {p} {q} g h = elim (of_parts h.reads) [
       rest_after h.utf8 (at_boundary text r p h.utf8 h.boundary g.given q g.reads) m.0 h.pieces m.2 (subst (λ x. ReadsSeq webidl text rs x m.2) z m.4) cc)
 ]
 
--- behind a part that was built stand the other parts
+-- behind a part that was built are the other parts
 pub next : {text rs : List ℕ} {r p v q w : ℕ} {t : Tree} → Builds text r t p v q w → Rest text (r ∷ rs) p → Rest text rs q
 next {text} {rs} {r} {p} {v} {q} {w} {t} g h = next_found (record { given = t ∷ []; reads = g.reads }) h
 

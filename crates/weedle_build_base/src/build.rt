@@ -1,4 +1,4 @@
-//! Building along the table of ends.
+//! Building along the packrat table.
 
 ghost use Rattle.std.specs.Prelude.{◌≡◌, ℕ};
 ghost use Rattle.weedle_grammar.specs.Trees.{Tree, Mark};
@@ -13,11 +13,11 @@ use weedle_rules::{Ends, Rule};
 /// A value and where the building is behind it, or that memory was refused.
 pub type BuildResult<T> = Result<(T, At), AllocError>;
 
-/// How values are built where the table of ends says that a rule reads one.
+/// How values are built where the packrat table says that a rule reads one.
 ///
 /// A type of the crates below has it for its own values, an `Option` or a list for those of its
 /// items. A crate above gives it to a type of its own and names the value's type as `Value`, since
-/// only this crate can give it to a type that stands elsewhere.
+/// only this crate can give it to a type elsewhere.
 ///
 /// `fits` says which rules read such a value, `tree` which tree a value stands for.
 pub trait Build<'a> {
@@ -31,7 +31,7 @@ pub trait Build<'a> {
     /// Builds the value that `rule` reads at the place `at`, and goes on to its end. It looks at
     /// ends alone, a few for each node of the tree and for each line of a docstring, and one for
     /// each alternative that doesn't fit. It takes the memory that the value holds, and is refused
-    /// for want of it alone.
+    /// for lack of it alone.
     fn build(alloc: Global, table: &Ends<'a>, rule: Rule, at: At) -> BuildResult<Self::Value>
         requires fit { fits rule }
         requires due { Due table.now.text rule at.place }

@@ -11,8 +11,8 @@ use crate::build::{Build, BuildResult, visit};
 use std::alloc::Global;
 use weedle_rules::{Ends, Row, Rule, row_of};
 
-/// The rule that stands at a place of a sequence, counted from 0; None from the end on, and of
-/// other rows. It takes no memory.
+/// The rule at a place of a sequence, counted from 0; None from the end on, and of other rows. It
+/// takes no memory.
 pub fn part(rule: Rule, i: usize) -> Option<Rule>
     ensures found { result ≡ slice_get (list_of (row_of_rule rule)) i }
     ensures counted { IsSome result → i + 1 < 2 ^ 64 }
@@ -37,7 +37,7 @@ pub trait Fields<'a> {
     ghost trees: { Self.Values → List Tree };
 
     /// Builds the fields from the part `first` of the sequence `rule` on, counted from 0, which it
-    /// reads from `at` on. It takes the memory that the values hold, and is refused for want of it
+    /// reads from `at` on. It takes the memory that the values hold, and is refused for lack of it
     /// alone.
     fn build_fields(
         alloc: Global,

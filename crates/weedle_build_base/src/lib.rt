@@ -1,4 +1,4 @@
-//! The second pass over a text: its values, built along its table of ends.
+//! The second pass over a text: its values, built along its packrat table.
 //!
 //! ```rust
 //! use weedle_build_base::{At, Build};
@@ -11,8 +11,8 @@
 //! assert!(rt; number == DecLit("12") && end.place == 2 && end.visits == 1);
 //! ```
 //!
-//! [`Build`] says how the values of a type are built. It stands here for the types that hold no
-//! other type and for all that is made of them; the crates above have it for their own types.
+//! [`Build`] says how the values of a type are built. It is here for the types that hold no other
+//! type and for all that is made of them; the crates above have it for their own types.
 #![tactic(auto)]
 
 mod alternatives;

@@ -14,9 +14,9 @@ use std::alloc::Global;
 use weedle_parts::common::{Punctuated, PunctuatedNonEmpty};
 use weedle_rules::{Ends, Row, Rule, row_of};
 
-/// Builds the items of a list that has one at the place `at`, each behind a separator but the
-/// first: `item` reads an item, and `tail` the items behind the first. A separator that no item
-/// follows is left. It takes the memory that the items hold, and is refused for want of it alone.
+/// Builds the items of a list that has one at the place `at`, each behind a separator except for
+/// the first: `item` reads an item, and `tail` the items behind the first. A separator that no item
+/// follows is left. It takes the memory that the items hold, and is refused for lack of it alone.
 pub fn items<'a, T: Build<'a>>(
     alloc: Global,
     table: &Ends<'a>,

@@ -2,7 +2,7 @@
 //!
 //! The type arguments say how each field is built, in order. What is given is the rule of the
 //! struct, and a place where it reads something. Memory is taken for what the values hold, and a
-//! call is refused for want of it alone.
+//! call is refused for lack of it alone.
 //!
 //! Each is [`sequence`] with its pairs taken apart. That is done here once for each number of
 //! fields, and not again for each struct.

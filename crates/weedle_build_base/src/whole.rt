@@ -1,4 +1,4 @@
-//! What stands at the front of a whole text.
+//! What is at the front of a whole text.
 
 ghost use Rattle.std.specs.Prelude.{◌≡◌, IfOk};
 ghost use Rattle.weedle_grammar.specs.written.Table.Definitions.{DEFINITIONS};
@@ -11,9 +11,9 @@ use weedle_rules::{Ends, Rule};
 
 /// Builds the value that the rule of definitions reads at the front of the text that the table is
 /// over, and gives what follows it and how many nodes its tree has: so of `enum E {"a"}; x` the
-/// rest is `x`. It reads the table alone: it works no rule out, and its steps are as many as the
-/// tree has nodes and its docstrings have lines, up to a factor that the grammar fixes. It takes
-/// the memory that the value holds, and is refused for want of it alone.
+/// remaining input is `x`. It reads the table alone: it works no rule out, and its steps are as
+/// many as the tree has nodes and its docstrings have lines, up to a factor that the grammar fixes.
+/// It takes the memory that the value holds, and is refused for lack of it alone.
 pub fn build_front<'a, T: Build<'a>>(
     alloc: Global,
     ends: &Ends<'a>,

@@ -4,8 +4,8 @@ use weedle_base::term::Comma;
 use weedle_parts::common::{Braced, PunctuatedNonEmpty};
 use weedle_statements::EnumVariant;
 
-/// How a `T` is built: the `Build` of a mixin, a namespace, a dictionary or of what stands in one,
-/// or of a definition without members, whose type stands in another crate.
+/// How a `T` is built: the `Build` of a mixin, a namespace, a dictionary or of what is in one, or
+/// of a definition without members, whose type is in another crate.
 pub struct DefinitionPart<T>(T);
 
 /// The values of an enum in braces.

@@ -5,7 +5,7 @@ use weedle_build_types::Held;
 use weedle_parts::common::Generics;
 use weedle_types::types::AttributedType;
 
-/// How a `T` is built: the `Build` of a member of an interface, whose type stands in another crate.
+/// How a `T` is built: the `Build` of a member of an interface, whose type is in another crate.
 pub struct MemberPart<T>(T);
 
 /// A type in angle brackets.

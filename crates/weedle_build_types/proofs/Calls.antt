@@ -32,7 +32,7 @@ place_of d = record { utf8 = d.utf8; boundary = d.boundary }
 pub option_of : {x r : ℕ} → row_of r ≡ Opt x → shape_of r ≡ Plain → IsOption x r
 option_of row shape = record { row = row; shape = shape }
 
--- the parts of a row whose last stands on a condition
+-- the parts of a row whose last depends on a condition
 pub rest_of_if : {text rs : List ℕ} {r p k y : ℕ} → Due text r p → row_of r ≡ If rs k y → Rest text rs p
 rest_of_if {text} {rs} {r} {p} {k} {y} d row = row_rest d (If rs k y) row refl
 
@@ -40,7 +40,7 @@ rest_of_if {text} {rs} {r} {p} {k} {y} d row = row_rest d (If rs k y) row refl
 pub builds_as : {text : List ℕ} {r p v q w : ℕ} {t u : Tree} → t ≡ u → Builds text r u p v q w → Builds text r t p v q w
 builds_as {text} {r} {p} {v} {q} {w} {t} {u} e g = subst (λ x. Builds text r x p v q w) (sym e) g
 
--- an item behind a separator stands behind the place of the list
+-- an item behind a separator follows the place of the list
 pub listing_behind : {text : List ℕ} {x s p v : ℕ} {ts : List Tree} {q w k : ℕ} → takes s ≡ true → Listing text x s p v ts q w → HasEnd text s q (Some k) → p < k
 listing_behind {text} {x} {s} {p} {v} {ts} {q} {w} {k} t h e =
     let f = found e in

@@ -1,4 +1,4 @@
--- A row whose last part stands only where another was there.
+-- A row whose last part is only where another was there.
 use Rattle.std.proofs.Common.{◌≡◌, ℕ, ◌+◌, List, [], ◌∷◌, ◌++◌, true, false, refl, sym, subst, ap, ◌∙◌, arith, inl, inr, min, Some}
 use Rattle.std.specs.Prelude.{IsUtf8, IsCharBoundary}
 use Rattle.weedle_grammar.specs.Rows.{If}

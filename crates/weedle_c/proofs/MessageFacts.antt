@@ -10,7 +10,7 @@ set_behind : (xs : List ℕ) (y z : ℕ) (ys : List ℕ) → set (xs ++ y ∷ ys
 set_behind [] y z ys = refl
 set_behind (x ∷ xs) y z ys = ap (λ l. x ∷ l) (set_behind xs y z ys)
 
--- what stands from a place on begins with what stands there
+-- the text from a place on begins with what is there
 drop_one : (xs : List ℕ) (i : ℕ) → i < length xs → (x : ℕ) × (drop i xs ≡ x ∷ drop (suc i) xs)
 drop_one [] i l = absurd (omega arith)
 drop_one (x ∷ xs) zero l = (x, refl)

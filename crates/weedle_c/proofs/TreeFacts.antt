@@ -8,7 +8,7 @@ use Rattle.weedle_syntax.specs.Syntax.{IsFront, IsSyntaxTo, RestBegins, rest_of}
 use Rattle.weedle_syntax.specs.declared.node.Node.{Node}
 
 module _ {text : List ℕ} {ns : List Node} (front : IsFront text ns) where
-  -- the rest begins inside of the text
+  -- the remaining input begins inside of the text
   pub unread : {answer : WeedleAnswer} → answer.rest ≡ rest_of ns → rest_of ns < length text → IsUnread text answer
   unread {answer} is inside =
       let begins : RestBegins text answer.rest = subst (RestBegins text) (sym is) (rest_begins front) in

@@ -15,7 +15,7 @@ pub record HasTree (text : List ℕ) (answer : WeedleAnswer) (tree : List Node) 
   pub count : answer.count ≡ length tree
   pub rest : answer.rest ≡ length text
 
--- the nodes of the text stand at the front of the room, and behind them stands what stood there
+-- the nodes of the text are at the front of the room, and behind them is what was there
 pub record IsTree (text : List ℕ) (old new : List WeedleNode) (answer : WeedleAnswer) : Type 0 where
   pub tree : List Node
   pub has : HasTree text answer tree
@@ -33,7 +33,7 @@ pub record HasRule (text : List ℕ) (rule : ℕ) (answer : WeedleAnswer) (tree 
   pub are : IsRuleTo text rule answer.rest tree
   pub count : answer.count ≡ length tree
 
--- the nodes of the rule stand at the front of the room, and behind them stands what stood there
+-- the nodes of the rule are at the front of the room, and behind them is what was there
 pub record IsRuleTree (text : List ℕ) (rule : ℕ) (old new : List WeedleNode) (answer : WeedleAnswer) : Type 0 where
   pub tree : List Node
   pub has : HasRule text rule answer tree
@@ -49,7 +49,7 @@ pub record IsRuleCounted (text : List ℕ) (rule room : ℕ) (answer : WeedleAns
 abbrev pub IsTooLong : (List Node → Type 0) → List ℕ → Type 0
 IsTooLong Has text = (2 ^ 32 ≤ length text) ⊎ ((tree : List Node) × Has tree × ¬ All IsNarrow tree)
 
--- the text isn't read whole, and the answer says where the unread rest begins
+-- the text isn't read whole, and the answer says where the remaining input begins
 pub record IsUnread (text : List ℕ) (answer : WeedleAnswer) : Type 0 where
   pub refused : ¬ IsWhole text
   pub left : RestBegins text answer.rest

@@ -31,7 +31,7 @@ pub record IsCountOf (words : List Expected) (answer : WeedleExpected) : Type 0 
   pub count : answer.count ≡ length words
   pub bytes : answer.length ≡ length (words_bytes words)
 
--- the words stand at the front of the room, and behind them stands what stood there
+-- the words are at the front of the room, and behind them is what was there
 pub record AreWritten (Are : List Expected → ℕ → Type 0) (old new : List ℕ) (answer : WeedleExpected) : Type 0 where
   pub words : List Expected
   pub are : Are words answer.place

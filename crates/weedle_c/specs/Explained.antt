@@ -42,7 +42,8 @@ hint_place (Some (hint.SplitString at)) = at
 hint_place (Some (hint.ByteOrderMark at)) = at
 hint_place (Some hint.NoDefinitions) = 0
 
--- how many bytes stand there that it speaks of: a word, a sign, two words with what stands between them, the lines of a docstring, a quote, a mark
+-- how many bytes are there that it speaks of: a word, a sign, two words with what is between them,
+-- the lines of a docstring, a quote, a mark
 abbrev pub IsHintLength : Option Hint → ℕ → Type 0
 IsHintLength None n = n ≡ 0
 IsHintLength (Some (hint.Keyword at taken keyword)) n = n ≡ taken
@@ -69,7 +70,8 @@ hint_said text (Some hint) = hint_line text hint
 abbrev pub message_said : List ℕ → Refusal → List ℕ
 message_said text refusal = message_front text refusal ++ hint_said text refusal.hint
 
--- a room has a message up to the end of a character, all of it where it fits, with a zero behind; what stood behind that stands
+-- a room has a message up to the end of a character, all of it where it fits, with a zero behind;
+-- what was behind that is
 pub record IsEnded (said old new : List ℕ) : Type 0 where
   pub end : ℕ
   pub within : end ≤ length said
@@ -83,7 +85,8 @@ pub record IsCut (said old new : List ℕ) : Type 0 where
   pub empty : length old ≡ 0 → new ≡ old
   pub ended : 0 < length old → IsEnded said old new
 
--- the answer has the numbers of a refusal: its places, with line and column, its hint, and how long its message is, which stands in the room
+-- the answer has the numbers of a refusal: its places, with line and column, its hint, and how long
+-- its message is, which is in the room
 pub record IsTold (text : List ℕ) (refusal : Refusal) (old new : List ℕ) (answer : WeedleRefusal) : Type 0 where
   pub start : answer.start ≡ refusal.start
   pub place : answer.place ≡ refusal.place
@@ -98,13 +101,14 @@ pub record IsTold (text : List ℕ) (refusal : Refusal) (old new : List ℕ) (an
   pub offset : answer.hint_offset ≡ length (message_front text refusal)
   pub message : IsCut (message_said text refusal) old new
 
--- the text isn't read whole, and the answer says where the unread rest begins, the furthest place, and the hint; the room has the message
+-- the text isn't read whole, and the answer says where the remaining input begins, the furthest
+-- place, and the hint; the room has the message
 pub record IsExplained (text old new : List ℕ) (answer : WeedleRefusal) : Type 0 where
   pub refusal : Refusal
   pub is_refusal : IsRefusal text refusal
   pub told : IsTold text refusal old new answer
 
--- the same of what stands from a place on
+-- the same of the text from a place on
 pub record IsExplainedBehind (text : List ℕ) (start : ℕ) (old new : List ℕ) (answer : WeedleRefusal) : Type 0 where
   pub refusal : Refusal
   pub is_refusal : IsRefusalBehind text start refusal
@@ -116,7 +120,7 @@ pub record IsPartExplained (text : List ℕ) (part : WeedlePart) (old new : List
   pub is_refusal : IsPartRefusal text (part_of part) refusal
   pub told : IsTold text refusal old new answer
 
--- all numbers of the answer but its place are 0
+-- all numbers of the answer except for its place are 0
 pub record IsSilent (answer : WeedleRefusal) : Type 0 where
   pub start : answer.start ≡ 0
   pub line : answer.line ≡ 0

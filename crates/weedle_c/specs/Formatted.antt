@@ -1,4 +1,4 @@
--- What an answer says of a text that is laid out, by its status.
+-- What an answer says of a text that is formatted, by its status.
 use Rattle.std.specs.Prelude.{◌≡◌, ◌<◌, ◌++◌, ℕ, List, length, drop}
 use Rattle.weedle_c.specs.declared.format.WeedleFormatted.{WeedleFormatted}
 use Rattle.weedle_formatter.specs.Words.{SaysTheSame}
@@ -11,7 +11,7 @@ pub record IsLaidOut (text : List ℕ) (answer : WeedleFormatted) (formatted : L
   pub rest : answer.rest ≡ length text
   pub stood : answer.is_laid_out ≡ 0 → formatted ≡ text
 
--- it stands at the front of the room, and behind it stands what stood there
+-- it is at the front of the room, and behind it is what was there
 pub record IsFormatted (text old new : List ℕ) (answer : WeedleFormatted) : Type 0 where
   pub formatted : List ℕ
   pub is : IsLaidOut text answer formatted
@@ -23,7 +23,7 @@ pub record IsLonger (text : List ℕ) (room : ℕ) (answer : WeedleFormatted) : 
   pub is : IsLaidOut text answer formatted
   pub more : room < length formatted
 
--- the text isn't read whole, and the answer says where the unread rest begins
+-- the text isn't read whole, and the answer says where the remaining input begins
 pub record IsUnformatted (text : List ℕ) (answer : WeedleFormatted) : Type 0 where
   pub refused : ¬ IsWhole text
   pub left : RestBegins text answer.rest

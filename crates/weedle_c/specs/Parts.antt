@@ -61,7 +61,7 @@ pub record Counts (parts : List Part) (nodes : List Node) (answer : WeedleRecove
   pub of_nodes : answer.nodes ≡ length nodes
   pub of_unread : answer.unread ≡ count_by is_unread parts
 
--- parts and nodes stand at the front of their rooms, and behind them stands what stood there
+-- parts and nodes are at the front of their rooms, and behind them is what was there
 pub record AreParted (text : List ℕ) (old new : List WeedlePart) (old_nodes new_nodes : List WeedleNode) (answer : WeedleRecovered) : Type 0 where
   pub parts : List Part
   pub nodes : List Node

@@ -1,4 +1,4 @@
-//! Why what stands from a place of a text on is refused.
+//! Why the text from a place of a text on is refused.
 
 ghost use Rattle.std.specs.Prelude.{◌≡◌, ◌≢◌, ◌≤◌, ◌↔◌, IsCharBoundary, IsUtf8, drop};
 ghost use Rattle.std.specs.Str.{IsValidUpTo};
@@ -10,7 +10,7 @@ use crate::told::{NOTHING, WeedleRefusal, tell};
 use std::alloc::Global;
 use weedle_refusal::refusal_behind;
 
-/// Says where and why what stands from a place on is refused, and writes as much of the message as
+/// Says where and why the text from a place on is refused, and writes as much of the message as
 /// there is room for. The answer is the status.
 pub(crate) fn explain_from(
     alloc: Global,
@@ -40,7 +40,7 @@ pub(crate) fn explain_from(
     }
 }
 
-/// Says where and why what stands from a place of a text that is UTF-8 on is refused.
+/// Says where and why the text from a place of a text that is UTF-8 on is refused.
 fn explain_text_from(
     alloc: Global,
     raw: &str,

@@ -1,4 +1,4 @@
-//! A text laid out anew.
+//! A formatted text.
 
 ghost use Rattle.std.specs.Prelude.{
   ◌≡◌,
@@ -23,16 +23,17 @@ use weedle_formatter::{lay_out, same_words};
 use weedle_refusal::rest_of;
 use weedle_syntax::{Node, syntax_of_front};
 
-/// What is said of a text that is laid out beside the status.
+/// What is said of a text that is formatted beside the status.
 #[repr(C)]
 #[derive(Clone, Copy)]
 pub struct WeedleFormatted {
-    /// How many bytes the text has once it is laid out, of one that is read whole.
+    /// How many bytes the text has once it is formatted, of one that is read whole.
     pub length: usize,
-    /// Where the unread rest begins, in bytes from the front of the text: at its end where it is
-    /// read whole. Of what isn't UTF-8 it is the first byte that isn't part of a character.
+    /// Where the remaining input begins, in bytes from the front of the text: at its end where it
+    /// is read whole. For bytes that aren't UTF-8 it is the first one that isn't part of a
+    /// character.
     pub rest: usize,
-    /// 1 where the text was laid out, and 0 where it is as it stood.
+    /// 1 where the text was formatted, and 0 where it is as it was.
     pub is_laid_out: usize,
 }
 
@@ -43,7 +44,7 @@ const NOTHING: WeedleFormatted = WeedleFormatted {
     is_laid_out: 0,
 };
 
-/// Lays a text out, and writes it where there is room for all. The answer is the status.
+/// Formats a text, and writes it where there is room for all. The answer is the status.
 pub(crate) fn format(
     alloc: Global,
     text: &[u8],
@@ -72,7 +73,7 @@ pub(crate) fn format(
     }
 }
 
-/// Lays out what is UTF-8.
+/// Formats what is UTF-8.
 fn format_text(alloc: Global, raw: &str, out: &mut [u8], answer: &mut WeedleFormatted) -> u32
     requires { answer.old ≡ NOTHING }
     ensures known { (result ≤ NO_ROOM) × (result ≢ NOT_UTF8) }
@@ -100,8 +101,8 @@ fn format_text(alloc: Global, raw: &str, out: &mut [u8], answer: &mut WeedleForm
     }
 }
 
-/// The text of these nodes laid out, or None where that would say something else. What is laid out
-/// already isn't read again.
+/// The text of these nodes formatted, or None where that would say something else. What is
+/// formatted already isn't read again.
 fn laid_out(alloc: Global, raw: &str, nodes: &[Node]) -> Result<Option<String>, AllocError>
     requires are { IsFront raw.now nodes.now }
     requires whole { length raw.now ≤ the_rest_of nodes.now }

@@ -8,22 +8,22 @@ use weedle_refusal::Hint;
 /// There is none.
 pub const NONE: usize = 0;
 
-/// A keyword in place of the word that stands there.
+/// A keyword in place of the word there.
 pub const KEYWORD: usize = 1;
 
 /// A sign is missing there.
 pub const MISSING: usize = 2;
 
-/// The sign that stands there is too many.
+/// The sign there is too many.
 pub const EXTRA: usize = 3;
 
-/// Another sign in place of the one that stands there.
+/// Another sign in place of the one there.
 pub const WRONG_SIGN: usize = 4;
 
-/// The two words that stand there, in the other order.
+/// The two words there, in the other order.
 pub const WORD_ORDER: usize = 5;
 
-/// The docstring that stands there belongs elsewhere.
+/// The docstring there belongs elsewhere.
 pub const DOCSTRING: usize = 6;
 
 /// The string that opens there isn't closed.
@@ -32,7 +32,7 @@ pub const OPEN_STRING: usize = 7;
 /// The string that opens there ends in another line.
 pub const SPLIT_STRING: usize = 8;
 
-/// A byte order mark stands there.
+/// A byte order mark is there.
 pub const BYTE_ORDER_MARK: usize = 9;
 
 /// The text has no definitions.
@@ -75,7 +75,7 @@ pub(crate) fn place_of(hint: &Option<Hint>) -> usize
     }
 }
 
-/// How many bytes stand where a hint is that it speaks of.
+/// How many bytes a hint speaks of, from its place on.
 pub(crate) fn length_of(hint: &Option<Hint>) -> usize
     ensures { IsHintLength hint.now result }
 {

@@ -104,8 +104,8 @@ pub extern "C" fn weedle_syntax(
     read(alloc, text, nodes, answer)
 }
 
-/// Reads a rule at the front of a text, whatever stands behind it, and writes the nodes of its
-/// syntax tree where there is room for all. The answer is the status.
+/// Reads a rule at the front of a text, whatever follows it, and writes the nodes of its syntax
+/// tree where there is room for all. The answer is the status.
 #[unsafe(no_mangle)]
 pub extern "C" fn weedle_syntax_of(
     alloc: Global,
@@ -152,7 +152,7 @@ pub extern "C" fn weedle_explain(
     explain(alloc, text, message, answer)
 }
 
-/// Says where and why what stands from a place of a text on is refused, and writes as much of the
+/// Says where and why the text from a place of a text on is refused, and writes as much of the
 /// message as there is room for. The answer is the status.
 #[unsafe(no_mangle)]
 pub extern "C" fn weedle_explain_from(
@@ -278,7 +278,7 @@ pub extern "C" fn weedle_expected_part(
     expect_in_part(alloc, text, part, words, answer)
 }
 
-/// Lays a text out anew, and writes it where there is room for all. The answer is the status.
+/// Formats a text, and writes it where there is room for all. The answer is the status.
 #[unsafe(no_mangle)]
 pub extern "C" fn weedle_format(
     alloc: Global,

@@ -12,7 +12,7 @@ use weedle_syntax::{FromNode, Node};
 pub struct WeedleNode {
     /// The number of the rule.
     pub rule: u32,
-    /// How many nodes it stands in.
+    /// How many nodes it is in.
     pub depth: u32,
     /// Where it begins, in bytes from the front of the text.
     pub start: u32,

@@ -16,8 +16,9 @@ use weedle_syntax::{Compact, compact_of_front};
 pub struct WeedleAnswer {
     /// How many nodes the tree has, of a text that is read whole.
     pub count: usize,
-    /// Where the unread rest begins, in bytes from the front of the text: at its end where it is
-    /// read whole. Of what isn't UTF-8 it is the first byte that isn't part of a character.
+    /// Where the remaining input begins, in bytes from the front of the text: at its end where it
+    /// is read whole. For bytes that aren't UTF-8 it is the first one that isn't part of a
+    /// character.
     pub rest: usize,
 }
 

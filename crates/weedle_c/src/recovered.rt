@@ -26,7 +26,7 @@ pub struct WeedleRecovered {
     pub nodes: usize,
     /// How many parts are unread.
     pub unread: usize,
-    /// Of what isn't UTF-8 the first byte that isn't part of a character.
+    /// For bytes that aren't UTF-8 the first one that isn't part of a character.
     pub rest: usize,
 }
 

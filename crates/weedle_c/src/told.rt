@@ -14,10 +14,10 @@ use weedle_refusal::{Refusal, position_of, write_hint, write_message};
 #[repr(C)]
 #[derive(Clone, Copy)]
 pub struct WeedleRefusal {
-    /// Where the unread rest begins, in bytes from the front of the text.
+    /// Where the remaining input begins, in bytes from the front of the text.
     pub start: usize,
-    /// The furthest place to which the reading of the rest comes. Of what isn't UTF-8 it is the
-    /// first byte that isn't part of a character.
+    /// The furthest place to which the reading of the remaining input comes. For bytes that aren't
+    /// UTF-8 it is the first one that isn't part of a character.
     pub place: usize,
     /// The line of that place, from 1 on.
     pub line: usize,

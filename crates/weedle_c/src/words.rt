@@ -40,8 +40,8 @@ pub struct WeedleExpected {
     pub count: usize,
     /// How many bytes they have, with a zero behind each.
     pub length: usize,
-    /// The furthest place to which the reading comes, where they would have been read. Of what
-    /// isn't UTF-8 it is the first byte that isn't part of a character.
+    /// The furthest place to which the reading comes, where they would have been read. For bytes
+    /// that aren't UTF-8 it is the first one that isn't part of a character.
     pub place: usize,
 }
 

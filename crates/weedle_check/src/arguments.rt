@@ -23,13 +23,13 @@ Without a file, or for `-`, it reads the standard input.
 Status: 0 all is read, 1 something is refused, 2 a file can't be read or isn't UTF-8,
 3 out of memory, 4 the output can't be written, 5 other arguments than these.";
 
-/// The word behind which stands how many errors of a file are told.
+/// The word behind which is how many errors of a file are reported.
 pub const ERRORS: &str = "--errors";
 
-/// How many errors of a file are told where no number is given.
+/// How many errors of a file are reported where no number is given.
 const MOST_ERRORS: usize = 20;
 
-/// How many errors of a file are told.
+/// How many errors of a file are reported.
 pub fn most_errors(request: &Request) -> usize {
     request.number.unwrap_or(MOST_ERRORS)
 }

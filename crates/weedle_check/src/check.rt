@@ -28,11 +28,11 @@ pub struct Checked {
 pub struct Wish {
     /// What is printed of it.
     pub task: Task,
-    /// How many of its errors are told.
+    /// How many of its errors are reported.
     pub most_errors: usize,
 }
 
-/// Checks a text, and prints what is asked for. Of a text that isn't read whole it writes each
+/// Checks a text, and prints what is asked for. For a text that isn't read whole it writes each
 /// error, where and why: that is an answer. It fails where memory is refused, and where the output
 /// can't be written.
 pub fn check_text<C: Clock + AllocGlobal, W: Write>(

@@ -3,7 +3,7 @@
 use crate::arguments::Task;
 use weedle_nesting::nesting;
 
-/// How many levels a text may nest that is read, and let go of.
+/// How many levels a text may nest that is read, and dropped.
 const MOST_READ: usize = 6_000;
 
 /// How many levels a text may nest that is printed, too.

@@ -5,7 +5,7 @@ use std::alloc::Global;
 use std::io::{self, Write};
 use weedle_recovery::{Part, recover, refusal_of_part};
 
-/// Writes why each unread part of a text is so but for the first, of which that is said, and how
+/// Writes why each unread part of a text is so except for the first, of which that is said, and how
 /// many more there are than `most`. It says how many errors there are with the first.
 ///
 /// With 1 it looks for no others, and where memory runs out for them, it finds none. It fails where

@@ -4,10 +4,10 @@
 //! weedle_check [--tree | --syntax | --print | --time] [--errors N] [FILE..]
 //! ```
 //!
-//! It reads the files that are named, or else the standard input, which `-` names too. Of each that
-//! isn't read whole it prints of each error the line and the column, what would have been read
-//! there, the line of the text and a mark below the place; then how many files were read, and how
-//! many of them were refused:
+//! It reads the files that are named, or else the standard input, which `-` names too. It prints
+//! each error of a file that isn't read whole: its line and column, what would have been read
+//! there, the line of the text and a mark below the place. Then it prints how many files were read,
+//! and how many of them were refused:
 //!
 //! ```text
 //! a.webidl:3:1: expected `;`
@@ -16,13 +16,13 @@
 //! 1 file, 1 refused
 //! ```
 //!
-//! Of a file it prints 20 errors at most, or as many as `--errors` says, and how many more there
-//! are. Where files have more errors than one, the last line counts them too.
+//! It prints at most 20 errors of a file, or as many as `--errors` says, and how many more there
+//! are. Where files have several errors, the last line counts them too.
 //!
 //! With `--tree` it prints the definitions of what it reads, each on a line behind its line and
 //! column; with `--syntax` its syntax tree, a node on a line; with `--print` the definitions
 //! written anew as Web IDL, and no count of files behind them; with `--time` how long each reader
-//! takes, and what the table of ends needs.
+//! takes, and what the packrat table needs.
 //!
 //! The status is 0 where all is read, 1 where something is refused, 2 where a file can't be read or
 //! isn't UTF-8, 3 where memory ran out, 4 where the output can't be written, and 5 where the

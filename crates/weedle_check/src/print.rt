@@ -8,10 +8,11 @@ use weedle_print_idl::{PrintError, WriteIdl};
 use weedle_program::Fault;
 
 /// Writes the definitions of a text that is read whole, in the layout that there is. Comments and
-/// blanks of the text are in no value, so they are not in what is written.
+/// whitespace of the text are in no value, so they are not in what is written.
 ///
 /// It reads the text as [`parse_quick`] does, and asks for memory for what is written too. It fails
-/// where memory is refused, where no text says a value, and where the output can't be written.
+/// where memory is refused, where no text is a rendering of a value, and where the output can't be
+/// written.
 pub fn write_idl<W: Write>(alloc: Global, text: &str, out: &mut W) -> Result<(), Fault> {
     let definitions = match parse_quick(alloc, text) {
         Ok(definitions) => definitions,

@@ -13,9 +13,9 @@ pub struct Slip {
     /// The byte of the text at which it is.
     pub place: usize,
     /// What would have been read there, or None where memory ran out for more than the place, which
-    /// then is where the unread rest begins.
+    /// then is where the remaining input begins.
     pub words: Option<String>,
-    /// What would mend it, or what it lacks, where that is known.
+    /// What would fix it, or what it lacks, where that is known.
     pub hint: Option<Hint>,
 }
 
@@ -45,7 +45,7 @@ pub fn explained(alloc: Global, refusal: Refusal) -> Slip {
     }
 }
 
-/// What can be said of a text with no memory for a table of its rest.
+/// What can be said of a text with no memory for a table of its remaining input.
 fn unexplained(alloc: Global, text: &str) -> Result<Option<Slip>, AllocError> {
     match parse_quick(alloc, text) {
         Ok(_) => Ok(None),

@@ -5,12 +5,12 @@ use std::io::{self, Write};
 use weedle_program::Fault;
 use weedle_syntax::{Node, syntax_quick};
 
-/// What stands in front of a node for each node that it stands in.
+/// What is in front of a node for each node that it is in.
 const INDENT: &str = "  ";
 
 /// Writes the nodes of a text that is read whole, one on a line: the name of its rule and its
-/// bytes, and of a leaf its text in quotes. A node stands two blanks behind the one that it stands
-/// in. It says whether the text is read whole.
+/// bytes, and of a leaf its text in quotes. A node is two spaces behind the one that it is in. It
+/// says whether the text is read whole.
 ///
 /// ```text
 /// definitions 0..21

@@ -1,4 +1,4 @@
-//! The table of ends of a text, timed.
+//! The packrat table of a text, timed.
 
 ghost use Rattle.std.specs.Prelude.{◌≡◌};
 
@@ -15,7 +15,7 @@ use weedle_rules::{Cell, Ends, Narrow, RULES};
 pub struct TableTimes {
     /// The filling of the table.
     pub filling: u128,
-    /// The laying down of as many cells that nothing is worked out for.
+    /// The writing of as many cells that nothing is worked out for.
     pub laying: u128,
     /// The second pass, which builds the list along the table.
     pub second: u128,
@@ -23,8 +23,8 @@ pub struct TableTimes {
     pub cells: u128,
 }
 
-/// Times the parts of a reading over the table, once. The time of no part has the letting go of
-/// what it made. It fails where memory is refused, and where the clock can't be read.
+/// Times the parts of a reading over the table, once. No time includes that of dropping what a part
+/// made. It fails where memory is refused, and where the clock can't be read.
 pub fn time_table<C: Clock + AllocGlobal>(rt: &C, text: &str) -> Result<TableTimes, Fault> {
     let laying = time_laying(rt, text)?;
     let start = Instant::now(rt).map_err(Fault::of_input)?;
@@ -39,7 +39,7 @@ pub fn time_table<C: Clock + AllocGlobal>(rt: &C, text: &str) -> Result<TableTim
     })
 }
 
-/// How many nanoseconds it takes to lay down as many cells as the table has.
+/// How many nanoseconds it takes to write as many cells as the table has.
 fn time_laying<C: Clock + AllocGlobal>(rt: &C, text: &str) -> Result<u128, Fault> {
     let start = Instant::now(rt).map_err(Fault::of_input)?;
     let rows = lay(rt.alloc(), text)?;
@@ -61,7 +61,7 @@ fn time_second<'a, C: Clock + AllocGlobal>(
     since(rt, start)
 }
 
-/// Builds the definitions along the table, and lets go of them.
+/// Builds the definitions along the table, and drops them.
 fn build<'a>(alloc: Global, ends: &Ends<'a>, text: &'a str) -> Result<(), AllocError>
     requires table { ends.now.text ≡ text.now }
 {

@@ -25,9 +25,9 @@ enum Reader {
 
 /// Times a text that is read whole, and writes the times, of five each the median.
 ///
-/// Descent is left out for a text that nests so that it takes it long. The table takes 1,544 bytes
-/// for each byte of the text: where that isn't to be had, the times of the other readers stand all
-/// the same.
+/// Descent is left out for a text that nests so that descent takes long. The table takes 1,544
+/// bytes for each byte of the text: where that is refused, the other readers are timed all the
+/// same.
 ///
 /// It fails where memory for the list is refused, where the clock can't be read, and where the
 /// output can't be written.
@@ -76,7 +76,7 @@ fn write_table<C: Clock + AllocGlobal, W: Write>(
     Ok(())
 }
 
-/// How many nanoseconds a reader takes, with the letting go of the list.
+/// How many nanoseconds a reader takes, with the freeing of the list.
 fn time_reader<C: Clock + AllocGlobal>(rt: &C, reader: Reader, text: &str) -> Result<u128, Fault> {
     let mut times = [0; ROUNDS];
     for time in &mut times {
@@ -106,7 +106,7 @@ fn time_parts<C: Clock + AllocGlobal>(rt: &C, text: &str) -> Result<TableTimes, 
     })
 }
 
-/// Reads a text, and lets go of its list.
+/// Reads a text, and drops its list.
 fn read(alloc: Global, reader: Reader, text: &str) -> Result<(), AllocError> {
     match reader {
         Reader::ByDescent => answered(parse_by_descent(alloc, text)),
@@ -115,7 +115,7 @@ fn read(alloc: Global, reader: Reader, text: &str) -> Result<(), AllocError> {
     }
 }
 
-/// Lets go of an answer that isn't want of memory.
+/// Drops an answer that isn't 'out of memory'.
 fn answered<T: Drop>(answer: Result<T, Err<Error<&str>>>) -> Result<(), AllocError> {
     match answer {
         Err(Err::Failure(_)) => Err(AllocError),

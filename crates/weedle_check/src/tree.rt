@@ -16,8 +16,8 @@ use weedle_rules::Ends;
 /// Writes each definition of a text on a line, behind the line and the column at which it begins:
 /// `3:1 Interface(InterfaceDefinition { .. })`. The text is read whole, and suits descent.
 ///
-/// Each definition is read, written and let go of by itself, and no memory is taken but what it
-/// holds. It fails where memory is refused, and where the output can't be written.
+/// Each definition is read, written and dropped by itself, and no memory is taken except for what
+/// it holds. It fails where memory is refused, and where the output can't be written.
 pub fn write_tree<W: Write>(alloc: Global, text: &str, out: &mut W) -> Result<(), Fault> {
     Ok(write_by_descent::<Definition<'_>, W>(alloc, text, out)?)
 }
@@ -25,7 +25,7 @@ pub fn write_tree<W: Write>(alloc: Global, text: &str, out: &mut W) -> Result<()
 /// Writes each definition of any text as [`write_tree`] does, where the text is read whole: says
 /// whether it is.
 ///
-/// It fills one table of ends, 1,544 bytes for each byte of the text. It fails where memory is
+/// It fills one packrat table, 1,544 bytes for each byte of the text. It fails where memory is
 /// refused, and where the output can't be written.
 pub fn write_tree_over_table<W: Write>(
     alloc: Global,
@@ -76,7 +76,7 @@ fn write_by_descent<'a, T: Parse<'a> + Debug, W: Write>(
     Ok(())
 }
 
-/// Writes each item, behind where it stands in the text.
+/// Writes each item, behind where it is in the text.
 fn write_each<T: Debug + Drop, W: Write>(
     items: Vec<T>,
     places: &[Place],
@@ -96,7 +96,7 @@ fn write_each<T: Debug + Drop, W: Write>(
 #[derive(Clone, Copy)]
 struct Cursor<'a> {
     rest: &'a str,
-    /// Where the rest begins.
+    /// Where the remaining input begins.
     position: Position,
 }
 
@@ -109,8 +109,8 @@ impl<'a> Cursor<'a> {
         }
     }
 
-    /// Goes on to where this rest of the text begins, and says where that is. It looks twice at
-    /// most at each byte in between.
+    /// Goes on to where this remaining text begins, and says where that is. It looks twice at most
+    /// at each byte in between.
     fn go_to(&mut self, rest: &'a str) -> Position {
         let passed = self.rest.len().saturating_sub(rest.len());
         let moved = position_of(self.rest, passed);

@@ -15,7 +15,7 @@ place_of [] c = absurd c
 place_of (Fs ∷ Fss) (inl v) = 0
 place_of (Fs ∷ Fss) (inr c) = suc (place_of Fss c)
 
--- the first of two choices stands before the second
+-- the first of two choices comes before the second
 pub by_before : {A : Type 0} (before after : A) (Fss : List (List Field)) (each : Each A Fss) (c d : Choice Fss) → place_of Fss c < place_of Fss d
     → by before after Fss each c d ≡ before
 by_before before after [] each c d h = absurd c
@@ -24,7 +24,7 @@ by_before before after (Fs ∷ Fss) each (inl v) (inr d) h = refl
 by_before before after (Fs ∷ Fss) each (inr c) (inl w) h = absurd (omega (arith, h))
 by_before before after (Fs ∷ Fss) each (inr c) (inr d) h = by_before before after Fss each.1 c d (omega (arith, h))
 
--- the second of two choices stands before the first
+-- the second of two choices comes before the first
 pub by_after : {A : Type 0} (before after : A) (Fss : List (List Field)) (each : Each A Fss) (c d : Choice Fss) → place_of Fss d < place_of Fss c
     → by before after Fss each c d ≡ after
 by_after before after [] each c d h = absurd c

@@ -19,12 +19,12 @@ use Rattle.weedle_modifier.specs.declared.modifier.Special.TheVariants.{Getter, 
 use Rattle.weedle_types.specs.declared.attribute.IdentifierOrString.{IdentifierOrString}
 use Rattle.weedle_types.specs.declared.attribute.IdentifierOrString.TheVariants.{Identifier as Named, String as Quoted}
 
--- None stands first
+-- None comes first
 abbrev pub option_key : {A : Type 0} → Option A → ℕ
 option_key None = 0
 option_key (Some x) = 1
 
--- false stands first
+-- false comes first
 abbrev pub bool_key : Bool → ℕ
 bool_key b = if b then 1 else 0
 

@@ -19,7 +19,7 @@ use weedle_parts::common::{
 };
 use weedle_parts::types::{IntegerType, MayBeNull};
 
-/// Two commas are equal, and neither stands before the other: `(true, Equal)`.
+/// Two commas are equal, and neither comes before the other: `(true, Equal)`.
 pub fn compare_commas(a: Comma, b: Comma) -> (bool, Ordering)
     ensures equal { IsTrue result.0 }
     ensures order { result.1 ≡ Ordering.Equal }
@@ -110,7 +110,7 @@ pub fn clone_identifier<'a>(name: &Identifier<'a>) -> Result<(Identifier<'a>, bo
 }
 
 /// Names that may be null are compared by the name first, and where it is the same one without `?`
-/// stands first: `a`, then `a?`, then `b`.
+/// comes first: `a`, then `a?`, then `b`.
 pub fn compare_nullable_names(
     a: MayBeNull<Identifier<'_>>,
     b: MayBeNull<Identifier<'_>>,
@@ -146,7 +146,7 @@ pub fn clone_nullable_name<'a>(
     Ok((copy, copy == *name))
 }
 
-/// Types of integers are compared by their variants first, and then one without `unsigned` stands
+/// Types of integers are compared by their variants first, and then one without `unsigned` comes
 /// first: `unsigned long long`, then `long`, then `unsigned long`.
 pub fn compare_integer_types(a: IntegerType, b: IntegerType) -> (bool, Ordering)
     ensures equal { IsTrue result.0 ↔ (a ≡ b) }
@@ -202,7 +202,7 @@ pub fn copy_docstring(text: &Docstring, alloc: Global) -> Result<(Docstring, boo
     Ok((copy, equal))
 }
 
-/// Lists of names are compared name by name, and a list stands before one that goes on: `a`, then
+/// Lists of names are compared name by name, and a list comes before one that goes on: `a`, then
 /// `a, b`, then `b`.
 #[tactic(auto, using(crate::proofs::NameLists::names_equal, crate::proofs::NameLists::names_order))]
 pub fn compare_name_lists(

@@ -43,7 +43,7 @@ pub fn clone_decimal<'a>(number: &DecLit<'a>) -> Result<(DecLit<'a>, bool), Allo
 }
 
 /// Whole numbers are compared by their variants first, and then by their texts: the decimal `9`
-/// stands before the hexadecimal `0x1`.
+/// comes before the hexadecimal `0x1`.
 pub fn compare_integers(a: IntegerLit<'_>, b: IntegerLit<'_>) -> (bool, Ordering)
     ensures equal { IsTrue result.0 ↔ (integer_key a.entry ≡ integer_key b.entry) }
     ensures order { result.1 ≡ slice_cmp nat_cmp (integer_key a.entry) (integer_key b.entry) }

@@ -1,4 +1,4 @@
-//! What may stand before a member, and what is inherited from.
+//! What may be before a member, and what is inherited from.
 
 ghost use Rattle.std.specs.Prelude.{◌≡◌, ◌↔◌, IsTrue, IsOkAnd};
 ghost use Rattle.std.specs.Cmp.Lexicographic.{slice_cmp};

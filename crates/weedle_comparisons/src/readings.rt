@@ -1,4 +1,4 @@
-//! Arguments in parentheses stand in their types as a struct of their own,
+//! Arguments in parentheses are in their types as a struct of their own,
 //! `ParenthesizedArgumentList`, and members in braces as the generic part,
 //! `Braced<InterfaceMembers>` and the like. This generic part, and `Parenthesized<ArgumentList>`
 //! beside that struct, read what the rules of arguments in parentheses and of members in braces

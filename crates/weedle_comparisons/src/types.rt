@@ -17,7 +17,7 @@ use weedle_types::attribute::{
 };
 
 /// Names and strings are compared by their variants first, and then by their texts: the name `b`
-/// stands before the string `"a"`.
+/// comes before the string `"a"`.
 pub fn compare_names_or_strings(
     a: IdentifierOrString<'_>,
     b: IdentifierOrString<'_>,

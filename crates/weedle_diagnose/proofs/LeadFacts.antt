@@ -58,7 +58,7 @@ module _ (text : List ℕ) (r p : ℕ) {row : Row} (is : row_of r ≡ row) where
         let s = only_itself x q u.tried in
         no_failure h (subst (λ k. FailsAt text r k) s.1 (subst (λ k. FailsAt text k q) s.0 u.fails)))))
 
--- a rule that can't begin with the byte that stands there, where rules are noted as a whole
+-- a rule that can't begin with the byte there, where rules are noted as a whole
 pub refused_noted : (text : List ℕ) (r p : ℕ) {old new : Furthest} → p ≤ length text → r < rule_count → HasEnd text r p None → TriesHere text r p → old.leaves ≡ false → IsNoted r p old new → Notes text (IsUnmetIn text r p) old new
 refused_noted text r p fits low h here whole n = failure_noted text r p fits low (it_fails h) here (λ l. never_so (sym whole ∙ l)) n
 

@@ -1,4 +1,4 @@
--- Marks of rules at places: a bit for each, in the order in which a table of ends is filled.
+-- Marks of rules at places: a bit for each, in the order in which a packrat table is filled.
 use Rattle.std.specs.Prelude.{◌≡◌, ◌⊎◌, ◌↔◌, ◌≤◌, ◌<◌, ◌+◌, ◌*◌, ◌-◌, ◌/◌, ◌%◌, ℕ, List, length, slice_index}
 use Rattle.std.specs.Int.{bit_at}
 use Rattle.weedle_grammar.specs.written.Bound.{rule_count}

@@ -1,8 +1,8 @@
 //! What fails furthest on, by descent, without a table.
 //!
 //! Each rule is read where it is tried, and a rule without parts that fails is noted. What can't
-//! begin with the byte that stands there isn't read, since all that it would try fails there: it is
-//! noted as a whole.
+//! begin with the byte there isn't read, since all that it would try fails there: it is noted as a
+//! whole.
 
 ghost use Rattle.std.specs.Prelude.{
   ◌≡◌,
@@ -38,7 +38,7 @@ pub(crate) struct GaveUp;
 /// Notes what fails where the rule is read, and says where it ends; nothing where it fails.
 ///
 /// At most `left` rules are tried, and at most `depth` in one another. What can't begin with the
-/// byte that stands there is passed over, and not counted.
+/// byte there is passed over, and not counted.
 #[cycle(descent)]
 pub(crate) fn read(
     furthest: &mut Furthest,
@@ -83,7 +83,7 @@ pub(crate) fn read(
     }
 }
 
-/// Whether the rule is noted as a whole, since it can't begin with the byte that stands there.
+/// Whether the rule is noted as a whole, since it can't begin with the byte there.
 #[inline(always)]
 fn is_refused(furthest: &Furthest, text: &Source<'_>, rule: Rule, place: usize) -> bool
     requires { place ≤ length text.now }
@@ -97,7 +97,7 @@ fn is_refused(furthest: &Furthest, text: &Source<'_>, rule: Rule, place: usize) 
     text.refuses(rule, place)
 }
 
-/// Counts a rule that is tried, and says how deep those may stand in one another that it reads.
+/// Counts a rule that is tried, and says how deep those may nest that it reads.
 #[inline(always)]
 fn step(left: &mut usize, depth: usize) -> Result<usize, GaveUp>
     ensures { OnOk result (left.old ≡ 1 + left.new) }

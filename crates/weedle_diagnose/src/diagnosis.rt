@@ -1,4 +1,4 @@
-//! What is said of a text that is refused.
+//! Why a text is refused.
 
 ghost use Rattle.std.specs.Prelude.{◌≤◌, length, IfOk};
 ghost use Rattle.weedle_diagnose.specs.Diagnosis.{IsDiagnosis};
@@ -12,7 +12,7 @@ use weedle_rules::Ends;
 /// The furthest place where something that is tried fails, and what fails there.
 ///
 /// Over `enum E { "a", "b" "c" };` the place is 18, where the third string begins. Expected are the
-/// rules of the bytes `,` and `}`, beside those that begin a comment or a blank.
+/// rules of the bytes `,` and `}`, beside those that begin a comment or whitespace.
 #[derive(Debug, Drop)]
 pub struct Diagnosis {
     /// The place, in bytes from the front of the text.
@@ -23,7 +23,7 @@ pub struct Diagnosis {
 }
 
 /// Where the reading of definitions that begin at this place comes furthest, and what would have to
-/// stand there.
+/// be there.
 ///
 /// The table is that of the whole text. The place is 0, or where the part begins that wasn't read:
 /// in `interface A {}; /* open` that is 16, and the answer is the place 18, behind which nothing

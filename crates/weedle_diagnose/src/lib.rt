@@ -9,9 +9,9 @@
 //! assert_eq!(rt; diagnosis.place, 40);
 //! ```
 //!
-//! At 40 stands the `}`, where the text lacks a `;`. So the rule of that sign is one of `expected`,
-//! beside those that begin a comment or a blank, which may stand there too. [`diagnose_from`] says
-//! the same over a table of ends.
+//! At 40 is the `}`, where the text lacks a `;`. So the rule of that sign is one of `expected`,
+//! beside those that begin a comment or whitespace, which may be there too. [`diagnose_from`] says
+//! the same over a packrat table.
 #![tactic(auto)]
 
 mod descent;

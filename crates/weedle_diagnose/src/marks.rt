@@ -1,4 +1,4 @@
-//! Marks of rules at places: a bit for each, by the number of its cell in a table of ends.
+//! Marks of rules at places: a bit for each, by the number of its cell in a packrat table.
 //!
 //! In a word the first cell has the highest bit and the last cell the lowest. So the last cell that
 //! is marked in a word is the number of its trailing zeros away from its end.

@@ -1,7 +1,7 @@
 //! What fails furthest on, while a text is read by descent.
 //!
-//! A rule that can't begin with the byte that stands there is marked as a whole, in place of what
-//! it tries: which rules without parts fail in it is looked for at the end, at one place alone.
+//! A rule that can't begin with the byte there is marked as a whole, in place of what it tries:
+//! which rules without parts fail in it is looked for at the end, at one place alone.
 
 ghost use Rattle.std.specs.Prelude.{◌≡◌, ◌<◌, ◌↔◌, ℕ, IsTrue, IfOk, MatchOption};
 ghost use Rattle.std.specs.List.{Contains};
@@ -18,7 +18,7 @@ use weedle_grammar::{RULES, Rule, rule_of};
 const WORDS: usize = 7;
 
 /// The furthest place where something failed so far, and rules that failed there, a bit for each,
-/// in which all stands that failed there.
+/// in which all is that failed there.
 #[derive(Drop)]
 pub(crate) struct Furthest {
     pub(crate) place: usize,

@@ -12,8 +12,8 @@ use weedle_rules::Ends;
 use weedle_starts::source::Source;
 use weedle_syntax::Limits;
 
-/// How many rules descent may try for each byte of the text from the place on. Of what people write
-/// it tries 2 to 5.
+/// How many rules descent may try for each byte of the text from the place on. For what people
+/// write it tries 2 to 5.
 const STEPS_A_BYTE: usize = 64;
 
 /// How many more it may try, so that a short definition may have long extended attributes.
@@ -24,8 +24,8 @@ const DEPTH: usize = 380;
 
 /// The same as [`diagnose_from`] without a table, or None where descent gives up.
 ///
-/// Of `interface A { readonly attribute long x };` it says 40, as the table does. It reads from the
-/// place on what the rules try there, up to the first definition that isn't read, and nothing
+/// For `interface A { readonly attribute long x };` it says 40, as the table does. It reads from
+/// the place on what the rules try there, up to the first definition that isn't read, and nothing
 /// behind that.
 ///
 /// It asks for memory for the list alone. It takes some 30 to 100 nanoseconds for each byte that it
@@ -64,7 +64,7 @@ fn limits_of(length: usize) -> Limits
 ///
 /// Each rule that is tried takes one of the steps, and the depth says how many may be tried in one
 /// another, of which each takes some 370 bytes of the stack. So several calls may share what they
-/// may do together. Beside that it is what [`diagnose_by_descent`] is.
+/// may do together. Besides, it is what [`diagnose_by_descent`] is.
 pub fn diagnose_within(
     alloc: Global,
     text: &str,
@@ -98,8 +98,8 @@ pub fn diagnose_within(
 /// table.
 ///
 /// So of what people write it takes no table, and the time for the one definition that isn't read,
-/// however much stands behind it. For what nests deep it fills the table of the whole text, and
-/// marks what is tried: together 1,592 bytes of memory for each byte.
+/// however much follows it. For what nests deep it fills the table of the whole text, and marks
+/// what is tried: together 1,592 bytes of memory for each byte.
 pub fn diagnose_quick(alloc: Global, text: &str, start: usize) -> Result<Diagnosis, AllocError>
     requires { start ≤ length text.now }
     ensures { IfOk result (λ d. IsDiagnosis text.now start d.place d.expected.items) }

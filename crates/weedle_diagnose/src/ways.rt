@@ -1,4 +1,4 @@
-//! What the rules try, laid out by their numbers.
+//! What the rules try, in the order of their numbers.
 
 ghost use Rattle.weedle_grammar.specs.written.Bound.{rule_count};
 ghost use Rattle.weedle_grammar.specs.written.Table.{row_of as the_row_of};
@@ -9,7 +9,7 @@ use weedle_grammar::{Parts, RULES, Row, Rule, row_of, rule_of};
 /// What a rule tries: its row, with rules as numbers. A row without parts tries nothing, so all of
 /// them are `Plain`.
 ///
-/// The parts are a type argument, as the borrow checker wants it of an enum in an array.
+/// The parts are a type argument, as the borrow checker requires it of an enum in an array.
 #[derive(Clone, Copy)]
 pub(crate) enum Way<P> {
     Plain,

@@ -11,7 +11,7 @@ use Rattle.weedle_refusal.specs.declared.expected.Expected.{Expected}
 use Rattle.weedle_refusal.specs.declared.hint.Hint.{Hint}
 
 module _ {raw rest : List ℕ} (h : IsRest raw rest) where
-  -- the rest stands behind what is read
+  -- the rest follows what is read
   rest_is : rest ≡ drop (length raw - length rest) raw
   unfolding IsLeft
   rest_is =

@@ -7,7 +7,8 @@ use Rattle.weedle_refusal.specs.Furthest.{IsFurthest}
 use Rattle.weedle_refusal.specs.Hint.{IsHint}
 use Rattle.weedle_refusal.specs.declared.refusal.Refusal.{Refusal}
 
--- the text is refused: the grammar leaves what stands from `start` on, and of that the place and the words tell
+-- the text is refused: the grammar leaves the text from `start` on, and of that the place and the
+-- words tell
 pub record IsRefusal (raw : List ℕ) (refusal : Refusal) : Type 0 where
   pub refused : (definitions : List Definition) → ¬ IsWhole raw definitions
   pub left : IsLeft raw (drop refusal.start raw)
@@ -17,7 +18,7 @@ pub record IsRefusal (raw : List ℕ) (refusal : Refusal) : Type 0 where
   pub place : refusal.place ≡ refusal.start + furthest
   -- a character of the whole text begins at the place, or the text ends there
   pub boundary : IsCharBoundary raw refusal.place
-  -- what is told beside it was tried, or stands in the text
+  -- its hint was tried, or is in the text
   pub hint : IfSome refusal.hint (IsHint raw refusal.start refusal.place)
 
 -- None where the grammar reads the whole text as some list, and else a refusal

@@ -11,13 +11,13 @@ use weedle_refusal::{Refusal, furthest_in, hint_of};
 /// Why a text is refused, or None where it is read whole.
 ///
 /// `interface A {}; enum E { "a" "b" };` is refused from 16 on, and at 29 a `,` or a `}` is
-/// expected. Where a text has several slips, it is the first definition that isn't read that is
-/// explained.
+/// expected. Where a text has several syntax errors, it is the first definition that isn't read
+/// that is explained.
 ///
-/// It reads the text by [`parse_quick`], and costs what that costs. Where that leaves a rest, it
+/// It reads the text by [`parse_quick`], and costs what that costs. Where that leaves input, it
 /// goes on as [`furthest_in`] does: mostly in some 30 to 100 nanoseconds for each byte of the
-/// definition that isn't read. Beside that it costs what [`hint_of`] costs. Where memory is
-/// refused, the answer is an error.
+/// definition that isn't read. Besides, it costs what [`hint_of`] costs. Where memory is refused,
+/// the answer is an error.
 pub fn explain(alloc: Global, raw: &str) -> Result<Option<Refusal>, AllocError>
     ensures explains { IfOk result (Explains raw.now) }
 

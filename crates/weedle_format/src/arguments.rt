@@ -22,10 +22,10 @@ Without an option it prints what was laid out.
 Status: 0 all is well, 1 something is refused or would change, 2 a file can't be read or isn't
 UTF-8, 3 out of memory, 4 a file or the output can't be written, 5 other arguments than these.";
 
-/// The word that may stand beside an option: what is read of a refused text is laid out, too.
+/// The word that may be beside an option: what is read of a refused text is formatted, too.
 pub const PARTIAL: &str = "--partial";
 
-/// What is done with what was laid out.
+/// What is done with what was formatted.
 #[derive(Clone, Copy, Debug, PartialEq, Eq)]
 pub enum Task {
     /// The layout is printed.

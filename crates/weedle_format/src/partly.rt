@@ -5,9 +5,9 @@ use weedle_formatter::format;
 use weedle_grammar::Rule;
 use weedle_recovery::{Part, recover};
 
-/// A text in which the definitions that are read are laid out, those one behind another together.
+/// A text in which the definitions that are read are formatted, those one behind another together.
 ///
-/// All else stays byte for byte, and so do the blanks between that and a definition: of
+/// All else stays byte for byte, and so does the whitespace between that and a definition: from
 /// `A   includes B ;  typedef ;` it makes `A includes B;  typedef ;`. It takes the memory of
 /// [`recover`] and of [`format`].
 pub fn lay_out_partly(alloc: Global, text: &str) -> Result<Vec<u8>, AllocError> {
@@ -37,7 +37,7 @@ fn push_bytes(text: &str, start: usize, end: usize, out: &mut Vec<u8>) -> Result
     Ok(())
 }
 
-/// Adds the definitions between two places of a text laid out.
+/// Adds the definitions between two places of a text, formatted.
 fn push_run(
     alloc: Global,
     text: &str,
@@ -58,8 +58,8 @@ fn push_run(
     }
 }
 
-/// Adds definitions laid out that begin with no blanks. Where the text goes on behind them, the
-/// blanks there stay.
+/// Adds formatted definitions that begin with no whitespace. Where the text goes on behind them,
+/// the whitespace there stays.
 fn push_layout(
     alloc: Global,
     run: &str,
@@ -77,7 +77,7 @@ fn push_layout(
     push_bytes(run, body.len(), run.len(), out)
 }
 
-/// The blanks at the front of a text.
+/// The whitespace at the front of a text.
 fn blanks_before(text: &str) -> &str {
     let count = text.len().saturating_sub(text.trim_start().len());
     text.get(..count).unwrap_or("")

@@ -9,7 +9,7 @@ use weedle_program::{Beside, Fault, Outcome, Request, ended, failed, name_of, te
 
 /// Does what the arguments ask for, and says what it came to.
 ///
-/// A file that can't be laid out gets a line on standard error, and the others are done all the
+/// A file that can't be formatted gets a line on standard error, and the others are done all the
 /// same. Only where the output can't be written the run ends at once.
 pub fn run<R: Runtime + AllocGlobal>(rt: &R) -> Outcome {
     ended(rt, carry_out(rt))
@@ -37,7 +37,7 @@ fn carry_out<R: Runtime + AllocGlobal>(rt: &R) -> Result<Outcome, Fault> {
     Ok(changes.tally.outcome)
 }
 
-/// Lays out these files, or the standard input where there are none.
+/// Formats these files, or the standard input where there are none.
 fn lay_out_all<R: Runtime + AllocGlobal, W: Write>(
     rt: &R,
     wish: Wish,
@@ -54,7 +54,7 @@ fn lay_out_all<R: Runtime + AllocGlobal, W: Write>(
     Ok(())
 }
 
-/// Lays out a file, and says on standard error why it isn't. It fails where the output can't be
+/// Formats a file, and says on standard error why it isn't. It fails where the output can't be
 /// written.
 fn lay_out<R: Runtime + AllocGlobal, W: Write>(
     rt: &R,
@@ -71,7 +71,7 @@ fn lay_out<R: Runtime + AllocGlobal, W: Write>(
     }
 }
 
-/// Reads a file to its end, lays it out and does what is asked for.
+/// Reads a file to its end, formats it and does what is asked for.
 fn do_task<R: Runtime + AllocGlobal, W: Write>(
     rt: &R,
     wish: Wish,
@@ -85,7 +85,7 @@ fn do_task<R: Runtime + AllocGlobal, W: Write>(
     Ok(done)
 }
 
-/// Says of a text that isn't read whole what there is to say: beside what was laid out, where that
+/// Says of a text that isn't read whole what there is to say: beside what was formatted, where that
 /// is printed.
 fn say<W: Write>(rt: &impl Eprint, task: Task, said: &[u8], out: &mut W) -> io::Result<()> {
     if task != Task::Print {

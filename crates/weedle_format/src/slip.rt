@@ -11,9 +11,9 @@ pub struct Slip {
     /// The byte of the text at which it is.
     pub place: usize,
     /// What would have been read there, or None where memory ran out for more than the place, which
-    /// then is where the unread rest begins.
+    /// then is where the remaining input begins.
     pub words: Option<String>,
-    /// What would mend it, or what it lacks, where that is known.
+    /// What would fix it, or what it lacks, where that is known.
     pub hint: Option<Hint>,
 }
 

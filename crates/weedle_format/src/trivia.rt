@@ -1,4 +1,4 @@
-//! Texts with nothing to lay out.
+//! Texts with nothing to format.
 
 use weedle_grammar::trivia::skip_trivia;
 

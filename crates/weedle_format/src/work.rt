@@ -23,16 +23,16 @@ pub struct Done {
 /// What is to be done with each text.
 #[derive(Clone, Copy)]
 pub struct Wish {
-    /// What is done with what was laid out.
+    /// What is done with what was formatted.
     pub task: Task,
-    /// What is read of a text that is refused is laid out, too.
+    /// What is read of a text that is refused is formatted, too.
     pub is_partial: bool,
 }
 
-/// Lays out a text, and does with it what is asked for. A text of whitespace and comments alone is
-/// laid out as it stands. What is said of a text that isn't read whole is written to `said`, all
-/// else to `out`. It fails where memory is refused, and where the file can't be replaced or an
-/// output can't be written.
+/// Formats a text, and does with it what is asked for. A text of whitespace and comments alone is
+/// formatted as it is. What is said of a text that isn't read whole is written to `said`, all else
+/// to `out`. It fails where memory is refused, and where the file can't be replaced or an output
+/// can't be written.
 pub fn work_on<R: Runtime + AllocGlobal, W: Write, S: Write>(
     rt: &R,
     wish: Wish,
@@ -67,7 +67,7 @@ pub fn work_on<R: Runtime + AllocGlobal, W: Write, S: Write>(
     })
 }
 
-/// Says why a text is refused. What is read of it is laid out before, where that is asked for.
+/// Says why a text is refused. What is read of it is formatted before, where that is asked for.
 fn refuse<R: Runtime + AllocGlobal, W: Write, S: Write>(
     rt: &R,
     wish: Wish,
@@ -89,7 +89,7 @@ fn refuse<R: Runtime + AllocGlobal, W: Write, S: Write>(
     })
 }
 
-/// Does with what was laid out what is asked for.
+/// Does with what was formatted what is asked for.
 fn hand_out<R: Runtime + AllocGlobal, W: Write>(
     rt: &R,
     task: Task,

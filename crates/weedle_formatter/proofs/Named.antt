@@ -111,7 +111,7 @@ row_told (Tail x s) = is_solid x && is_solid s
 row_told (If parts k y) = list_all is_solid parts && is_solid y
 row_told _ = true
 
--- what the rule gives can be told by its parts but trivia
+-- what the rule gives can be told by its parts except for trivia
 abbrev pub is_told : Shape → Row → Bool
 is_told Silent row = true
 is_told Marked row = true

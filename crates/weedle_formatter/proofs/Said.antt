@@ -38,7 +38,7 @@ flat_shallow d (says r b kids others) s h = omega arith
 not_shallow : {A : Type 0} (d r : ℕ) (b : List ℕ) (s ws : List Word) → Shallow d s → s ≡ word r d b ∷ ws → A
 not_shallow d r b s ws h e = let l : d < d = subst (Shallow d) e h in absurd (omega (arith, l))
 
--- words come from one tree, and what stands behind them is the same
+-- words come from one tree, and what follows them is the same
 pub one_said : (d : ℕ) (f g : Said) (s t : List Word) → Shallow d s → Shallow d t → flat d f ++ s ≡ flat d g ++ t → (f ≡ g) × (s ≡ t)
 one_said d nothing nothing s t h k e = (refl, e)
 one_said d nothing (says r b kids others) s t h k e = not_shallow d r b s _ h e

@@ -24,7 +24,7 @@ abbrev pub own : List ℕ → Node → List Node → List ℕ
 own text n [] = between text n.start n.end
 own text n (m ∷ inner) = []
 
--- what nodes say; what stands below a node of trivia is left out too
+-- what nodes say; what is below a node of trivia is left out too
 abbrev pub said : {text : List ℕ} {w ns : List Node} → AreTrees text w ns → Said
 said (no_trees e) = nothing
 said {text} (a_tree {n = n} {inner = inner} p a b e) = if is_solid n.rule then says n.rule (own text n inner) (said a) (said b) else said b

@@ -42,7 +42,7 @@ abbrev pub option_given : List Told → List Tree
 option_given [] = Absent ∷ []
 option_given (b ∷ bs) = map Present b.given
 
--- what a row yields, by what its parts but trivia say
+-- what a row yields, by what its parts except for trivia say
 abbrev pub yielded : Row → List Told → List Tree
 yielded (Seq parts) bs = all_given bs
 yielded (First parts) bs = choice_given parts bs

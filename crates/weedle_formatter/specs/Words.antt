@@ -1,4 +1,5 @@
--- What a text says: its words, which are all that was read but blanks and the ends of line comments.
+-- What a text says: its words, which are all that was read except for whitespace and the ends of
+-- line comments.
 use Rattle.std.specs.Prelude.{◌≡◌, ◌↔◌, ◌==◌, ◌||◌, ℕ, Bool, if◌then◌else◌, nat_lt, List, [], ◌∷◌, length}
 use Rattle.weedle_grammar.specs.Meaning.{between}
 use Rattle.weedle_grammar.specs.Trees.{Tree, Gives}
@@ -12,7 +13,7 @@ use Rattle.weedle_syntax.specs.Syntax.{IsWhole, IsSyntax}
 abbrev pub is_comment_end : ℕ → Bool
 is_comment_end rule = (rule == BYTES_LF) || (rule == NOT_NEXT_ANY)
 
--- blanks, and the choice between blanks and a comment, which reads nothing else
+-- whitespace, and the choice between whitespace and a comment, which reads nothing else
 abbrev pub is_of_blanks : ℕ → Bool
 is_of_blanks rule = (rule == ONE_OF_BLANK) || ((rule == RUN_BLANK) || ((rule == BLANKS) || (rule == PIECE)))
 
@@ -20,13 +21,14 @@ is_of_blanks rule = (rule == ONE_OF_BLANK) || ((rule == RUN_BLANK) || ((rule == 
 abbrev pub is_left_out : ℕ → Bool
 is_left_out rule = is_comment_end rule || is_of_blanks rule
 
--- what a node says: its rule, how deep it stands, and its bytes where it reads no other node
+-- what a node says: its rule, how deep it is, and its bytes where it reads no other node
 pub record Word : Type 0 where
   pub rule : ℕ
   pub depth : ℕ
   pub bytes : List ℕ
 
--- the bytes of a node with these behind it; none of one that reads others, which stand behind it and are deeper
+-- the bytes of a node with these behind it; none of one that reads others, which follow it and are
+-- deeper
 abbrev pub bytes_of : List ℕ → Node → List Node → List ℕ
 bytes_of text n [] = between text n.start n.end
 bytes_of text n (m ∷ ns) = if nat_lt n.depth m.depth then [] else between text n.start n.end

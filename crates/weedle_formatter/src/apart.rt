@@ -6,7 +6,7 @@ use weedle_grammar::grammar::definitions::{
     CALLBACK_DEFINITION, IMPLEMENTS_DEFINITION, INCLUDES_STATEMENT_DEFINITION, TYPEDEF_DEFINITION,
 };
 
-/// Sets an empty line between definitions, but in front of those that may stand right below the one
+/// Sets an empty line between definitions, except in front of those that may be right below the one
 /// before.
 pub(crate) fn set_apart(pieces: &mut [Piece]) {
     let mut first = 0;
@@ -26,8 +26,8 @@ pub(crate) fn set_apart(pieces: &mut [Piece]) {
     }
 }
 
-/// Whether a definition of this kind may stand right below one of the other. So may a statement of
-/// one line below another, and one for a mixin below any definition.
+/// Whether a definition of this kind may be right below one of the other. So may a statement of one
+/// line below another, and one for a mixin below any definition.
 fn may_follow(kind: u16, before: u16) -> bool {
     match kind {
         INCLUDES_STATEMENT_DEFINITION | IMPLEMENTS_DEFINITION => true,

@@ -32,7 +32,7 @@ fn open_behind(open: usize, role: Role) -> usize {
 }
 
 /// Whether the list fits on the line that is opened by the piece of this number, which ends at this
-/// column: a union with what stands behind it, and another list with a sign.
+/// column: a union with what follows it, and another list with a sign.
 pub(crate) fn list_fits(pieces: &[Piece], opener: usize, column: usize) -> bool {
     let mut column = column;
     let mut open: usize = 1;
@@ -54,8 +54,8 @@ pub(crate) fn list_fits(pieces: &[Piece], opener: usize, column: usize) -> bool 
     true
 }
 
-/// Whether what stands behind a union fits on its line: up to the parenthesis of arguments, or to
-/// the end of the item, the member or the statement that the union stands in.
+/// Whether what follows a union fits on its line: up to the parenthesis of arguments, or to the end
+/// of the item, the member or the statement that the union is in.
 fn rest_fits(pieces: &[Piece], first: usize, column: usize) -> bool {
     let mut column = column;
     let mut open: usize = 0;
@@ -76,8 +76,8 @@ fn rest_fits(pieces: &[Piece], first: usize, column: usize) -> bool {
     true
 }
 
-/// Whether a line begins with a piece that stands behind a broken union, in the list that the union
-/// stands in, or it is a comment.
+/// Whether a line begins with a piece behind a broken union, in the list that the union is in, or
+/// it is a comment.
 fn begins_anew(piece: &Piece) -> bool {
     piece.is_item || piece.role == Role::ClosesList || piece.gap.is_line() || piece.is_comment()
 }
@@ -95,8 +95,8 @@ fn sign_fits(piece: Option<&Piece>, column: usize) -> bool {
     }
 }
 
-/// Whether what stands between two line ends around the piece of this number fits on its line, where
-/// a line is indented by so many blanks. It is counted up to a `;`.
+/// Whether what is between two line ends around the piece of this number fits on its line, where a
+/// line is indented by so many spaces. It is counted up to a `;`.
 pub(crate) fn line_fits(pieces: &[Piece], i: usize, blanks: usize) -> bool {
     let Some(mut column) = column_at(pieces, i, blanks) else {
         return false;
@@ -117,7 +117,7 @@ pub(crate) fn line_fits(pieces: &[Piece], i: usize, blanks: usize) -> bool {
     true
 }
 
-/// The column in front of a piece, where a line is indented by so many blanks; None where that is
+/// The column in front of a piece, where a line is indented by so many spaces; None where that is
 /// none of a line.
 fn column_at(pieces: &[Piece], i: usize, blanks: usize) -> Option<usize> {
     let mut column = blanks;

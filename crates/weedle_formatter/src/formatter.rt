@@ -1,4 +1,4 @@
-//! A text laid out anew.
+//! A formatted text.
 
 ghost use Rattle.std.specs.Prelude.{
   ◌≡◌,
@@ -24,29 +24,29 @@ use weedle_syntax::{Node, syntax_quick};
 /// What [`format`] makes of a text that is read whole.
 #[derive(Debug, Drop)]
 pub struct Formatted {
-    /// The text laid out, or as it stood.
+    /// The formatted text, or as it was.
     pub text: String,
-    /// Whether it was laid out. Else it is as it stood, since its layout would have changed what it
+    /// Whether it was formatted. Else it is as it was, since its layout would have changed what it
     /// says, of which no text is known, or would have been too long, as that of thousands of
-    /// attributes of a letter each that stand in seven others.
+    /// attributes of a letter each in seven others.
     pub is_laid_out: bool,
 }
 
-/// The text laid out, where it is read whole; None where it isn't, as `interface A {`.
+/// The formatted text, where it is read whole; None where it isn't, as `interface A {`.
 ///
-/// Blanks are moved, and nothing else changes. What was laid out is read again and compared: so a
-/// slip in the layout never comes out.
+/// Whitespace is moved, and nothing else changes. What was formatted is read again and compared: so
+/// an error in the layout never comes out.
 ///
 /// It reads as [`syntax_quick`] does, and costs a quarter more than that; where the layout isn't
 /// the text itself, it is read too and compared, and all costs two and a half times as much. It
-/// asks for memory for the nodes of both texts, for what stands between their blanks, and for the
+/// asks for memory for the nodes of both texts, for what is between their whitespace, and for the
 /// answer.
 #[tactic(auto, using(crate::proofs::ReadingFacts::same_reading))]
 pub fn format(alloc: Global, raw: &str) -> Result<Option<Formatted>, AllocError>
     ensures whole { IfOk result (λ found. IsSome found ↔ IsWhole raw.now) }
 
-    // The same rules are read, each as deep, and all bytes but those of blanks and of the ends of
-    // line comments are the same.
+    // The same rules are read, each as deep, and all bytes except for those of whitespace and of
+    // the ends of line comments are the same.
     ensures same { IfOk result
         (λ found. IfSome found (λ answer. SaysTheSame raw.now (string_bytes answer.text))) }
 

@@ -4,8 +4,8 @@ use crate::joint::{is_tight_behind, is_tight_in_front};
 use crate::piece::{Gap, Joint, Kind, Piece, Role};
 use weedle_grammar::grammar::symbols::OPEN_BRACE;
 
-/// How many characters extended attributes have at most that stand in front of what they belong to,
-/// on its line.
+/// How many characters extended attributes have at most in front of what they belong to, on its
+/// line.
 const MOST_IN_FRONT: usize = 40;
 
 /// A token, and the comments between it and the token before it.
@@ -20,7 +20,7 @@ struct Run {
     token: Piece,
     /// A line ends in the text before one of them.
     has_lines: bool,
-    /// The token stands behind extended attributes that take a line of their own.
+    /// The token follows extended attributes that take a line of their own.
     is_behind_line: bool,
 }
 
@@ -83,7 +83,7 @@ fn set_run(pieces: &mut [Piece], first: usize, last: usize) {
     }
 }
 
-/// Sets where a line begins if the list is broken, where comments stand before the item.
+/// Sets where a line begins if the list is broken, where comments come before the item.
 fn set_item(pieces: &mut [Piece], run: &Run) {
     let closes = run.token.role == Role::ClosesList;
     if let Some(token) = pieces.get_mut(run.last) {

@@ -5,8 +5,8 @@ use crate::fits::line_fits;
 use crate::page::LEVEL;
 use crate::piece::{Gap, Joint, Piece, Role};
 
-/// Has extended attributes stand on a line of their own, where the line of the member or the
-/// statement behind them wouldn't fit with them.
+/// Puts extended attributes on a line of their own, where the line of the member or the statement
+/// behind them wouldn't fit with them.
 pub(crate) fn set_in_front(pieces: &mut [Piece]) {
     let mut blanks = 0;
     let mut is_statement_begun = false;
@@ -32,7 +32,7 @@ pub(crate) fn set_in_front(pieces: &mut [Piece]) {
     }
 }
 
-/// Has a line begin with the first of these pieces, where none begins among them.
+/// Begins a line with the first of these pieces, where none begins among them.
 fn begin_line(pieces: &mut [Piece], first: usize, last: usize) {
     for i in first..=last {
         if let Some(piece) = pieces.get(i) {

@@ -1,4 +1,4 @@
-//! How tokens stand to one another, by their rules.
+//! How tokens relate to one another, by their rules.
 
 use crate::piece::{Joint, Role};
 use weedle_grammar::grammar::interface_members::BRACED_INTERFACE_MEMBERS;
@@ -75,7 +75,7 @@ pub(crate) fn ends_item(token: Token) -> bool {
     }
 }
 
-/// Whether a token has nothing in front of it on its line, wherever it stands.
+/// Whether a token has nothing in front of it on its line, wherever it is.
 pub(crate) fn is_tight_in_front(rule: u16) -> bool {
     match rule {
         SEMI_COLON
@@ -90,7 +90,7 @@ pub(crate) fn is_tight_in_front(rule: u16) -> bool {
     }
 }
 
-/// Whether nothing stands behind a token on its line, whatever follows.
+/// Whether nothing follows a token on its line, whatever follows.
 pub(crate) fn is_tight_behind(rule: u16) -> bool {
     match rule {
         OPEN_PAREN | OPEN_BRACKET | LESS_THAN => true,
@@ -108,7 +108,7 @@ fn is_assign_of_attribute(token: Token) -> bool {
     }
 }
 
-/// Whether nothing stands between two tokens. Arguments stand apart from a type in front of them.
+/// Whether nothing is between two tokens. Arguments are apart from a type in front of them.
 fn is_tight(before: Token, token: Token, are_apart: bool) -> bool {
     if is_tight_in_front(token.rule) || is_tight_behind(before.rule) {
         return true;
@@ -123,7 +123,7 @@ fn is_tight(before: Token, token: Token, are_apart: bool) -> bool {
     }
 }
 
-/// How a token stands to the one before it.
+/// How a token relates to the one before it.
 pub(crate) fn joint_of(before: Token, token: Token, are_apart: bool) -> Joint {
     if role_of(token) == Role::ClosesBody {
         return Joint::EndOfBody;

@@ -1,4 +1,4 @@
-//! A text laid out anew, which says the same as before.
+//! A formatted text, which says the same as before.
 //!
 //! ```rust
 //! use weedle_formatter::format;

@@ -7,8 +7,8 @@ use weedle_syntax::Node;
 
 /// Whether the lines of the text of these nodes end in CR and LF.
 ///
-/// So does the first that ends in blanks; where none does, the first that ends with a line comment
-/// or in a docstring.
+/// So does the first that ends in whitespace; where none does, the first that ends with a line
+/// comment or in a docstring.
 pub(crate) fn ends_in_two(text: &[u8], nodes: &[Node]) -> bool {
     let mut by_comment = None;
     for node in nodes {

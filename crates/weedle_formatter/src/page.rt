@@ -14,10 +14,10 @@ use crate::words::between;
 use std::alloc::{AllocError, Global};
 use weedle_syntax::Node;
 
-/// How many blanks a level is.
+/// How many spaces a level is.
 pub(crate) const LEVEL: usize = 2;
 
-/// How many levels a line is indented at most. Lists that stand so deep aren't broken.
+/// How many levels a line is indented at most. Lists that are so deep aren't broken.
 const MOST_LEVELS: usize = 16;
 
 /// What was written.
@@ -38,18 +38,18 @@ struct Page {
     is_line_begun: bool,
 }
 
-/// How many bytes a text of so many has at most once it is laid out.
+/// How many bytes a text of so many has at most once it is formatted.
 fn most_bytes(length: usize) -> usize
     ensures { result ≤ most_laid_out length }
 {
     length.saturating_mul(8).saturating_add(1_024)
 }
 
-/// The text of these nodes laid out; as it stood where that would be more than eight times as long
+/// The text of these nodes formatted; as it was where that would be more than eight times as long
 /// and 1,024 bytes more. What it says isn't known before it is read again: so
 /// [`format`](crate::format) reads it. It is for callers who read in a way of their own.
 ///
-/// It asks for memory for what stands between the blanks of the text, and for the answer.
+/// It asks for memory for what is between the whitespace of the text, and for the answer.
 pub fn lay_out(alloc: Global, raw: &str, nodes: &[Node]) -> Result<String, AllocError>
     ensures short { IfOk result
         (λ text. length (string_bytes text) ≤ most_laid_out (length raw.now)) }
@@ -60,7 +60,7 @@ pub fn lay_out(alloc: Global, raw: &str, nodes: &[Node]) -> Result<String, Alloc
     }
 }
 
-/// The text of these nodes laid out, or None where that would be longer.
+/// The text of these nodes formatted, or None where that would be longer.
 pub(crate) fn short_layout(
     alloc: Global,
     raw: &str,
@@ -120,7 +120,7 @@ impl Page {
         }
     }
 
-    /// Writes what stands in front of a piece.
+    /// Writes what is in front of a piece.
     fn separate(&mut self, piece: &Piece) -> Result<(), AllocError> {
         let is_broken = piece.is_item && self.lists.last().copied().unwrap_or(false);
         self.close(piece.role);
@@ -189,7 +189,7 @@ impl Page {
         Ok(())
     }
 
-    /// Writes so many blanks.
+    /// Writes so many spaces.
     fn push_blanks(&mut self, many: usize) -> Result<(), AllocError> {
         for _ in 0..many {
             self.out.push(b' ')?;
@@ -214,7 +214,7 @@ impl Page {
     }
 }
 
-/// How many characters stand behind the last LF.
+/// How many characters follow the last LF.
 fn characters_behind(bytes: &[u8]) -> usize {
     let mut last = bytes;
     for (i, &byte) in bytes.iter().enumerate() {

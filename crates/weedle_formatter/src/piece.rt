@@ -1,4 +1,4 @@
-//! What a text has between its blanks.
+//! What a text has between its whitespace.
 
 /// How a piece is read.
 #[derive(Clone, Copy, Debug, PartialEq, Eq)]
@@ -13,19 +13,19 @@ pub(crate) enum Kind {
     DocLine,
 }
 
-/// How a token stands to the token before it, where no comment stands in between. A docstring's
-/// line counts as a token.
+/// How a token relates to the token before it, where no comment is in between. A docstring's line
+/// counts as a token.
 #[derive(Clone, Copy, Debug, PartialEq, Eq)]
 pub(crate) enum Joint {
-    /// It stands with nothing in between, as `;`.
+    /// It follows with nothing in between, as `;`.
     Tight,
-    /// It stands with a space in between.
+    /// It follows with a space in between.
     Space,
-    /// It stands on the next line: it begins a member, or is a docstring's line.
+    /// It is on the next line: it begins a member, or is a docstring's line.
     Member,
-    /// It stands on the next line, as `}` behind members.
+    /// It is on the next line, as `}` behind members.
     EndOfBody,
-    /// It stands behind the extended attributes of a definition or of a member.
+    /// It follows the extended attributes of a definition or of a member.
     BehindAttributes,
     /// It begins a definition.
     Definition,
@@ -36,7 +36,7 @@ pub(crate) enum Joint {
 pub(crate) enum Role {
     /// Nothing.
     Plain,
-    /// It opens the braces of members, which stand a level deeper.
+    /// It opens the braces of members, which are a level deeper.
     OpensBody,
     /// It closes the braces of members.
     ClosesBody,
@@ -70,7 +70,7 @@ pub(crate) enum Gap {
     Line,
     /// A line end and an empty line.
     EmptyLine,
-    /// A line end in the midst of a statement: what follows stands a level deeper.
+    /// A line end in the midst of a statement: what follows is a level deeper.
     Continued,
 }
 
@@ -110,9 +110,9 @@ pub(crate) struct Piece {
     pub(crate) lines: usize,
     pub(crate) joint: Joint,
     pub(crate) role: Role,
-    /// Whether a line begins here where the list that it stands in is broken.
+    /// Whether a line begins here where the list that it is in is broken.
     pub(crate) is_item: bool,
-    /// What is written in front of it, where the list that it stands in isn't broken.
+    /// What is written in front of it, where the list that it is in isn't broken.
     pub(crate) gap: Gap,
 }
 
@@ -137,7 +137,8 @@ pub(crate) fn line_feeds(bytes: &[u8]) -> usize {
     found
 }
 
-/// How many characters the bytes of a text have: all of them but those that go on with a character.
+/// How many characters the bytes of a text have: all of them except for those that go on with a
+/// character.
 pub(crate) fn characters(bytes: &[u8]) -> usize {
     let mut found: usize = 0;
     for &byte in bytes {

@@ -22,7 +22,7 @@ use weedle_syntax::Node;
 #[derive(Drop)]
 struct Walk<'a> {
     text: &'a [u8],
-    /// The numbers of the rules of the nodes in which the last one stands, and of that one.
+    /// The numbers of the rules of the nodes in which the last one is, and of that one.
     rules: Vec<u16>,
     pieces: Vec<Piece>,
     /// Where the token begins that is being read.
@@ -37,7 +37,7 @@ struct Walk<'a> {
     definition: u16,
     /// The last token.
     before: Token,
-    /// The next parenthesis stands apart from what is in front of it.
+    /// The next parenthesis is apart from what is in front of it.
     is_apart: bool,
 }
 
@@ -110,7 +110,7 @@ impl<'a> Walk<'a> {
         Ok(())
     }
 
-    /// Counts the lines that end in blanks.
+    /// Counts the lines that end in whitespace.
     fn skip(&mut self, node: &Node) {
         let ended = line_feeds(between(self.text, node.start, node.end));
         self.lines = self.lines.saturating_add(ended);

@@ -38,7 +38,7 @@ fn is_comment_end(rule: Rule) -> bool
     number == BYTES_LF || number == NOT_NEXT_ANY
 }
 
-/// Whether the rule is of blanks, or of the choice between blanks and a comment.
+/// Whether the rule is of whitespace, or of the choice between whitespace and a comment.
 fn is_of_blanks(rule: Rule) -> bool
     ensures { result ≡ the_is_of_blanks rule }
 {
@@ -125,8 +125,8 @@ fn same_word(raw: &[u8], nodes: &[Node], i: usize, out: &[u8], others: &[Node], 
     bytes_at(raw, nodes, i) == bytes_at(out, others, j)
 }
 
-/// Whether two texts of these nodes have the same words: all that was read but blanks and the ends
-/// of line comments.
+/// Whether two texts of these nodes have the same words: all that was read except for whitespace
+/// and the ends of line comments.
 ///
 /// `A includes B;` and `A  includes B ;` have, `A includes B;` and `A includes C;` don't. It takes
 /// no memory, and a step for each node of both.

@@ -24,7 +24,8 @@ use Rattle.weedle_spell.specs.Pieces.{IsInPieces}
 use Rattle.weedle_spell_idl.specs.written.Definitions.{definitions_spelling}
 use Rattle.weedle_front.specs.Whole.{IsWhole, IsLeft, ParseAnswers, WholeOf, SpellsList, HasTexts}
 
--- at the front of the text the rule of definitions reads this tree, up to some end, and the rest is the text from there
+-- at the front of the text the rule of definitions reads this tree, up to some end, and the
+-- remaining input is the text from there
 pub record IsReadUpTo (raw : List ℕ) (tree : Tree) (rest : List ℕ) : Type 0 where
   pub end : ℕ
   pub reads : Reads raw DEFINITIONS 0 (Gives (tree ∷ []) end)
@@ -81,7 +82,7 @@ module _ {raw rest : List ℕ} (list : Vec Definition) (h : IsReadUpTo raw (defi
 whole_text : (raw : List ℕ) → between raw 0 (length raw) ≡ raw
 whole_text raw = take_all (length raw - 0) raw (omega arith)
 
--- a text that is read whole spells what it is read as, by the law of definitions
+-- a text that is read whole is a rendering of what it is read as, by the law of definitions
 module _ (law : SpellsValues DEFINITIONS definitions_tree definitions_spelling) (raw : List ℕ) where
   pub whole_spells : (r : Result (Vec Definition) (Fault (Error (Bor (List ℕ))))) → ParseAnswers raw r → IfOk r (λ v. SpellsList raw v.items)
   unfolding IsWhole SpellsList

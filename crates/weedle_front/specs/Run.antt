@@ -7,11 +7,12 @@ use Rattle.weedle_front.specs.declared.program.Status.TheVariants.{Read, Unread}
 use Rattle.weedle_idl.specs.declared.definition.Definition.{Definition}
 use Rattle.weedle_report.specs.Report.{line}
 
--- the line of a text that is not read whole: the byte at which the unread rest begins
+-- the line of a text that is not read whole: the byte at which the remaining input begins
 abbrev pub unread_report : List ℕ → List ℕ → List ℕ
 unread_report text rest = line (codes "unread at byte " ++ decimal (length text - length rest))
 
--- the report of a text, by what is written of definitions: theirs where the grammar reads it whole, and else where the unread rest begins
+-- the report of a text, by what is written of definitions: theirs where the grammar reads it whole,
+-- and else where the remaining input begins
 module _ (written : List Definition → List ℕ) (text report : List ℕ) where
   abbrev pub IsReport : Status → Type 0
   IsReport Read = (definitions : List Definition) × IsWhole text definitions × (report ≡ written definitions)

@@ -19,15 +19,15 @@ use Rattle.weedle_spell_idl.specs.written.Definitions.{definitions_spelling}
 unfoldable pub IsWhole : List ℕ → List Definition → Type 0
 IsWhole raw definitions = Reads raw DEFINITIONS 0 (Gives (definitions_tree definitions ∷ []) (length raw))
 
--- the grammar reads the text as definitions up to some place, and this is the rest from there on
+-- the grammar reads the text as definitions up to some place, and this is the remaining input
 unfoldable pub IsLeft : List ℕ → List ℕ → Type 0
 IsLeft raw rest = (ts : List Tree) × (end : ℕ) × Reads raw DEFINITIONS 0 (Gives ts end) × (rest ≡ drop end raw)
 
--- the text spells these definitions
+-- the text is a rendering of these definitions
 unfoldable pub SpellsList : List ℕ → List Definition → Type 0
 SpellsList raw definitions = Spells definitions_spelling definitions raw
 
--- the texts of these definitions stand in the text in their order
+-- the texts of these definitions are in the text in their order
 unfoldable pub HasTexts : List ℕ → List Definition → Type 0
 HasTexts raw definitions = IsInPieces (definitions_tree definitions) raw
 

@@ -1,4 +1,4 @@
-//! Whole texts by recursive descent with backtracking, and with no table of ends.
+//! Whole texts by recursive descent with backtracking, and with no packrat table.
 
 ghost use Rattle.std.specs.Prelude.{IfOk, IfErr};
 ghost use Rattle.weedle_base.specs.Faults.{IsWithin};
@@ -12,19 +12,19 @@ use weedle_nesting::suits_descent;
 
 /// Reads a whole text as [`parse`](crate::parse) does, from the text on and with no table.
 ///
-/// It takes no memory but for the list of definitions and for what each holds. Its steps have no
-/// bound that is proved: what stands in the arguments of an extended attribute is read up to three
-/// times, and so `n` of them in one another up to 3ⁿ times; what stands in front of a definition is
+/// It takes no memory except for the list of definitions and for what each holds. Its steps have no
+/// bound that is proved: what is in the arguments of an extended attribute is read up to three
+/// times, and so `n` of them in one another up to 3ⁿ times; what is in front of a definition is
 /// read by each of the fourteen kinds that is tried. [`parse_quick`] takes it where they nest
 /// little.
 pub fn parse_by_descent(alloc: Global, raw: &str) -> Result<Definitions<'_>, Err<Error<&str>>>
     // The list of the whole text, or what the grammar leaves of it.
     ensures answers { ParseAnswers raw.now result }
 
-    // The text spells its list.
+    // The text is a rendering of its list.
     ensures spells { IfOk result (λ definitions. SpellsList raw.now definitions.items) }
 
-    // The texts of the list stand in it in their order.
+    // The texts of the list are in it in their order.
     ensures pieces { IfOk result (λ definitions. HasTexts raw.now definitions.items) }
 
     // What a fault has of the text is no longer than the text.
@@ -44,16 +44,16 @@ pub fn parse_by_descent(alloc: Global, raw: &str) -> Result<Definitions<'_>, Err
 /// It looks once at the text, past strings and comments. Where extended attributes nest so little
 /// that a byte is read less than four times on the average for their arguments, and no more than
 /// 1,000 of `(` and `<` are open at once, it takes [`parse_by_descent`], and else
-/// [`parse`](crate::parse). So for what people write it needs little time, and no memory but the
-/// list's; for a hostile text it needs what [`parse`](crate::parse) needs.
+/// [`parse`](crate::parse). So for what people write it needs little time, and no memory except for
+/// the list's; for a hostile text it needs what [`parse`](crate::parse) needs.
 pub fn parse_quick(alloc: Global, raw: &str) -> Result<Definitions<'_>, Err<Error<&str>>>
     // The list of the whole text, or what the grammar leaves of it.
     ensures answers { ParseAnswers raw.now result }
 
-    // The text spells its list.
+    // The text is a rendering of its list.
     ensures spells { IfOk result (λ definitions. SpellsList raw.now definitions.items) }
 
-    // The texts of the list stand in it in their order.
+    // The texts of the list are in it in their order.
     ensures pieces { IfOk result (λ definitions. HasTexts raw.now definitions.items) }
 
     // What a fault has of the text is no longer than the text.

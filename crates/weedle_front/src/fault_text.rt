@@ -1,4 +1,4 @@
-//! What the faults of a run say to who reads them.
+//! The messages of the faults of a run.
 
 ghost use Rattle.std.specs.Prelude.{Some};
 ghost use Rattle.weedle_front.specs.FaultTexts.{fault_text};

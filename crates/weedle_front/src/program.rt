@@ -19,7 +19,7 @@ use weedle_report::{Outlines, Report, Titles, lend, lines_of};
 pub enum Status {
     /// The report has the definitions of the text.
     Read,
-    /// The report says where the unread rest begins.
+    /// The report says where the remaining input begins.
     Unread,
 }
 
@@ -50,9 +50,9 @@ impl From<AllocError> for RunFault {
 /// `interface A {}; ///d`, which isn't read whole, the one line is `unread at byte 16`.
 ///
 /// It fails where the input can't be read or isn't UTF-8, and where memory is refused, with nothing
-/// written: the report stands in memory, beside the text and its definitions, before the first
-/// write. And it fails at a write that fails or takes no byte, and no write is tried again. The
-/// output is not flushed.
+/// written: the report is in memory, beside the text and its definitions, before the first write.
+/// And it fails at a write that fails or takes no byte, and no write is tried again. The output is
+/// not flushed.
 pub fn run<R: Read, W: Write>(
     alloc: Global,
     reader: &mut R,
@@ -80,7 +80,7 @@ pub fn run<R: Read, W: Write>(
 }
 
 /// Reads the input to its end, and writes the outline of the text that it gave: below the line of
-/// each definition those of its docstring, each behind two blanks.
+/// each definition those of its docstring, each behind two spaces.
 ///
 /// For the lines `/// Shows pages.` and `interface Window {};` it writes `interface Window`,
 /// `   Shows pages.` and `definitions 1`. All else, and where it fails, is as with [`run`].

@@ -26,18 +26,18 @@ pub struct Counted<'a> {
 
 /// Reads a whole text as definitions, in their order.
 ///
-/// `interface A {}; interface B {};` has two, and the empty text has none. Blanks and comments may
-/// stand around each word of a definition, but not where there is none: a text of blanks is
+/// `interface A {}; interface B {};` has two, and the empty text has none. Whitespace and comments
+/// may be around each word of a definition, but not where there is none: a text of whitespace is
 /// refused.
 ///
-/// The text that is read spells the list: its words stand in their order, with blanks and comments
-/// around them, each name with an underscore before it or none, each string in quotes.
+/// The text that is read is a rendering of the list: its words are in their order, with whitespace
+/// and comments around them, each name with an underscore before it or none, each string in quotes.
 ///
 /// A text that isn't read whole is refused with [`Err::Error`], which has all that follows the
 /// last definition that can be read: `interface B {}` for `interface A {};interface B {}`.
 ///
 /// The steps that it takes grow with the length of the text alone, as [`parse_counted`] says. First
-/// it takes memory for a table of ends: a cell of 4 bytes for each rule at each place of the text,
+/// it takes memory for a packrat table: a cell of 4 bytes for each rule at each place of the text,
 /// of 16 bytes where the text is longer than 4,294,967,294 bytes. Then it takes memory for the list
 /// of definitions and for what each holds. Where that is refused it ends with [`Err::Failure`].
 /// Names aren't copied: each is a part of the text.
@@ -45,10 +45,10 @@ pub fn parse(alloc: Global, raw: &str) -> Result<Definitions<'_>, Err<Error<&str
     // The list of the whole text, or what the grammar leaves of it.
     ensures answers { ParseAnswers raw.now result }
 
-    // The text spells its list.
+    // The text is a rendering of its list.
     ensures spells { IfOk result (λ definitions. SpellsList raw.now definitions.items) }
 
-    // The texts of the list stand in it in their order.
+    // The texts of the list are in it in their order.
     ensures pieces { IfOk result (λ definitions. HasTexts raw.now definitions.items) }
 
     // What a fault has of the text is no longer than the text.
@@ -59,20 +59,20 @@ pub fn parse(alloc: Global, raw: &str) -> Result<Definitions<'_>, Err<Error<&str
 
 /// Reads a whole text as [`parse`] does, and counts what that takes.
 ///
-/// Of `enum E {"a"};`, 13 bytes, each of the 386 rules is worked out once at each of the 14 places,
-/// and the 15 nodes of its tree are visited. Where something follows the last definition that can
-/// be read, the nodes are those of the definitions before it.
+/// For `enum E {"a"};`, 13 bytes, each of the 386 rules is worked out once at each of the 14
+/// places, and the 15 nodes of its tree are visited. Where something follows the last definition
+/// that can be read, the nodes are those of the definitions before it.
 ///
-/// It takes the memory that [`parse`] takes. Where the table of ends is refused nothing is counted,
+/// It takes the memory that [`parse`] takes. Where the packrat table is refused nothing is counted,
 /// and where the list is refused no visits are.
 pub fn parse_counted(alloc: Global, raw: &str) -> Counted<'_>
     // The list of the whole text, or what the grammar leaves of it.
     ensures answers { ParseAnswers raw.now result.answer }
 
-    // The text spells its list.
+    // The text is a rendering of its list.
     ensures spells { IfOk result.answer (λ definitions. SpellsList raw.now definitions.items) }
 
-    // The texts of the list stand in it in their order.
+    // The texts of the list are in it in their order.
     ensures pieces { IfOk result.answer (λ definitions. HasTexts raw.now definitions.items) }
 
     // What a fault has of the text is no longer than the text.

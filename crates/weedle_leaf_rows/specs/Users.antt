@@ -7,7 +7,7 @@ use Rattle.weedle_base.specs.declared.fault.ErrorKind.TheVariants.{Unread}
 abbrev pub nothing_reading : {V : Type 0} → Reading V
 nothing_reading = record { gives = λ s v k. k ≡ 0; refuses = λ s. ⊥; stops = λ s r code. ⊥; grows = ⊥; alike = λ v w. Unit {0} }
 
--- where a `!` stands the call stops with the text; every other text is refused
+-- where a `!` is the call stops with the text; every other text is refused
 abbrev pub fuse_reading : {V : Type 0} → Reading V
 fuse_reading = record {
   gives = λ s v k. ⊥;

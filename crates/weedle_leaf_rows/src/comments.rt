@@ -1,4 +1,4 @@
-//! Comments: those that stand within a span, by hand from the texts.
+//! Comments: those within a span, by hand from the texts.
 
 use std::alloc::{AllocError, Global};
 use std::process::Abort;
@@ -23,7 +23,7 @@ fn listed(alloc: Global, syntax: &Syntax<'_>, span: Span) -> Result<String, Allo
     Ok(listing)
 }
 
-/// Asserts which comments stand in front of each member or value.
+/// Asserts which comments are in front of each member or value.
 fn assert_in_front(
     rt: &impl Abort,
     alloc: Global,
@@ -106,7 +106,7 @@ fn listed_as_using_does(rt: HostRuntime) -> Result<(), Fail> {
     Ok(())
 }
 
-/// In `interface/*a*/A{};//b` the first comment stands from 9 to 14, and the second from 18 on.
+/// In `interface/*a*/A{};//b` the first comment is from 9 to 14, and the second from 18 on.
 #[test]
 fn within_spans_of_any_kind(rt: HostRuntime) -> Result<(), Fail> {
     let alloc = rt.alloc();

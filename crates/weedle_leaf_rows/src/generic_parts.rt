@@ -19,7 +19,7 @@ fn no_brackets_take_memory(rt: HostRuntime) -> Result<(), Fail> {
     reads_with_no_memory::<Parenthesized<Comma>>(
         alloc,
         &[
-            // Brackets stand round a value.
+            // Brackets are around a value.
             (
                 " ( , ) x",
                 "x",
@@ -40,7 +40,7 @@ fn no_brackets_take_memory(rt: HostRuntime) -> Result<(), Fail> {
     reads_with_no_memory::<Bracketed<Comma>>(
         alloc,
         &[
-            // Brackets stand round a value.
+            // Brackets are around a value.
             (
                 "[,]x",
                 "x",
@@ -62,7 +62,7 @@ fn no_brackets_take_memory(rt: HostRuntime) -> Result<(), Fail> {
     reads_with_no_memory::<Braced<Comma>>(
         alloc,
         &[
-            // Brackets stand round a value.
+            // Brackets are around a value.
             (
                 "{,}x",
                 "x",
@@ -83,7 +83,7 @@ fn no_brackets_take_memory(rt: HostRuntime) -> Result<(), Fail> {
     reads_with_no_memory::<Generics<Comma>>(
         alloc,
         &[
-            // Brackets stand round a value.
+            // Brackets are around a value.
             (
                 "<,>x",
                 "x",
@@ -121,7 +121,7 @@ fn lists_are_read_and_copied_or_want_memory(rt: HostRuntime) -> Result<(), Fail>
     wanted.reads::<Punctuated<Identifier<'_>, Comma>>(
         alloc,
         &[
-            // A separator that no item follows is given back.
+            // A separator that no item follows isn't taken.
             (
                 "a, b ,",
                 ",",
@@ -140,7 +140,7 @@ fn lists_are_read_and_copied_or_want_memory(rt: HostRuntime) -> Result<(), Fail>
     wanted.reads::<PunctuatedNonEmpty<Identifier<'_>, Comma>>(
         alloc,
         &[
-            // A list that isn't empty takes one separator more.
+            // A list that isn't empty takes one further separator.
             (
                 "a, b ,",
                 "",

@@ -1,5 +1,5 @@
 //! Names, numbers, strings, docstrings and values, each by its own `parse`, which takes no memory
-//! but for docstrings.
+//! except for docstrings.
 //!
 //! The values are those that weedle2 prints, in the port's names. Names that begin with a digit and
 //! `0x`, which it reads, are refused here, by hand from the grammar.

@@ -1,8 +1,8 @@
-//! Tests of what stands below the types: the grammar's rows, the table of ends, diagnoses,
-//! scanners, terminals, standard types, generic parts and leaves, as worked examples whose answers
-//! come from outside; messages through outputs that fail; and of syntax trees, names, places,
-//! comments, lines and layouts each call once, since what they say of texts is tested over the
-//! built programs and from Python.
+//! Tests of what is below the types: the grammar's rows, the packrat table, diagnoses, scanners,
+//! terminals, standard types, generic parts and leaves, as worked examples whose answers come from
+//! outside; messages through outputs that fail; and of syntax trees, names, places, comments, lines
+//! and layouts each call once, since what they say of texts is tested over the built programs and
+//! from Python.
 #![tactic(auto)]
 
 #[cfg(test)]

@@ -5,7 +5,7 @@ use std::process::Abort;
 use weedle_refusal::{Hint, write_hint, write_message};
 use weedle_testing::{ShortWriter, short_writer};
 
-/// A text that lacks a `;` before its `x`, which stands at 16.
+/// A text that lacks a `;` before its `x`, which is at 16.
 const TEXT: &str = "enum E { \"a\" }\n x";
 
 const HINT: Hint = Hint::Missing {

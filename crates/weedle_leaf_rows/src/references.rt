@@ -20,7 +20,7 @@ typedef (A or M) T; partial dictionary D {}; partial namespace N {};
 /// Where a reference begins and ends, and its role.
 type Said = (usize, usize, Role);
 
-/// Whether the names stand in these places, and have these roles.
+/// Whether the names are in these places, and have these roles.
 fn are_said(found: &[Name<'_>], said: &[Said]) -> bool {
     found.len() == said.len()
         && found.iter().zip(said).all(|(name, said)| (name.span.start, name.span.end, name.role)

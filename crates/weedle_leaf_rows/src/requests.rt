@@ -16,7 +16,7 @@ use weedle_testing::Wanted;
 /// How many nodes `A includes B;` has, by hand.
 const MANY: usize = 35;
 
-/// Asserts how many nodes each reader lays down of a text: none of the whole of it where `whole` is
+/// Asserts how many nodes each reader writes of a text: none of the whole of it where `whole` is
 /// none, and `MANY` of its front.
 fn assert_nodes(
     rt: &impl Abort,
@@ -80,7 +80,7 @@ fn nodes_are_laid_down_or_want_memory(rt: HostRuntime) -> Result<(), Fail> {
     Ok(())
 }
 
-/// Places ask for nodes, by descent or over a table of ends, for each list of members and of
+/// Places ask for nodes, by descent or over a packrat table, for each list of members and of
 /// values, and for the list of definitions.
 #[test]
 fn places_are_found_or_want_memory(rt: HostRuntime) -> Result<(), Fail> {
@@ -141,7 +141,7 @@ fn lines_are_found_or_want_memory(rt: HostRuntime) -> Result<(), Fail> {
     Ok(())
 }
 
-/// Texts, and how they are laid out.
+/// Texts, and how they are formatted.
 const LAYOUTS: [(&str, Option<&str>); 3] = [
     (
         "interface A{undefined f(/* c */long x);}; // d",

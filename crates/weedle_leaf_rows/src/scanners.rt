@@ -1,6 +1,6 @@
-//! The scanners, and terminals that stand beside others.
+//! The scanners, and terminals that are beside others.
 //!
-//! Of terminals the values are those that weedle2 prints; of the scanners they are by hand, from
+//! The values of terminals are those that weedle2 prints; of the scanners they are by hand, from
 //! the grammar.
 
 use std::alloc::Global;
@@ -11,7 +11,7 @@ use weedle_testing::{Unlike, Wanted, is_mismatch, other_value, reads_with_no_mem
 
 #[test]
 fn no_scanner_takes_memory(rt: HostRuntime) {
-    // Trivia is comments and blanks.
+    // Trivia is comments and whitespace.
     for (text, rest, trivia) in [
         ("// a\n/* b */ c", "c", "// a\n/* b */ "),
         ("// a", "", "// a"),
@@ -46,7 +46,8 @@ fn no_scanner_takes_memory(rt: HostRuntime) {
     assert!(rt; Wanted::new().tell(&rt, rt.alloc()));
 }
 
-/// Joins the lines of the text, which are to be this docstring before this rest, or to want memory.
+/// Joins the lines of the text, which are to be this docstring before this rest, or to run out of
+/// memory.
 fn joins<'a>(
     wanted: &mut Wanted,
     alloc: Global,

@@ -1,6 +1,6 @@
 //! `Parse` and `TryClone` for the standard library's types, also where memory is refused.
 //!
-//! Of weedle2's types the values are those that it prints; of the others they are by hand, from the
+//! The values of weedle2's types are those that it prints; of the others they are by hand, from the
 //! contracts.
 
 use crate::users::{Fuse, Nothing};

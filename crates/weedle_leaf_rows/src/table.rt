@@ -1,4 +1,4 @@
-//! The grammar's rows and the table of ends.
+//! The grammar's rows and the packrat table.
 
 mod ends;
 mod requests;

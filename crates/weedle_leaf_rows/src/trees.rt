@@ -9,7 +9,7 @@ use weedle_places::{Role, names};
 use weedle_refusal::Lines;
 use weedle_syntax::Syntax;
 
-/// The first child of a node, its next sibling, its parent, and how many nodes stand below it.
+/// The first child of a node, its next sibling, its parent, and how many nodes are below it.
 fn around(syntax: &Syntax<'_>, node: usize) -> (Option<usize>, Option<usize>, Option<usize>, usize)
     requires { node < length syntax.now.nodes }
 {
@@ -21,7 +21,7 @@ fn around(syntax: &Syntax<'_>, node: usize) -> (Option<usize>, Option<usize>, Op
     )
 }
 
-/// The numbers are those of the nodes that stand by hand in python/tests/test_worked_nodes.py.
+/// The numbers are those of the nodes by hand in python/tests/test_worked_nodes.py.
 #[test]
 fn from_node_to_node(rt: HostRuntime) -> Result<(), Fail> {
     let syntax = Syntax::of_front(rt.alloc(), "A includes B;")?;
@@ -87,7 +87,7 @@ fn what_is_found(rt: HostRuntime) -> Result<(), Fail> {
     Ok(())
 }
 
-/// A word is a keyword or a name; symbols, numbers, strings, blanks and comments are none.
+/// A word is a keyword or a name; symbols, numbers, strings, whitespace and comments are none.
 #[test]
 fn words_blanks_and_comments(rt: HostRuntime) -> Result<(), Fail> {
     let text = "interface _A {\n/*b*/ const long c = 0x1; // d\n};";

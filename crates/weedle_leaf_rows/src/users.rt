@@ -20,7 +20,7 @@ impl<'a> Parse<'a> for Nothing {
     ghost lawful = { nothing_lawful };
 }
 
-/// A type that ends the call where a `!` stands, and is a mismatch on every other text.
+/// A type that ends the call where a `!` is, and is a mismatch on every other text.
 #[derive(Clone, Copy, Debug, Default, PartialEq, Eq)]
 pub struct Fuse;
 

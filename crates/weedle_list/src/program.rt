@@ -9,7 +9,7 @@ use weedle_front::{RunFault, Status, run, run_outline};
 /// The status where the arguments ask for neither list.
 pub const USAGE_STATUS: u8 = 5;
 
-/// Lists what stands on standard input, as the arguments ask, and gives the exit status. What went
+/// Lists what is on standard input, as the arguments ask, and gives the exit status. What went
 /// wrong it says in a line on standard error.
 pub fn list<R: Runtime + AllocGlobal>(rt: &R) -> u8 {
     let Ok(words) = env::args(rt) else {

@@ -218,7 +218,7 @@ module _ {text : List ℕ} {f : Frame} {x q y t : ℕ} (o : IsOpen text f) (is :
       let gc : g.count ≡ f.count = ap (λ (v : Frame). v.count) gi in
       waits_at f is (inr (gn, refl, moved refl (sym gp) d)) b.0 tl b.1 gr gp (omega (arith, w.few)) (omega arith)
 
--- what stands behind separators
+-- what follows separators
 module _ {text : List ℕ} {f : Frame} {x q y s : ℕ} (o : IsOpen text f) (is : row_of f.rule ≡ Tail y s) (w : Waits text f x q 1) where
   tail_first : f.part ≤ 0 → (x ≡ s) × (q ≡ f.place)
   tail_first z = elim (onward_by is w) [

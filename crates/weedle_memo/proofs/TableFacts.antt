@@ -1,4 +1,4 @@
--- How far the tables are laid, and what a byte says of a rule.
+-- How far the tables are filled, and what a byte says of a rule.
 use Rattle.std.proofs.Common.{◌≡◌, inl, inr, ℕ, ◌+◌, ◌/◌, ◌%◌, ◌^◌, ◌<◌, ◌≤◌, List, ◌∷◌, length, drop, get_or, set, replicate, Bool, Option, Some, None, refl, sym, subst, ◌∙◌, ap, arith, length-set, get_or-set_other, get_or-set_same}
 use Rattle.std.specs.Prelude.{bit_and, slice_get, slice_index}
 use Rattle.std.specs.Int.{bit_at}

@@ -31,7 +31,8 @@ pub record Memory : Type 0 where
 abbrev pub memory_of : Reading → Memory
 memory_of r = record { start = r.start; words = r.words; text = r.text; entries = r.known }
 
--- where rule r ends at p is known: by an entry, or since it goes without something there by the byte that stands there
+-- where rule r ends at p is known: by an entry, or since it goes without something there by the
+-- byte there
 pub data Met (m : Memory) (r p : ℕ) : Type 0 where
   stored : Present m.entries r p → Met m r p
   passed : Stays m.words m.text r p → Met m r p

@@ -1,4 +1,4 @@
--- What is known of a rule at a place by the byte that stands there.
+-- What is known of a rule at a place by the byte there.
 use Rattle.std.specs.Prelude.{◌≡◌, ◌<◌, ℕ, List, Option, Some, None, slice_get, slice_index}
 use Rattle.std.specs.Int.{bit_at}
 use Rattle.std.proofs.Common.{get_or}
@@ -15,7 +15,8 @@ use Rattle.weedle_memo.specs.declared.tables.Way.TheVariants as way
 use Rattle.weedle_memo.specs.declared.frame.Look.{Look}
 use Rattle.weedle_memo.specs.declared.frame.Look.TheVariants.{Known, Unknown}
 
--- the rule that a row may go without: what it repeats, what a list begins with, what stands between items
+-- the rule that a row may go without: what it repeats, what a list begins with, what is between
+-- items
 abbrev pub option_of : Row → Option ℕ
 option_of (Opt y) = Some y
 option_of (Many y) = Some y
@@ -55,14 +56,14 @@ IsLaid ways words r = ((d : Way Word Parts) → IsWay (get_or ways r d) (row_of 
 abbrev pub AreTables : List (Way Word Parts) → List ℕ → Type 0
 AreTables ways words = (r : ℕ) → r < rule_count → IsLaid ways words r
 
--- an ASCII byte stands at p that the word of rule r lacks
+-- an ASCII byte is at p that the word of rule r lacks
 pub record Lacks (words text : List ℕ) (r p : ℕ) : Type 0 where
   pub byte : ℕ
   pub stands : Some byte ≡ slice_get text p
   pub ascii : byte < 128
   pub unset : bit_at (slice_index words r) byte ≡ 0
 
--- rule r goes without something at p by the byte that stands there, so it ends there, and isn't worked out
+-- rule r goes without something at p by the byte there, so it ends there, and isn't worked out
 pub record Stays (words text : List ℕ) (r p : ℕ) : Type 0 where
   pub option : ℕ
   pub is : option_of (row_of r) ≡ Some option

@@ -187,7 +187,7 @@ fn work_past(
     }
 }
 
-/// Works out a rule without parts at a place. Of a rule with parts it says that nothing is known.
+/// Works out a rule without parts at a place. For a rule with parts it says that nothing is known.
 #[inline(always)]
 pub(crate) fn work(reader: &mut Reader<'_>, rule: Rule, place: usize) -> Result<Look, AllocError>
     requires within { place ≤ length reader.old.text }

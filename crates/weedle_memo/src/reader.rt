@@ -197,7 +197,7 @@ impl<'a> Reader<'a> {
         self.tables.way(rule)
     }
 
-    /// Where these bytes end, which stand at a place.
+    /// Where these bytes end, which are at a place.
     #[inline(always)]
     pub(crate) fn end_of_bytes(&self, bytes: &[u8], place: usize) -> Option<usize>
         requires { place ≤ length self.now.text }
@@ -207,7 +207,7 @@ impl<'a> Reader<'a> {
         leaf_ends::end_of_bytes(bytes, self.text, place)
     }
 
-    /// Where one byte of the class ends, which stands at a place.
+    /// Where one byte of the class ends, which is at a place.
     #[inline(always)]
     pub(crate) fn end_of_one(&self, class: Class, place: usize) -> Option<usize>
         requires { place ≤ length self.now.text }
@@ -217,7 +217,7 @@ impl<'a> Reader<'a> {
         leaf_ends::end_of_one(class, self.text, place)
     }
 
-    /// The place itself, where no byte of the class stands there.
+    /// The place itself, where no byte of the class is there.
     #[inline(always)]
     pub(crate) fn end_of_not_next(&self, class: Class, place: usize) -> Option<usize>
         requires { place ≤ length self.now.text }
@@ -227,7 +227,7 @@ impl<'a> Reader<'a> {
         leaf_ends::end_of_not_next(class, self.text, place)
     }
 
-    /// Where the bytes of the class end that stand at a place.
+    /// Where the bytes of the class end at a place.
     #[inline(always)]
     pub(crate) fn end_of_run(&self, class: Class, place: usize) -> usize
         requires { place ≤ length self.now.text }

@@ -17,7 +17,7 @@ pub(crate) struct Word {
 
 /// A row, with rules as numbers.
 ///
-/// The bytes and the parts are type arguments, as the borrow checker wants it of an enum in an
+/// The bytes and the parts are type arguments, as the borrow checker requires it of an enum in an
 /// array.
 #[derive(Clone, Copy)]
 pub(crate) enum Way<W, P> {
@@ -42,10 +42,10 @@ type Ways = [Way<Word, Parts>; RULES];
 /// For each rule the ASCII bytes at which it isn't passed over, as the bits of a word.
 type Words = [u128; RULES];
 
-/// What the reading of any text asks of the rules, laid out by their numbers.
+/// What the reading of any text asks of the rules, in the order of their numbers.
 ///
 /// `row_of` compares numbers until it finds a row, which takes longer than what is done with it. So
-/// each rule is asked for once. The tables take some 20 kB where they stand, and no other memory.
+/// each rule is asked for once. The tables take some 20 kB where they are, and no other memory.
 #[derive(Drop)]
 pub struct Tables {
     ways: Ways,

@@ -1,4 +1,4 @@
-//! The memo of texts, beside the table of ends.
+//! The memo of texts, beside the packrat table.
 
 use std::alloc::{AllocError, Global};
 use std::process::Abort;
@@ -6,7 +6,7 @@ use std::test::Fail;
 use weedle_memo::{Memo, READS, Tables};
 use weedle_rules::{Ends, Rule};
 
-/// Texts that are read whole, in part, or not at all: each kind of row stands in one of them.
+/// Texts that are read whole, in part, or not at all: each kind of row is in one of them.
 const TEXTS: &[&str] = &[
     "",
     " ",
@@ -23,7 +23,7 @@ const TEXTS: &[&str] = &[
     "interface \u{e9} {};",
 ];
 
-/// Asserts that the memo of a text says what its table of ends says, in fewer workings-out.
+/// Asserts that the memo of a text says what its packrat table says, in fewer workings-out.
 fn assert_alike(
     rt: &impl Abort,
     alloc: Global,

@@ -46,7 +46,7 @@ module _ (opens closes : ℕ → Bool) where
         let more = least depth (bare_from Words text) in
         rw (q.0, q.1, no.0, no.1) (omega (arith, more))
 
-    -- a quote begins a string, any other mark stands among words
+    -- a quote begins a string, any other mark is among words
     mark_past : (mark : ℕ) (text : List ℕ) (depth : ℕ) → most_open_from opens closes depth (bare_from Words (mark ∷ text))
         ≡ max depth (most_open_from opens closes (open_behind opens closes depth mark) (bare_from (behind_words mark) text))
     mark_past mark text depth = elim (same mark 34) [

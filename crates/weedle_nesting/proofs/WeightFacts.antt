@@ -76,7 +76,7 @@ behind_slash depth mark text rest e a = rw e record { count = a.count; bytes = a
 pub behind_other : (depth mark : ℕ) (text : List ℕ) → (mark == 34) ≡ false → (mark == 47) ≡ false → IsBehind mark depth text text
 behind_other depth mark text q s = record { count = 0; bytes = omega arith; weigh = rw (q, s) (omega arith) }
 
--- a slash with nothing behind it, or with another byte, stands among words
+-- a slash with nothing behind it, or with another byte, is among words
 pub slash_aside_words : (depth : ℕ) (b : ℕ) (text : List ℕ) → (b == 47) ≡ false → (b == 42) ≡ false → IsAside Slash depth (b ∷ text) (b ∷ text)
 slash_aside_words depth b text s a = record { count = 0; bytes = omega arith; weigh = rw (s, a) (omega arith) }
 
@@ -107,7 +107,7 @@ plain depth b text e =
     let v = neither (b == 91) (b == 93) u.0 in
     rw (q.0, q.1, z.1, v.0, v.1) refl
 
--- a mark counts as it stands among words
+-- a mark counts as it is among words
 mark_first : (depth mark : ℕ) (after : List ℕ) → weights_from Words depth (mark ∷ after) ≡ 3 ^ depth + weights_from (behind_words mark) (attributes_read depth mark) after
 mark_first depth mark after = elim (same mark 34) [
   | inl e ↦ rw e refl

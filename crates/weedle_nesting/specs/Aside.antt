@@ -8,7 +8,7 @@ abbrev pub times : ℕ → ℕ → ℕ
 times zero w = 0
 times (suc k) w = w + times k w
 
--- from bytes that stand in this, all of one weight, up to a rest among words
+-- from bytes in this, all of one weight, up to a remaining text among words
 pub record IsAside (inside : Inside) (depth : ℕ) (text rest : List ℕ) : Type 0 where
   pub count : ℕ
   pub bytes : length text ≡ count + length rest

@@ -1,11 +1,11 @@
 -- A text without its strings and comments.
 use Rattle.std.specs.Prelude.{ℕ, List, [], ◌∷◌, Bool, true, false, ◌==◌, ◌&&◌, if◌then◌else◌}
 
--- what a byte of a text stands in
+-- what a byte of a text is in
 pub data Inside : Type 0 where
-  -- words, signs and blanks
+  -- words, signs and whitespace
   Words : Inside
-  -- words, signs and blanks, right behind a slash
+  -- words, signs and whitespace, right behind a slash
   Slash : Inside
   -- a comment or a line of a docstring, up to the line feed
   Line : Inside
@@ -16,11 +16,11 @@ pub data Inside : Type 0 where
   -- a string, up to the second quote
   Quotes : Inside
 
--- what the next byte stands in, where this one stands among words: 34 is the quote, 47 the slash
+-- what the next byte is in, where this one is among words: 34 is the quote, 47 the slash
 abbrev pub behind_words : ℕ → Inside
 behind_words b = if b == 34 then Quotes else if b == 47 then Slash else Words
 
--- what the next byte stands in: 42 is the asterisk, 10 the line feed
+-- what the next byte is in: 42 is the asterisk, 10 the line feed
 abbrev pub behind : Inside → ℕ → Inside
 behind Words b = behind_words b
 behind Slash b = if b == 47 then Line else if b == 42 then Block else behind_words b
@@ -38,7 +38,7 @@ is_among_words Block = false
 is_among_words Asterisk = false
 is_among_words Quotes = false
 
--- the bytes of a text that belong to no string and no comment, where the first stands in this
+-- the bytes of a text that belong to no string and no comment, where the first is in this
 abbrev pub bare_from : Inside → List ℕ → List ℕ
 bare_from inside [] = []
 bare_from inside (b ∷ text) =

@@ -1,11 +1,11 @@
--- What recursive descent reads again since extended attributes nest: what stands in the arguments of one is read up to
--- three times.
+-- What recursive descent reads again since extended attributes nest: what is in the arguments of
+-- one is read up to three times.
 use Rattle.std.specs.Prelude.{ℕ, ◌+◌, ◌*◌, ◌^◌, ◌<◌, ◌≤◌, List, [], ◌∷◌, length, ◌==◌, ◌&&◌, if◌then◌else◌}
 use Rattle.weedle_nesting.specs.Bare.{Inside, Words, bare, behind, is_among_words}
 use Rattle.weedle_nesting.specs.Nesting.{attributes_behind, most_brackets}
 
--- how many `[` are open behind a byte, so that descent may read what stands in them: a semicolon, which is 59, stands in no bracket of the
--- grammar, so behind one none is open
+-- how many `[` are open behind a byte, so that descent may read what is in them: a semicolon, which
+-- is 59, is in no bracket of the grammar, so behind one none is open
 abbrev pub attributes_read : ℕ → ℕ → ℕ
 attributes_read depth b = if b == 59 then 0 else attributes_behind depth b
 
@@ -13,8 +13,8 @@ attributes_read depth b = if b == 59 then 0 else attributes_behind depth b
 abbrev pub open_after : Inside → Inside → ℕ → ℕ → ℕ
 open_after inside next depth b = if is_among_words inside && is_among_words next then attributes_read depth b else depth
 
--- the sum over all bytes of 3 to the power of the `[` that are open in front of each, where so many are open in front
--- of the first, which stands in this
+-- the sum over all bytes of 3 to the power of the `[` that are open in front of each, where so many
+-- are open in front of the first, which is in this
 abbrev pub weights_from : Inside → ℕ → List ℕ → ℕ
 weights_from inside depth [] = 0
 weights_from inside depth (b ∷ text) =

@@ -1,7 +1,7 @@
-//! How deep the brackets of a text stand in one another.
+//! How deep the brackets of a text nest.
 //!
-//! [`nesting`] looks once at a text, past strings and comments. So who reads texts of strangers can
-//! refuse one that nests deeper than the stack holds, before it is read.
+//! [`nesting`] looks once at a text, past strings and comments. So a program that reads untrusted
+//! texts can refuse one that nests deeper than the stack holds, before it is read.
 //!
 //! ```rust
 //! use weedle_nesting::nesting;

@@ -11,7 +11,7 @@ ghost use Rattle.weedle_nesting.specs.Nesting.{
 
 use crate::marks::{next_mark, past_mark};
 
-/// How deep brackets stand in one another.
+/// How deep brackets nest.
 #[derive(Clone, Copy, Debug, PartialEq, Eq)]
 pub struct Depths {
     /// How many `[` are open at once.
@@ -28,9 +28,9 @@ pub struct Depths {
 ///
 /// It looks once at each byte, and takes no memory.
 ///
-/// Who reads texts of strangers can ask it first: with 8 MB of stack, as a main thread has, each
-/// reader of whole texts reads what has up to 8,000 of `(` and `<` open at once, and `parse` and
-/// `parse_quick` what has up to 3,000 of `[`. So it was measured; nothing promises it.
+/// A program that reads untrusted texts can ask it first: with 8 MB of stack, as a main thread has,
+/// each reader of whole texts reads what has up to 8,000 of `(` and `<` open at once, and `parse`
+/// and `parse_quick` what has up to 3,000 of `[`. So it was measured; nothing promises it.
 pub fn nesting(raw: &str) -> Depths
     ensures attributes { result.attributes ≡ most_attributes (bare raw.now) }
     ensures brackets { result.brackets ≡ most_brackets (bare raw.now) }

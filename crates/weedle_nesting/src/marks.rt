@@ -50,7 +50,7 @@ pub(crate) fn past_mark(mark: u8, after: &[u8]) -> &[u8]
     }
 }
 
-/// What follows a comment, where these bytes stand behind its first slash, or else all of them.
+/// What follows a comment, where these bytes follow its first slash, or else all of them.
 fn past_comment(bytes: &[u8]) -> &[u8]
     ensures bare { bare_from Slash bytes.now ≡ bare_from Words result.now }
     ensures weighs { (depth : ℕ) → IsAside Slash depth bytes.now result.now }

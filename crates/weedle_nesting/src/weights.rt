@@ -16,14 +16,14 @@ const MOST_BRACKETS: usize = 1_000;
 
 /// Whether recursive descent reads a text in little time and on little stack.
 ///
-/// Descent reads what stands in the arguments of an extended attribute up to three times. So a byte
-/// has a weight: 3 to the power of the `[` that are open in front of it, behind the last `;`, since
-/// no bracket holds one. So a `[` that isn't closed counts for its own statement or member alone.
-/// This says whether the sum of the weights is less than 4 times one more than the bytes are, and at
+/// Descent reads what is in the arguments of an extended attribute up to three times. So a byte has
+/// a weight: 3 to the power of the `[` that are open in front of it, behind the last `;`, since no
+/// bracket holds one. So a `[` that isn't closed counts for its own statement or member alone. This
+/// says whether the sum of the weights is less than 4 times one more than the bytes are, and at
 /// most 1,000 of `(` and `<` are open at once.
 ///
 /// That is no bound on what descent reads: each of the fourteen kinds of definitions that is tried
-/// reads anew what stands in front of a definition. With extended attributes of 3 to 12 kB there,
+/// reads anew what is in front of a definition. With extended attributes of 3 to 12 kB there,
 /// `callback` was read in 8 to 21 times the time of `interface`.
 ///
 /// It looks at most once at each byte, and takes no memory.

@@ -35,7 +35,7 @@ module _ (text : List ℕ) (ns : List Node) (front : IsFront text ns) (i : ℕ) 
       lower [] end m h = tt
       lower (j ∷ is) end m h = let k = h.0 in (omega arith, lower is end m h.1)
 
-  -- a name stands in some node
+  -- a name is in some node
   pub name_is_deep : is_name ns i ≡ true → 0 < depth_at ns i
   name_is_deep h = by i refl
     where
@@ -58,7 +58,8 @@ module _ (text : List ℕ) (ns : List Node) (front : IsFront text ns) (i : ℕ) 
       (i + 1 + below_of ns i - (i + 1)) (i + 1) c named (omega arith) (omega arith) (eq-eqb _ _ h.depth) in
       a_role text (node_at ns i) later (subst (λ r. among (names_of (row_of (node_at ns i).rule)) r ≡ true) (eqb-true _ _ is) here)
 
-  -- the parts of a name: blanks and comments, an underscore or none, the letters, blanks and comments
+  -- the parts of a name: whitespace and comments, an underscore or none, the letters, whitespace
+  -- and comments
   pub record NameParts : Type 0 where
     pub before : ℕ
     pub underscore : ℕ

@@ -1,4 +1,5 @@
--- What stands round a node: its bytes without blanks and comments, those in front of it, and its name.
+-- What is around a node: its bytes without whitespace and comments, those in front of it, and its
+-- name.
 use Rattle.std.specs.Prelude.{◌≡◌, ◌≤◌, ◌<◌, ◌+◌, ◌==◌, ◌&&◌, nat_lt, ℕ, Bool, true, List, [], ◌∷◌, Option, Some, None, MatchOption, unwrap_or, if◌then◌else◌}
 use Rattle.weedle_grammar.specs.written.Table.Trivia.{TRIVIA}
 use Rattle.weedle_grammar.specs.written.Table.InterfaceMembers.{OPT_IDENTIFIER}
@@ -7,7 +8,8 @@ use Rattle.weedle_syntax.specs.Tree.{node_at, below_of, children_of, FindsNext}
 use Rattle.weedle_places.specs.declared.span.Span.{Span}
 use Rattle.weedle_places.specs.Names.{is_name, IsNamed}
 
--- node i is a leaf of a byte at least that is none of blanks and comments: their rules are those up to TRIVIA
+-- node i is a leaf of a byte at least that is none of whitespace and comments: their rules are
+-- those up to TRIVIA
 abbrev pub is_solid : List Node → ℕ → Bool
 is_solid ns i = (below_of ns i == 0) && (nat_lt (node_at ns i).start (node_at ns i).end && nat_lt TRIVIA (node_at ns i).rule)
 
@@ -34,7 +36,8 @@ abbrev pub end_or : List Node → Option ℕ → ℕ → ℕ
 end_or ns (Some i) place = (node_at ns i).end
 end_or ns None place = place
 
--- the core goes from the first to the last byte of node i that is neither blank nor of a comment; in front of it stand the blanks and comments behind the last such byte before it
+-- the core goes from the first to the last byte of node i that is neither whitespace nor of a
+-- comment; in front of it are the whitespace and comments behind the last such byte before it
 pub record IsAround (ns : List Node) (i : ℕ) (core front : Span) : Type 0 where
   pub first : Option ℕ
   pub last : Option ℕ
@@ -67,7 +70,7 @@ or_other None other = other
 abbrev pub own_name : List Node → ℕ → Option ℕ
 own_name ns i = or_other (name_among ns (children_of ns i)) (name_of_kind ns (children_of ns i))
 
--- where the name of node i stands, if it has one
+-- where the name of node i is, if it has one
 abbrev pub HasName : List ℕ → List Node → ℕ → Option Span → Type 0
 HasName text ns i name =
     MatchOption (own_name ns i) (name ≡ None) (λ j. (span : Span) × (name ≡ Some span) × ((letters : List ℕ) × IsNamed text (node_at ns j).start (node_at ns j).end span letters))

@@ -27,7 +27,8 @@ spans_of members = map (λ m. m.span) members
 abbrev pub IsBehindBrace : List ℕ → ℕ → ℕ → List Span → Type 0
 IsBehindBrace text y p ms = (q : ℕ) × EndsAt text OPEN_BRACE p q × AreItems text y q ms
 
--- of the parts of a definition, the first at p: the members stand behind the open brace of the first list of members, or there are none
+-- of the parts of a definition, the first at p: the members follow the open brace of the first list
+-- of members, or there are none
 abbrev pub AreMembers : List ℕ → List ℕ → ℕ → List Span → Type 0
 AreMembers text [] p ms = ms ≡ []
 AreMembers text (r ∷ rs) p ms =

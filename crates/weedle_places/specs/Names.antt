@@ -1,4 +1,4 @@
--- The names of a text, and where they stand.
+-- The names of a text, and where they are.
 use Rattle.std.specs.Prelude.{◌≡◌, ◌<◌, ◌↔◌, ◌==◌, IsTrue, ℕ, Bool, true, List, [], ◌∷◌, length, Some}
 use Rattle.weedle_grammar.specs.Meaning.{between}
 use Rattle.weedle_grammar.specs.written.Table.Trivia.{TRIVIA}
@@ -16,7 +16,8 @@ use Rattle.weedle_places.specs.Roles.{role_of}
 abbrev pub is_name : List Node → ℕ → Bool
 is_name ns i = (node_at ns i).rule == IDENTIFIER
 
--- a name that is read from p to e: behind blanks and comments an underscore or none, and then the letters
+-- a name that is read from p to e: behind whitespace and comments an underscore or none, and then
+-- the letters
 pub record IsNamed (text : List ℕ) (p e : ℕ) (span : Span) (letters : List ℕ) : Type 0 where
   -- where the letters begin
   pub word : ℕ
@@ -26,7 +27,7 @@ pub record IsNamed (text : List ℕ) (p e : ℕ) (span : Span) (letters : List �
   pub are : letters ≡ between text word span.end
   pub behind : EndsAt text TRIVIA span.end e
 
--- node `above` reads directly a name that stands before node i
+-- node `above` reads directly a name before node i
 abbrev pub HasNamed : List Node → ℕ → ℕ → Type 0
 HasNamed ns above i = (j : ℕ) × (j < i) × IsChild ns above j × (is_name ns j ≡ true)
 

@@ -1,4 +1,4 @@
--- Where the definitions of a text stand.
+-- Where the definitions of a text are.
 use Rattle.std.specs.Prelude.{◌≡◌, ◌≤◌, ℕ, List, [], ◌∷◌, length, All}
 use Rattle.weedle_grammar.specs.written.Table.Definitions.{DEFINITION, DEFINITIONS}
 use Rattle.weedle_places.specs.declared.place.Place.{Place}

@@ -1,4 +1,4 @@
--- What is said of definitions, members and values: where they stand, and what stands round them.
+-- What is said of definitions, members and values: where they are, and what is around them.
 use Rattle.std.specs.Prelude.{◌≡◌, ◌<◌, ◌+◌, ◌==◌, ℕ, List, [], ◌∷◌, length, Option, Some}
 use Rattle.weedle_grammar.specs.written.Table.OtherMembers.{ENUM_VARIANT}
 use Rattle.weedle_syntax.specs.declared.node.Node.{Node}

@@ -1,4 +1,4 @@
-//! What stands round a node: where its first and its last word are, and what stands in front of it.
+//! What is around a node: where its first and its last word are, and what is in front of it.
 
 ghost use Rattle.std.specs.Prelude.{◌≡◌, ◌≤◌, ◌<◌, ◌+◌, length, IfSome};
 ghost use Rattle.weedle_syntax.specs.Tree.{below_of, FindsNext};
@@ -15,7 +15,7 @@ use crate::span::Span;
 use weedle_grammar::Rule;
 use weedle_syntax::{Node, Syntax};
 
-/// Whether a node is a leaf with bytes that are neither blanks nor of a comment.
+/// Whether a node is a leaf with bytes that are neither whitespace nor of a comment.
 fn is_solid(syntax: &Syntax<'_>, i: usize) -> bool
     requires { i < length syntax.now.nodes }
     ensures { result ≡ the_is_solid syntax.now.nodes i }
@@ -74,8 +74,8 @@ fn end_or(nodes: &[Node], found: Option<usize>, place: usize) -> usize
     }
 }
 
-/// The bytes of a node without blanks and comments at either end, and those of the blanks and
-/// comments in front of it.
+/// The bytes of a node without whitespace and comments at either end, and those of the whitespace
+/// and comments in front of it.
 pub(crate) fn around(syntax: &Syntax<'_>, i: usize) -> (Span, Span)
     requires { i < length syntax.now.nodes }
     ensures { IsAround syntax.now.nodes i result.0 result.1 }

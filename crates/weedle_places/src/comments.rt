@@ -30,7 +30,7 @@ fn is_comment_in(nodes: &[Node], span: Span, i: usize) -> bool
     node.is_comment() && span.start <= node.start && node.start < span.end && node.end <= span.end
 }
 
-/// The comments of a syntax tree that stand within a span, in their order.
+/// The comments of a syntax tree within a span, in their order.
 ///
 /// In `interface A { /* x */ attribute long x; // y` with an LF behind it, the comment `/* x */`
 /// has the span from 14 to 21, and `// y` that from 40 to 45: a line comment has its LF, unless the

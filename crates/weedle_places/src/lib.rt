@@ -1,4 +1,4 @@
-//! Where definitions, their members and names stand in a text.
+//! Where definitions, their members and names are in a text.
 //!
 //! ```rust
 //! use weedle_places::{Role, names, places};

@@ -26,20 +26,20 @@ use weedle_grammar::grammar::other_members::{
 };
 use weedle_syntax::Syntax;
 
-/// Where a member of a definition stands, or a value of an enum.
+/// Where a member of a definition is, or a value of an enum.
 ///
 /// In `interface A { /* x */ attribute long x; };` the one member has the span from 22 to 40 and
-/// the core from 22 to 39; in front of it, from 13 to 22, stand two blanks and a comment, and its
-/// name stands from 37 to 38.
+/// the core from 22 to 39; in front of it, from 13 to 22, are two spaces and a comment, and its
+/// name is from 37 to 38.
 #[derive(Clone, Copy, Debug, PartialEq, Eq)]
 pub struct MemberPlace {
-    /// The member, as the grammar has it: with the blanks and comments behind it.
+    /// The member, as the grammar has it: with the whitespace and comments behind it.
     pub span: Span,
-    /// The member without blanks and comments at either end.
+    /// The member without whitespace and comments at either end.
     pub core: Span,
-    /// The blanks and comments in front of the core, up to what stands before them.
+    /// The whitespace and comments in front of the core, up to what precedes them.
     pub front: Span,
-    /// Where its name stands, with an underscore in front. A value has none, as `iterable<long>;`.
+    /// Where its name is, with an underscore in front. A value has none, as `iterable<long>;`.
     pub name: Option<Span>,
 }
 

@@ -11,7 +11,7 @@ use crate::span::Span;
 use std::alloc::{AllocError, Global};
 use weedle_syntax::Syntax;
 
-/// A name that stands in a text, and what it stands for.
+/// A name in a text, and what it stands for.
 ///
 /// In `interface _A {};` the name is `A`, an interface; its span from 10 to 12 has the underscore
 /// in it.
@@ -19,7 +19,7 @@ use weedle_syntax::Syntax;
 pub struct Name<'a> {
     /// Its letters, without an underscore in front: what the typed tree has.
     pub text: &'a str,
-    /// Where it stands, with an underscore in front and without blanks and comments.
+    /// Where it is, with an underscore in front and without whitespace and comments.
     pub span: Span,
     /// What it stands for.
     pub role: Role,
@@ -85,8 +85,8 @@ pub fn names_of<'a>(alloc: Global, syntax: &Syntax<'a>) -> Result<Vec<Name<'a>>,
 /// In `interface A : B { attribute C x; };` these are `A`, an interface, `B`, which is inherited
 /// from, `C`, a type, and `x`, an attribute. Keywords are no names, nor are strings.
 ///
-/// It reads as [`Syntax::new`] does, and costs the same; beside that it goes once through the
-/// nodes. Where memory is refused, the answer is an error.
+/// It reads as [`Syntax::new`] does, and costs the same; besides, it goes once through the nodes.
+/// Where memory is refused, the answer is an error.
 pub fn names<'a>(alloc: Global, raw: &'a str) -> Result<Option<Vec<Name<'a>>>, AllocError>
     ensures whole { IfOk result (λ found. IsSome found ↔ IsWhole raw.entry.now) }
     ensures are { IfOk result

@@ -51,7 +51,7 @@ fn own_name(syntax: &Syntax<'_>, node: usize) -> Option<usize>
     }
 }
 
-/// Where the name of a node stands, with an underscore in front, if it has a name.
+/// Where the name of a node is, with an underscore in front, if it has a name.
 pub(crate) fn name_span(syntax: &Syntax<'_>, node: usize) -> Option<Span>
     requires { node < length syntax.now.nodes }
     ensures { HasName syntax.now.text syntax.now.nodes node result }

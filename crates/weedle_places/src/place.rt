@@ -10,20 +10,20 @@ use std::alloc::{AllocError, Global};
 use weedle_rules::Ends;
 use weedle_syntax::Syntax;
 
-/// Where a definition stands, and each of its members.
+/// Where a definition is, and each of its members.
 ///
 /// In `interface A { attribute long x; };` the definition has the span from 0 to 34, and its one
 /// member that from 14 to 32.
 #[derive(Debug, Drop)]
 pub struct Place {
-    /// The definition, as the grammar has it: with the blanks and comments behind it. The first
+    /// The definition, as the grammar has it: with the whitespace and comments behind it. The first
     /// definition has those in front of it too.
     pub span: Span,
-    /// The definition without blanks and comments at either end.
+    /// The definition without whitespace and comments at either end.
     pub core: Span,
-    /// The blanks and comments in front of the core, up to what stands before them.
+    /// The whitespace and comments in front of the core, up to what precedes them.
     pub front: Span,
-    /// Where its name stands, with an underscore in front: of `A includes B;` that of `A`.
+    /// Where its name is, with an underscore in front: of `A includes B;` that of `A`.
     pub name: Option<Span>,
     /// The members between its braces, in their order. A definition without members has none; the
     /// values of an enum aren't members.
@@ -32,7 +32,7 @@ pub struct Place {
     pub values: Vec<MemberPlace>,
 }
 
-/// Where each definition and each of its members stand in a text that is read whole, by its syntax
+/// Where each definition and each of its members are in a text that is read whole, by its syntax
 /// tree, as [`Syntax::new`] gives it.
 ///
 /// So one tree serves this, [`names_of`](crate::names_of) and [`comments_in`](crate::comments_in).
@@ -59,8 +59,8 @@ pub fn places_in(alloc: Global, syntax: &Syntax<'_>) -> Result<Vec<Place>, Alloc
     Ok(found)
 }
 
-/// Where each definition and each of its members stand in a text that is read whole, over its table
-/// of ends; None of one that isn't.
+/// Where each definition and each of its members are in a text that is read whole, over its packrat
+/// table; None of one that isn't.
 ///
 /// It asks for memory for the nodes of the text and for the answer.
 pub fn places_of(alloc: Global, ends: &Ends<'_>) -> Result<Option<Vec<Place>>, AllocError>
@@ -77,16 +77,15 @@ pub fn places_of(alloc: Global, ends: &Ends<'_>) -> Result<Option<Vec<Place>>, A
     }
 }
 
-/// Where each definition of the text and each of its members stand, or None where the text isn't
-/// read whole.
+/// Where each definition of the text and each of its members are, or None where the text isn't read
+/// whole.
 ///
-/// In `enum E { "a" }; interface A {};` one definition stands from 0 to 16, and one from 16 to 31:
-/// the blank between them belongs to what stands before it. The empty text has none; of
-/// `interface A {` the answer is None.
+/// In `enum E { "a" }; interface A {};` one definition is from 0 to 16, and one from 16 to 31: the
+/// space between them belongs to what precedes it. The empty text has none; of `interface A {` the
+/// answer is None.
 ///
-/// It reads as [`Syntax::new`] does: by descent where that suits the text, and else over a table of
-/// ends. It asks for memory for that and for the answer, and where it is refused, the answer is an
-/// error.
+/// It reads as [`Syntax::new`] does: by descent within limits, and else over a memo. It asks for
+/// memory for that and for the answer, and where it is refused, the answer is an error.
 pub fn places(alloc: Global, raw: &str) -> Result<Option<Vec<Place>>, AllocError>
     ensures whole { IfOk result (λ found. IsSome found ↔ IsWhole raw.now) }
     ensures are { IfOk result

@@ -50,13 +50,13 @@ pub fn references_of<'a>(
 /// Where a text speaks of the definition that has this name, in the order of the text; None where
 /// the text isn't read whole.
 ///
-/// Of `interface A {}; interface B : A { attribute A? x; };` the name `A` has two: what is
+/// For `interface A {}; interface B : A { attribute A? x; };` the name `A` has two: what is
 /// inherited from, from 30 to 31, and a type, from 44 to 45. Where a definition has its name isn't
 /// among them, but the name of a part is, and those of a statement. The name is given without an
-/// underscore in front, and `_A` in the text is `A` too; upper and lower case are told apart.
+/// underscore in front, and `_A` in the text is `A` too; upper and lower case differ.
 ///
-/// It reads as [`Syntax::new`] does, and costs the same; beside that it goes once through the
-/// nodes. Where memory is refused, the answer is an error.
+/// It reads as [`Syntax::new`] does, and costs the same; besides, it goes once through the nodes.
+/// Where memory is refused, the answer is an error.
 pub fn references<'a>(
     alloc: Global,
     raw: &'a str,

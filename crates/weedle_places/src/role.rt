@@ -84,8 +84,8 @@ pub enum Role {
     Inherited,
     /// An extended attribute, as `Exposed` in `[Exposed=Window]`.
     ExtendedAttribute,
-    /// What stands behind the `=` of an extended attribute, as `Window` in `[Exposed=Window]` and
-    /// in `[Exposed=(Window,Worker)]`, and `Image` in `[NamedConstructor=Image(long x)]`.
+    /// What follows the `=` of an extended attribute, as `Window` in `[Exposed=Window]` and in
+    /// `[Exposed=(Window,Worker)]`, and `Image` in `[NamedConstructor=Image(long x)]`.
     ExtendedAttributeValue,
 }
 
@@ -94,8 +94,8 @@ impl Role {
     /// type, as what is inherited from, in a statement, or in a part, as the `A` of `attribute A
     /// x;`, of `interface B : A {};`, of `A includes M;` and of `partial interface A {};`.
     ///
-    /// Members, arguments and extended attributes aren't definitions, nor is what stands behind the
-    /// `=` of an extended attribute taken for one.
+    /// Members, arguments and extended attributes aren't definitions, nor is what follows the `=`
+    /// of an extended attribute taken for one.
     pub fn is_reference(self) -> bool
         ensures { result ≡ the_is_reference self }
     {
@@ -175,7 +175,7 @@ fn of_part(rule: u16) -> Option<Role>
     }
 }
 
-/// The role of a name before which another stands that the same rule reads; None of a rule of which
+/// The role of a name before which another is that the same rule reads; None of a rule of which
 /// that has the role of the first.
 fn of_later(rule: u16) -> Option<Role>
     ensures { result ≡ the_of_later rule }

@@ -7,8 +7,8 @@ use weedle_syntax::Node;
 
 /// A part of a text, in bytes from the text's front.
 ///
-/// A definition or a member takes the blanks and comments behind its `;`, so its span may end with
-/// them. Only the first definition's may begin with some.
+/// A definition or a member takes the whitespace and comments behind its `;`, so its span may end
+/// with them. Only the first definition's may begin with some.
 #[derive(Clone, Copy, Debug, PartialEq, Eq)]
 pub struct Span {
     /// Where it begins.

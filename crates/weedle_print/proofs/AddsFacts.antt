@@ -46,11 +46,11 @@ one_trivia (b ∷ s) h =
     chain_goes_on (sym (append-nil (b ∷ s))) (inr (inl front)) (chain_ends refl)
 
 module _ {x y z : List ℕ} where
-  -- blanks behind blanks
+  -- whitespace behind whitespace
   pub adds_blanks : Adds (any Blank) x y → Adds (any Blank) y z → Adds (any Blank) x z
   adds_blanks a b = adds_as (λ s h. subst (any Blank) (sym h.is) (any_then Blank h.first h.rest h.of_first h.of_rest)) (adds_then a b)
 
-  -- a blank
+  -- a space
   pub adds_blank : Adds (any Blank) x y → Adds (exactly (codes " ")) y z → Adds (any Blank) x z
   adds_blank a b = adds_blanks a (adds_as (λ s h. subst (any Blank) (sym h) (refl, tt)) b)
 
@@ -58,11 +58,11 @@ module _ {x y z : List ℕ} where
   pub adds_line_end : Adds (any Blank) x y → Adds (exactly (10 ∷ [])) y z → Adds (any Blank) x z
   adds_line_end a b = adds_blanks a (adds_as (λ s h. subst (any Blank) (sym h) (refl, tt)) b)
 
--- no blank
+-- no space
 pub adds_no_blank : {x : List ℕ} → Adds (any Blank) x x
 adds_no_blank {x} = record { added = []; is = sym (append-nil x); of = tt }
 
--- blanks as trivia
+-- whitespace as trivia
 pub adds_trivia : {x y : List ℕ} → Adds (any Blank) x y → Adds IsTrivia x y
 adds_trivia a = adds_as one_trivia a
 
@@ -71,7 +71,7 @@ pub adds_no_trivia : {x : List ℕ} → Adds IsTrivia x x
 adds_no_trivia {x} = record { added = []; is = sym (append-nil x); of = chain_ends refl }
 
 module _ {a b c : List ℕ} {t : List ℕ} (blank : Adds (any Blank) a b) (text : Adds (exactly t) b c) where
-  -- a word behind blanks
+  -- a word behind whitespace
   pub adds_word : Adds (word t) a c
   adds_word = adds_then (adds_trivia blank) (adds_then text adds_no_trivia)
 

@@ -1,4 +1,4 @@
--- Blanks that are counted, and words behind them.
+-- Whitespace that are counted, and words behind them.
 use Rattle.std.proofs.Common.{◌≡◌, ℕ, ◌+◌, ◌≤◌, List, [], ◌∷◌, length, codes, refl, sym, ap, ◌∙◌, subst, append-nil, length-append, arith}
 use Rattle.weedle_grammar.specs.declared.class.Class.TheVariants.{Blank}
 use Rattle.weedle_print.proofs.AddsFacts.{adds_as, adds_then, any_then}
@@ -17,7 +17,7 @@ joined m n s h = (
 )
 
 module _ {x y z : List ℕ} {n : ℕ} where
-  -- a blank more
+  -- a space more
   pub blank_more : Adds (so_many n) x y → Adds (exactly (codes " ")) y z → Adds (so_many (n + 1)) x z
   blank_more a b = adds_as (joined n 1) (adds_then a (adds_as (λ s h. subst (so_many 1) (sym h) ((refl, tt), refl)) b))
 
@@ -34,7 +34,7 @@ some_of n [] l h = absurd (omega (arith, l, h.1))
 some_of n (b ∷ s) l h = record { first = b ∷ []; rest = s; is = refl; of_first = (b, refl, h.0.0); of_rest = h.0.1 }
 
 module _ {x y z : List ℕ} {m n : ℕ} (ends : Adds (so_many m) x y) (blanks : Adds (so_many n) y z) where
-  -- line ends and blanks
+  -- line ends and spaces
   pub space_any : Adds (any Blank) x z
   space_any = adds_as (λ s h. (joined m n s h).0) (adds_then ends blanks)
 

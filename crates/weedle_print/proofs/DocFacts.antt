@@ -11,7 +11,7 @@ use Rattle.weedle_print.specs.Adds.{Adds}
 use Rattle.weedle_spell.specs.Forms.{Form, ◌then◌, exactly, any, each}
 use Rattle.weedle_spell.specs.Tokens.{doc_line, before_first, cut, documented}
 
--- a line as it is put there, where it isn't known yet that no LF stands in it
+-- a line as it is put there, where it isn't known yet that no LF is in it
 abbrev pub put_line : List ℕ → Form
 put_line line = any Blank then exactly (codes "///") then exactly line then exactly (10 ∷ [])
 

@@ -8,13 +8,13 @@ use Rattle.weedle_print.specs.Adds.{Adds}
 use Rattle.weedle_print.specs.Separators.{in_front_of}
 use Rattle.weedle_spell.specs.Forms.{Form, ◌then◌, perhaps, separated_by, separated_non_empty}
 
--- as many values stand before, and it says whether none does
+-- as many values come before, and it says whether none does
 abbrev pub Counts : Bool → ℕ → Type 0
 Counts true i = i ≡ 0
 Counts false i = 0 < i
 
 module _ {V : Type 0} (S : V → Form) (sep : Form) where
-  -- one more value, behind what stands in front of it
+  -- one more value, behind what is in front of it
   item_snoc : (vs : List V) (v : V) (is_first : Bool) → Counts is_first (length vs) → (s : List ℕ)
       → ((separated_by S sep vs then in_front_of is_first sep) then S v) s → separated_by S sep (vs ++ v ∷ []) s
   item_snoc [] v true e s h =
@@ -31,7 +31,7 @@ module _ {V : Type 0} (S : V → Form) (sep : Form) where
         of_rest = record { first = front.rest; rest = h.rest; is = refl; of_first = front.of_rest; of_rest = h.of_rest };
       })
 
--- where a loop stands in a list: what was put, and whether it is at the first value
+-- where a loop is in a list: what was put, and whether it is at the first value
 pub record SeparatedSoFar {V : Type 0} (S : V → Form) (sep : Form) (vs : List V) (i : ℕ) (is_first : Bool) (before after : List ℕ) : Type 0 where
   pub put : Adds (separated_by S sep (take i vs)) before after
   pub first : Counts is_first i

@@ -1,4 +1,4 @@
--- What spells the member of a variant spells the variant.
+-- What is a rendering of the member of a variant is a rendering of the variant.
 use Rattle.std.specs.Prelude.{ℕ, List}
 use Rattle.weedle_base.specs.declared.term.written.type_keywords.Or.{Or}
 use Rattle.weedle_parts.specs.declared.common.brackets.Parenthesized.{Parenthesized}

@@ -14,14 +14,15 @@ is_of_name (Some byte) = is_in Name byte
 abbrev pub begins_as_name : List ℕ → Bool
 begins_as_name text = is_of_name (slice_get text 0)
 
--- the text ends with one: what begins with one, and stands right behind it, would go on with its last word
+-- the text ends with one: what begins with one, and is right behind it, would go on with its last
+-- word
 abbrev pub ends_as_name : List ℕ → Bool
 ends_as_name text = is_of_name (slice_get text (length text - 1))
 
--- so many blanks or line ends
+-- so many spaces or line ends
 abbrev pub so_many : ℕ → Form
 so_many n s = any Blank s × (length s ≡ n)
 
--- the text, behind a blank or a line end, or more
+-- the text, behind a space or a line end, or more
 abbrev pub apart : List ℕ → Form
 apart text = some Blank then exactly text

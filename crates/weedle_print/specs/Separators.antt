@@ -1,4 +1,4 @@
--- What stands in front of the items of a list.
+-- What is in front of the items of a list.
 use Rattle.std.specs.Prelude.{Bool, true, false}
 use Rattle.weedle_spell.specs.Forms.{Form, empty}
 

@@ -16,7 +16,7 @@ use Rattle.weedle_parts.specs.declared.types.integer.LongLongType.{LongLongType}
 use Rattle.weedle_parts.specs.declared.types.integer.LongType.{LongType}
 use Rattle.weedle_parts.specs.declared.types.integer.ShortType.{ShortType}
 
--- a text, or behind another one where an optional word stands
+-- a text, or behind another one where an optional word is
 abbrev pub behind : {T : Type 0} → List ℕ → List ℕ → Option T → List ℕ
 behind front text None = text
 behind front text (Some word) = front ++ text

@@ -14,7 +14,7 @@ use crate::texts::{last_word, push, word};
 use weedle_base::term::Comma;
 use weedle_parts::common::{Braced, PunctuatedNonEmpty};
 
-/// Writes the brace in front of members, and has each have a line.
+/// Writes the brace in front of members, and puts each on a line.
 fn open_body(is_empty: bool, out: &mut String, layout: &mut Layout) -> Result<(), PrintError>
     ensures { OnOk result
         (Adds (the_word (codes "{")) (string_bytes out.old) (string_bytes out.new)) }

@@ -12,9 +12,9 @@ use std::fmt;
 pub enum PrintError {
     /// Memory was refused.
     Memory,
-    /// No text spells the value: a name isn't one, as `a b`, a string has a quote in it, a number
-    /// is none, an enum has no values, or an argument has a default and isn't optional. A value
-    /// that was read has a text.
+    /// No text is a rendering of the value: a name isn't one, as `a b`, a string has a quote in it,
+    /// a number is none, an enum has no values, or an argument has a default and isn't optional. A
+    /// value that was read has a text.
     NoText,
 }
 

@@ -1,4 +1,4 @@
-//! Where a line stands, and what goes between two words.
+//! Where a line is, and what goes between two words.
 
 ghost use Rattle.std.specs.Prelude.{◌≡◌, ◌≤◌, ◌+◌, ◌↔◌, IsTrue, false};
 ghost use Rattle.weedle_print.specs.Apart.{
@@ -17,10 +17,10 @@ use crate::written::reserved::is_read_behind;
 /// How many columns a line has.
 const COLUMNS: usize = 80;
 
-/// How many blanks a level is.
+/// How many spaces a level is.
 const LEVEL: usize = 2;
 
-/// How many levels a line is indented at most. Lists that stand so deep aren't broken.
+/// How many levels a line is indented at most. Lists that are so deep aren't broken.
 const MOST_LEVELS: usize = 16;
 
 /// What goes in front of the next word.
@@ -28,15 +28,15 @@ const MOST_LEVELS: usize = 16;
 enum Front {
     /// Nothing.
     Nothing,
-    /// A blank, but for words that never have one in front.
+    /// A space, except for words that never have one in front.
     Blank,
-    /// A line end, where the line isn't ended, and the blanks of the level.
+    /// A line end, where the line isn't ended, and the spaces of the level.
     Line,
     /// The same, with an empty line before it.
     EmptyLine,
 }
 
-/// How many line ends and blanks go in front of a word.
+/// How many line ends and spaces go in front of a word.
 #[derive(Clone, Copy, Debug, PartialEq, Eq)]
 pub(crate) struct Space {
     pub(crate) line_ends: usize,
@@ -52,8 +52,8 @@ impl Space {
     }
 }
 
-/// How the line stands at the end of a text that is being written: what whoever writes the next
-/// word has to know for the layout. It is no part of what a text says.
+/// How the line is at the end of a text that is being written: what whoever writes the next word
+/// has to know for the layout. It is no part of what a text says.
 #[derive(Clone, Copy, Debug)]
 pub struct Layout {
     /// How many characters the line has.
@@ -64,7 +64,7 @@ pub struct Layout {
     lines: usize,
     /// How many characters the line had that was ended last.
     width: usize,
-    /// Whether nothing stands on the line.
+    /// Whether nothing is on the line.
     is_line_begun: bool,
     /// Whether the text ends with a character of names: another one would go on with its last word.
     is_in_name: bool,
@@ -74,11 +74,11 @@ pub struct Layout {
     is_broken: bool,
     /// How many characters the last list has on one line, with its brackets.
     listed: usize,
-    /// How many characters were written, as they would stand if no list were broken, and no
-    /// attributes had a line of their own.
+    /// How many characters were written, as they would be if no list were broken, and no attributes
+    /// had a line of their own.
     count: usize,
-    /// The count at the end of the line that an item, a member or a statement begins, where it
-    /// stands on one: up to the parenthesis of its arguments, or to its end. 0 while it isn't known.
+    /// The count at the end of the line that an item, a member or a statement begins, where it is
+    /// on one: up to the parenthesis of its arguments, or to its end. 0 while it isn't known.
     head: usize,
     /// The count in front of the last string on that line in which a line ends.
     cut: usize,
@@ -87,7 +87,7 @@ pub struct Layout {
     /// Whether extended attributes in front of a member or a statement have a line of their own,
     /// since it doesn't fit on one with them.
     is_apart: bool,
-    /// Whether a type ended with the word before, behind which arguments stand apart.
+    /// Whether a type ended with the word before, behind which arguments are apart.
     is_behind_type: bool,
     front: Front,
     /// What the definition before was, where it took one line.
@@ -97,7 +97,7 @@ pub struct Layout {
     before: &'static str,
 }
 
-/// Whether nothing goes in front of a word, wherever it stands.
+/// Whether nothing goes in front of a word, wherever it is.
 fn is_tight_in_front(text: &str) -> bool {
     match text {
         ";" | "," | ")" | "]" | "<" | ">" | "?" | "..." => true,
@@ -138,7 +138,7 @@ impl Layout {
         }
     }
 
-    /// What goes in front of this word: a blank or a line end at least, where it would go on with
+    /// What goes in front of this word: a space or a line end at least, where it would go on with
     /// the word before.
     pub(crate) fn space(&self, text: &str) -> Space
         ensures apart { IsTrue self.now.is_in_name → IsTrue (the_begins_as_name text.now)
@@ -162,7 +162,7 @@ impl Layout {
         }
     }
 
-    /// So many blanks on the line.
+    /// So many spaces on the line.
     fn blanks(&self, blanks: usize) -> Space
         ensures { result.blanks ≡ blanks }
     {
@@ -172,7 +172,7 @@ impl Layout {
         }
     }
 
-    /// The end of the line, so many empty lines, and the blanks of the level.
+    /// The end of the line, so many empty lines, and the spaces of the level.
     fn line(&self, empty: usize) -> Space {
         Space {
             line_ends: if self.is_line_begun {
@@ -262,7 +262,7 @@ impl Layout {
         self.is_in_name = false;
     }
 
-    /// Has what follows begin a line.
+    /// Begins a line with what follows.
     pub(crate) fn begin_line(&mut self) {
         if self.front != Front::EmptyLine {
             self.front = Front::Line;
@@ -274,17 +274,17 @@ impl Layout {
         is_read_behind(self.before, name)
     }
 
-    /// Has the next word stand with nothing in front.
+    /// Puts the next word with nothing in front.
     pub fn join(&mut self) {
         self.front = Front::Nothing;
     }
 
-    /// Keeps that a type ended, behind which arguments stand apart, as in `undefined (long x)`.
+    /// Keeps that a type ended, behind which arguments are apart, as in `undefined (long x)`.
     pub fn end_type(&mut self) {
         self.is_behind_type = true;
     }
 
-    /// Has the arguments that follow stand behind the word before with nothing in front, but where
+    /// Puts the arguments that follow behind the word before with nothing in front, except where
     /// that is a type.
     pub fn join_arguments(&mut self) {
         if !self.is_behind_type {
@@ -302,14 +302,14 @@ impl Layout {
         self.level = self.level.saturating_sub(1);
     }
 
-    /// Has an empty line stand in front of what follows, but at the front of a text.
+    /// Puts an empty line in front of what follows, except at the front of a text.
     pub(crate) fn skip_line(&mut self) {
         if self.lines > 0 {
             self.front = Front::EmptyLine;
         }
     }
 
-    /// Whether a definition of this kind may stand right below the one before.
+    /// Whether a definition of this kind may be right below the one before.
     pub(crate) fn may_follow(&self, kind: Statement) -> bool {
         kind != Statement::Other && kind == self.statement
     }

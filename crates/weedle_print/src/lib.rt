@@ -1,9 +1,9 @@
 //! Values written as WebIDL: terminals, names, numbers, strings, docstrings, literals, the generic
 //! parts over whatever can be written, types, arguments and extended attributes.
 //!
-//! What a call writes spells the value, by the definitions of `weedle_spell`: so what stands in
-//! the text is the value, whatever the layout. A value that was built by hand may have no text, as
-//! `Identifier("a b")`: then a call answers [`PrintError::NoText`].
+//! What a call writes is a rendering of the value, by the definitions of `weedle_spell`: so what is
+//! in the text is the value, whatever the layout. A value that was built by hand may have no text,
+//! as `Identifier("a b")`: then a call returns [`PrintError::NoText`].
 //!
 //! There is one layout, and it is that of `weedle_formatter`, which leaves what is written as it
 //! is.

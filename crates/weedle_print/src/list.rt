@@ -1,4 +1,4 @@
-//! Lists whose items stand between separators.
+//! Lists whose items are between separators.
 
 ghost use Rattle.std.specs.Prelude.{OnOk, string_bytes};
 ghost use Rattle.weedle_spell.specs.Tokens.{word as the_word};

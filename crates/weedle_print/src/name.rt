@@ -46,7 +46,7 @@ fn is_name(alloc: Global, text: &str) -> bool
     }
 }
 
-/// Writes an underscore, where one is wanted.
+/// Writes an underscore, where one is needed.
 #[tactic(auto, using(crate::proofs::LeafFacts::perhaps_steps))]
 fn push_underscore(is_wanted: bool, out: &mut String) -> Result<(), PrintError>
     ensures { OnOk result
@@ -59,7 +59,7 @@ fn push_underscore(is_wanted: bool, out: &mut String) -> Result<(), PrintError>
 }
 
 /// Writes a name behind an underscore, where a keyword of its letters would be read there; and
-/// behind a blank or a line end at least, where it would go on with the word before.
+/// behind a space or a line end at least, where it would go on with the word before.
 #[tactic(auto, using(crate::proofs::LeafFacts::adds_name, crate::proofs::ApartFacts::apart_name))]
 fn push_name(name: &str, out: &mut String, layout: &mut Layout) -> Result<(), PrintError>
     requires { the_name name.now }
@@ -78,7 +78,7 @@ fn push_name(name: &str, out: &mut String, layout: &mut Layout) -> Result<(), Pr
     Ok(())
 }
 
-/// A name, as `width`. Where a keyword of its letters would be read there, it stands behind an
+/// A name, as `width`. Where a keyword of its letters would be read there, it follows an
 /// underscore.
 impl<'a> Print for Identifier<'a> {
     type Value = Self;

@@ -10,7 +10,7 @@ ghost use Rattle.weedle_print.specs.Apart.{
 
 use weedle_grammar::{Class, holds};
 
-/// Whether a letter, a digit, `_` or `-` stands at this place of a text.
+/// Whether a letter, a digit, `_` or `-` is at this place of a text.
 fn is_of_name_at(text: &str, place: usize) -> bool
     ensures { result ≡ the_is_of_name (slice_get text.now place) }
 {

@@ -8,7 +8,7 @@ use weedle_parts::types::MayBeNull;
 pub trait Nullable {
     ghost may_be_null: { Self → Type 0 };
 
-    /// Whether `?` stands behind the type, as in `long?`. It takes no memory.
+    /// Whether `?` follows the type, as in `long?`. It takes no memory.
     fn is_nullable(&self) -> bool
         ensures { IsTrue result ↔ may_be_null self.now };
 }

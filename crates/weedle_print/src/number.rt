@@ -25,7 +25,7 @@ use std::alloc::Global;
 use weedle_base::Parse;
 use weedle_parts::literal::{DecLit, FloatValueLit, HexLit, OctLit};
 
-/// Writes a number as it is kept, behind a blank or a line end at least, where it would go on with
+/// Writes a number as it is kept, behind a space or a line end at least, where it would go on with
 /// the word before.
 #[tactic(auto, using(crate::proofs::AddsFacts::adds_word, crate::proofs::ApartFacts::apart_word))]
 fn push_number(out: &mut String, layout: &mut Layout, text: &str) -> Result<(), PrintError>

@@ -101,7 +101,7 @@ pub(crate) fn print_names(
     CloseParen::print(&names.close_paren, out, layout)
 }
 
-/// Has a value of a list stand with nothing in front, but for the first one.
+/// Puts a value of a list with nothing in front, except for the first one.
 fn join_next(is_first: bool, layout: &mut Layout) {
     if !is_first {
         layout.join();

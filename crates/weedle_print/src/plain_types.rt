@@ -44,7 +44,7 @@ pub(crate) fn print_plain_type(
     }
 }
 
-/// Writes a type of buffers, as `Uint8Array`. Whoever calls has written the types that hold others.
+/// Writes a type of buffers, as `Uint8Array`. The caller has written the types that hold others.
 fn print_buffer_type(
     type_: &NonAnyType<'_>,
     out: &mut String,

@@ -7,8 +7,8 @@ use crate::error::PrintError;
 use crate::layout::Layout;
 use crate::print::{Print, try_line};
 
-/// What a definition is for the layout: statements of one kind that take one line each stand below
-/// one another, and an empty line stands between all other definitions.
+/// What a definition is for the layout: statements of one kind that take one line each are below
+/// one another, and an empty line is between all other definitions.
 #[derive(Clone, Copy, Debug, PartialEq, Eq)]
 pub enum Statement {
     /// A callback.

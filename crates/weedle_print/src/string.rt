@@ -12,7 +12,7 @@ use crate::texts::{push, space};
 use memchr::memchr;
 use weedle_parts::literal::StringLit;
 
-/// Whether no quote stands in a text.
+/// Whether no quote is in a text.
 fn is_without_quote(text: &str) -> bool
     ensures { IsTrue result → any NotQuote text.now }
 {

@@ -1,4 +1,4 @@
-//! Texts, blanks and words at the end of a text.
+//! Texts, whitespace and words at the end of a text.
 #![tactic(auto, using(crate::proofs::AddsFacts::adds_steps))]
 
 ghost use Rattle.std.specs.Prelude.{◌≡◌, ◌∷◌, [], false, IsTrue, OnErr, OnOk, string_bytes};
@@ -28,7 +28,7 @@ pub fn push(out: &mut String, text: &str) -> Result<(), PrintError>
     }
 }
 
-/// Writes so many blanks at the end.
+/// Writes so many spaces at the end.
 #[tactic(auto, using(crate::proofs::ApartFacts::many_steps))]
 fn push_blanks(out: &mut String, many: usize) -> Result<(), PrintError>
     ensures { OnOk result (Adds (so_many many) (string_bytes out.old) (string_bytes out.new)) }
@@ -50,7 +50,7 @@ fn push_line_ends(out: &mut String, many: usize) -> Result<(), PrintError>
     Ok(())
 }
 
-/// Writes what goes in front of a word: a blank or a line end at least, where the word would go on
+/// Writes what goes in front of a word: a space or a line end at least, where the word would go on
 /// with the one before.
 #[tactic(auto, using(crate::proofs::ApartFacts::space_steps))]
 pub(crate) fn space(out: &mut String, layout: &mut Layout, text: &str) -> Result<(), PrintError>
@@ -65,7 +65,7 @@ pub(crate) fn space(out: &mut String, layout: &mut Layout, text: &str) -> Result
     Ok(())
 }
 
-/// Writes a symbol or a keyword, as `{` or `interface`, and what goes in front of it: a blank or a
+/// Writes a symbol or a keyword, as `{` or `interface`, and what goes in front of it: a space or a
 /// line end at least, where it would go on with the word before.
 #[tactic(auto, using(crate::proofs::AddsFacts::adds_steps, crate::proofs::ApartFacts::apart_steps))]
 pub fn word(out: &mut String, layout: &mut Layout, text: &'static str) -> Result<(), PrintError>

@@ -1,6 +1,6 @@
 //! How wide texts are.
 
-/// How many characters a text has: its bytes, but those that go on with a character.
+/// How many characters a text has: its bytes, except for those that go on with a character.
 pub(crate) fn characters(text: &str) -> usize {
     let mut found: usize = 0;
     for &byte in text.as_bytes() {
@@ -11,7 +11,7 @@ pub(crate) fn characters(text: &str) -> usize {
     found
 }
 
-/// How many line ends stand in a text.
+/// How many line ends are in a text.
 pub(crate) fn line_ends(text: &str) -> usize {
     let mut found: usize = 0;
     for &byte in text.as_bytes() {
@@ -22,7 +22,7 @@ pub(crate) fn line_ends(text: &str) -> usize {
     found
 }
 
-/// What stands behind the last line end of a text, in characters.
+/// What follows the last line end of a text, in characters.
 pub(crate) fn characters_behind(text: &str) -> usize {
     let mut found: usize = 0;
     for &byte in text.as_bytes() {

@@ -1,8 +1,8 @@
 //! Values written as WebIDL: [`WriteIdl`] of every type, from a name up to a list of definitions.
 //!
-//! What is written spells the value, by the definitions of `weedle_spell`: so whatever the layout,
-//! the text says this value. There is one layout, that of `weedle_formatter`, which leaves what is
-//! written as it is.
+//! What is written is a rendering of the value, by the definitions of `weedle_spell`: so whatever
+//! the layout, the text says this value. There is one layout, that of `weedle_formatter`, which
+//! leaves what is written as it is.
 //!
 //! ```rust
 //! use weedle_base::Parse;

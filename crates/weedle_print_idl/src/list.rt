@@ -35,7 +35,7 @@ fn push_each<T: WriteIdl>(
 
 /// Writes values one after another at the end of `out`, as [`WriteIdl::write_idl`] writes a list of
 /// them. A function that is generic over the values' type may call either. Where the values are
-/// known to be definitions the prover meets a limit, but in a function that does this alone, as
+/// known to be definitions the prover meets a limit, except in a function that does this alone, as
 /// `write_list(definitions.as_slice(), out)`.
 #[tactic(auto, using(weedle_print::proofs::AddsFacts::adds_copied))]
 pub fn write_list<T: WriteIdl>(list: &[T], out: &mut String) -> Result<(), PrintError>

@@ -6,12 +6,12 @@ ghost use Rattle.weedle_print.specs.Adds.{Adds};
 
 use weedle_print::{Layout, PrintError, push};
 
-/// A value that is written as WebIDL. `spelling` says which texts spell it.
+/// A value that is written as WebIDL. `spelling` says which texts are renderings of it.
 pub trait WriteIdl: Sized {
     ghost spelling: { Self → Form };
 
     /// Writes the value at the end of `out` as a part of a text, where `layout` says how the line
-    /// stands there. Where it fails, a part of the value may have been written: callers take
+    /// is there. Where it fails, a part of the value may have been written: callers take
     /// [`write_idl`](WriteIdl::write_idl).
     fn write_part(&self, out: &mut String, layout: &mut Layout) -> Result<(), PrintError>
         ensures { OnOk result
@@ -21,11 +21,11 @@ pub trait WriteIdl: Sized {
     /// layout, whatever was read. The value begins at the front of a line, and ends with a line end
     /// where its last sign is `;`.
     ///
-    /// It answers [`PrintError::NoText`] where no text says the value, since it was put together
-    /// by hand: where a name isn't one, as `a b`, a string has a quote in it, a number is none, an
-    /// enum has no value, or an argument that isn't optional has a default. What was read is
-    /// written. It answers [`PrintError::Memory`] where `out` or the text beside it can't grow. It
-    /// asks for twice the text, and writes what stands in lists once more for each of them that
+    /// It returns [`PrintError::NoText`] where no text is a rendering of the value, since it was
+    /// built by hand: where a name isn't one, as `a b`, a string has a quote in it, a number is
+    /// none, an enum has no value, or an argument that isn't optional has a default. What was read
+    /// is written. It returns [`PrintError::Memory`] where `out` or the text beside it can't grow.
+    /// It asks for twice the text, and writes what is in lists once more for each of them that
     /// doesn't fit on its line.
     #[tactic(auto, using(weedle_print::proofs::AddsFacts::adds_copied))]
     final fn write_idl(&self, out: &mut String) -> Result<(), PrintError>

@@ -5,11 +5,11 @@ use std::process::Abort;
 use weedle_print_idl::{PrintError, WriteIdl};
 use weedle_testing::Wanted;
 
-/// What stands in a text before a value is written there.
+/// What is in a text before a value is written there.
 const BEFORE: &str = "// before\n";
 
-/// Asserts that this is written of a value, behind what stood there before, or that the call wants
-/// memory and leaves the text as it was.
+/// Asserts that this is written of a value, behind what was there before, or that the call runs out
+/// of memory and leaves the text as it was.
 pub fn assert_written<T: WriteIdl>(
     rt: &impl Abort,
     alloc: Global,

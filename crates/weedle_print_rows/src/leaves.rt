@@ -17,7 +17,7 @@ use weedle_parts::types::{ConstType, IntegerType, LongLongType, LongType, MayBeN
 use weedle_print::{Nullable, Print, PrintError, Reserved, Words, printed};
 use weedle_testing::Wanted;
 
-/// Asserts that a value is written as this text behind what stands there, or that memory for it is
+/// Asserts that a value is written as this text behind what is there, or that memory for it is
 /// refused and nothing is written.
 fn writes<P: Print>(
     rt: &impl Abort,
@@ -87,7 +87,7 @@ fn names_have_an_underscore_where_a_word_would_be_read(rt: HostRuntime) {
     for (name, text) in [("long", "long _long"), ("interface", "long interface")] {
         writes::<(Long, Identifier<'_>)>(&rt, alloc, &mut wanted, &(Long, Identifier(name)), text);
     }
-    // No keyword but `mixin` stands behind `interface`.
+    // No keyword except for `mixin` follows `interface`.
     for (name, text) in [("mixin", "interface _mixin"), ("enum", "interface enum")] {
         let value = (Interface, Identifier(name));
         writes::<(Interface, Identifier<'_>)>(&rt, alloc, &mut wanted, &value, text);

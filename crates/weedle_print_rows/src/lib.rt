@@ -1,6 +1,5 @@
-//! Tests of writing values that were put together by hand: what has no text, and what is answered
-//! where memory is refused. What is written of values that were read is tested over the built
-//! program.
+//! Tests of writing values that were built by hand: what has no text, and what is answered where
+//! memory is refused. What is written of values that were read is tested over the built program.
 #![tactic(auto)]
 
 #[cfg(test)]

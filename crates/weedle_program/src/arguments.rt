@@ -5,7 +5,7 @@ use std::alloc::{AllocError, Global};
 use std::env::{self, Args};
 use std::rt::Runtime;
 
-/// A word that may stand beside any option of a program.
+/// A word that may be beside any option of a program.
 #[derive(Clone, Copy, Debug, PartialEq, Eq)]
 pub enum Beside {
     /// No such word.
@@ -16,7 +16,7 @@ pub enum Beside {
     Number(&'static str),
 }
 
-/// What the arguments ask for: `--help`, one option at most beside it, a word that may stand beside
+/// What the arguments ask for: `--help`, one option at most beside it, a word that may be beside
 /// that, and names of files.
 #[derive(Debug, Drop)]
 pub struct Request {
@@ -24,7 +24,7 @@ pub struct Request {
     pub is_help: bool,
     /// The option, as `--check`; whether there is such an option is the program's to say.
     pub option: Option<String>,
-    /// The word that may stand beside it is given.
+    /// The word that may be beside it is given.
     pub has_flag: bool,
     /// The number behind that word, of several the last.
     pub number: Option<usize>,
@@ -80,7 +80,7 @@ impl Request {
         Ok(true)
     }
 
-    /// Takes the word that may stand beside the option, and says whether it is that one.
+    /// Takes the word that may be beside the option, and says whether it is that one.
     fn is_beside(&mut self, word: &str, beside: Beside) -> bool {
         match beside {
             Beside::Flag(flag) if word == flag => self.has_flag = true,

@@ -18,7 +18,7 @@ pub fn ended(rt: &impl Eprint, run: Result<Outcome, Fault>) -> Outcome {
 
 /// What the work on the file of this name comes to that ended in a fault. A line on standard error
 /// says why, and the other files are worked on all the same: only where the output can't be written
-/// the fault is given back, and the run ends with it.
+/// the fault is returned, and the run ends with it.
 pub fn failed(rt: &impl Eprint, name: &str, fault: Fault) -> Result<Outcome, Fault> {
     let outcome = fault.outcome();
     if let Fault::Output = fault {

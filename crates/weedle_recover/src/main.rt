@@ -2,7 +2,7 @@
 //!
 //! Each line says whether a part is read, its rule, where it begins and ends, and where the
 //! definition begins that it belongs to, in bytes from the front of the text; the last one how many
-//! nodes were laid down. Of `typedef long;` that is
+//! nodes were written. For `typedef long;` that is
 //!
 //! ```text
 //! read opt_extended_attribute_list 0 0 0

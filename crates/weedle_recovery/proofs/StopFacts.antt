@@ -17,7 +17,7 @@ one_more n = omega arith
 take_more : (xs : List ℕ) (n x : ℕ) → slice_get xs n ≡ Some x → take (n + 1) xs ≡ take n xs ++ x ∷ []
 take_more xs n x e = subst (λ z. take z xs ≡ take n xs ++ x ∷ []) (one_more n) (take_suc xs n x e)
 
--- what stands behind the first ones
+-- what follows the first ones
 take_past : (xs : List ℕ) (n many x : ℕ) → n < many → slice_get xs n ≡ Some x → (more : List ℕ) × (take many xs ≡ take n xs ++ x ∷ more)
 take_past [] n many x l e = cc
 take_past (y ∷ xs) n zero x l e = absurd (omega (arith, l))
@@ -28,7 +28,7 @@ take_nil : (n : ℕ) → ◌≡◌ {A = List ℕ} (take n []) []
 take_nil zero = refl
 take_nil (suc n) = refl
 
--- nothing stands behind them
+-- nothing follows them
 take_all : (xs : List ℕ) (n many : ℕ) → n ≤ many → slice_get xs n ≡ None → take many xs ≡ take n xs
 take_all [] n many l e = take_nil many ∙ sym (take_nil n)
 take_all (y ∷ xs) zero many l e = cc

@@ -4,7 +4,8 @@ use Rattle.std.specs.Bool.{OnFalse}
 use Rattle.weedle_recovery.specs.declared.part.Part.{Part}
 use Rattle.weedle_syntax.specs.Steps.{Steps}
 
--- a text that is read at any place, as contracts see it: over its table of ends, or by descent, which may try so many rules
+-- a text that is read at any place, as contracts see it: over its packrat table, or by descent,
+-- which may try so many rules
 pub record ReadingView : Type 0 where
   pub text : List ℕ
   pub by_table : Bool

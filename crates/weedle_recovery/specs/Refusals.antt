@@ -63,7 +63,7 @@ pub record IsMoved (shift : Shift) (said refusal : Refusal) : Type 0 where
   pub expected : refusal.expected ≡ said.expected
   pub hint : IfSome refusal.hint (λ h. (g : Hint) × (said.hint ≡ Some g) × IsMovedHint shift g h)
 
--- where the stretch of a part stands behind a front of its own
+-- where the stretch of a part follows a front of its own
 abbrev pub shift_of : Part → List ℕ → Shift
 shift_of part front = record { front = length front; start = part.start; count = part.end - part.start }
 
@@ -92,7 +92,8 @@ abbrev pub IsSaidBy : Option (List ℕ) → Refusal → ℕ → Refusal → Type
 IsSaidBy (Some sign) said start refusal = IsOfSign said start sign refusal
 IsSaidBy None said start refusal = IsSaidOf said start refusal
 
--- of anything but a member, what is said where its definition is read up to the end of the part
+-- of anything except for a member, what is said where its definition is read up to the end of the
+-- part
 pub record IsSaidInDefinition (raw : List ℕ) (part : Part) (refusal : Refusal) : Type 0 where
   pub said : Refusal
   pub is_said : IsSaidFrom (slice_range raw 0 part.end) part.definition said

@@ -50,12 +50,12 @@ Starts text goal.Definition p = Begins text p
 Starts text goal.Body p = Begins text p
 Starts text (goal.Member rule) p = IsReadAt text rule p ⊎ Begins text p
 
--- the reading may go on at the token: it is the first of its line, or stands behind a `;` or a `}`
+-- the reading may go on at the token: it is the first of its line, or follows a `;` or a `}`
 abbrev pub is_stop : Token → Bool
 is_stop token = token.is_first || token.before == 59 || token.before == 125
 
--- the token reaches the goal whatever is read there: the `{` of a body, or what shows that there is none; of the members
--- of a body the `}` that closes it, and what stands behind the `;` of one of them
+-- the token reaches the goal whatever is read there: the `{` of a body, or what shows that there is
+-- none; of the members of a body the `}` that closes it, and what follows the `;` of one of them
 abbrev pub is_closing : Goal → Token → ℕ → Bool
 is_closing goal.Definition token byte = false
 is_closing goal.Body token byte = byte == 123 || byte == 59 || byte == 125

@@ -10,11 +10,13 @@ use Rattle.weedle_recovery.specs.declared.token.Token.{Token}
 abbrev pub is_line_between : List ℕ → ℕ → ℕ → Bool
 is_line_between text p e = nat_lt (run_length NotLineFeed (slice_range text p e)) (e - p)
 
--- where a string ends whose inside begins at p and ends at this place: behind that, if a quote stands there in the same line, and else at p
+-- where a string ends whose inside begins at p and ends at this place: behind that, if a quote is
+-- there in the same line, and else at p
 abbrev pub string_end_at : List ℕ → ℕ → ℕ → ℕ
 string_end_at text p quote = if nat_lt quote (length text) && not (is_line_between text p quote) then quote + 1 else p
 
--- where a string ends that begins at p: behind its second quote, where that stands in the same line, and else behind the first
+-- where a string ends that begins at p: behind its second quote, where that is in the same line,
+-- and else behind the first
 abbrev pub string_end : List ℕ → ℕ → ℕ
 string_end text p = string_end_at text (p + 1) (p + 1 + run_length NotQuote (drop (p + 1) text))
 
@@ -27,7 +29,7 @@ token_end text p =
     else if begins (codes "/*") (drop p text) then length text
     else p + 1
 
--- where the whitespace and the comments end that stand at a place
+-- where the whitespace and the comments end at a place
 abbrev pub TriviaEnds : List ℕ → ℕ → ℕ → Type 0
 TriviaEnds text p e = EndsAt text TRIVIA p e
 

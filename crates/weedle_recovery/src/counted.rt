@@ -20,7 +20,7 @@ pub struct Counted {
     pub found: Recovered,
     /// How many rules were tried by descent.
     pub steps: usize,
-    /// Whether the table of ends was filled, since the limits of descent were spent.
+    /// Whether the packrat table was filled, since the limits of descent were spent.
     pub by_table: bool,
     /// How many cells of the table were worked out: 0 where it wasn't filled.
     pub workings: u128,
@@ -32,9 +32,9 @@ pub struct Counted {
 /// tried for that.
 ///
 /// By descent there are at most 16 for each byte and 4,096 more: each rule that is tried at a place
-/// counts, once for each time. Of `typedef long A;` the parts are one definition, and some 60 rules
-/// are tried. Where the limits are spent, what was tried until then is counted, and the table of
-/// ends says what its cells took. It costs what `recover` costs.
+/// counts, once for each time. For `typedef long A;` the parts are one definition, and some 60
+/// rules are tried. Where the limits are spent, what was tried until then is counted, and the
+/// packrat table says what its cells took. It costs what `recover` costs.
 pub fn recover_counted(alloc: Global, raw: &str) -> Result<Counted, AllocError>
     ensures whole { IsWhole raw.now → IfOk result (λ c. All IsDefinition c.found.parts.items) }
     ensures cover { IfOk result
@@ -72,7 +72,7 @@ pub fn recover_counted(alloc: Global, raw: &str) -> Result<Counted, AllocError>
     }
 }
 
-/// The parts of a text that is read over its table of ends, behind so many steps.
+/// The parts of a text that is read over its packrat table, behind so many steps.
 fn over_table(alloc: Global, raw: &str, steps: usize) -> Result<Counted, AllocError>
     ensures whole { IsWhole raw.now → IfOk result (λ c. All IsDefinition c.found.parts.items) }
     ensures cover { IfOk result

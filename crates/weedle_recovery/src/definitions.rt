@@ -1,4 +1,4 @@
-//! How definitions begin, and which rules stand in front of a body.
+//! How definitions begin, and which rules are in front of a body.
 
 ghost use Rattle.std.specs.Prelude.{◌≡◌, ◌≤◌, ◌<◌, true, false, length, IfOk, OnOk, IfSome, IfNone};
 ghost use Rattle.std.specs.List.{slice_get};
@@ -29,7 +29,7 @@ pub(crate) const WITH_BODY: [Rule; 9] = [
 const DEFINITIONS: usize = 14;
 
 /// The definition of a number, and how many parts at its front show that it begins: its keywords
-/// and, except for a typedef, its name. What could be read as another one stands before that one.
+/// and, except for a typedef, its name. What could be read as another one comes before that one.
 fn beginning(number: usize) -> Option<(Rule, usize)>
     ensures { result ≡ slice_get beginnings number }
 {
@@ -115,7 +115,7 @@ pub(crate) fn opened(
 }
 
 /// Whether the front of a definition with a body is read at a place, up to its `{`; where that is
-/// missing, a member has to stand there.
+/// missing, a member has to be there.
 fn opens(
     alloc: Global,
     text: &Reading<'_>,

@@ -1,10 +1,10 @@
-//! Error recovery: all definitions of a text that can be read, and what stands between them.
+//! Error recovery: all definitions of a text that can be read, and what is between them.
 //!
-//! [`recover`] divides a text into parts, one behind another. At a part a rule is read, as that of a
-//! definition, and its nodes are laid down; or it is unread, and its rule fails where it begins.
+//! [`recover`] divides a text into parts, one behind another. At a part a rule is read, as that of
+//! a definition, and its nodes are written; or it is unread, and its rule fails where it begins.
 //! This is panic mode: behind an unread part the reading goes on at the next synchronisation point,
-//! a token that is the first of its line or stands behind a `;` or a `}`, at which a definition
-//! begins. In the body of a definition the members are parts too.
+//! a token that is the first of its line or follows a `;` or a `}`, at which a definition begins.
+//! In the body of a definition the members are parts too.
 //!
 //! ```rust
 //! use weedle_recovery::recover;

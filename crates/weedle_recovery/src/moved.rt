@@ -5,10 +5,10 @@ ghost use Rattle.weedle_recovery.specs.Refusals.{IsMoved, IsMovedHint};
 
 use weedle_refusal::{Hint, Refusal};
 
-/// Where a stretch stood that was read, and where it stands in the whole text.
+/// Where a stretch was that was read, and where it is in the whole text.
 #[derive(Clone, Copy)]
 pub(crate) struct Shift {
-    /// How many bytes stood before it.
+    /// How many bytes were before it.
     pub(crate) front: usize,
     /// Where it begins in the whole text.
     pub(crate) start: usize,
@@ -16,8 +16,7 @@ pub(crate) struct Shift {
     pub(crate) count: usize,
 }
 
-/// What is said of a stretch. A place behind its end is that end; a hint that isn't in it isn't
-/// told.
+/// What is said of a stretch. A place behind its end is that end; a hint outside of it is left out.
 pub(crate) fn moved(said: Refusal, shift: &Shift) -> Refusal
     requires small { shift.now.start + shift.now.count < 2 ^ 64 }
     ensures is { IsMoved shift.now said result }

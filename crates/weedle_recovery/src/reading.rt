@@ -1,4 +1,4 @@
-//! One rule at one place of a text, by descent or over a table of ends.
+//! One rule at one place of a text, by descent or over a packrat table.
 
 ghost use Rattle.std.specs.Prelude.{
   ◌≡◌,
@@ -31,7 +31,7 @@ use weedle_rules::Ends;
 use weedle_starts::source::Source;
 use weedle_syntax::{Limits, Node, lay_by_descent, lay_over_table};
 
-/// A text that is read at any place: by descent or, where it has one, over its table of ends.
+/// A text that is read at any place: by descent or, where it has one, over its packrat table.
 #[derive(Drop)]
 pub(crate) struct Reading<'t> {
     bytes: &'t [u8],
@@ -66,7 +66,7 @@ impl<'t> Reading<'t> {
         }
     }
 
-    /// A text that is read over its table of ends.
+    /// A text that is read over its packrat table.
     pub(crate) fn over_table(bytes: &'t [u8], ends: &'t Ends<'t>) -> Reading<'t>
         requires { ends.now.text ≡ bytes.now }
         ensures { result ≡ record { text = bytes.now; by_table = true; most = 0 } }
@@ -103,7 +103,7 @@ impl<'t> Reading<'t> {
         if place < len { place + 1 } else { len }
     }
 
-    /// Where the bytes of a class end that stand at a place.
+    /// Where the bytes of a class end at a place.
     #[tactic(auto, using(crate::proofs::TokenFacts::run_within))]
     pub(crate) fn end_of_run(&self, class: Class, place: usize) -> usize
         requires { place ≤ length self.now.text }
@@ -113,7 +113,7 @@ impl<'t> Reading<'t> {
         leaf_ends::end_of_run(class, self.bytes, place)
     }
 
-    /// How many bytes of a class stand at a place, up to another one.
+    /// How many bytes of a class are at a place, up to another one.
     pub(crate) fn run_between(&self, class: Class, place: usize, end: usize) -> usize
         requires order { place ≤ end }
         requires within { end ≤ length self.now.text }
@@ -122,7 +122,7 @@ impl<'t> Reading<'t> {
         run(class, &self.bytes[place..end])
     }
 
-    /// Whether these bytes stand at a place.
+    /// Whether these bytes are at a place.
     pub(crate) fn stand_at(&self, bytes: &[u8], place: usize) -> bool
         requires { place ≤ length self.now.text }
         ensures { result ≡ begins_with_bytes bytes.now (drop place self.now.text) }
@@ -189,8 +189,8 @@ impl<'t> Reading<'t> {
         }
     }
 
-    /// Lays down the nodes of a rule that is read at a place, and says where it ends; where it
-    /// fails, nothing is laid down.
+    /// Writes the nodes of a rule that is read at a place, and says where it ends; where it fails,
+    /// nothing is written.
     pub(crate) fn lay(
         &self,
         alloc: Global,

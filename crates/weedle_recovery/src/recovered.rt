@@ -24,21 +24,21 @@ pub struct Recovered {
 
 /// Divides a text into parts: what is read of it, and what isn't.
 ///
-/// Of a text that is read whole, the parts are its definitions. Of
+/// For a text that is read whole, the parts are its definitions. For
 /// `interface A { long x; }; enum E { "a" "b" }; typedef long T;` the interface's member isn't
 /// read: its keywords, its name and its `{` are parts, `long x; ` is an unread one, and `}` and `;`
-/// are parts again. Of the enum `enum ` and `E ` are read, and the rest isn't; the typedef is.
+/// are parts again. In the enum `enum ` and `E ` are read, and the rest isn't; the typedef is.
 ///
 /// Where no definition is read, the text is passed over up to the next synchronisation point: a
-/// token that is the first of its line or stands behind a `;` or a `}`, at which a definition
-/// begins. In the body of a definition the members are parts of their own, and the next member
-/// ends an unread one too.
+/// token that is the first of its line or follows a `;` or a `}`, at which a definition begins. In
+/// the body of a definition the members are parts of their own, and the next member ends an unread
+/// one too.
 ///
 /// It reads by descent within limits, and asks for memory for parts and nodes alone; where the
-/// limits are spent it takes the table of ends, which needs some 1,600 bytes of memory for each byte
-/// of the text. Where memory is refused, the answer is an error.
+/// limits are spent it takes the packrat table, which needs some 1,600 bytes of memory for each
+/// byte of the text. Where memory is refused, the answer is an error.
 pub fn recover(alloc: Global, raw: &str) -> Result<Recovered, AllocError>
-    // Of a text that is read whole, the parts are its definitions.
+    // For a text that is read whole, the parts are its definitions.
     ensures whole { IsWhole raw.now → IfOk result (λ f. All IsDefinition f.parts.items) }
 
     // The parts are the text, each behind the one before. A rule is read in each, or fails where it

@@ -164,7 +164,7 @@ impl Division {
     }
 
     /// Leaves a definition unread up to a place; its parts are read up to the one that fails, if
-    /// that stands there too.
+    /// that is there too.
     fn leave_begun(
         &mut self,
         alloc: Global,

@@ -33,13 +33,13 @@ use weedle_refusal::{Refusal, refusal_at};
 const END: &str = "};";
 
 /// Why a part is unread: how far the reading of it comes, what would have been read there, and what
-/// would mend it. Places are those of the whole text. None where it is no unread part of the text.
+/// would fix it. Places are those of the whole text. None where it is no unread part of the text.
 ///
-/// Of `interface A { long x; };` the part from 14 to 22 is an unread member: the reading comes to
-/// 20, where a `(` would go on. What stands in front of the part, or behind it, isn't looked at,
-/// but for the front of its own definition: a member is read as the only one of a definition as
-/// short as one can be, all else behind what is read of its definition. Where a sign is missing,
-/// and the part has no byte, the sign alone is expected.
+/// For `interface A { long x; };` the part from 14 to 22 is an unread member: the reading comes to
+/// 20, where a `(` would go on. What is in front of the part, or behind it, isn't looked at, except
+/// for the front of its own definition: a member is read as the only one of a definition as short
+/// as one can be, all else behind what is read of its definition. Where a sign is missing, and the
+/// part has no byte, the sign alone is expected.
 ///
 /// It costs what [`refusal_at`] costs for the part, and for what is read of its definition.
 pub fn refusal_of_part(alloc: Global, raw: &str, part: &Part) -> Result<Option<Refusal>, AllocError>

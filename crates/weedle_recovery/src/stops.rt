@@ -107,8 +107,8 @@ fn closes(text: &Reading<'_>, goal: &Goal, token: &Token) -> bool
     }
 }
 
-/// Whether the reading may go on at a token: it is the first of its line, or stands behind a `;` or
-/// a `}`.
+/// Whether the reading may go on at a token: it is the first of its line, or follows a `;` or a
+/// `}`.
 fn is_stop(token: &Token) -> bool
     ensures { result ≡ the_is_stop token.now }
 {

@@ -103,7 +103,7 @@ impl Token {
     }
 }
 
-/// Whether a docstring's line stands behind another one.
+/// Whether a docstring's line follows another one.
 fn are_docs(text: &Reading<'_>, before: u8, at: usize) -> bool
     requires { at ≤ length text.now.text }
     ensures { result ≡ (before == 47 && begins (codes "/") (drop at text.now.text)) }
@@ -123,7 +123,7 @@ fn deeper(depth: usize, byte: u8) -> usize
     }
 }
 
-/// Where the whitespace and the comments end that stand at a place.
+/// Where the whitespace and the comments end at a place.
 fn trivia_end(
     alloc: Global,
     text: &Reading<'_>,
@@ -190,8 +190,8 @@ fn token_end(text: &Reading<'_>, place: usize) -> usize
     text.behind(place)
 }
 
-/// Where a string ends that begins at a place: behind its second quote, where that stands in the
-/// same line, and else behind the first.
+/// Where a string ends that begins at a place: behind its second quote, where that is in the same
+/// line, and else behind the first.
 fn string_end(text: &Reading<'_>, place: usize) -> usize
     requires { place < length text.now.text }
     ensures value { result ≡ the_string_end text.now.text place }
@@ -204,7 +204,7 @@ fn string_end(text: &Reading<'_>, place: usize) -> usize
     end
 }
 
-/// Where a string ends whose inside stands between two places: behind a quote in the same line, and
+/// Where a string ends whose inside is between two places: behind a quote in the same line, and
 /// else at the first of them.
 fn closed_at(text: &Reading<'_>, inside: usize, quote: usize) -> usize
     requires order { inside ≤ quote }

@@ -14,7 +14,7 @@ along_more text at (d ∷ cs) c =
     ap (λ t. text at d ++ t) (along_more text (next at d) cs c)
     ∙ sym (append_assoc (text at d) (along text (next at d) cs) (text (behind (next at d) cs) c))
 
--- one more character is written where it stands
+-- one more character is written where it is
 pub one_more : (text : ℕ → ℕ → List ℕ) (a b d : Option (List ℕ)) (cs : List ℕ) (c at to : ℕ) → (at ≡ behind 0 cs) × Appends a b (along text 0 cs) → Appends b d (text at c) → to ≡ next at c
     → (to ≡ behind 0 (cs ++ c ∷ [])) × Appends a d (along text 0 (cs ++ c ∷ []))
 one_more text a b d cs c at to before piece is = (

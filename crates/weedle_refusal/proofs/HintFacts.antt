@@ -15,7 +15,7 @@ one_more : (t : Bool) (n m : ℕ) → n ≤ m → (if t then suc n else 0) ≤ s
 one_more true n m h = omega arith
 one_more false n m h = omega arith
 
--- a run is no longer than what it stands in front of
+-- a run is no longer than what it is in front of
 pub run_within : (c : Class) (text : List ℕ) → run_length c text ≤ length text
 run_within c [] = omega arith
 run_within c (b ∷ text) = one_more (is_in c b) (run_length c text) (length text) (run_within c text)
@@ -31,10 +31,10 @@ all_trivia {text} {rest} {place} reads is none =
     let all : place ≡ length text = omega (arith, ap length is, length-drop place text) in
     ([], subst (λ e. Reads text TRIVIA 0 (Gives [] e)) all reads)
 
--- what stands behind the trivia of a text may begin a definition
+-- what follows the trivia of a text may begin a definition
 pub goes_on : {text rest : List ℕ} {place : ℕ} → Reads text TRIVIA 0 (Gives [] place) → rest ≡ drop place text → MayBegin rest → Goes text
 goes_on {text} {rest} {place} reads is may = record { next = place; trivia = ([], reads); begins = subst MayBegin is may }
 
--- what stands behind a place stands behind one before it
+-- what follows a place follows one before it
 pub from_before : {raw : List ℕ} {at from end : ℕ} → at ≤ from → EndsMember raw from end → EndsMember raw at end
 from_before {raw} {at} {from} {end} order ends = record { after = omega (arith, order, ends.after); ends = ends.ends }

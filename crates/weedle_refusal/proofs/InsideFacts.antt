@@ -1,4 +1,4 @@
--- What stands behind some bytes, byte by byte.
+-- What follows some bytes, byte by byte.
 use Rattle.std.proofs.Common.{◌≡◌, ◌<◌, ◌≤◌, ◌+◌, ℕ, List, [], length, drop, get_or, ap, add-one, arith, length-drop}
 use Rattle.std.proofs.Math.Seq.{drop-cons}
 use Rattle.std.proofs.lemmas.List.{nil_from_length}

@@ -18,7 +18,7 @@ is_feed b e = eqb-true b 10 (by (b == 10) e)
     by true e = refl
     by false e = cc
 
--- what stands behind bytes that are no LF is one
+-- what follows bytes that are no LF is one
 stops : (xs : List ℕ) → length (take_while (λ byte. not (byte == 10)) xs) < length xs → get_or xs (length (take_while (λ byte. not (byte == 10)) xs)) 0 ≡ 10
 stops xs short =
     let p : ℕ → Bool = λ byte. not (byte == 10) in

@@ -3,14 +3,14 @@ use Rattle.std.proofs.Common.{◌≡◌, ◌∙◌, ◌-◌, ℕ, List, ◌∷�
 use Rattle.std.proofs.lemmas.List.{take_all}
 use Rattle.weedle_refusal.specs.Near.{DifferByOne, missing, added, changed, exchanged}
 
--- what stands behind so many
+-- what follows so many
 abbrev pub behind : ℕ → List ℕ → List ℕ
 behind n word = take (length word - n) (drop n word)
 
 all_behind : (n : ℕ) (word : List ℕ) → behind n word ≡ drop n word
 all_behind n word = take_all (length word - n) (drop n word) (omega (arith, length-drop n word))
 
--- a word is its front and what stands behind it
+-- a word is its front and what follows it
 apart : (n : ℕ) (word front rest : List ℕ) → take n word ≡ front → behind n word ≡ rest → word ≡ front ++ rest
 apart n word front rest is e = sym (take-append-drop n word) ∙ ap (λ f. f ++ drop n word) is ∙ ap (λ r. front ++ r) (sym (all_behind n word) ∙ e)
 

@@ -13,13 +13,13 @@ module _ {X : Type 0} where
   at_place : (xs : List X) (k : ℕ) (d x : X) → k < length xs → get_or xs k d ≡ x → Contains xs x
   at_place xs k d x l e = (k, l, get_or_default xs k x d l ∙ e)
 
-  -- each stands there once
+  -- each is there once
   pub once_differ : {xs ys : List X} → IsEachOnce xs ys → AllPairs (λ a b. a ≢ b) ys
   once_differ none = λ i j d l m. absurd (omega arith)
   once_differ (again h c) = once_differ h
   once_differ (anew {ys = ys} {x = x} h n) = all_pairs_push (λ a b. a ≢ b) ys x (once_differ h) (λ k d l e. n (at_place ys k d x l e))
 
-  -- what stands there stood in the first list
+  -- what is there was in the first list
   pub once_from : {xs ys : List X} → IsEachOnce xs ys → (v : X) → Contains ys v → Contains xs v
   once_from none v c = c
   once_from (again {xs = xs} {x = x} h c) v m = Contains-append_left xs (x ∷ []) v (once_from h v m)
@@ -28,7 +28,7 @@ module _ {X : Type 0} where
     | inr e ↦ subst (Contains (xs ++ x ∷ [])) e (Contains-push xs x)
   ]
 
-  -- what stood in the first list stands there
+  -- what was in the first list is there
   pub once_to : {xs ys : List X} → IsEachOnce xs ys → (v : X) → Contains xs v → Contains ys v
   once_to none v c = c
   once_to (again {xs = xs} {ys = ys} {x = x} h c) v m = elim (Contains-push_cases xs x v m) [ inl a ↦ once_to h v a | inr e ↦ subst (Contains ys) e c ]

@@ -43,7 +43,7 @@ said_from {raw} {start} {furthest} before found told = record {
   hint = told;
 }
 
--- what is said of the rest of what stands from a place on
+-- what is said of the rest of the text from a place on
 pub refused_behind : {raw : List ℕ} {from rest : ℕ} {refusal : Refusal} → RestBegins (drop from raw) rest → rest < length (drop from raw)
     → IsSaidFrom raw (from + rest) refusal → IsRefusalBehind raw from refusal
 refused_behind {raw} {from} {rest} left unread said = record {

@@ -54,7 +54,7 @@ module _ (text : List ℕ) where
       let more : t.0 ≤ q = in_turn_le rs t.0 x q t.2 in
       omega arith
 
-  -- what is tried at the place itself stands behind no rule that takes a byte
+  -- what is tried at the place itself follows no rule that takes a byte
   later : (s : ℕ) (rs : List ℕ) (e z x : ℕ) → EndsAt text s e z → z ≡ e → Contains (leading rs) x → (b : Bool) → takes s ≡ b → Contains (s ∷ cond b [] (leading rs)) x
   later s rs e z x d same c true h = absurd (let m : e < z = advances webidl text rank takes ranked d.1 h in omega arith)
   later s rs e z x d same c false h = behind s (leading rs) x c

@@ -8,12 +8,12 @@ use Rattle.std.proofs.lemmas.List.{get_or-map, get_or_append_left, length-map, l
 use Rattle.weedle_refusal.specs.Texts.{at_most_six, behind_first, in_a_row, word_text}
 use Rattle.weedle_refusal.specs.declared.expected.Expected.{Expected}
 
--- what stands from text i on, and what is in front of it
+-- the text from text i on, and what is in front of it
 abbrev pub from : ℕ → List (List ℕ) → List ℕ
 from zero texts = in_a_row texts
 from (suc i) texts = behind_first texts
 
--- what stands in front of text i, which is the last or isn't
+-- what is in front of text i, which is the last or isn't
 abbrev pub between : ℕ → Bool → List ℕ
 between i last = cond (eqb i 0) [] (cond last (codes " or ") (codes ", "))
 
@@ -58,7 +58,7 @@ module _ (words : List Expected) (more : ℕ) where
   long : length (map word_text words ++ unshown more) ≡ length words + length (unshown more)
   long = length-append (map word_text words) (unshown more) ∙ ap (λ n. n + length (unshown more)) (length-map words word_text)
 
-  -- from word i on stands what is between, the word, and what stands from the next one on
+  -- from word i on is what is between, the word, and what is from the next one on
   pub from_word : (i n : ℕ) (d : Expected) → i < n → n ≡ length words
       → from i (drop i (map word_text words ++ unshown more))
       ≡ between i (eqb more 0 && eqb (i + 1) n) ++ (word_text (get_or words i d) ++ from (i + 1) (drop (i + 1) (map word_text words ++ unshown more)))
@@ -72,7 +72,7 @@ module _ (words : List Expected) (more : ℕ) where
       let next : from (i + 1) (drop (i + 1) all) ≡ behind_first (drop (suc i) all) = rw add-one refl in
       rw (first, is, next) (step i _ _ _ ends.0 ends.1)
 
-  -- behind the last word stands how many more there are
+  -- behind the last word is how many more there are
   pub from_end : (i : ℕ) → i ≡ length words → (more ≢ 0 → i ≢ 0) → from i (drop i (map word_text words ++ unshown more)) ≡ end more
   from_end i e some =
       let n : length (map word_text words) ≡ i = length-map words word_text ∙ sym e in
@@ -98,7 +98,7 @@ words_are words shown more e m = elim (cases_lt 6 (length words)) [
       rw (few, no_more, take_all, append-nil) refl
 ]
 
--- what is written, a word and what is in front of it, and what stands from the next word on
+-- what is written, a word and what is in front of it, and what is from the next word on
 pub onward : (done between sep text rest whole old : List ℕ) → sep ≡ between → old ≡ between ++ (text ++ rest) → done ++ old ≡ whole → (done ++ (sep ++ text)) ++ rest ≡ whole
 onward done between sep text rest whole old s e w = append_assoc done (sep ++ text) rest ∙ ap (λ t. done ++ t) (append_assoc sep text rest ∙ ap (λ t. t ++ (text ++ rest)) s ∙ sym e) ∙ w
 

@@ -6,7 +6,8 @@ use Rattle.std.specs.Str.{chars}
 use Rattle.weedle_refusal.specs.Position.{begins_character, last_line}
 use Rattle.weedle_refusal.specs.Said.{place_text}
 
--- a character can't be seen, or not for what it is: control characters but the tab, a blank that doesn't break, what has no width, and what turns the direction of a line
+-- a character can't be seen, or not for what it is: control characters except for the tab, a
+-- no-break space, what has no width, and what turns the direction of a line
 abbrev pub is_hidden : ℕ → Bool
 is_hidden c =
     if is_control c then not (c == 9)
@@ -28,16 +29,16 @@ character_text c = if is_hidden c then number_text c else encode_utf8 c
 abbrev pub width : ℕ → ℕ
 width c = if is_hidden c then 6 else 1
 
--- where the character behind one stands; places are counted up to 2^64 - 1
+-- where the character behind one is; places are counted up to 2^64 - 1
 abbrev pub next : ℕ → ℕ → ℕ
 next at c = min (at + width c) (2 ^ 64 - 1)
 
--- where the one behind these stands
+-- where the one behind these is
 abbrev pub behind : ℕ → List ℕ → ℕ
 behind at [] = at
 behind at (c ∷ cs) = behind (next at c) cs
 
--- what stands below a character, in front of the mark: a tab stays one
+-- what is below a character, in front of the mark: a tab stays one
 abbrev pub below : ℕ → List ℕ
 below c = if is_hidden c then codes "      " else (if c == 9 then codes "\t" else codes " ")
 
@@ -45,15 +46,16 @@ below c = if is_hidden c then codes "      " else (if c == 9 then codes "\t" els
 abbrev pub first_shown : ℕ → ℕ → ℕ
 first_shown all before = min (before - 50) (all - 100)
 
--- what is shown of a character that stands at a place of a line, of which a hundred characters are shown from `first` on
+-- what is shown of a character at a place of a line, of which a hundred characters are shown from
+-- `first` on
 abbrev pub shown : ℕ → ℕ → ℕ → List ℕ
 shown first at c = if nat_le first at && nat_le (next at c - first) 100 then character_text c else []
 
--- what stands below it in front of the mark
+-- what is below it in front of the mark
 abbrev pub blank : ℕ → ℕ → ℕ → List ℕ
 blank first at c = if nat_le first at then below c else []
 
--- the texts of characters one after another, each by the place where it stands; the first stands at `at`
+-- the texts of characters one after another, each by the place where it is; the first is at `at`
 abbrev pub along : (ℕ → ℕ → List ℕ) → ℕ → List ℕ → List ℕ
 along text at [] = []
 along text at (c ∷ cs) = text at c ++ along text (next at c) cs
@@ -80,7 +82,7 @@ line_end text place = place + length (take_while (λ byte. not (byte == 10)) (dr
 abbrev pub before_return : List ℕ → ℕ → ℕ → ℕ
 before_return text start end = if nat_lt end (length text) && (nat_lt start end && slice_index text (end - 1) == 13) then end - 1 else end
 
--- the line of a text in which a place stands, without what ends it
+-- the line of a text in which a place is, without what ends it
 abbrev pub line_at : List ℕ → ℕ → List ℕ
 line_at text place = slice_range text (line_start text place) (before_return text (line_start text place) (line_end text place))
 

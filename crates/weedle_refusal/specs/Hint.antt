@@ -14,11 +14,11 @@ use Rattle.weedle_rules.specs.Outcomes.{EndsAt}
 use Rattle.weedle_syntax.specs.Kinds.{has_letter}
 use Rattle.weedle_syntax.specs.Syntax.{IsWhole}
 
--- these bytes stand there
+-- these bytes are there
 abbrev pub StandAt : List ℕ → List ℕ → ℕ → Type 0
 StandAt bytes raw at = take (length bytes) (drop at raw) ≡ bytes
 
--- blanks and comments alone
+-- whitespace and comments alone
 abbrev pub IsTrivia : List ℕ → Type 0
 IsTrivia text = EndsAt text TRIVIA 0 (length text)
 
@@ -33,17 +33,20 @@ pub record IsChanged (raw : List ℕ) (start end at taken : ℕ) (bytes text : L
 abbrev pub begins_definition : ℕ → Bool
 begins_definition byte = is_in Letter byte || byte == 95 || byte == 91
 
--- nothing is left, or what stands there may begin a definition: a letter, `_`, `[` or a docstring
+-- nothing is left, or what is there may begin a definition: a letter, `_`, `[` or a docstring
 abbrev pub MayBegin : List ℕ → Type 0
 MayBegin rest = (length rest ≡ 0) ⊎ ((begins_definition (slice_index rest 0) ≡ true) ⊎ StandAt (codes "///") rest 0)
 
--- a text may go on so: behind the blanks and comments at its front it ends, or a definition may begin
+-- a text may go on so: behind the whitespace and comments at its front it ends, or a definition may
+-- begin
 pub record Goes (text : List ℕ) : Type 0 where
   pub next : ℕ
   pub trivia : EndsAt text TRIVIA 0 next
   pub begins : MayBegin (drop next text)
 
--- with this change the definition is read to its end: what stands from `start` up to some end, behind the furthest place and what is changed, is then read whole, and behind it the text goes on with no sign that is left over
+-- with this change the definition is read to its end: the text from `start` up to some end, behind
+-- the furthest place and what is changed, is then read whole, and behind it the text goes on with
+-- no sign that is left over
 pub record IsMended (raw : List ℕ) (start place at taken : ℕ) (bytes : List ℕ) : Type 0 where
   pub end : ℕ
   pub text : List ℕ
@@ -52,7 +55,7 @@ pub record IsMended (raw : List ℕ) (start place at taken : ℕ) (bytes : List 
   pub whole : IsWhole text
   pub goes : Goes (slice_range raw end (length raw))
 
--- a `;` stands behind the one place, and the other right behind it
+-- a `;` follows the one place, and the other right behind it
 pub record EndsMember (raw : List ℕ) (at end : ℕ) : Type 0 where
   pub after : at < end
   pub ends : StandAt (codes ";") raw (end - 1)
@@ -83,13 +86,13 @@ Helps raw start place at taken bytes = IsMended raw start place at taken bytes �
 abbrev pub IsKeyword : List ℕ → Type 0
 IsKeyword bytes = (rule : ℕ) × (row_of rule ≡ Bytes bytes) × (has_letter bytes ≡ true)
 
--- a word of so many bytes stands there: letters, digits, `_` and `-`, and none of them on either side
+-- a word of so many bytes is there: letters, digits, `_` and `-`, and none of them on either side
 pub record IsWordAt (raw : List ℕ) (at taken : ℕ) : Type 0 where
   pub some : 0 < taken
   pub before : (at ≡ 0) ⊎ (is_in Name (slice_index raw (at - 1)) ≡ false)
   pub all : taken ≡ run_length Name (drop at raw)
 
--- a word stands there that differs from a keyword by one letter, or by two exchanged
+-- a word is there that differs from a keyword by one letter, or by two exchanged
 pub record IsMistyped (raw : List ℕ) (at taken : ℕ) (keyword : List ℕ) : Type 0 where
   pub is_keyword : IsKeyword keyword
   pub word : IsWordAt raw at taken
@@ -114,7 +117,8 @@ pub data ArePair (found sign : List ℕ) : Type 0 where
   comma_for : found ≡ codes ";" → sign ≡ codes "," → ArePair found sign
   semicolon_for : found ≡ codes "," → sign ≡ codes ";" → ArePair found sign
 
--- two words stand there with blanks and comments alone between them, and the bytes are the same with the words exchanged
+-- two words are there with whitespace and comments alone between them, and the bytes are the same
+-- with the words exchanged
 pub record AreExchanged (raw : List ℕ) (at taken next next_taken : ℕ) (bytes : List ℕ) : Type 0 where
   pub first : IsWordAt raw at taken
   pub second : IsWordAt raw next next_taken
@@ -127,25 +131,27 @@ pub record IsDocLine (raw : List ℕ) (at end : ℕ) : Type 0 where
   pub line : list_any (λ byte. byte == 10) (slice_range raw at end) ≡ false
   pub ends : (end ≡ length raw) ⊎ (slice_index raw end ≡ 10)
 
--- another line behind one that ends there, with blanks and comments alone between them
+-- another line behind one that ends there, with whitespace and comments alone between them
 pub record IsNextDocLine (raw : List ℕ) (end next_end : ℕ) : Type 0 where
   pub next : ℕ
   pub between : IsTrivia (slice_range raw end next)
   pub line : IsDocLine raw next next_end
 
--- lines of a docstring stand there
+-- lines of a docstring are there
 pub data AreDocLines (raw : List ℕ) (at : ℕ) : ℕ → Type 0 where
   one : {end : ℕ} → IsDocLine raw at end → AreDocLines raw at end
   more : {end next : ℕ} → AreDocLines raw at end → IsNextDocLine raw end next → AreDocLines raw at next
 
--- a quote stands there that opens a string, and no second one behind it; the reading comes to the end of the text
+-- a quote is there that opens a string, and no second one behind it; the reading comes to the end
+-- of the text
 pub record IsOpenString (raw : List ℕ) (start place at : ℕ) : Type 0 where
   pub outside : IsOutside raw start at
   pub opens : StandAt (codes "\"") raw at
   pub alone : list_any (λ byte. byte == 34) (drop (at + 1) raw) ≡ false
   pub all : place ≡ length raw
 
--- a quote stands there that opens a string, and no second one behind it in its line, which ends before the furthest place
+-- a quote is there that opens a string, and no second one behind it in its line, which ends before
+-- the furthest place
 pub record IsSplitString (raw : List ℕ) (start place at : ℕ) : Type 0 where
   pub outside : IsOutside raw start at
   pub opens : StandAt (codes "\"") raw at

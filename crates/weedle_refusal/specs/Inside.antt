@@ -1,9 +1,9 @@
--- What a byte of a definition stands in, by the bytes before it.
+-- What a byte of a definition is in, by the bytes before it.
 use Rattle.std.specs.Prelude.{◌≡◌, ℕ, Bool, true, false, ◌==◌, if◌then◌else◌, List, [], ◌∷◌, slice_range}
 use Rattle.weedle_refusal.specs.declared.hint.inside.Inside.{Inside}
 use Rattle.weedle_refusal.specs.declared.hint.inside.Inside.TheVariants.{Code, Slash, Line, Block, Star, Text}
 
--- behind a byte that stands in neither a string nor a comment, where a `/` brings this
+-- behind a byte in neither a string nor a comment, where a `/` brings this
 abbrev pub in_code : ℕ → Inside → Inside
 in_code byte slash = if byte == 34 then Text else (if byte == 47 then slash else Code)
 
@@ -35,6 +35,6 @@ is_outside Block = false
 is_outside Star = false
 is_outside Text = false
 
--- what stands there stands in neither a string nor a comment of what begins at `start`
+-- what is there is in neither a string nor a comment of what begins at `start`
 abbrev pub IsOutside : List ℕ → ℕ → ℕ → Type 0
 IsOutside raw start at = is_outside (behind Code (slice_range raw start at)) ≡ true

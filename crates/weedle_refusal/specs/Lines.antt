@@ -1,7 +1,7 @@
 -- Where the lines of a text begin.
 use Rattle.std.specs.Prelude.{◌≡◌, ◌<◌, ◌+◌, ◌-◌, ℕ, ◌==◌, List, take, length, count_by, slice_index}
 
--- how many LFs stand before a place
+-- how many LFs come before a place
 abbrev pub feeds_before : List ℕ → ℕ → ℕ
 feeds_before text place = count_by (λ byte. byte == 10) (take place text)
 

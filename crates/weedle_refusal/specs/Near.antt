@@ -1,7 +1,8 @@
 -- Words that differ little.
 use Rattle.std.specs.Prelude.{◌≡◌, ℕ, List, ◌∷◌, ◌++◌}
 
--- the words are the same but for one letter that is missing, added or changed in the first, or for two neighbours exchanged
+-- the words are the same except for one letter that is missing, added or changed in the first, or
+-- for two neighbours exchanged
 pub data DifferByOne (word other : List ℕ) : Type 0 where
   missing : (front back : List ℕ) (letter : ℕ) → word ≡ front ++ back → other ≡ front ++ letter ∷ back → DifferByOne word other
   added : (front back : List ℕ) (letter : ℕ) → word ≡ front ++ letter ∷ back → other ≡ front ++ back → DifferByOne word other

@@ -5,7 +5,8 @@ use Rattle.weedle_refusal.specs.Hint.{IsHint}
 use Rattle.weedle_refusal.specs.declared.refusal.Refusal.{Refusal}
 use Rattle.weedle_syntax.specs.Syntax.{IsWhole, RestBegins}
 
--- the text is refused: the grammar leaves what stands from `start` on, and of that the place and the words tell
+-- the text is refused: the grammar leaves the text from `start` on, and of that the place and the
+-- words tell
 pub record IsRefusal (raw : List ℕ) (refusal : Refusal) : Type 0 where
   pub refused : ¬ IsWhole raw
   pub left : RestBegins raw refusal.start
@@ -15,7 +16,7 @@ pub record IsRefusal (raw : List ℕ) (refusal : Refusal) : Type 0 where
   pub place : refusal.place ≡ refusal.start + furthest
   -- a character of the whole text begins at the place, or the text ends there
   pub boundary : IsCharBoundary raw refusal.place
-  -- what is told beside it was tried, or stands in the text
+  -- its hint was tried, or is in the text
   pub hint : IfSome refusal.hint (IsHint raw refusal.start refusal.place)
 
 -- None where the grammar reads the whole text, and else a refusal
@@ -31,10 +32,11 @@ pub record IsSaidFrom (raw : List ℕ) (start : ℕ) (refusal : Refusal) : Type 
   pub place : refusal.place ≡ start + furthest
   -- a character of the whole text begins at the place, or the text ends there
   pub boundary : IsCharBoundary raw refusal.place
-  -- what is told beside it was tried, or stands in the text
+  -- its hint was tried, or is in the text
   pub hint : IfSome refusal.hint (IsHint raw start refusal.place)
 
--- what stands from a place on isn't read whole: the rest begins so many bytes behind it, and of that the place and the words tell
+-- the text from a place on isn't read whole: the remaining input begins so many bytes behind it,
+-- and of that the place and the words tell
 pub record IsRefusalBehind (raw : List ℕ) (from : ℕ) (refusal : Refusal) : Type 0 where
   pub refused : ¬ IsWhole (drop from raw)
   pub rest : ℕ
@@ -42,7 +44,7 @@ pub record IsRefusalBehind (raw : List ℕ) (from : ℕ) (refusal : Refusal) : T
   pub nonempty : from + rest < length raw
   pub said : IsSaidFrom raw (from + rest) refusal
 
--- None where the grammar reads whole what stands from a place on, and else a refusal
+-- None where the grammar reads whole the text from a place on, and else a refusal
 abbrev pub ExplainsBehind : List ℕ → ℕ → Option Refusal → Type 0
 ExplainsBehind raw from None = IsWhole (drop from raw)
 ExplainsBehind raw from (Some refusal) = IsRefusalBehind raw from refusal

@@ -25,7 +25,7 @@ class_text class.Letter = codes "a letter"
 class_text class.NotLineFeed = codes "a character of the line"
 class_text class.Any = codes "a character"
 
--- a word; a text stands in backticks
+-- a word; a text is in backticks
 abbrev pub word_text : Expected → List ℕ
 word_text word.Type = codes "a type"
 word_text word.Value = codes "a value"

@@ -54,7 +54,8 @@ is_type_start rules r = is_start rules TYPES.now r || (is_start rules TYPES_BUT_
 abbrev pub is_value_start : List ℕ → ℕ → Bool
 is_value_start rules r = is_start rules DEFAULT_VALUES.now r || is_start rules CONST_VALUES.now r
 
--- what begins a blank or a comment, and the LF of a line comment: they may stand nearly everywhere, and aren't said
+-- what begins whitespace or a comment, and the LF of a line comment: they may be nearly everywhere,
+-- and aren't said
 abbrev pub is_left_out : ℕ → Bool
 is_left_out r = r == BYTES_LF || (r == BYTES_SLASH_SLASH || (r == ONE_OF_BLANK || r == BYTES_SLASH_STAR))
 
@@ -84,7 +85,7 @@ word_for rules r =
     else (if is_value_start rules r then Some a_value
     else (if is_start rules NAMES.now r then Some a_name else own_word r))
 
--- the second list has what is in the first, each once, in the order in which it first stands there
+-- the second list has what is in the first, each once, in the order in which it first is there
 pub data IsEachOnce {X : Type 0} : List X → List X → Type 0 where
   none : IsEachOnce [] []
   again : {xs ys : List X} {x : X} → IsEachOnce xs ys → Contains ys x → IsEachOnce (xs ++ x ∷ []) ys
@@ -118,7 +119,7 @@ AreSound rules words = All (λ w. (r : ℕ) × Contains rules r × (has_word r �
 pub record AreWords (rules : List ℕ) (words : List Expected) : Type 0 where
   -- that for each rule in turn, each once: so in the order of the rules, and none that a rule has by itself where its kind is said of it
   pub are : IsEachOnce (filter_map (word_for rules) rules) (map word_view words)
-  -- no word stands twice
+  -- no word occurs twice
   pub once : AllPairs (λ v w. word_view v ≢ word_view w) words
   pub sound : AreSound rules words
   pub complete : (r : ℕ) → Contains rules r → has_word r ≡ true → IsSaid rules words r

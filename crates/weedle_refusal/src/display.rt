@@ -1,4 +1,4 @@
-//! What a refusal says to who reads it.
+//! The message of a refusal.
 
 ghost use Rattle.std.specs.Prelude.{◌≡◌, ◌<◌, ◌==◌, ◌+◌, ◌&&◌, if◌then◌else◌, [], Some, codes};
 ghost use Rattle.weedle_refusal.specs.Texts.{refusal_text};
@@ -31,8 +31,7 @@ impl Display for Refusal {
     }
 }
 
-/// What stands in front of a word: nothing at the first, `or` where it is the last and nothing
-/// follows.
+/// What is in front of a word: nothing at the first, `or` where it is the last and nothing follows.
 fn between(at: usize, shown: usize, more: usize) -> &'static str
     requires { at < shown }
     ensures { result.now ≡ (if at == 0 then []

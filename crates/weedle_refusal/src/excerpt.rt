@@ -35,15 +35,15 @@ use std::io::{self, Write};
 /// How wide what is shown of a line is at most, in characters.
 const WIDTH: usize = 100;
 
-/// What stands in the line of the mark below a character that is shown by its number, as `U+00A0`.
+/// What is in the line of the mark below a character that is shown by its number, as `U+00A0`.
 const BELOW_NUMBER: &str = "      ";
 
 /// Writes a line, and below it a `^` behind what is as wide.
 ///
-/// Of a longer line it shows 100 characters around the place. A tab in front of the mark is written
-/// as a tab, so that the mark stands below its place whatever a tab's width is. What can't be seen
-/// is shown by its number, as `U+00A0`: other control characters, a blank that doesn't break, what
-/// has no width, and what turns the direction of a line. Its errors are those of writing.
+/// In a longer line it shows 100 characters around the place. A tab in front of the mark is written
+/// as a tab, so that the mark is below its place whatever a tab's width is. What can't be seen is
+/// shown by its number, as `U+00A0`: other control characters, a no-break space, what has no width,
+/// and what turns the direction of a line. Its errors are those of writing.
 pub fn write_excerpt<W: Write>(line: &str, column: usize, out: &mut W) -> io::Result<()>
     ensures { OnOk result
         (Appends (W.contents out.old) (W.contents out.new) (excerpt_text line.now column)) }
@@ -137,7 +137,7 @@ fn write_blanks<W: Write>(line: &str, first: usize, column: usize, out: &mut W) 
     Ok(())
 }
 
-/// Writes what stands below a character, where it is among those that are shown.
+/// Writes what is below a character, where it is among those that are shown.
 fn write_below<W: Write>(character: char, first: usize, at: usize, out: &mut W) -> io::Result<()>
     ensures { OnOk result
         (Appends (W.contents out.old) (W.contents out.new) (blank first at character)) }
@@ -149,7 +149,7 @@ fn write_below<W: Write>(character: char, first: usize, at: usize, out: &mut W) 
     }
 }
 
-/// What stands in the line of the mark below a character.
+/// What is in the line of the mark below a character.
 fn blank_below(character: char) -> &'static str
     ensures { result.now ≡ below character }
 {
@@ -162,7 +162,7 @@ fn blank_below(character: char) -> &'static str
     }
 }
 
-/// Where what is shown begins of a line of this width, where the mark stands behind so much of it.
+/// Where what is shown begins of a line of this width, where the mark follows so much of it.
 fn first_shown(width: usize, before: usize) -> usize
     ensures { result ≡ the_first_shown width before }
 {
@@ -193,7 +193,7 @@ fn width_before(line: &str, column: usize) -> usize
     at
 }
 
-/// Where the character behind one stands.
+/// Where the character behind one is.
 fn step(at: usize, character: char) -> usize
     ensures value { result ≡ the_next at character }
     ensures after { at ≤ result }

@@ -20,7 +20,7 @@ pub enum Expected {
     Text(&'static str),
     /// A byte of this class.
     OneOf(Class),
-    /// The end of a keyword, where a letter, a digit, `_` or `-` stands behind its letters.
+    /// The end of a keyword, where a letter, a digit, `_` or `-` follows its letters.
     EndOfWord,
     /// No third slash: a docstring isn't read there, though a comment is.
     NoDocstring,
@@ -32,7 +32,7 @@ pub enum Expected {
     EndOfText,
 }
 
-/// Says it in words, as `a name` or ``the end of the word``; a text stands in backticks.
+/// Says it in words, as `a name` or ``the end of the word``; a text is in backticks.
 impl Display for Expected {
     ghost output = { λ word. Some (word_text word) };
 

@@ -14,9 +14,9 @@ use weedle_diagnose::diagnose_quick;
 /// In `enum E { "a" "b" };` it comes to 13, where a `,` or a `}` would go on. A text that is read
 /// whole has an answer too: what could follow at its end.
 ///
-/// It goes by descent up to the first definition that isn't read, in some 30 to 100 nanoseconds
-/// for each byte, and asks for memory for the list alone. Where descent gives up, as of what nests
-/// deep, it fills a table of ends of the text, and marks what is tried: together some 1,600 bytes
+/// It reads by descent up to the first definition that isn't read, in some 30 to 100 nanoseconds
+/// for each byte, and asks for memory for the list alone. Where descent gives up, as for what nests
+/// deep, it fills a packrat table of the text, and marks what is tried: together some 1,600 bytes
 /// of memory for each byte. Where memory is refused, the answer is an error.
 pub fn furthest_in(alloc: Global, text: &str) -> Result<(usize, Vec<Expected>), AllocError>
     ensures found { IfOk result (λ found. IsFurthest text.now found.0 found.1.items) }

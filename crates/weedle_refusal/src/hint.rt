@@ -1,4 +1,4 @@
-//! What would mend a refused definition, or what it lacks.
+//! What would fix a refused definition, or what it lacks.
 
 ghost use Rattle.std.specs.Prelude.{◌≡◌, ◌≤◌, IfOk, IfSome, length};
 ghost use Rattle.weedle_refusal.specs.Hint.{IsHint};
@@ -37,8 +37,8 @@ use std::alloc::{AllocError, Global};
 /// How many changes of a definition are tried at most.
 const MOST_TRIES: usize = 16;
 
-/// What would mend a refused definition, or what it lacks. Places are in bytes from the front of
-/// the text.
+/// What would fix a refused definition, or what it lacks. Places are in bytes from the front of the
+/// text.
 ///
 /// The first six are changes that were tried: with them the definition is read to its end, or
 /// further by more than the member that is changed.
@@ -57,28 +57,28 @@ pub enum Hint {
     },
     /// A sign is missing: of `interface A {} interface B {};` a `;` at 14.
     Missing {
-        /// Where it is missing: behind what stands there.
+        /// Where it is missing: behind what is there.
         place: usize,
         /// `;`, `=`, `{`, `,`, `)`, `>`, `]`, `(`, `:`, `}` or `};`.
         sign: &'static str,
     },
     /// A sign is too many: of `interface A { attribute long x;; };` the second `;` at 31.
     Extra {
-        /// Where it stands.
+        /// Where it is.
         place: usize,
         /// The sign, which is one of those that may be missing.
         sign: &'static str,
     },
-    /// Another sign should stand there: of `enum E { "a"; "b" };` a `,` in place of the `;` at 12.
+    /// Another sign should be there: of `enum E { "a"; "b" };` a `,` in place of the `;` at 12.
     WrongSign {
-        /// Where the sign stands.
+        /// Where the sign is.
         place: usize,
-        /// The sign that stands there, `;` or `,`.
+        /// The sign there, `;` or `,`.
         found: &'static str,
         /// The other one.
         sign: &'static str,
     },
-    /// Two words stand in the wrong order: of `interface A { attribute readonly long x; };` the 9
+    /// Two words are in the wrong order: of `interface A { attribute readonly long x; };` the 9
     /// bytes from 14 on and the 8 from 24 on.
     WordOrder {
         /// Where the first word begins.
@@ -90,8 +90,7 @@ pub enum Hint {
         /// How many bytes that has.
         next_taken: usize,
     },
-    /// A docstring stands where none may: of `/// text` before `typedef long T;` the 8 bytes from 0
-    /// on.
+    /// A docstring is where none may: of `/// text` before `typedef long T;` the 8 bytes from 0 on.
     Docstring {
         /// Where it begins.
         place: usize,
@@ -100,21 +99,21 @@ pub enum Hint {
     },
     /// A string isn't closed: of `enum E { "a };` the one from 9 on.
     OpenString {
-        /// Where its `"` stands.
+        /// Where its `"` is.
         place: usize,
     },
     /// A string ends in another line, where its closing `"` is mostly missing: of `enum E { "a,`
     /// and `"b" };` in the next line the one from 9 on.
     SplitString {
-        /// Where its `"` stands.
+        /// Where its `"` is.
         place: usize,
     },
-    /// A byte order mark stands there, which some editors put in front of a text.
+    /// A byte order mark is there, which some editors put in front of a text.
     ByteOrderMark {
-        /// Where it stands.
+        /// Where it is.
         place: usize,
     },
-    /// The text has blanks and comments alone, and no definition.
+    /// The text has whitespace and comments alone, and no definition.
     NoDefinitions,
 }
 
@@ -138,18 +137,18 @@ impl Hint {
     }
 }
 
-/// What would mend the definition of a text that begins at `start` and can be read up to `place`
-/// and no further, or None where nothing was found.
+/// What would fix the definition of a text that begins at `start` and can be read up to `place` and
+/// no further, or None where nothing was found.
 ///
-/// Of `interface A { atribute long x; };` the definition at 0 is read up to 28, and `attribute` at
-/// 14 would mend it.
+/// For `interface A { atribute long x; };` the definition at 0 is read up to 28, and `attribute` at
+/// 14 would fix it.
 ///
-/// A change is told only where it was tried: the definition is read again with it, and comes to its
-/// end, or beyond the second `;` behind the place. At most sixteen are tried, the first that mends
-/// is told, else the first that comes so far, and where the definition doesn't suit descent, or
-/// nests more than 64 levels deep, none is tried. Each costs a copy of the definition, and the time
-/// of descent over it; a table is filled of no more than 10,000 bytes. Beside that it looks for
-/// what would go on, as [`furthest_in`] does. Where memory is refused, the answer is an error.
+/// A change is a hint only if it was tried: the definition is read again with it, and comes to its
+/// end, or beyond the second `;` behind the place. At most sixteen are tried. The hint is the first
+/// that comes to the end, else the first that comes so far. All together try at most 16 rules for
+/// each byte of the definition, up to 64 kB behind the place, and 100,000 more; each costs a copy
+/// of the definition. None is read more than 320 nodes deep. Besides, it looks for what would go
+/// on, as [`furthest_in`] does. Where memory is refused, the answer is an error.
 pub fn hint_of(
     alloc: Global,
     raw: &str,

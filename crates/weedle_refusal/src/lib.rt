@@ -1,6 +1,6 @@
-//! What is said of a text that is refused: where, at which line and column, in words what would
-//! have been read there, and what would mend it. It stands on the grammar and the table of ends,
-//! and on no type of the tree.
+//! Why a text is refused: where, at which line and column, in words what would have been read
+//! there, and what would fix it. It depends on the grammar and the packrat table, and on no type of
+//! the tree.
 //!
 //! ```rust
 //! use weedle_refusal::{position_of, refusal_of};

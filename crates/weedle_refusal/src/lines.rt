@@ -15,7 +15,7 @@ use std::marker::Model;
 #[derive(Drop)]
 pub struct Lines<'a> {
     text: &'a str,
-    // where each line begins but the first: the places behind the LFs
+    // where each line begins except for the first: the places behind the LFs
     starts: Vec<usize>,
 }
 
@@ -51,7 +51,7 @@ impl<'a> Lines<'a> {
     /// [`position_of`](crate::position_of) counts them. One behind the end of the text is taken as
     /// that end.
     ///
-    /// In `interface A {\n  é ?` the `?` has the place 19; it stands in line 2, at column 5.
+    /// In `interface A {\n  é ?` the `?` has the place 19; it is in line 2, at column 5.
     ///
     /// It halves the lines: of a million it looks at 20. Then it looks at the bytes of the place's
     /// own line before it. It takes no memory.
@@ -67,7 +67,7 @@ impl<'a> Lines<'a> {
         }
     }
 
-    /// How many LFs stand before a place.
+    /// How many LFs come before a place.
     fn feeds_before(&self, place: usize) -> usize
         requires { place ≤ length self.now }
         ensures value { result ≡ the_feeds_before self.now place }

@@ -49,7 +49,7 @@ pub(crate) fn write_place<W: Write>(text: &str, place: usize, out: &mut W) -> io
     write!(out, "{position}")
 }
 
-/// The line of a text in which a place stands, without what ends it.
+/// The line of a text in which a place is, without what ends it.
 fn line_at(text: &str, place: usize) -> &str
     requires { place ≤ length text.now }
     ensures { result.now ≡ the_line_at text.now place }
@@ -79,7 +79,7 @@ fn line_end(bytes: &[u8], place: usize) -> usize
     place + length_of_first_line(&bytes[place..])
 }
 
-/// How many bytes stand behind the last LF.
+/// How many bytes follow the last LF.
 fn length_of_last_line(bytes: &[u8]) -> usize
     ensures value { result ≡ length (last_line bytes.now) }
     ensures few { result ≤ length bytes.now }
@@ -91,7 +91,7 @@ fn length_of_last_line(bytes: &[u8]) -> usize
         .count()
 }
 
-/// How many bytes stand before the first LF.
+/// How many bytes come before the first LF.
 fn length_of_first_line(bytes: &[u8]) -> usize
     ensures value { result ≡ length (take_while (λ byte. not (byte == 10)) bytes.now) }
     ensures few { result ≤ length bytes.now }

@@ -27,9 +27,9 @@ impl Display for Position {
 
 /// The line and the column of a place, which is given in bytes from the front of the text.
 ///
-/// In `interface A {\n  é ?` the `?` has the place 19; it stands in line 2, at column 5. A line
-/// ends with its LF. A tab counts as one character, and so does the CR of a CRLF. The place behind
-/// the last byte of a text has a position too.
+/// In `interface A {\n  é ?` the `?` has the place 19; it is in line 2, at column 5. A line ends
+/// with its LF. A tab counts as one character, and so does the CR of a CRLF. The place behind the
+/// last byte of a text has a position too.
 ///
 /// It looks twice at most at each byte before the place, and takes no memory.
 pub fn position_of(text: &str, place: usize) -> Position

@@ -12,32 +12,32 @@ use weedle_syntax::{Node, syntax_of_front};
 
 /// Where and why a text is refused. Places are in bytes from the front of the text.
 ///
-/// Of `interface A {}; enum E { "a" "b" };` it says that the second definition, from 16 on, isn't
+/// For `interface A {}; enum E { "a" "b" };` it says that the second definition, from 16 on, isn't
 /// read: the reading comes to 29, where a `,` or a `}` would go on.
 #[derive(Debug, Drop)]
 pub struct Refusal {
-    /// Where the unread rest begins: behind the last definition that can be read, and the blanks
-    /// and comments behind it.
+    /// Where the remaining input begins: behind the last definition that can be read, and the
+    /// whitespace and comments behind it.
     pub start: usize,
-    /// The furthest place to which the reading of the rest comes. A character begins there, or the
-    /// text ends.
+    /// The furthest place to which the reading of the remaining input comes. A character begins
+    /// there, or the text ends.
     pub place: usize,
-    /// What would have been read at that place, each word once. Blanks and comments, which may
-    /// stand nearly everywhere, aren't among it.
+    /// What would have been read at that place, each word once. Whitespace and comments, which may
+    /// be nearly everywhere, aren't among it.
     pub expected: Vec<Expected>,
-    /// What would mend the definition, or what it lacks, where something was found. It may stand
-    /// well before the furthest place.
+    /// What would fix the definition, or what it lacks, where something was found. It may be well
+    /// before the furthest place.
     pub hint: Option<Hint>,
 }
 
 /// Why a text is refused, or None where it is read whole.
 ///
 /// `interface A {}; enum E { "a" "b" };` is refused from 16 on, and at 29 a `,` or a `}` is
-/// expected. Where a text has several slips, it is the first definition that isn't read that is
-/// explained.
+/// expected. Where a text has several syntax errors, it is the first definition that isn't read
+/// that is explained.
 ///
-/// It reads the text by [`syntax_of_front`], and costs what that costs. Where that leaves a rest,
-/// it goes on as [`refusal_from`] does.
+/// It reads the text by [`syntax_of_front`], and costs what that costs. Where that leaves input, it
+/// goes on as [`refusal_from`] does.
 pub fn refusal_of(alloc: Global, raw: &str) -> Result<Option<Refusal>, AllocError>
     ensures explains { IfOk result (Explains raw.now) }
 
@@ -55,10 +55,10 @@ pub fn refusal_of(alloc: Global, raw: &str) -> Result<Option<Refusal>, AllocErro
     Ok(Some(refusal))
 }
 
-/// Why a text is refused whose unread rest begins at this place, as `syntax_of_front` has it.
+/// Why a text is refused whose remaining input begins at this place, as `syntax_of_front` has it.
 ///
-/// It reads the rest as [`furthest_in`] does, mostly in some 30 to 100 nanoseconds for each byte
-/// of the definition that isn't read. Beside that it costs what [`hint_of`] costs. Where memory is
+/// It reads the rest as [`furthest_in`] does, mostly in some 30 to 100 nanoseconds for each byte of
+/// the definition that isn't read. Besides, it costs what [`hint_of`] costs. Where memory is
 /// refused, the answer is an error.
 pub fn refusal_from(alloc: Global, raw: &str, start: usize) -> Result<Refusal, AllocError>
     requires rest { RestBegins raw.now start }
@@ -70,7 +70,7 @@ pub fn refusal_from(alloc: Global, raw: &str, start: usize) -> Result<Refusal, A
     Ok(refusal)
 }
 
-/// Where the unread rest begins behind the nodes of what stands at the front of a text: there the
+/// Where the remaining input begins behind the nodes of what is at the front of a text: there the
 /// first of them ends.
 pub fn rest_of(nodes: &[Node]) -> usize
     requires { 0 < length nodes.now }

@@ -136,7 +136,7 @@ fn word_of(rule: Rule) -> Option<Expected>
     }
 }
 
-/// Whether the rule begins a blank or a comment, or is the LF of a line comment.
+/// Whether the rule begins whitespace or a comment, or is the LF of a line comment.
 fn is_left_out(number: u16) -> bool
     ensures { result ≡ left_out number }
 {

@@ -9,11 +9,11 @@ use Rattle.weedle_idl.specs.declared.definition.Definition.{Definition}
 use Rattle.weedle_idl.specs.declared.definition.Definition.TheVariants.{Callback as IsCallback, CallbackInterface as IsCallbackInterface, Interface as IsInterface, InterfaceMixin as IsInterfaceMixin, Namespace as IsNamespace, Dictionary as IsDictionary, PartialInterface as IsPartialInterface, PartialInterfaceMixin as IsPartialInterfaceMixin, PartialDictionary as IsPartialDictionary, PartialNamespace as IsPartialNamespace, Enum as IsEnum, Typedef as IsTypedef, IncludesStatement as IsIncludesStatement, Implements as IsImplements}
 use Rattle.weedle_parts.specs.declared.common.docstring.Docstring.{Docstring}
 
--- the text of a docstring where it stands
+-- the text of a docstring where present
 abbrev pub given_text : Option Docstring → Option (List ℕ)
 given_text docstring = option_map (λ given. string_bytes given.0) docstring
 
--- the text of a definition's docstring, where it has that field and the docstring stands
+-- the text of a definition's docstring, where it has that field and the docstring is
 abbrev pub docstring_text : Definition → Option (List ℕ)
 docstring_text (IsCallback v) = None
 docstring_text (IsCallbackInterface v) = given_text v.docstring
@@ -38,7 +38,7 @@ outlined definition = (kind_text definition, name_text definition, docstring_tex
 abbrev pub said : Entry → List ℕ × List ℕ × Option (List ℕ)
 said entry = (entry.kind.now, entry.name.now, option_map (λ text. text.now) entry.docstring)
 
--- two blanks, a text and a line feed
+-- two spaces, a text and a line feed
 abbrev pub indented_line : List ℕ → List ℕ
 indented_line text = line (codes "  " ++ text)
 

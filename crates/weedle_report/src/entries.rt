@@ -23,7 +23,7 @@ pub struct Entry<'d, 'a> {
     pub kind: &'static str,
     /// What [`name_of`] gives.
     pub name: &'a str,
-    /// The text of the field `docstring`, where there is that field and a docstring stands.
+    /// The text of the field `docstring`, where there is that field and a docstring is.
     pub docstring: Option<&'d str>,
 }
 
@@ -60,7 +60,7 @@ fn entry_of<'d, 'a>(definition: &'d Definition<'a>) -> Entry<'d, 'a>
     }
 }
 
-/// The text of a definition's docstring, where it has that field and the docstring stands.
+/// The text of a definition's docstring, where it has that field and the docstring is.
 fn docstring_of<'d>(definition: &'d Definition<'_>) -> Option<&'d str>
     ensures { option_map (λ text. text.now) result ≡ docstring_text definition.entry.now }
 {
@@ -82,14 +82,14 @@ fn docstring_of<'d>(definition: &'d Definition<'_>) -> Option<&'d str>
     }
 }
 
-/// The text of a docstring where it stands.
+/// The text of a docstring where present.
 fn text_of(docstring: &Option<Docstring>) -> Option<&str>
     ensures { option_map (λ text. text.now) result ≡ given_text docstring.now }
 {
     docstring.as_ref().map(|given| given.0.as_str())
 }
 
-/// Adds the lines of a definition's docstring, each behind two blanks.
+/// Adds the lines of a definition's docstring, each behind two spaces.
 pub(crate) fn push_docstring(
     definition: &Definition<'_>,
     report: &mut String,
@@ -103,7 +103,7 @@ pub(crate) fn push_docstring(
     }
 }
 
-/// Adds each line of a text behind two blanks.
+/// Adds each line of a text behind two spaces.
 fn push_indented(text: &str, report: &mut String) -> Result<(), AllocError>
     ensures { OnOk result (string_bytes report.new ≡ string_bytes report.old ++ indented text.now) }
 {

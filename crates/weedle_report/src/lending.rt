@@ -2,9 +2,9 @@
 
 ghost use Rattle.std.specs.Fn.{FnOnceReturnsAt};
 
-/// Lends what it owns to a function, and answers what that answers. Then it lets it go.
+/// Lends what it owns to a function, and answers what that answers. Then it drops it.
 ///
-/// Whoever reads a text owns the list of its definitions, and writes first
+/// A caller who reads a text owns the list of its definitions, and writes first
 ///
 /// ```text
 /// let definitions = parse(alloc, text)?;

@@ -27,7 +27,7 @@ pub fn kind_of(definition: &Definition<'_>) -> &'static str
     }
 }
 
-/// The name of a definition, as `Window` of `interface Window {};`. Of a statement it is the first
+/// The name of a definition, as `Window` of `interface Window {};`. For a statement it is the first
 /// name, as `A` of `A includes B;`. It takes no memory.
 pub fn name_of<'a>(definition: &Definition<'a>) -> &'a str
     ensures { result.now ≡ name_text definition.now }

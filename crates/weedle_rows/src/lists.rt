@@ -103,7 +103,7 @@ fn is_outlined(alloc: Global, of: Example) -> Result<bool, AllocError> {
     }
 }
 
-/// Asserts that the example has its outline, or that memory is wanted.
+/// Asserts that the example has its outline, or that memory runs out.
 fn assert_outlined(rt: &impl Abort, alloc: Global, wanted: &mut Wanted, of: Example) {
     if let Some(is_said) = wanted.given(is_outlined(alloc, of)) {
         assert!(rt; is_said, "of {:?}", of.text());

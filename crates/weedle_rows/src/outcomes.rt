@@ -15,7 +15,7 @@ pub enum Outcome<'a> {
     Read(usize),
     /// A part of the text is left: this one.
     Left(&'a str),
-    /// Memory was wanted, with this input.
+    /// Memory ran out, with this input.
     Memory(&'a str),
     /// A fault that `parse` has no use for.
     Other,
@@ -84,8 +84,9 @@ fn all_workings(text: &str) -> u128 {
     (RULES as u128).saturating_mul(text.len() as u128 + 1)
 }
 
-/// Asserts the bounds of an answer that didn't want memory: each rule is worked out at each place,
-/// each with at most `READS` looks, and the nodes of the tree are at most 10,000 for each place.
+/// Asserts the bounds of an answer that didn't run out of memory: each rule is worked out at each
+/// place, each with at most `READS` looks, and the nodes of the tree are at most 10,000 for each
+/// place.
 pub fn assert_bounds(rt: &impl Abort, text: &str, counts: Counts) {
     let most = (READS as u128).saturating_mul(counts.workings);
     let places = text.len() as u128 + 1;

@@ -1,4 +1,4 @@
-//! The README's program but for its `main`.
+//! The README's program except for its `main`.
 
 use std::alloc::{AllocError, Global};
 use std::test::Fail;

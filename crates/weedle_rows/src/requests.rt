@@ -23,7 +23,7 @@ const TEXTS: [(&str, Outcome<'static>); 6] = [
 /// The outcome of the nested extended attributes.
 const NESTED: Outcome<'static> = Outcome::Read(1);
 
-/// Asserts that an answer is so or wants memory, which is told with the text itself; and says
+/// Asserts that an answer is so or runs out of memory, which is told with the text itself; and says
 /// whether it does.
 fn is_wanted(
     rt: &impl Abort,
@@ -41,8 +41,8 @@ fn is_wanted(
     false
 }
 
-/// Asserts the counts of an answer: of one that wants memory none where the table was refused, else
-/// those of the table.
+/// Asserts the counts of an answer: of one that runs out of memory none where the table was
+/// refused, else those of the table.
 fn assert_counts(rt: &impl Abort, text: &str, counts: Counts, has_none: bool) {
     if has_none {
         assert_eq!(rt; counts.visits, 0, "of {text:?}");
@@ -54,7 +54,7 @@ fn assert_counts(rt: &impl Abort, text: &str, counts: Counts, has_none: bool) {
     }
 }
 
-/// Asserts that a text is read so, twice, or that memory is wanted.
+/// Asserts that a text is read so, twice, or that memory runs out.
 fn assert_read(
     rt: &impl Abort,
     alloc: Global,

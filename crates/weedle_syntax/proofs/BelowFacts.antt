@@ -1,4 +1,4 @@
--- How many nodes stand below a node: the nodes behind it as long as they are deeper.
+-- How many nodes are below a node: the nodes behind it as long as they are deeper.
 use Rattle.std.proofs.Common.{◌≡◌, inl, inr, ℕ, ◌+◌, ◌-◌, ◌<◌, ◌≤◌, List, length, drop, set, get_or, true, false, sym, subst, ◌∙◌, ap, arith, length-set}
 use Rattle.std.specs.Prelude.{nat_lt, replicate}
 use Rattle.std.proofs.lemmas.Bool.{cases_lt, lt-ltb, le-ltb}

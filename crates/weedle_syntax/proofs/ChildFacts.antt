@@ -117,7 +117,7 @@ module _ (text : List ℕ) (r p d : ℕ) (fits : p ≤ length text) (low : r < r
       let on : q ≤ m.end = ends_after i.reads in
       (child y q m i a w n (λ k. l), items_children y m.end e ns l n (omega arith) (ends_inside i.reads w) h)
 
-  -- an item stands behind its separator, which takes something
+  -- an item follows its separator, which takes something
   pub following_children : (y s q e : ℕ) (ns : List Node) → row_of r ≡ Tail y s → s < r → s < rule_count → y < rule_count → p ≤ q → q ≤ length text → EndsAt text r q e → AreFollowing text y s d q e ns → Each (IsChild text r p d) ns
   following_children y s q e [] is l n u a w z h = tt
   following_children y s q e (m ∷ []) is l n u a w z h = absurd h

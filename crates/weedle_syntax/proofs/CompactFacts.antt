@@ -22,7 +22,7 @@ run_length shorts longs run inside = by run.is_long inside
     by true here = many_taken run.from run.many longs here
     by false here = length-map (take run.many (drop run.from shorts)) (node_of run.base) ∙ many_taken run.from run.many shorts here
 
--- what was laid down behind one node is put behind other nodes
+-- what was written behind one node is put behind other nodes
 pub packed_on : (text : List ℕ) (inner old new front behind : List Node) → length old ≡ 1 → Adds text inner old new
     → behind ≡ front ++ take (length new - 1) (drop 1 new) → Adds text inner front behind
 packed_on text inner old new front behind one (more, is, trees) b =

@@ -1,4 +1,4 @@
--- What is laid down while a text is read from a place on, and where it ends.
+-- What is written while a text is read from a place on, and where it ends.
 use Rattle.std.proofs.Common.{◌≡◌, inl, inr, ℕ, ◌+◌, ◌-◌, ◌<◌, ◌≤◌, List, [], ◌∷◌, ◌++◌, length, take, drop, set, Option, Some, None, refl, sym, subst, ◌∙◌, ap, arith, append_assoc, append-nil, length-append}
 use Rattle.std.proofs.lemmas.List.{take_at, set_at, take_rest}
 use Rattle.weedle_grammar.specs.Rows.{Row, Seq, First}
@@ -29,7 +29,7 @@ trees_append text (n ∷ others) ys first second (a_tree {below = below} {behind
     a_tree p a (trees_append text others ys behind second c b) (ap (λ z. z ++ second) e ∙ ap (λ z. n ∷ z) (append_assoc below behind second))
 
 module _ (text : List ℕ) where
-  -- nothing is laid down yet
+  -- nothing is written yet
   pub none_added : (old : List Node) → Adds text [] old old
   none_added old = ([], sym (append-nil old), no_trees refl)
 
@@ -48,7 +48,7 @@ module _ (text : List ℕ) where
   pub some_more : (inner old now : List Node) → Adds text inner old now → (more : List Node) × (now ≡ old ++ more)
   some_more inner old now (a, e, t) = (a, e)
 
-  -- a node whose row is laid down behind it, once its end is known; nothing else stays
+  -- a node whose row is written behind it, once its end is known; nothing else stays
   module _ (r p d : ℕ) (old now new : List Node) (first : Node) (begun : now ≡ old ++ first ∷ []) where
     pub node_laid : (e : ℕ) (last : List Node) → (inner : List Node) × AreParts text (row_of r) (d + 1) p e inner × Adds text inner now new → last ≡ set new (length old) (node r p e d) → LaysNode text r p d old last (Some e)
     node_laid e last (inner, parts, (below, is, trees)) w =

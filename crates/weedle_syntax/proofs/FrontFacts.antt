@@ -52,6 +52,6 @@ module _ (text : List ℕ) (ns : List Node) where
   pub whole_read : IsUtf8 text → IsWhole text → IsSyntax text ns → All (IsRead text) ns
   whole_read utf8 w h = each_is_read text utf8 (length text) ns w h
 
--- a text isn't read whole where the rest begins before its end
+-- a text isn't read whole where the remaining input begins before its end
 pub not_whole : {A : Type 0} (text : List ℕ) (end : ℕ) → RestBegins text end → (end ≡ length text → ⊥) → IsWhole text → A
 not_whole text end h n w = absurd (n (one_end w h))

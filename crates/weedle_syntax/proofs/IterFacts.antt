@@ -76,7 +76,7 @@ module _ (ns : List Node) (counts : List ℕ) (i : ℕ) (l : i < length ns) wher
             subst (λ z. depth_at ns z ≤ depth_at ns i) e (next_no_deeper ns i (omega arith)));
       }
 
--- the nodes below which none stands are the leaves
+-- the nodes with none below them are the leaves
 pub leaves_begin : (ns : List Node) (counts : List ℕ) → AreCounts ns counts 0 → zeros_from counts 0 ≡ leaf_numbers ns
 leaves_begin ns counts c =
     let many : length counts - 0 ≡ length ns = let m = c.many in omega arith in

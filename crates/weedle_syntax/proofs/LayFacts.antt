@@ -1,4 +1,4 @@
--- Nodes that are laid down one after another.
+-- Nodes that are written one after another.
 use Rattle.std.proofs.Common.{◌≡◌, ◌≢◌, inl, inr, ℕ, ◌<◌, ◌≤◌, List, [], ◌∷◌, ◌++◌, length, get_or, Bool, true, false, Some, None, refl, sym, subst, ◌∙◌, ap, arith, append_assoc, append-nil}
 use Rattle.weedle_grammar.specs.Rows.{Row, Seq, First, Opt, Many, List1, Tail, If}
 use Rattle.weedle_grammar.specs.Trees.{Tree, Gives}
@@ -144,7 +144,7 @@ module _ (text : List ℕ) (r y s d p e : ℕ) (is_tail : row_of r ≡ Tail y s)
   pub no_item_follows : (at q : ℕ) (inner : List Node) → Following text r y s d p e at inner → HasEnd text s at (Some q) → HasEnd text y q None → AreParts text (row_of r) d p e inner
   no_item_follows at q inner g h k = by_its_row text r d p e inner is_tail (subst (AreFollowing text y s d p e) (append-nil inner) (g.onward [] (tail_turns_back text r at e g.left is_tail (it_ends h) (it_fails k), inr (q, it_ends h, it_fails k))))
 
--- lists of one node or two, laid down behind none
+-- lists of one node or two, written behind none
 module _ (text : List ℕ) (d p e : ℕ) where
   alone : (F : List Node → Type 0) (inner new : List Node) (n : Node) → inner ≡ [] → new ≡ inner ++ n ∷ [] → F (n ∷ []) → F new
   alone F inner new n none is h = subst F (sym (is ∙ ap (λ s. s ++ n ∷ []) none)) h
@@ -253,6 +253,6 @@ module _ (text : List ℕ) (r d p e : ℕ) {parts : List ℕ} {k y : ℕ} (is_if
         | inr t ↦ absurd (t.0 n)
       ])
 
--- a sequence that was laid down
+-- a sequence that was written
 pub seq_laid : (text : List ℕ) (r d p e z : ℕ) (parts : List ℕ) (ns : List Node) → row_of r ≡ Seq parts → EndsAt text r p z → AreInTurn text parts d p e ns → AreParts text (row_of r) d p z ns
 seq_laid text r d p e z parts ns is h a = by_its_row text r d p z ns is (subst (λ q. AreInTurn text parts d p q ns) (sequence_end text r d p e z parts ns is h a) a)

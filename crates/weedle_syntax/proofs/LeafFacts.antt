@@ -175,7 +175,7 @@ module _ (text : List ℕ) (end : ℕ) where
   pub syntax_joins : (ns : List Node) → IsSyntaxTo text end ns → leaves_of text ns ≡ between text 0 end
   syntax_joins ns h = leaves_join ns (nodes_of text (root_to end ∷ []) ns h)
 
--- a text is what stands between its ends
+-- a text is what is between its ends
 pub whole_between : (text : List ℕ) → between text 0 (length text) ≡ text
 whole_between text = ap (λ z. take z text) (all (length text)) ∙ take_all (length text) text (omega arith)
   where

@@ -107,7 +107,7 @@ one_forest text (n ∷ others) ns ms (a_tree {inner = inner} {below = below} {be
     let after : behind ≡ behind' = one_forest text others behind behind' b d in
     e ∙ ap (λ x. n ∷ x ++ behind) under ∙ ap (λ x. n ∷ below' ++ x) after ∙ sym f
 
--- of the definitions that are read, whatever the rest is
+-- of the definitions that are read, whatever the remaining input is
 pub one_front : (text : List ℕ) (ns ms : List Node) → IsFront text ns → IsFront text ms → ns ≡ ms
 one_front text ns ms (end, h, a) (other, k, b) = one_forest text (root_to end ∷ []) ns ms a (subst (λ e. AreTrees text (root_to e ∷ []) ms) (one_end h k) b)
 

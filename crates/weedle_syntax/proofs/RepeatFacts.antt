@@ -41,7 +41,7 @@ module _ (text : List ℕ) (r p d : ℕ) (old : List Node) where
     pub opt_before : cell_number (length text) y p < cell_number (length text) r p
     opt_before = let l : y < r = opt_low webidl text takes ranked r y is in omega arith
 
-  -- an item and what follows it are laid down
+  -- an item and what follows it are written
   two_laid : (y t q : ℕ) (mid new : List Node) (o : Option ℕ) → HasEnd text y p (Some q) → HasEnd text t q o → Adds text (node y p q d ∷ []) old mid → LaysNode text t q d mid new o
       → ((e : ℕ) (ns : List Node) → AreInTurn text (y ∷ t ∷ []) d p e ns → AreParts text (row_of r) d p e ns) → LaysParts text r p d old new o
   two_laid y t q mid new None h k a b f = some_more text (node y p q d ∷ []) old new (still_added text (node y p q d ∷ []) old mid new a b)

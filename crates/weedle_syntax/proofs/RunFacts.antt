@@ -10,7 +10,7 @@ use Rattle.weedle_syntax.specs.declared.runs.Run.{Run}
 use Rattle.weedle_syntax.specs.declared.runs.Runs.{Runs}
 use Rattle.weedle_syntax.specs.declared.runs.Short.{Short}
 
--- what stands in a list from number n on, k of them, stands there still when the list grows
+-- what is in a list from number n on, k of them, is there still when the list grows
 pub still_there : {A : Type 0} (n k : ℕ) (xs more : List A) → n + k ≤ length xs → take k (drop n (xs ++ more)) ≡ take k (drop n xs)
 still_there zero k xs more l = take-append-le k xs more (omega (arith, l))
 still_there (suc n) k [] more l = absurd (omega (arith, l))

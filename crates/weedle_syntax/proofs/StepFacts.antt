@@ -51,7 +51,7 @@ module _ (text : List ℕ) where
       let rise = subst (Rise d) is r in
       by_parts n ns inner others e (λ w q k. steps_of ns w q e k) a (row_covers text (n.depth + 1) (row_of n.rule) n.start n.end inner parts) tile.2 rise.1
 
-  -- a node that stands in some other
+  -- a node in some other
   abbrev IsDeep : Node → Type 0
   IsDeep n = 0 < n.depth
 

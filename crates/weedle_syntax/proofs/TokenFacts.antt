@@ -1,4 +1,4 @@
--- A byte of a class and a run of another behind it, which are laid down at once.
+-- A byte of a class and a run of another behind it, which are written at once.
 use Rattle.std.proofs.Common.{◌≡◌, ℕ, ◌+◌, ◌≤◌, List, [], ◌∷◌, ◌++◌, length, drop, Option, Some, None, refl, sym, ◌∙◌, ap, option_map, arith}
 use Rattle.weedle_grammar.specs.declared.class.Class.{Class}
 use Rattle.weedle_grammar.specs.Rows.{Row, OneOf, Run, Seq, take_one, run_length}

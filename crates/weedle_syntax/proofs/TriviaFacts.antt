@@ -1,4 +1,4 @@
--- Trivia that is blanks alone, which is laid down at once.
+-- Trivia that is whitespace alone, which is written at once.
 use Rattle.std.proofs.Common.{◌≡◌, inl, inr, ℕ, ◌+◌, ◌≤◌, List, [], ◌∷◌, ◌++◌, length, drop, Some, refl, ◌∙◌, ap, option_map, arith, append_assoc}
 use Rattle.weedle_grammar.specs.declared.class.Class.TheVariants.{Blank}
 use Rattle.weedle_grammar.specs.Rows.{OneOf, Run, Seq, First, Many, take_one, run_length}
@@ -76,7 +76,7 @@ module _ (text : List ℕ) (p a e : ℕ) (within : p ≤ length text) (b : AreBl
   pub trivia_end : HasEnd text TRIVIA p (Some e)
   trivia_end = rule_ends trivia_row (many_goes webidl text PIECE p e (Some e) piece_end b.some (many_ends webidl text PIECE e b.no_piece))
 
-  -- the trees of the two parts, of the blanks, of the piece, and of all
+  -- the trees of the two parts, of the whitespace, of the piece, and of all
   parts_trees : (d : ℕ) → AreTrees text (node ONE_OF_BLANK p a d ∷ node RUN_BLANK a e d ∷ []) (node ONE_OF_BLANK p a d ∷ node RUN_BLANK a e d ∷ [])
   parts_trees d =
       let run = a_tree (by_its_row text RUN_BLANK (d + 1) a e [] run_row refl) (no_trees refl) (no_trees refl) refl in

@@ -81,7 +81,7 @@ module _ (t : TableView) where
     items_asked r y d n.end e ns is (wanted_again r y p e n.end is w h a.0.reads) (many_goes t.text r p e h is a.0.reads).1 a.1,
   )
 
-  -- what stands behind a separator that takes something: the item, and the rule itself behind it
+  -- what follows a separator that takes something: the item, and the rule itself behind it
   pub wanted_item : (r y s p q : ℕ) {e : ℕ} → row_of r ≡ Tail y s → IsWanted t r p → EndsAt t.text r p e → EndsAt t.text s p q → IsWanted t y q
   wanted_item r y s p q {e} is w d h = wanted_by w d is (inr (q, h, tail_takes t.text r p e d is h, inl (refl, refl)))
 

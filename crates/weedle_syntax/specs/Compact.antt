@@ -24,7 +24,7 @@ run_nodes shorts longs run =
 abbrev pub all_nodes : List Short → List Node → List Run → List Node
 all_nodes shorts longs runs = flat_map (run_nodes shorts longs) runs
 
--- as many stand there
+-- as many are there
 abbrev pub IsInside : ℕ → ℕ → Run → Type 0
 IsInside shorts longs run = run.from + run.many ≤ (if run.is_long then longs else shorts)
 

@@ -7,7 +7,7 @@ use Rattle.weedle_grammar.specs.written.Table.{row_of}
 use Rattle.weedle_grammar.specs.written.Table.Trivia.{LINE_COMMENT, BLANKS, BLOCK_COMMENT}
 use Rattle.weedle_grammar.specs.written.Table.Leaves.{IDENTIFIER_TEXT}
 
--- blanks
+-- whitespace
 abbrev pub is_blank : ℕ → Bool
 is_blank rule = rule == BLANKS
 

@@ -6,7 +6,8 @@ use Rattle.weedle_rules.specs.Outcomes.{EndsAt}
 use Rattle.weedle_syntax.specs.declared.node.Node.{Node}
 use Rattle.weedle_syntax.specs.Parts.{HasParts}
 
--- the grammar reads definitions from the front of the text up to this place, where the rest begins
+-- the grammar reads definitions from the front of the text up to this place, where the remaining
+-- input begins
 abbrev pub RestBegins : List ℕ → ℕ → Type 0
 RestBegins text end = EndsAt text DEFINITIONS 0 end
 
@@ -38,7 +39,7 @@ node_to rule end = record { rule = rule; start = 0; end = end; depth = 0 }
 abbrev pub IsRuleTo : List ℕ → ℕ → ℕ → List Node → Type 0
 IsRuleTo text rule end ns = AreTrees text (node_to rule end ∷ []) ns
 
--- all nodes of a rule that is read at the front of the text, whatever the rest is
+-- all nodes of a rule that is read at the front of the text, whatever the remaining input is
 abbrev pub IsRuleFront : List ℕ → ℕ → List Node → Type 0
 IsRuleFront text rule ns = (end : ℕ) × EndsAt text rule 0 end × IsRuleTo text rule end ns
 
@@ -46,11 +47,11 @@ IsRuleFront text rule ns = (end : ℕ) × EndsAt text rule 0 end × IsRuleTo tex
 abbrev pub IsSyntax : List ℕ → List Node → Type 0
 IsSyntax text ns = IsSyntaxTo text (length text) ns
 
--- all nodes of the definitions that are read, whatever the rest is
+-- all nodes of the definitions that are read, whatever the remaining input is
 abbrev pub IsFront : List ℕ → List Node → Type 0
 IsFront text ns = (end : ℕ) × RestBegins text end × IsSyntaxTo text end ns
 
--- where the root ends: there the rest begins
+-- where the root ends: there the remaining input begins
 abbrev pub rest_of : List Node → ℕ
 rest_of [] = 0
 rest_of (n ∷ ns) = n.end

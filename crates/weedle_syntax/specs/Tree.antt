@@ -1,4 +1,4 @@
--- Which node stands below which, by their numbers in preorder.
+-- Which node is below which, by their numbers in preorder.
 use Rattle.std.specs.Prelude.{◌≡◌, ◌≤◌, ◌<◌, ◌+◌, ◌-◌, ◌==◌, ℕ, zero, suc, Bool, cond, nat_lt, drop, length, slice_index, slice_index_or, All, List, [], ◌∷◌, Option, MatchOption}
 use Rattle.std.specs.List.{prefix_len}
 use Rattle.weedle_syntax.specs.declared.node.Node.{Node}
@@ -12,17 +12,17 @@ node_at ns i = slice_index_or ns i (root_to 0)
 abbrev pub is_deeper : ℕ → Node → Bool
 is_deeper depth n = nat_lt depth n.depth
 
--- how many nodes stand below node i: those behind it up to the first that is no deeper
+-- how many nodes are below node i: those behind it up to the first that is no deeper
 abbrev pub below_of : List Node → ℕ → ℕ
 below_of ns i = prefix_len (is_deeper (node_at ns i).depth) (drop (i + 1) ns)
 
--- node j stands below node i, which reads it directly
+-- node j is below node i, which reads it directly
 pub record IsChild (ns : List Node) (i j : ℕ) : Type 0 where
   pub behind : i < j
   pub below : j ≤ i + below_of ns i
   pub depth : (node_at ns j).depth ≡ (node_at ns i).depth + 1
 
--- no node stands below node i
+-- no node is below node i
 abbrev pub IsLeaf : List Node → ℕ → Type 0
 IsLeaf ns i = below_of ns i ≡ 0
 
@@ -69,7 +69,7 @@ pub record IsLeafAt (ns : List Node) (byte i : ℕ) : Type 0 where
   pub starts : (node_at ns i).start ≤ byte
   pub ends : byte < (node_at ns i).end
 
--- from node i on, each of these numbers says how many nodes stand below its node
+-- from node i on, each of these numbers says how many nodes are below its node
 pub record AreCounts (ns : List Node) (counts : List ℕ) (from : ℕ) : Type 0 where
   pub many : length counts ≡ length ns
   pub are : (i : ℕ) → from ≤ i → i < length ns → slice_index counts i ≡ below_of ns i

@@ -1,4 +1,4 @@
-//! How many nodes stand below each.
+//! How many nodes are below each.
 
 ghost use Rattle.std.specs.Prelude.{◌≡◌, ◌+◌, ◌<◌, length, IfOk};
 ghost use Rattle.weedle_syntax.specs.Tree.{AreCounts, below_of};
@@ -6,7 +6,7 @@ ghost use Rattle.weedle_syntax.specs.Tree.{AreCounts, below_of};
 use crate::node::Node;
 use std::alloc::{AllocError, Global};
 
-/// How many nodes stand below a node, where it is known of those behind it.
+/// How many nodes are below a node, where it is known of those behind it.
 ///
 /// It hops from one node to the next that isn't below it.
 fn count_behind(nodes: &[Node], below: &[usize], i: usize) -> usize
@@ -26,7 +26,7 @@ fn count_behind(nodes: &[Node], below: &[usize], i: usize) -> usize
     next - i - 1
 }
 
-/// How many nodes stand below each, from the last node to the first.
+/// How many nodes are below each, from the last node to the first.
 ///
 /// Each node is hopped over once, and looked at once more.
 pub(crate) fn count_below(alloc: Global, nodes: &[Node]) -> Result<Vec<usize>, AllocError>

@@ -1,7 +1,7 @@
 //! The nodes of a text by descent, without a table.
 //!
-//! A node is laid down before its row is read. Where an attempt fails, what it laid down is taken
-//! back. What can't begin with the byte that stands there isn't tried.
+//! A node is written before its row is read. Where an attempt fails, what it wrote is taken back.
+//! What can't begin with the byte there isn't tried.
 
 ghost use Rattle.std.specs.Prelude.{◌≡◌, ◌≤◌, ◌<◌, ◌+◌, length, IfOk, OnOk};
 ghost use Rattle.weedle_grammar.specs.Rows.{Seq, First, Opt, If};
@@ -26,10 +26,10 @@ use weedle_starts::source::Source;
 
 mod items;
 
-/// Lays down the rule's node and all below it, and says where it ends; nothing where it fails.
+/// Writes the rule's node and all below it, and says where it ends; nothing where it fails.
 ///
-/// What can't begin with the byte that stands there is passed over, and what takes nothing for that
-/// byte is laid at once.
+/// What can't begin with the byte there is passed over, and what takes nothing for that byte is
+/// written at once.
 #[cycle(descent)]
 #[inline(always)]
 pub(crate) fn read(
@@ -61,7 +61,7 @@ pub(crate) fn read(
     }
 }
 
-/// Lays down trivia: at once where it is blanks alone.
+/// Writes trivia: at once where it is whitespace alone.
 #[cycle(descent)]
 fn read_trivia(
     nodes: &mut Vec<Narrow>,
@@ -87,8 +87,8 @@ fn read_trivia(
     }
 }
 
-/// Tries a rule: lays down its node and all below it, and says where it ends; nothing where it
-/// fails. It takes one of the steps.
+/// Tries a rule: writes its node and all below it, and says where it ends; nothing where it fails.
+/// It takes one of the steps.
 #[cycle(descent)]
 fn try_rule(
     nodes: &mut Vec<Narrow>,
@@ -127,7 +127,7 @@ fn try_rule(
     }
 }
 
-/// Lays down what the rule reads directly and all below it, and says where it ends.
+/// Writes what the rule reads directly and all below it, and says where it ends.
 #[cycle(descent)]
 fn read_row(
     nodes: &mut Vec<Narrow>,
@@ -179,7 +179,7 @@ fn read_row(
     }
 }
 
-/// Lays down the parts of a row `Seq`, one behind another.
+/// Writes the parts of a row `Seq`, one behind another.
 #[cycle(descent)]
 fn read_parts(
     nodes: &mut Vec<Narrow>,
@@ -210,7 +210,7 @@ fn read_parts(
     Ok(Some(at))
 }
 
-/// Lays down the first part that fits of a row `First`.
+/// Writes the first part that fits of a row `First`.
 #[cycle(descent)]
 fn read_choice(
     nodes: &mut Vec<Narrow>,
@@ -240,7 +240,7 @@ fn read_choice(
     Ok(None)
 }
 
-/// Lays down the rule of a row `Opt`, or nothing.
+/// Writes the rule of a row `Opt`, or nothing.
 #[cycle(descent)]
 fn read_optional(
     nodes: &mut Vec<Narrow>,
@@ -267,7 +267,7 @@ fn read_optional(
     }
 }
 
-/// Lays down the parts of a row `If`, and the last behind them where the part of this number took
+/// Writes the parts of a row `If`, and the last behind them where the part of this number took
 /// something.
 #[cycle(descent)]
 fn read_conditional(

@@ -1,4 +1,4 @@
-//! Rules that take nothing, by the byte that stands at their place.
+//! Rules that take nothing, by the byte at their place.
 
 ghost use Rattle.std.specs.Prelude.{◌≡◌, IfOk, OnOk};
 ghost use Rattle.weedle_rules.specs.Cells.{HasEnd};
@@ -12,7 +12,7 @@ use std::alloc::AllocError;
 use weedle_grammar::Rule;
 use weedle_starts::source::Source;
 
-/// Lays down the node of an option, a repetition or a list that takes nothing, since what it may go
+/// Writes the node of an option, a repetition or a list that takes nothing, since what it may go
 /// without can't begin there. It takes one of the steps.
 pub(crate) fn lay_empty(
     nodes: &mut Vec<Narrow>,

@@ -97,7 +97,7 @@ pub(crate) fn narrow_within(
 /// The nodes of the definitions at the front of a text, by descent within limits.
 ///
 /// A definition that was read is never taken back, so its nodes are packed at once: those of one
-/// definition alone stand there in 16 bytes each.
+/// definition alone are there in 16 bytes each.
 fn compact_within(alloc: Global, raw: &str, limits: &mut Limits) -> Result<Compact, AllocError>
     ensures { IfOk result (λ nodes. IsFront raw.now nodes) }
 {
@@ -109,7 +109,7 @@ fn compact_within(alloc: Global, raw: &str, limits: &mut Limits) -> Result<Compa
     Ok(Compact { root, below })
 }
 
-/// Lays down the nodes of definitions, one definition after another, and says where they end.
+/// Writes the nodes of definitions, one definition after another, and says where they end.
 fn lay_definitions(
     alloc: Global,
     below: &mut Runs,

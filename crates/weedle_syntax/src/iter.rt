@@ -12,9 +12,9 @@ use std::marker::Model;
 #[derive(Drop)]
 pub struct Children<'s> {
     pub(crate) nodes: &'s [Node],
-    // how many nodes stand below each
+    // how many nodes are below each
     pub(crate) below: &'s [usize],
-    // how deep the node itself stands
+    // how deep the node itself is
     pub(crate) depth: usize,
     pub(crate) next: usize,
     pub(crate) end: usize,
@@ -54,7 +54,7 @@ impl<'s> FusedIterator for Children<'s> {}
 /// [`Syntax::leaves`](crate::Syntax::leaves).
 #[derive(Drop)]
 pub struct Leaves<'s> {
-    // how many nodes stand below each
+    // how many nodes are below each
     pub(crate) below: &'s [usize],
     pub(crate) next: usize,
 }

@@ -1,4 +1,4 @@
-//! What kind of text a rule reads: blanks, a comment, a word.
+//! What kind of text a rule reads: whitespace, a comment, a word.
 
 ghost use Rattle.std.specs.Prelude.{◌≡◌};
 ghost use Rattle.weedle_syntax.specs.Kinds.{
@@ -19,7 +19,7 @@ fn has_letter(bytes: &[u8]) -> bool
 }
 
 impl Node {
-    /// Whether these are blanks: spaces, tabs, CRs and LFs, one at least.
+    /// Whether these are whitespace: spaces, tabs, CRs and LFs, at least one.
     pub fn is_blank(&self) -> bool
         ensures { result ≡ the_is_blank self.now.rule }
     {
@@ -28,7 +28,7 @@ impl Node {
 
     /// Whether this is a line comment or a block comment.
     ///
-    /// A docstring is neither: it belongs to what it stands before, and has a value.
+    /// A docstring is neither: it belongs to what it comes before, and has a value.
     pub fn is_comment(&self) -> bool
         ensures { result ≡ the_is_comment self.now.rule }
     {
@@ -36,7 +36,7 @@ impl Node {
     }
 
     /// Whether this is a word: the letters of a keyword or of a name, as `interface` or `Window`,
-    /// without the blanks and comments round it and without the `_` before a name.
+    /// without the whitespace and comments around it and without the `_` before a name.
     pub fn is_word(&self) -> bool
         ensures { result ≡ the_is_word self.now.rule }
     {

@@ -1,4 +1,4 @@
-//! What descent lays down of a rule: behind nodes that stand there, and at the front of a text.
+//! What descent writes of a rule: behind nodes there, and at the front of a text.
 
 ghost use Rattle.std.specs.Prelude.{◌≡◌, ◌≤◌, ◌<◌, [], length, IfOk, IfNone, IfSome, OnOk};
 ghost use Rattle.weedle_grammar.specs.written.Bound.{rule_count};
@@ -16,13 +16,13 @@ use std::alloc::{AllocError, Global};
 use weedle_grammar::Rule;
 use weedle_starts::source::Source;
 
-/// Lays down the nodes of a rule that is read at a place, behind those that stand there, and says
-/// where it ends; where it fails, nothing is laid down.
+/// Writes the nodes of a rule that is read at a place, behind those there, and says where it ends;
+/// where it fails, nothing is written.
 ///
 /// The first of them is the rule's own, of depth 0. It reads by descent, and asks for memory for
 /// the nodes alone. What it tries is taken from the limits. Where they are spent, or memory is
-/// refused, the answer is an error, and what it laid down is of no use; `limits.are_spent()` says
-/// which it was.
+/// refused, the answer is an error, and what it wrote is of no use; `limits.are_spent()` says which
+/// it was.
 pub fn lay_by_descent(
     nodes: &mut Vec<Node>,
     text: &Source<'_>,
@@ -44,7 +44,8 @@ pub fn lay_by_descent(
     Ok(end)
 }
 
-/// Lays down the nodes of the definitions at the front of a text, and says where the rest begins.
+/// Writes the nodes of the definitions at the front of a text, and says where the remaining input
+/// begins.
 pub(crate) fn front_by_descent(
     nodes: &mut Vec<Narrow>,
     raw: &str,

@@ -1,8 +1,8 @@
 //! The concrete syntax tree of a text: every rule that was read, with its bytes.
 //!
-//! A [`Node`] says of a rule from which byte to which it was read. The nodes of a text stand in
-//! preorder, and no byte is lost: the leaves, one after another, are the text, with its blanks and
-//! comments. [`Syntax`] holds a text with its nodes, to go from node to node.
+//! A [`Node`] says of a rule from which byte to which it was read. The nodes of a text are in
+//! preorder, and no byte is lost: the leaves, one after another, are the text, with its whitespace
+//! and comments. [`Syntax`] holds a text with its nodes, to go from node to node.
 //!
 //! ```rust
 //! use weedle_grammar::Rule;

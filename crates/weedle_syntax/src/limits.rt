@@ -7,14 +7,14 @@ use std::alloc::AllocError;
 
 /// How much a descent may still do: where it would do more, it gives up with an error.
 ///
-/// A caller then reads over the table of ends, whose time and memory follow from the length of the
-/// text. So every text is read within a bound, and with little stack.
+/// A caller then reads over a memo or a packrat table, whose time and memory follow from the length
+/// of the text. So every text is read within a bound, and with little stack.
 #[derive(Clone, Copy)]
 pub struct Limits {
     /// How many rules it may still try. Each rule that is tried takes one; what can't begin with
-    /// the byte that stands there is passed over, and takes none.
+    /// the byte there is passed over, and takes none.
     pub steps: usize,
-    /// How deep the nodes may stand in one another; 0 once a limit was spent.
+    /// How deep the nodes may nest; 0 once a limit was spent.
     pub depth: usize,
 }
 
@@ -45,7 +45,7 @@ impl Limits {
         Ok(())
     }
 
-    /// Whether a descent gave up since one of them was spent, and not for want of memory.
+    /// Whether a descent gave up since one of them was spent, and not because memory runs out.
     pub fn are_spent(&self) -> bool
         ensures { IsTrue result ↔ (self.now.depth ≡ 0) }
     {

@@ -1,4 +1,4 @@
-//! Nodes in 16 bytes each, as a descent lays them down.
+//! Nodes in 16 bytes each, as a descent writes them.
 
 ghost use Rattle.std.specs.Prelude.{◌≡◌, [], ◌∷◌, ◌++◌, length, IfOk};
 ghost use Rattle.weedle_syntax.specs.Compact.{IsNarrow};
@@ -68,8 +68,8 @@ pub(crate) fn packed(
     })
 }
 
-/// Lays a node down behind the others. It is an error where its places or its depth are 2³² or
-/// more, and where memory is refused.
+/// Writes a node behind the others. It is an error where its places or its depth are 2³² or more,
+/// and where memory is refused.
 #[inline(always)]
 pub(crate) fn lay(
     nodes: &mut Vec<Narrow>,
@@ -86,7 +86,7 @@ pub(crate) fn lay(
     Ok(())
 }
 
-/// Puts the nodes behind those that stand there.
+/// Puts the nodes behind those there.
 pub(crate) fn widen(nodes: &mut Vec<Node>, narrow: &[Narrow]) -> Result<(), AllocError>
     ensures { IfOk result (λ _. nodes.new.items ≡ nodes.old.items ++ narrow.now) }
 {

@@ -1,4 +1,4 @@
-//! The calls that lay down the nodes of a text over a memo of what their reading needs.
+//! The calls that write the nodes of a text over a memo of what their reading needs.
 
 ghost use Rattle.std.specs.Prelude.{◌≡◌, ◌↔◌, All, IsSome, IfOk, IfSome, IfNone};
 ghost use Rattle.weedle_rules.specs.Outcomes.{FailsAt};
@@ -20,8 +20,8 @@ use weedle_memo::{RuleMemo, Tables};
 
 /// Every rule that was read where the text is read whole, in preorder; None where it isn't.
 ///
-/// The first node is that of the whole text. Behind a node stand those that it reads directly, each
-/// before its own: so what is below a node are the nodes behind it as long as they are deeper. Of
+/// The first node is that of the whole text. Behind a node are those that it reads directly, each
+/// before its own: so what is below a node are the nodes behind it as long as they are deeper. For
 /// `interface A {` the answer is None.
 ///
 /// It asks for memory for a memo of what the reading tries, as `RuleMemo::new` says, and for the

@@ -1,4 +1,4 @@
-//! Descent within limits, and where they are spent the table.
+//! Descent within limits, and where they are spent a memo.
 
 ghost use Rattle.std.specs.Prelude.{◌≡◌, ◌≤◌, ◌+◌, ◌*◌, ◌↔◌, All, length, take, IsSome, IfOk, IfSome, IfNone};
 ghost use Rattle.std.specs.Bool.{OnFalse};
@@ -25,12 +25,12 @@ use std::alloc::{AllocError, Global};
 use weedle_grammar::Rule;
 
 /// Every rule that was read of a text that is read whole, as [`syntax`] gives them, by descent or
-/// over the table of ends.
+/// over a memo.
 ///
-/// It reads by descent, as [`syntax_by_descent`](crate::syntax_by_descent) does, within limits:
-/// 16 rules for each byte and 4,096 more, 400 nodes deep. Where they are spent it takes
-/// [`syntax`]. So for what people write it needs little time, and no memory but the nodes'; for a
-/// hostile text it needs what [`syntax`] needs, and little stack.
+/// It reads by descent, as [`syntax_by_descent`](crate::syntax_by_descent) does, within limits: 16
+/// rules for each byte and 4,096 more, 400 nodes deep. Where they are spent it takes [`syntax`]. So
+/// for what people write it needs little time, and no memory except for the nodes'; for a hostile
+/// text it needs what [`syntax`] needs, and little stack.
 pub fn syntax_quick(alloc: Global, raw: &str) -> Result<Option<Vec<Node>>, AllocError>
     ensures whole { IfOk result (λ found. IsSome found ↔ IsWhole raw.now) }
     ensures are { IfOk result (λ found. IfSome found (λ nodes. IsSyntax raw.now nodes.items)) }
@@ -51,19 +51,21 @@ pub fn syntax_quick(alloc: Global, raw: &str) -> Result<Option<Vec<Node>>, Alloc
     }
 }
 
-/// Every rule that was read of the definitions at the front of a text, in preorder, whatever stands
-/// behind them.
+/// Every rule that was read of the definitions at the front of a text, in preorder, whatever
+/// follows them.
 ///
-/// The first node ends where the rest begins, which no definition reads. Of `enum E { "a" }; enum`
-/// these are the nodes of the first definition, and the rest begins at 17. Of a text that is read
-/// whole it answers what [`syntax`] answers. So a tool can show a tree while a text is written.
+/// The first node ends where the remaining input begins, which no definition reads. For
+/// `enum E { "a" }; enum` these are the nodes of the first definition, and the remaining input
+/// begins at 17. For a text that is read whole it returns what [`syntax`] returns. So a tool can
+/// show a tree while a text is written.
 ///
-/// It goes by descent or over the table, as [`syntax_quick`] does, and costs the same. Where memory
+/// It reads by descent or over a memo, as [`syntax_quick`] does, and costs the same. Where memory
 /// is refused, the answer is an error.
 pub fn syntax_of_front(alloc: Global, raw: &str) -> Result<Vec<Node>, AllocError>
     ensures are { IfOk result (λ nodes. IsFront raw.now nodes.items) }
 
-    // The bytes of the leaves, one after another, are the text up to where the rest begins.
+    // The bytes of the leaves, one after another, are the text up to where the remaining input
+    // begins.
     ensures lossless { IfOk result
         (λ nodes. leaves_of raw.now nodes.items ≡ take (rest_of nodes.items) raw.now) }
     ensures read { IfOk result (λ nodes. All (IsRead raw.now) nodes.items) }
@@ -91,11 +93,11 @@ fn front_within(alloc: Global, raw: &str, limits: &mut Limits) -> Result<Vec<Nod
 }
 
 /// Every rule that was read where a rule is read at the front of a text, in preorder, whatever
-/// stands behind it; None where the rule fails there.
+/// follows it; None where the rule fails there.
 ///
-/// The first node is that of the rule, and ends where the rest begins. Of `TYPE` and
-/// `long? x` these are the nodes of `long? `. Of `DEFINITIONS` it answers what
-/// [`syntax_of_front`] answers, and it costs the same.
+/// The first node is that of the rule, and ends where the remaining input begins. For `TYPE` and
+/// `long? x` these are the nodes of `long? `. For `DEFINITIONS` it returns what [`syntax_of_front`]
+/// returns, and it costs the same.
 pub fn syntax_of_rule(alloc: Global, raw: &str, rule: Rule) -> Result<Option<Vec<Node>>, AllocError>
     ensures fails { IfOk result (λ found. IfNone found (FailsAt raw.now rule 0)) }
     ensures are { IfOk result
@@ -112,14 +114,14 @@ pub struct Counted {
     pub nodes: Option<Vec<Node>>,
     /// How many rules were tried by descent.
     pub steps: usize,
-    /// Whether the table of ends was filled, since the limits of descent were spent.
+    /// Whether a memo was made, since the limits of descent were spent.
     pub by_table: bool,
 }
 
 /// Every rule that was read where a rule is read at the front of a text, as [`syntax_of_rule`]
 /// gives them, and how many rules were tried for that: at most 16 for each byte and 4,096 more.
 ///
-/// Where these were spent, the table of ends was filled besides, which says itself what it took.
+/// Where these are spent a memo is made, which works out no rule twice at a place.
 pub fn syntax_counted(alloc: Global, raw: &str, rule: Rule) -> Result<Counted, AllocError>
     ensures fails { IfOk result (λ counted. IfNone counted.nodes (FailsAt raw.now rule 0)) }
     ensures are { IfOk result

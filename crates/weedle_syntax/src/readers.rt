@@ -1,4 +1,4 @@
-//! The calls that lay down the nodes of a text, over its packrat table and by descent.
+//! The calls that write the nodes of a text, over its packrat table and by descent.
 
 ghost use Rattle.std.specs.Prelude.{◌≡◌, ◌↔◌, All, IsSome, IfOk, IfSome, IfNone};
 ghost use Rattle.weedle_rules.specs.Outcomes.{FailsAt};
@@ -21,7 +21,7 @@ use std::alloc::{AllocError, Global};
 use weedle_grammar::Rule;
 use weedle_rules::Ends;
 
-/// Every rule that was read of a text that is read whole, in preorder, over its table of ends.
+/// Every rule that was read of a text that is read whole, in preorder, over its packrat table.
 ///
 /// It asks for memory for the nodes alone.
 pub fn syntax_of(alloc: Global, ends: &Ends<'_>) -> Result<Option<Vec<Node>>, AllocError>
@@ -89,8 +89,8 @@ pub(crate) fn whole_within(
     Ok(None)
 }
 
-/// Every rule that was read of the definitions at the front of a text, in preorder, over the table
-/// of ends of the whole text.
+/// Every rule that was read of the definitions at the front of a text, in preorder, over the
+/// packrat table of the whole text.
 ///
 /// It asks for memory for the nodes alone.
 pub fn front_of(alloc: Global, ends: &Ends<'_>) -> Result<Vec<Node>, AllocError>
@@ -103,7 +103,7 @@ pub fn front_of(alloc: Global, ends: &Ends<'_>) -> Result<Vec<Node>, AllocError>
 }
 
 /// Every rule that was read where a rule is read at the front of a text, in preorder, over the
-/// table of ends of the whole text; None where the rule fails there.
+/// packrat table of the whole text; None where the rule fails there.
 ///
 /// It asks for memory for the nodes alone.
 pub fn rule_of_table(

@@ -21,7 +21,7 @@ pub(crate) struct Short {
     end: u16,
 }
 
-/// Nodes that stand one behind another, short or long.
+/// Nodes one behind another, short or long.
 #[derive(Clone, Copy)]
 pub(crate) struct Run {
     /// From where the places of short ones count.

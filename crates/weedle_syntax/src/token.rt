@@ -1,4 +1,4 @@
-//! Blanks and names: a byte of a class, and a run of bytes behind it.
+//! Whitespace and names: a byte of a class, and a run of bytes behind it.
 
 ghost use Rattle.std.specs.Prelude.{◌≡◌, ◌≤◌, ◌<◌, [], ◌∷◌, length, IfOk, OnOk, if◌then◌else◌};
 ghost use Rattle.weedle_grammar.specs.Rows.{OneOf, Run, Seq};
@@ -15,7 +15,7 @@ use std::alloc::AllocError;
 use weedle_grammar::{Class, Rule};
 use weedle_starts::source::Source;
 
-/// Lays down the two parts of a token, as `read_parts` does, with no call for each: a byte of one
+/// Writes the two parts of a token, as `read_parts` does, with no call for each: a byte of one
 /// class, and a run of another behind it.
 #[inline(always)]
 pub(crate) fn read_token(
@@ -55,7 +55,7 @@ pub(crate) fn read_token(
     Ok(Some(end))
 }
 
-/// Lays down the parts of blanks.
+/// Writes the parts of whitespace.
 #[inline(always)]
 pub(crate) fn read_blanks(
     nodes: &mut Vec<Narrow>,
@@ -88,7 +88,7 @@ pub(crate) fn read_blanks(
     )
 }
 
-/// Lays down the parts of the text of a name.
+/// Writes the parts of the text of a name.
 #[inline(always)]
 pub(crate) fn read_name(
     nodes: &mut Vec<Narrow>,

@@ -49,7 +49,7 @@ use weedle_rules::Ends;
 /// A text with its nodes, to go from node to node.
 ///
 /// A node is named by its number in preorder, from 0 on. So a node's number is greater than those
-/// of the nodes that it stands in, and what is below a node has the numbers behind its own.
+/// of the nodes that it is in, and what is below a node has the numbers behind its own.
 ///
 /// In `enum E { "a" };` node 0 is the root, of the rule `DEFINITIONS`, and node 1 its child, of the
 /// rule `DEFINITION`.
@@ -57,7 +57,7 @@ use weedle_rules::Ends;
 pub struct Syntax<'a> {
     text: &'a str,
     nodes: Vec<Node>,
-    // how many nodes stand below each
+    // how many nodes are below each
     below: Vec<usize>,
 }
 
@@ -76,9 +76,8 @@ impl<'a> Model for Syntax<'a> {
 impl<'a> Syntax<'a> {
     /// The nodes of a text that is read whole; None of one that isn't, as `interface A {`.
     ///
-    /// It reads as [`syntax_quick`](crate::syntax_quick) does, and costs the same; beside that it
-    /// asks for memory once, 8 bytes for each node. Where memory is refused, the answer is an
-    /// error.
+    /// It reads as [`syntax_quick`](crate::syntax_quick) does, and costs the same; besides, it asks
+    /// for memory once, 8 bytes for each node. Where memory is refused, the answer is an error.
     pub fn new(alloc: Global, text: &'a str) -> Result<Option<Syntax<'a>>, AllocError>
         ensures whole { IfOk result (λ found. IsSome found ↔ IsWhole text.entry.now) }
         ensures text { IfOk result (λ found. IfSome found (λ s. s.text ≡ text.entry.now)) }
@@ -91,11 +90,11 @@ impl<'a> Syntax<'a> {
         Ok(None)
     }
 
-    /// The nodes of the definitions at the front of a text, whatever stands behind them.
+    /// The nodes of the definitions at the front of a text, whatever follows them.
     ///
-    /// [`rest`](Syntax::rest) says where the rest begins, which no definition reads: so a tool has
-    /// a tree while a text is written. It costs what [`new`](Syntax::new) costs. Where memory is
-    /// refused, the answer is an error.
+    /// [`rest`](Syntax::rest) says where the remaining input begins, which no definition reads: so
+    /// a tool has a tree while a text is written. It costs what [`new`](Syntax::new) costs. Where
+    /// memory is refused, the answer is an error.
     pub fn of_front(alloc: Global, text: &'a str) -> Result<Syntax<'a>, AllocError>
         ensures text { IfOk result (λ s. s.text ≡ text.entry.now) }
         ensures are { IfOk result (λ s. IsFront s.text s.nodes) }
@@ -105,7 +104,7 @@ impl<'a> Syntax<'a> {
         Ok(Syntax { text, nodes, below })
     }
 
-    /// The nodes of a text that is read whole, over its table of ends; None of one that isn't.
+    /// The nodes of a text that is read whole, over its packrat table; None of one that isn't.
     ///
     /// It asks for memory for the nodes, and once for 8 bytes for each.
     pub fn of_table(alloc: Global, ends: &Ends<'a>) -> Result<Option<Syntax<'a>>, AllocError>
@@ -126,7 +125,7 @@ impl<'a> Syntax<'a> {
         }
     }
 
-    /// The text. It takes no memory, as none of the following but those that return a `Vec`.
+    /// The text. It takes no memory, as none of the following except for those that return a `Vec`.
     pub fn text(&self) -> &'a str
         ensures { result.now ≡ self.now.text }
     {
@@ -141,7 +140,7 @@ impl<'a> Syntax<'a> {
         &self.nodes
     }
 
-    /// Where the rest begins, in bytes: the end of the text, where it is read whole.
+    /// Where the remaining input begins, in bytes: the end of the text, where it is read whole.
     pub fn rest(&self) -> usize
         ensures value { result ≡ rest_of self.now.nodes }
         ensures begins { RestBegins self.now.text result }
@@ -159,7 +158,7 @@ impl<'a> Syntax<'a> {
         0
     }
 
-    /// How many nodes stand below a node: they have the numbers behind its own. One step.
+    /// How many nodes are below a node: they have the numbers behind its own. One step.
     pub fn below(&self, node: usize) -> usize
         requires { node < length self.now.nodes }
         ensures value { result ≡ below_of self.now.nodes node }
@@ -170,8 +169,8 @@ impl<'a> Syntax<'a> {
 
     /// The bytes of a node. One step.
     ///
-    /// Most rules take the blanks and comments behind them, so in `interface A {};` the text of the
-    /// keyword's node is `interface ` with the blank.
+    /// Most rules take the whitespace and comments behind them, so in `interface A {};` the text of
+    /// the keyword's node is `interface ` with the space.
     pub fn text_of(&self, node: usize) -> &'a str
         requires { node < length self.now.nodes }
         ensures { result.now
@@ -222,7 +221,7 @@ impl<'a> Syntax<'a> {
 
     /// The nodes that a node reads directly, in their order. It takes a step for each.
     ///
-    /// Those of the root are the definitions, with what stands between them.
+    /// Those of the root are the definitions, with what is between them.
     pub fn children(&self, node: usize) -> Children<'_>
         requires { node < length self.now.nodes }
         ensures { result ≡ children_of self.now.nodes node }
@@ -254,7 +253,8 @@ impl<'a> Syntax<'a> {
         None
     }
 
-    /// The leaf that holds a byte: the deepest node there. None from where the rest begins on.
+    /// The leaf that holds a byte: the deepest node there. None from where the remaining input
+    /// begins on.
     ///
     /// It halves the nodes: of a million it looks at 20.
     pub fn at(&self, byte: usize) -> Option<usize>
@@ -291,7 +291,8 @@ impl<'a> Syntax<'a> {
 
     /// The leaves, in their order: the nodes that read no other. A step for each node.
     ///
-    /// Their bytes, one after another, are the text up to where the rest begins. Some take no byte.
+    /// Their bytes, one after another, are the text up to where the remaining input begins. Some
+    /// take no byte.
     pub fn leaves(&self) -> Leaves<'_>
         ensures { result ≡ leaf_numbers self.now.nodes }
     {
@@ -304,7 +305,8 @@ impl<'a> Syntax<'a> {
     /// The first leaf from a number on: a node that reads no other. A step for each node that it
     /// passes.
     ///
-    /// The leaves, one after another, are the text up to where the rest begins. Some take no byte.
+    /// The leaves, one after another, are the text up to where the remaining input begins. Some
+    /// take no byte.
     pub fn next_leaf(&self, from: usize) -> Option<usize>
         ensures { FindsNext (IsLeaf self.now.nodes) from (length self.now.nodes) result }
     {

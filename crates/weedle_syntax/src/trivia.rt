@@ -1,4 +1,4 @@
-//! Trivia that is blanks alone, which is laid down at once.
+//! Trivia that is whitespace alone, which is written at once.
 
 ghost use Rattle.std.specs.Prelude.{◌≡◌, ◌≤◌, length, IfOk, IfSome, OnOk};
 ghost use Rattle.weedle_grammar.specs.written.Table.Trivia.{TRIVIA};
@@ -12,8 +12,8 @@ use std::alloc::AllocError;
 use weedle_grammar::{Class, Rule};
 use weedle_starts::source::Source;
 
-/// Where blanks end that stand at a place without a comment before or behind them, and where the
-/// first of them ends; None of other trivia. Blanks at the end of a text count as others.
+/// Where whitespace ends at a place without a comment before or behind it, and where its first byte
+/// ends; None of other trivia. Whitespace at the end of a text counts as other trivia.
 pub(crate) fn blanks_alone(text: &Source<'_>, place: usize) -> Option<(usize, usize)>
     requires { place ≤ length text.now }
     ensures { IfSome result (λ ends. AreBlanksAlone text.now place ends.0 ends.1) }
@@ -34,7 +34,7 @@ pub(crate) fn blanks_alone(text: &Source<'_>, place: usize) -> Option<(usize, us
     Some((first, end))
 }
 
-/// Lays down trivia that is these blanks alone: its node and all four below it. It takes five of
+/// Writes trivia that is this whitespace alone: its node and all four below it. It takes five of
 /// the steps.
 pub(crate) fn lay_blanks(
     nodes: &mut Vec<Narrow>,

@@ -87,8 +87,8 @@ pub(crate) fn laid_from(
     Ok(nodes)
 }
 
-/// Lays down the nodes of a rule that is read at a place, behind those that stand there, over the
-/// table of ends, and says where it ends; where it fails, nothing is laid down.
+/// Writes the nodes of a rule that is read at a place, behind those there, over the packrat table,
+/// and says where it ends; where it fails, nothing is written.
 ///
 /// The first of them is the rule's own, of depth 0. There is no recursion, and it asks for memory
 /// for the nodes alone.

@@ -1,13 +1,13 @@
-//! Says what a table of ends tells of the text on standard input.
+//! Says what a packrat table tells of the text on standard input.
 //!
 //! ```text
 //! weedle_table places | names | diagnosis
 //! ```
 //!
-//! With `places` it prints where each definition stands, in bytes from the front of the text: the
-//! whole of it, its core, the blanks and comments in front of that, and its name, or `-` where it
-//! has none. Below it stand its members, or the values of an enum, each behind two blanks; and last
-//! how many definitions there are. Of `enum E { "a" };` that is
+//! With `places` it prints where each definition is, in bytes from the front of the text: the whole
+//! of it, its core, the whitespace and comments in front of that, and its name, or `-` where it has
+//! none. Below it are its members, or the values of an enum, each behind two spaces; and last how
+//! many definitions there are. For `enum E { "a" };` that is
 //!
 //! ```text
 //! definition 0..15 0..15 0..0 5..6
@@ -15,15 +15,16 @@
 //! 1 definition
 //! ```
 //!
-//! With `names` it prints of each name what it stands for, where it stands and its letters, and
-//! then how many there are. Of `A includes _B;` that is `Includer 0..1 A`, `Included 11..13 B` and
-//! `2 names`. Of a text that isn't read whole both print `refused`.
+//! With `names` it prints of each name what it stands for, where it is and its letters, and then
+//! how many there are. For `A includes _B;` that is `Includer 0..1 A`, `Included 11..13 B` and
+//! `2 names`. For a text that isn't read whole both print `refused`.
 //!
 //! With `diagnosis` it prints the furthest place to which the reading of the text comes, and the
-//! rules that fail there, blanks and comments among them: `8 bytes_slash_slash one_of_blank
-//! bytes_slash_star bytes_quote bytes_three_slashes` for `enum E {};`.
+//! rules that fail there, whitespace and comments among them:
+//! `8 bytes_slash_slash one_of_blank bytes_slash_star bytes_quote bytes_three_slashes` for
+//! `enum E {};`.
 //!
-//! It fills a table of ends of the whole text, whatever the text is. So tests see by it that each
+//! It fills a packrat table of the whole text, whatever the text is. So tests see by it that each
 //! call over a table answers where memory is ample, also of a long text, and how much it asks for.
 //!
 //! The status is 0 where there is an answer, 1 where a text has no places, 2 where the input can't

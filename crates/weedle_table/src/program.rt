@@ -16,7 +16,7 @@ const USAGE: &str = "usage: weedle_table places | names | diagnosis";
 /// What is asked of a text.
 #[derive(Clone, Copy, Debug, PartialEq, Eq)]
 enum Task {
-    /// Where its definitions and their members stand.
+    /// Where its definitions and their members are.
     Places,
     /// Its names, and what they stand for.
     Names,
@@ -68,7 +68,7 @@ fn task_of(mut arguments: Args) -> Result<Task, Fault> {
     }
 }
 
-/// Writes where each definition, its members and its values stand.
+/// Writes where each definition, its members and its values are.
 fn write_places<W: Write>(alloc: Global, text: &str, out: &mut W) -> Result<Outcome, Fault> {
     let table = Ends::new(alloc, text)?;
     let Some(found) = places_of(alloc, &table)? else {
@@ -93,7 +93,7 @@ fn write_count<W: Write>(many: usize, name: &str, out: &mut W) -> io::Result<()>
     writeln!(out, "{many} {name}{ending}")
 }
 
-/// Writes where a definition stands, and below that its members and its values.
+/// Writes where a definition is, and below that its members and its values.
 fn write_place<W: Write>(place: &Place, out: &mut W) -> io::Result<()> {
     let own = MemberPlace {
         span: place.span,
@@ -111,8 +111,7 @@ fn write_place<W: Write>(place: &Place, out: &mut W) -> io::Result<()> {
     Ok(())
 }
 
-/// Writes where a part stands: the whole of it, its core, what stands in front of that, and its
-/// name.
+/// Writes where a part is: the whole of it, its core, what is in front of that, and its name.
 fn write_part<W: Write>(kind: &str, part: &MemberPlace, out: &mut W) -> io::Result<()> {
     write!(out, "{kind}")?;
     for span in [part.span, part.core, part.front] {
@@ -130,7 +129,7 @@ fn write_span<W: Write>(span: Span, out: &mut W) -> io::Result<()> {
     write!(out, " {}..{}", span.start, span.end)
 }
 
-/// Writes where each name stands, what it stands for, and its letters.
+/// Writes where each name is, what it stands for, and its letters.
 fn write_names<W: Write>(alloc: Global, text: &str, out: &mut W) -> Result<Outcome, Fault> {
     let ends = Ends::new(alloc, text)?;
     let Some(syntax) = Syntax::of_table(alloc, &ends)? else {

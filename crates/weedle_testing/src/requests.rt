@@ -2,9 +2,9 @@
 //!
 //! Nothing inside a test can have memory refused. So a test of such calls can be run with one
 //! request refused, the Nth of all that it makes, as tools/refused_requests.py does for each N. It
-//! makes each call twice: of all its calls one at most may want memory, and each else has to answer
-//! as with ample memory. What it does besides takes no memory, up to the end, where it asks for
-//! memory itself: so it tells whether the refused request was a call's.
+//! makes each call twice: of all its calls one at most may run out of memory, and each else has to
+//! answer as with ample memory. What it does besides takes no memory, up to the end, where it asks
+//! for memory itself: so it tells whether the refused request was a call's.
 
 use crate::printed::is_printed;
 use crate::rows::{Row, Unlike, other_value, same_rest};
@@ -12,7 +12,7 @@ use std::alloc::{AllocError, Global};
 use std::fmt::Debug;
 use weedle_base::{Err, Error, ErrorKind, Parse, TryClone};
 
-/// How many calls of a test wanted memory.
+/// How many calls of a test ran out of memory.
 #[derive(Clone, Copy, Debug, Default, PartialEq, Eq)]
 pub struct Wanted {
     calls: usize,
@@ -24,12 +24,12 @@ impl Wanted {
         Wanted { calls: 0 }
     }
 
-    /// Counts a call that wanted memory.
+    /// Counts a call that ran out of memory.
     pub fn count(&mut self) {
         self.calls = self.calls.saturating_add(1);
     }
 
-    /// What a call gave, or nothing where it wanted memory, which is counted.
+    /// What a call gave, or nothing where it ran out of memory, which is counted.
     pub fn given<T>(&mut self, answer: Result<T, AllocError>) -> Option<T> {
         match answer {
             Ok(value) => Some(value),
@@ -40,7 +40,7 @@ impl Wanted {
         }
     }
 
-    /// Counts the fault of a call with the text where it is want of memory, at what ends the text.
+    /// Counts the fault of a call with the text where it is 'out of memory', at what ends the text.
     pub fn fault<'a>(
         &mut self,
         text: &'a str,
@@ -60,9 +60,10 @@ impl Wanted {
         }
     }
 
-    /// Reads each example, which is to be read so or to want memory, and copies what it reads; the
-    /// other texts are to be refused or to want memory. A copy equals its original, which stays as
-    /// it is where the copy wants memory. An error says of which text it isn't so, and how.
+    /// Reads each example, which is to be read so or to run out of memory, and copies what it
+    /// reads; the other texts are to be refused or to run out of memory. A copy equals its
+    /// original, which stays as it is where the copy runs out of memory. An error says of which
+    /// text it isn't so, and how.
     pub fn reads<'a, T: Parse<'a> + TryClone + PartialEq + Debug>(
         &mut self,
         alloc: Global,
@@ -117,8 +118,8 @@ impl Wanted {
         }
     }
 
-    /// Copies what is printed as the value, twice, and says whether each copy equals it or wants
-    /// memory, and it is printed so still.
+    /// Copies what is printed as the value, twice, and says whether each copy equals it or runs out
+    /// of memory, and it is printed so still.
     pub fn copies<T: TryClone + PartialEq + Debug>(
         &mut self,
         alloc: Global,

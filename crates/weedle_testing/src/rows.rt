@@ -7,7 +7,7 @@ use std::alloc::Global;
 use std::fmt::Debug;
 use weedle_base::Parse;
 
-/// An example: a text, the rest that is left of it, and its value.
+/// An example: a text, the remaining input, and its value.
 pub type Row<'a> = (&'a str, &'a str, &'a str);
 
 /// Why a text isn't read as is expected: what a test says that fails.
@@ -19,20 +19,20 @@ pub enum Unlike<'a> {
     NoMismatch(&'a str),
     /// The text doesn't end the call, or elsewhere.
     NoFailure(&'a str),
-    /// Another rest of the text is left than is wanted.
+    /// Other input remains than is expected.
     Rest {
         text: &'a str,
         wanted: &'a str,
         left: &'a str,
     },
-    /// Another value is read than is wanted; where what was read is printed so, a copy doesn't
+    /// Another value is read than is expected; where what was read is printed so, a copy doesn't
     /// equal it. There may be no memory to print it.
     Value {
         text: &'a str,
         wanted: &'a str,
         read: Option<String>,
     },
-    /// The call ends by a fault that isn't want of memory.
+    /// The call ends by a fault that isn't 'out of memory'.
     Fault(&'a str),
 }
 

@@ -39,7 +39,7 @@ fn arguments_are_read_and_copied_or_want_memory(rt: HostRuntime) -> Result<(), F
                  Long(LongType { unsigned: None, long: Long }), q_mark: None }))) }, \
                  identifier: Identifier(\"x\"), default: None })",
             ),
-            // A default stands behind an optional argument.
+            // A default follows an optional argument.
             (
                 "long x = 5",
                 "= 5",
@@ -96,7 +96,7 @@ fn arguments_are_read_and_copied_or_want_memory(rt: HostRuntime) -> Result<(), F
     wanted.reads::<ArgumentList<'_>>(
         alloc,
         &[
-            // A list of arguments gives back a separator.
+            // A list of arguments doesn't take a separator that no item follows.
             (
                 "long x, long",
                 ", long",

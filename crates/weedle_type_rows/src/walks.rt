@@ -5,7 +5,7 @@ use std::test::Fail;
 use weedle_base::Parse;
 use weedle_types::types::{NonAnyType, SingleType, Type, UnionMemberType};
 
-/// How many sequences and frozen arrays stand in one another.
+/// How deep sequences and frozen arrays nest.
 #[cycle(lists)]
 pub fn lists_in(type_: &Type<'_>) -> usize {
     match type_ {
@@ -15,7 +15,7 @@ pub fn lists_in(type_: &Type<'_>) -> usize {
     }
 }
 
-/// How many stand in one another in a type that is neither `any` nor a union.
+/// How deep they nest in a type that is neither `any` nor a union.
 #[cycle(lists)]
 fn lists_in_non_any(type_: &NonAnyType<'_>) -> usize {
     match type_ {
@@ -25,7 +25,7 @@ fn lists_in_non_any(type_: &NonAnyType<'_>) -> usize {
     }
 }
 
-/// How many stand in one another in that member of a union that has the most.
+/// How deep they nest in that member of a union where they nest deepest.
 #[cycle(lists)]
 #[tactic(auto, using(weedle_types::proofs::TreeLaws::clone_steps, weedle_types::proofs::Smaller::member_smaller))]
 fn lists_in_members(members: &Vec<UnionMemberType<'_>>) -> usize {
@@ -36,7 +36,7 @@ fn lists_in_members(members: &Vec<UnionMemberType<'_>>) -> usize {
     most
 }
 
-/// How many stand in one another in a member of a union.
+/// How deep they nest in a member of a union.
 #[cycle(lists)]
 fn lists_in_member(member: &UnionMemberType<'_>) -> usize {
     match member {

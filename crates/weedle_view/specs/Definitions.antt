@@ -6,7 +6,7 @@ use Rattle.weedle_modifier.specs.declared.inheritance.Inheritance.{Inheritance}
 use Rattle.weedle_parts.specs.declared.common.docstring.Docstring.{Docstring}
 use Rattle.weedle_types.specs.PartTrees.{Attributes}
 
--- the extended attributes of a definition, where brackets stand
+-- the extended attributes of a definition, where brackets are
 abbrev pub attributes_of_definition : Definition → Attributes
 attributes_of_definition (IsCallback v) = v.attributes
 attributes_of_definition (IsCallbackInterface v) = v.attributes
@@ -23,7 +23,7 @@ attributes_of_definition (IsTypedef v) = v.attributes
 attributes_of_definition (IsIncludesStatement v) = v.attributes
 attributes_of_definition (IsImplements v) = v.attributes
 
--- the docstring of a definition, where its kind has that field and one stands
+-- the docstring of a definition, where its kind has that field and one is
 abbrev pub docstring_of_definition : Definition → Option Docstring
 docstring_of_definition (IsCallback v) = None
 docstring_of_definition (IsCallbackInterface v) = v.docstring

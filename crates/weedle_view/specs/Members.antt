@@ -40,7 +40,7 @@ pub record View : Type 0 where
   pub type_ : Option «Type»
   pub arguments : Option ParenthesizedArgumentList
 
--- what stands where a view refers to
+-- what is where a view refers to
 abbrev pub seen : MemberView → View
 seen v = record { kind = v.kind; docstring = option_copied v.docstring; attributes = option_copied v.attributes; identifier = option_copied v.identifier; const_type = option_copied v.const_type; return_type = option_copied v.return_type; key_type = option_copied v.key_type; type_attributes = option_copied v.type_attributes; type_ = option_copied v.type_; arguments = option_copied v.arguments }
 

@@ -1,9 +1,10 @@
 -- The names that types speak of, in the order of the text.
 --
--- The logic holds a value that leads back to itself in types of its own, as the trees of these types are written
--- (weedle_types/specs/Trees.antt): what one value holds of another (`Held-..`), the items of a list (`Row_of-..`), and the
--- variants with all their fields laid out (`Single'`). The first definition goes over these. Those behind it say the same
--- of the types as they are written.
+-- The logic holds a value that leads back to itself in types of its own, as the trees of these
+-- types are written (weedle_types/specs/Trees.antt): what one value holds of another (`Held-..`),
+-- the items of a list (`Row_of-..`), and the variants with all their fields one by one (`Single'`).
+-- The first definition goes over these. Those behind it say the same of the types as they are
+-- written.
 use Rattle.std.specs.Prelude.{List, [], ◌∷◌, ◌++◌, None, Some, flat_map}
 use Rattle.weedle_parts.specs.declared.common.brackets.Bracketed.{Bracketed}
 use Rattle.weedle_parts.specs.declared.common.identifier.Identifier.{Identifier}
@@ -148,7 +149,7 @@ names_in_arguments v = flat_map names_in_argument v.body.list.items
 abbrev pub names_in_attribute_list : Bracketed (Punctuated ExtendedAttribute Comma) → List Identifier
 names_in_attribute_list v = flat_map names_in_attribute v.body.list.items
 
--- of extended attributes in brackets, where they stand
+-- of extended attributes in brackets, where present
 abbrev pub names_in_attributes : Attributes → List Identifier
 names_in_attributes None = []
 names_in_attributes (Some v) = names_in_attribute_list v

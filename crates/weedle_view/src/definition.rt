@@ -14,8 +14,8 @@ use weedle_parts::common::Docstring;
 use weedle_types::attribute::ExtendedAttributeList;
 
 /// The extended attributes of a definition, as `[Exposed=Window]` of
-/// `[Exposed=Window] interface A {};`: None where no brackets stand. Every kind may have them. It
-/// takes no memory.
+/// `[Exposed=Window] interface A {};`: None where there are no brackets. Every kind may have them.
+/// It takes no memory.
 ///
 /// ```rust
 /// use weedle_base::Parse;

@@ -1,7 +1,7 @@
 //! The kinds of members.
 
-/// Which kind of member it is, whatever list it stands in: an attribute of an interface, of a mixin
-/// or of a namespace is an `Attribute`.
+/// Which kind of member it is, whatever list it is in: an attribute of an interface, of a mixin or
+/// of a namespace is an `Attribute`.
 #[derive(Clone, Copy, Debug, PartialEq, Eq)]
 pub enum MemberKind {
     /// A constant, as `const long X = 5;`.

@@ -28,14 +28,14 @@ use weedle_types::argument::ParenthesizedArgumentList;
 use weedle_types::attribute::ExtendedAttributeList;
 use weedle_types::types::{AttributedType, ReturnType, Type};
 
-/// What a member has, by reference, whatever list it stands in: each part where the member has it.
+/// What a member has, by reference, whatever list it is in: each part where the member has it.
 #[derive(Clone, Copy)]
 pub struct MemberView<'v, 'a> {
     /// Which kind of member it is.
     pub kind: MemberKind,
-    /// The docstring in front, where one stands.
+    /// The docstring in front, where present.
     pub docstring: Option<&'v Docstring>,
-    /// The extended attributes in brackets in front of the member, where they stand.
+    /// The extended attributes in brackets in front of the member, where present.
     pub attributes: Option<&'v ExtendedAttributeList<'a>>,
     /// Its name: an operation may lack one, and a constructor, an iteration, a map, a set and a
     /// stringifier have none.
@@ -46,7 +46,7 @@ pub struct MemberView<'v, 'a> {
     pub return_type: Option<&'v ReturnType<'a>>,
     /// The type of the keys of a map or of an iteration over pairs.
     pub key_type: Option<&'v AttributedType<'a>>,
-    /// The extended attributes in front of `type_`, where they stand.
+    /// The extended attributes in front of `type_`, where present.
     pub type_attributes: Option<&'v ExtendedAttributeList<'a>>,
     /// The type of an attribute or of a member of a dictionary; of an iteration, a map or a set
     /// that of its values.

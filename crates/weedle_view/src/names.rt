@@ -22,7 +22,7 @@ use weedle_types::argument::ParenthesizedArgumentList;
 use weedle_types::attribute::ExtendedAttributeList;
 use weedle_types::types::{ReturnType, Type};
 
-/// The names that a type speaks of, in the order of the text, each as often as it stands there:
+/// The names that a type speaks of, in the order of the text, each as often as it occurs there:
 /// `Node` and `Attr` of `(sequence<Node?> or record<DOMString, Attr>)`, and none of `long`.
 ///
 /// A union's members may have extended attributes with arguments, as `[A(Node x)] long`; the names
@@ -99,8 +99,8 @@ pub fn type_names_of_arguments<'a>(
 
 /// The names that the types of the arguments in extended attributes speak of, as [`type_names`]
 /// gives them: `Node` of `[Exposed=Window, NamedConstructor=Image(Node node)]`. The names of the
-/// extended attributes, and what stands behind their `=`, aren't among them. It fails where memory
-/// for the list is refused.
+/// extended attributes, and what follows their `=`, aren't among them. It fails where memory for
+/// the list is refused.
 ///
 /// ```rust
 /// use weedle_base::Parse;

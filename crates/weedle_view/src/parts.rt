@@ -49,8 +49,8 @@ pub fn definition_named<'d, 'a>(
 }
 
 /// The parts of a name, as `partial interface A {};` for `A`, in the order of the definitions.
-/// Whatever has the name is told, also where that makes no sense, as a part of a dictionary beside
-/// an interface. It takes memory for the list, and fails where that is refused.
+/// Whatever has the name is returned, also where that makes no sense, as a part of a dictionary
+/// beside an interface. It takes memory for the list, and fails where that is refused.
 ///
 /// ```rust
 /// use weedle_base::Parse;

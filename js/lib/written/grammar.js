@@ -1,5 +1,5 @@
 /*
- * The rules of the grammar. What each reads stands in docs/GRAMMAR.md.
+ * The rules of the grammar. What each reads is in docs/GRAMMAR.md.
  *
  * Written by tools/write/javascript_types.py, and not edited by hand.
  */

@@ -55,7 +55,7 @@ export type Role =
   /** An extended attribute, as `Exposed` in `[Exposed=Window]`. */
   | "ExtendedAttribute"
   /**
-   * What stands behind the `=` of an extended attribute, as `Window` in `[Exposed=Window]` and in
+   * What follows the `=` of an extended attribute, as `Window` in `[Exposed=Window]` and in
    * `[Exposed=(Window,Worker)]`, and `Image` in `[NamedConstructor=Image(long x)]`.
    */
   | "ExtendedAttributeValue";

@@ -41,7 +41,7 @@ def main(words: Sequence[str] = ()) -> int:
         return MISUSED
     try:
         given, taken = (os.fdopen(os.dup(it), mode) for it, mode in ((IN, "rb"), (OUT, "wb")))
-        # what is printed by mistake must not stand among the messages
+        # what is printed by mistake must not be among the messages
         os.dup2(ERRORS, OUT)
         return Server(given, taken).run()  # type: ignore[arg-type]  # both are of bytes
     except OSError:

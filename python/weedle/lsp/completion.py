@@ -42,7 +42,7 @@ NONE: FrozenSet[str] = frozenset()
 
 
 def completions(workspace: Workspace, source: Source, place: int) -> List[Json]:
-    """What may go on at a place, or stand there in place of the word."""
+    """What may go on at a place, or be there in place of the word."""
     word = source.word_at(place)
     front = front_at(source.data, source.begun_before(word.start), word.start)
     if front is None:
@@ -83,7 +83,7 @@ def words_shown(words: AbstractSet[str], order: str) -> Iterator[Json]:
 
 
 def place_in_brackets(words: Tuple[bytes, ...]) -> Optional[bytes]:
-    """Within extended attributes what stands in front: `[`, a `,`, or the attribute of a value.
+    """Within extended attributes what is in front: `[`, a `,`, or the attribute of a value.
 
     None elsewhere, as among the arguments of an attribute.
     """
@@ -110,7 +110,7 @@ def attribute_items(workspace: Workspace, at: bytes) -> Iterator[Json]:
 
 
 def attribute_names(workspace: Workspace, at: str) -> AbstractSet[str]:
-    """The extended attributes that are known or stand in the files, or the values of one."""
+    """The extended attributes that are known or be in the files, or the values of one."""
     found = set(KNOWN) if at == "[" else set()
     for source in workspace.sources():
         for name, values in source.attributes.items():

@@ -1,4 +1,4 @@
-"""Syntax errors as an editor shows them, and what would mend each as an action."""
+"""Syntax errors as an editor shows them, and what would fix each as an action."""
 
 from __future__ import annotations
 
@@ -10,7 +10,7 @@ from weedle.lsp.protocol import Json, Severity
 from weedle.lsp.reading import Hint, Problem
 from weedle.lsp.sources import Source
 
-# A change that mends an error: what it is called, what it replaces, and by what.
+# A change that fixes an error: what it is called, what it replaces, and by what.
 Mending = Tuple[str, Span, str]
 # The hints that tell a change; each has what is to be written between backticks.
 IN_PLACE = re.compile(r"`(?P<new>[^`]+)` in place of `(?P<old>[^`]+)`\?")
@@ -42,7 +42,7 @@ def unchecked(fault: Exception) -> Json:
 
 
 def diagnostic(source: Source, problem: Problem) -> Json:
-    """A syntax error. It stands where the hint is, if there is one, and else where reading ends."""
+    """A syntax error. It is where the hint is, if there is one, and else where reading ends."""
     place, hint = problem.place, problem.hint
     found: Json = {
         "range": source.range(marked(source, hint.place if hint else place)),
@@ -72,13 +72,13 @@ def marked(source: Source, place: int) -> Span:
 
 
 def actions(source: Source, span: Span) -> List[Json]:
-    """What would mend the errors of a text at a part of it."""
+    """What would fix the errors of a text at a part of it."""
     found = []
     first, last = source.lines.line_of(span.start), source.lines.line_of(span.end)
     for problem in source.reading.problems[:MOST]:
         shown = diagnostic(source, problem)
         edit = mending(source.data, problem.hint) if problem.hint else None
-        # the line of an error offers what mends it
+        # the line of an error offers what fixes it
         lines = shown["range"]["start"]["line"], shown["range"]["end"]["line"]
         if edit and lines[0] <= last and first <= lines[1]:
             found.append(action(source, shown, *edit))
@@ -86,7 +86,7 @@ def actions(source: Source, span: Span) -> List[Json]:
 
 
 def action(source: Source, shown: Json, title: str, span: Span, new: str) -> Json:
-    """A change that mends an error."""
+    """A change that fixes an error."""
     edit = {"range": source.range(span), "newText": new}
     return {
         "title": title, "kind": "quickfix", "diagnostics": [shown], "isPreferred": True,
@@ -139,7 +139,7 @@ def removed(data: bytes, place: int, old: str) -> Optional[Mending]:
 
 
 def moved(data: bytes, place: int, old: str, new: str) -> Optional[Mending]:
-    """A word that stands behind another, in front of it."""
+    """A word behind another, in front of it."""
     words = re.compile(rb"%b(\s+)%b" % (re.escape(old.encode()), re.escape(new.encode())))
     found = words.match(data, place)
     if not found:
@@ -148,7 +148,7 @@ def moved(data: bytes, place: int, old: str, new: str) -> Optional[Mending]:
 
 
 def commented(data: bytes, place: int) -> Optional[Mending]:
-    """A docstring where none may stand, as comments."""
+    """A docstring where none may be, as comments."""
     found = DOC_LINES.match(data, place)
     if not found:
         return None

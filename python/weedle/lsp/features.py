@@ -75,7 +75,7 @@ def folders_changed(session: Session, params: Json) -> None:
 
 
 def code_action(session: Session, params: Json) -> List[Json]:
-    """What mends an error."""
+    """What fixes an error."""
     source = session.source(params)
     only = (params.get("context") or {}).get("only")
     if only and not any(it in ("", "quickfix") for it in only):
@@ -146,18 +146,18 @@ def folding_range(session: Session, params: Json) -> List[Json]:
 
 
 def selection_range(session: Session, params: Json) -> List[Json]:
-    """What stands around some places."""
+    """What is around some places."""
     source = session.source(params)
     return structure.selections(source, [source.place(it) for it in params["positions"]])
 
 
 def formatting(session: Session, params: Json) -> List[Json]:
-    """The changes that lay out a text."""
+    """The changes that format a text."""
     return layout.layout(session.source(params))
 
 
 def range_formatting(session: Session, params: Json) -> List[Json]:
-    """The changes that lay out the definitions of a part of a text."""
+    """The changes that format the definitions of a part of a text."""
     source = session.source(params)
     return layout.layout_of(source, source.lines.span(params["range"]))
 

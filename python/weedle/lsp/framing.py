@@ -18,7 +18,7 @@ MOST = 1 << 30
 
 
 class Malformed(ValueError):
-    """A body that is no message. What stands behind it can be read."""
+    """A body that is no message. What follows it can be read."""
 
 
 def length_in(stream: BinaryIO) -> Optional[int]:

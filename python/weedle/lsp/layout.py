@@ -1,4 +1,4 @@
-"""Texts laid out, as changes of the blanks between their words."""
+"""Texts formatted, as changes of the whitespace between their words."""
 
 from __future__ import annotations
 
@@ -17,7 +17,7 @@ BLANKS, WORDS = re.compile(rb"[ \t\r\n]*"), re.compile(rb"[^ \t\r\n]+")
 
 
 def layout(source: Source) -> List[Json]:
-    """The changes that lay out a text: of one with an error, the definitions that are read."""
+    """The changes that format a text: of one with an error, the definitions that are read."""
     if source.reading.is_whole:
         return edits(source, Span(0, len(source.data)))
     if not source.definitions:
@@ -26,14 +26,14 @@ def layout(source: Source) -> List[Json]:
 
 
 def layout_of(source: Source, wanted: Span) -> List[Json]:
-    """The changes that lay out the definitions that stand in a part of a text."""
+    """The changes that format the definitions in a part of a text."""
     return [it for run in runs(source, wanted) for it in edits(source, run)]
 
 
 def runs(source: Source, wanted: Span) -> Iterator[Span]:
     """The definitions in a part of a text, those one behind another together.
 
-    What stands behind the last of them up to the next one stays as it is.
+    What follows the last of them up to the next one stays as it is.
     """
     first = last = behind = -1
     for it in source.definitions:
@@ -51,7 +51,7 @@ def runs(source: Source, wanted: Span) -> Iterator[Span]:
 
 
 def edits(source: Source, span: Span) -> List[Json]:
-    """The changes that lay out a part of a text, which is some definitions."""
+    """The changes that format a part of a text, which is some definitions."""
     before = source.data[span.start:span.end]
     after = laid_out(before)
     if span.end < len(source.data):
@@ -66,7 +66,7 @@ def edits(source: Source, span: Span) -> List[Json]:
 
 
 def changes(before: bytes, after: bytes) -> List[Change]:
-    """The blanks that differ between two texts with the same words; all where words differ."""
+    """The whitespace that differs between two texts with the same words; all where words differ."""
     found: List[Change] = []
     at = other = 0
     while at < len(before) or other < len(after):
@@ -83,7 +83,7 @@ def changes(before: bytes, after: bytes) -> List[Change]:
 
 
 def least(place: int, old: bytes, new: bytes) -> Change:
-    """The change of some blanks at a place, without what is the same at both ends of them."""
+    """The change of some whitespace at a place, without what is the same at both ends of them."""
     front = len(commonprefix([old, new]))
     back = len(commonprefix([old[front:][::-1], new[front:][::-1]]))
     return Span(place + front, place + len(old) - back), new[front:len(new) - back]

@@ -104,7 +104,7 @@ def definition(workspace: Workspace, source: Source, place: int) -> List[Json]:
 def references(
     workspace: Workspace, source: Source, place: int, with_definition: bool,
 ) -> List[Json]:
-    """Where what stands at a place is spoken of."""
+    """Where what is at a place is spoken of."""
     it = target(source, place)
     if it is None:
         return []
@@ -189,14 +189,14 @@ def head(tree: Tree, node: int) -> str:
 
 
 def part_said(source: Source, it: Any) -> str:
-    """A part or a statement: its words, and where it stands."""
+    """A part or a statement: its words, and where it is."""
     line = source.lines.line_of(it.span.start) + 1
     name = source.uri.rpartition("/")[2]
     return f"`{head(source.tree, it._node).rstrip(';')}` ({name}:{line})"
 
 
 def member_said(tree: Tree, name: Name) -> List[str]:
-    """What is said of a member or an argument: its words, its docs and what it stands in."""
+    """What is said of a member or an argument: its words, its docs and what it is in."""
     node = name.value._node
     is_argument = name.role is Role.ARGUMENT
     rules = ARGUMENTS if is_argument else frozenset(KINDS)

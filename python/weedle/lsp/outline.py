@@ -45,7 +45,7 @@ KINDS: Dict[int, Tuple[Kind, str]] = {
 }
 WORDS: Dict[str, Kind] = {word: kind for kind, word in DEFINITIONS.values()}
 NO_KIND: Tuple[Optional[Kind], str] = None, ""
-# What stands in front of the words of a definition or a member.
+# What is in front of the words of a definition or a member.
 FRONTS = frozenset(NUMBERS[it] for it in (
     "opt_docstring", "opt_extended_attribute_list", "trivia",
 ))

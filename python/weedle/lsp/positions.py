@@ -1,4 +1,4 @@
-"""Positions as editors count them: a line, and how many units stand before a place on it.
+"""Positions as editors count them: a line, and how many units come before a place on it.
 
 Lines begin at 0, and end at an LF, a CR or both. A unit is one of UTF-16 unless client and server
 agree on bytes of UTF-8 or on characters.

@@ -36,7 +36,7 @@ DOC_LINE = re.compile(r"^\s*/// ?", re.MULTILINE)
 
 
 class Hint(NamedTuple):
-    """What would mend a text, or what it lacks: a place in bytes, and what is said of it."""
+    """What would fix a text, or what it lacks: a place in bytes, and what is said of it."""
 
     place: int
     message: str
@@ -62,13 +62,13 @@ class Problem:
 
     @property
     def hint(self) -> Optional[Hint]:
-        """What would mend the text, or what it lacks."""
+        """What would fix the text, or what it lacks."""
         found, span = HINT.match(self._refused.hint or ""), self._refused.hint_span
         return Hint(span.start, found[1]) if found and span else None
 
 
 class Broken(NamedTuple):
-    """A definition that isn't read whole, but for its name."""
+    """A definition that isn't read whole, except for its name."""
 
     #: What it is, as "partial interface".
     kind: str
@@ -80,7 +80,7 @@ class Broken(NamedTuple):
 
 
 class Reading:
-    """A text as far as it is read. What stands in it is found when it is asked for."""
+    """A text as far as it is read. What is in it is found when it is asked for."""
 
     def __init__(self, definitions: Definitions, problems: List[Problem], parts: Sequence[Part]) -> None:
         self.definitions, self.problems = definitions, problems
@@ -100,7 +100,7 @@ class Reading:
     def roots(self) -> List[int]:
         """The nodes of the parts that are read, in the order of the text.
 
-        They are definitions, and of others the members and whatever else has names, but for the name
+        They are definitions, and of others the members and whatever else has names, except for the name
         itself.
         """
         if self.is_whole:
@@ -134,7 +134,7 @@ def recovered(data: bytes, first: Refused) -> Reading:
 
 
 def broken_in(parts: Sequence[Part]) -> Iterator[Broken]:
-    """The definitions that aren't read whole, but for their names."""
+    """The definitions that aren't read whole, except for their names."""
     for _, of_one in groupby(parts, key=lambda it: it.definition):
         found = broken_of(list(of_one))
         if found:
@@ -160,7 +160,7 @@ def broken_of(parts: List[Part]) -> Optional[Broken]:
 
 
 def start_of(part: Part) -> int:
-    """Where the words of a part begin that is read, behind blanks and comments."""
+    """Where the words of a part begin that is read, behind whitespace and comments."""
     assert part._node is not None
     return part._tree.span(part._node).start
 

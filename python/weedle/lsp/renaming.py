@@ -31,7 +31,7 @@ def prepare(source: Source, place: int) -> Optional[Json]:
 
 
 def rename(workspace: Workspace, source: Source, place: int, given: str) -> Json:
-    """The changes of all texts that give what stands at a place a new name."""
+    """The changes of all texts that give what is at a place a new name."""
     name = source.name_at(place)
     if name is None or name.role not in CAN_BE_RENAMED:
         raise Fault("nothing here can be renamed")
@@ -70,7 +70,7 @@ def refuse_taken(workspace: Workspace, source: Source, it: Target, new: str) -> 
 
 
 def refuse_unread(source: Source, old: str) -> None:
-    """Refuses where the name stands in a part of a text that isn't read."""
+    """Refuses where the name is in a part of a text that isn't read."""
     word = re.compile(rb"(?<![A-Za-z0-9_-])_?%b(?![A-Za-z0-9_-])" % re.escape(old.encode()))
     for problem in source.reading.problems:
         found = word.search(source.data, *problem.unread)
@@ -100,7 +100,7 @@ def renamed(source: Source, spans: List[Span], new: str, written: str) -> List[J
 
 
 def changed(data: bytes, spans: List[Span], written: bytes) -> bytes:
-    """A text with other words at some places, which stand one behind another."""
+    """A text with other words at some places, which are one behind another."""
     ends = [0, *(it.end for it in spans)]
     pieces = [data[end:span.start] for end, span in zip(ends, spans)]
     return written.join([*pieces, data[ends[-1]:]])

@@ -5,13 +5,13 @@ from __future__ import annotations
 import re
 from typing import Iterator, NamedTuple, Optional
 
-#: What a token is, for a pattern with blanks in it; signs are the others.
+#: What a token is, for a pattern with whitespace in it; signs are the others.
 PATTERN = rb"""(?P<doc>///[^\n]*) | (?P<comment>//[^\n]*|/\*(?s:.*?)(?:\*/|\Z))
     | (?P<string>"[^"\n]*"?) | (?P<word>_?[A-Za-z][A-Za-z0-9_-]*)
     | (?P<number>-?(?:0[xX][0-9A-Fa-f]+|(?:[0-9]+\.[0-9]*|\.?[0-9]+)(?:[eE][+-]?[0-9]+)?))"""
 SIGN = rb"| (?P<sign>\.\.\.|[\x21-\x7e]|[\x80-\xff]+)"
 TOKEN = re.compile(PATTERN + SIGN, re.VERBOSE)
-#: Tokens that no rule but that of blanks reads.
+#: Tokens that no rule but that of whitespace reads.
 COMMENTS = frozenset(["comment", "doc"])
 
 

@@ -99,7 +99,7 @@ class Server:
             raise Cancelled()
 
     def check_text(self, uri: str) -> None:
-        """The same, and where a change of the text waits: so its errors are told the sooner."""
+        """The same, and where a change of the text waits: so its errors are reported the sooner."""
         self.check()
         if self.inbox.waits(CHANGES, uri):
             raise Outdated()

@@ -11,7 +11,7 @@ from weedle.lsp.workspace import SUFFIXES, Workspace, path_of
 
 
 def within(given: Any, *names: str) -> Any:
-    """What stands in objects in one another, by their names; None where one isn't there."""
+    """What is in objects in one another, by their names; None where one isn't there."""
     for name in names:
         given = given.get(name) if isinstance(given, dict) else None
     return given

@@ -17,7 +17,7 @@ from weedle.lsp.protocol import Json
 from weedle.lsp.reading import Broken, Reading, read
 from weedle.names import Name, Role, names_in
 
-# A half of a pair of UTF-16 that stands alone has no UTF-8.
+# A half of a pair of UTF-16 that is alone has no UTF-8.
 LONE = re.compile("[\ud800-\udfff]")
 WORD = re.compile(rb"[A-Za-z0-9_-]*")
 WORD_BEFORE = re.compile(rb"[A-Za-z0-9_-]*\Z")
@@ -86,7 +86,7 @@ class Source:
 
     @cached_property
     def attributes(self) -> Dict[str, Set[str]]:
-        """Its extended attributes, each with what stands behind their `=`."""
+        """Its extended attributes, each with what follows their `=`."""
         found: Dict[str, Set[str]] = {}
         last: Set[str] = set()
         if b"[" not in self.data:
@@ -99,7 +99,7 @@ class Source:
         return found
 
     def attribute_names(self, text: str) -> List[Name]:
-        """Where an extended attribute of this name stands."""
+        """Where an extended attribute of this name is."""
         return [
             it for it in (self.all_names() if text in self.attributes else ())
             if it.role is Role.EXTENDED_ATTRIBUTE and it.text == text
@@ -115,12 +115,12 @@ class Source:
         return [it for it in self.reading.broken if it.name.text == text]
 
     def broken_at(self, place: int) -> Optional[Broken]:
-        """The definition that isn't read whole that a place stands in, or right behind."""
+        """The definition that isn't read whole that a place is in, or right behind."""
         found = [it for it in self.reading.broken if it.span.start <= place <= it.span.end]
         return found[-1] if found else None
 
     def owner_at(self, place: int) -> str:
-        """The name of the definition that a place stands in; empty where it isn't known."""
+        """The name of the definition that a place is in; empty where it isn't known."""
         whole, broken = self.definition_at(place), self.broken_at(place)
         return name_of(whole).value if whole else broken.name.text if broken else ""
 
@@ -157,7 +157,7 @@ class Source:
         return sorted([*whole, *(it.span.start for it in self.reading.broken)])
 
     def is_unread(self, place: int) -> bool:
-        """Whether a place stands in what isn't read."""
+        """Whether a place is in what isn't read."""
         problems = self.reading.problems
         at = bisect_right(self._unread, place) - 1
         return at >= 0 and place < problems[at].unread.end
@@ -167,7 +167,7 @@ class Source:
         return [it.unread.start for it in self.reading.problems]
 
     def definition_at(self, place: int) -> Optional[Definition.Variants]:
-        """The definition that a place stands in, or in the comments in front of it."""
+        """The definition that a place is in, or in the comments in front of it."""
         root = self.root_at(place)
         for it in self.definitions:
             if it._node == root:
@@ -175,7 +175,7 @@ class Source:
         return None
 
     def name_at(self, place: int) -> Optional[Name]:
-        """The name that a place stands in, or right behind."""
+        """The name that a place is in, or right behind."""
         root, starts, ends = self.root_at(place), self.tree.starts, self.tree.ends
         found = list(names_in(self.tree, root)) if root is not None else []
         for it in [*found, *(it.name for it in self.reading.broken)]:

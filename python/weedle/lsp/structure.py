@@ -37,7 +37,7 @@ class Folds:
         self._end_comments()
 
     def _take_sign(self, sign: bytes, place: int) -> None:
-        """What stands between two signs is folded, and the line of the closing one stays."""
+        """What is between two signs is folded, and the line of the closing one stays."""
         if sign in PAIRS:
             self._open.append((sign, place))
         elif self._open and PAIRS[self._open[-1][0]] == sign:
@@ -68,18 +68,18 @@ def folds(source: Source) -> List[Json]:
 
 
 def is_alone(source: Source, place: int) -> bool:
-    """Whether nothing but blanks stands in front on the line."""
+    """Whether nothing but whitespace is in front on the line."""
     start = source.lines.starts[source.lines.line_of(place)]
     return not source.data[start:place].strip()
 
 
 def selections(source: Source, places: List[int]) -> List[Json]:
-    """For each place what stands around it, each with what stands around that."""
+    """For each place what is around it, each with what is around that."""
     return [selection(source, place) for place in places]
 
 
 def selection(source: Source, place: int) -> Json:
-    """What stands around a place: its word, what has it, and so on, up to the text."""
+    """What is around a place: its word, what has it, and so on, up to the text."""
     found: Json = {"range": source.range(Span(0, len(source.data)))}
     for span in around(source, place):
         found = {"range": source.range(span), "parent": found}
@@ -102,7 +102,7 @@ def around(source: Source, place: int) -> Iterator[Span]:
 
 
 def is_in(tree: Tree, node: int, place: int) -> bool:
-    """Whether a place stands in a node, or right behind its last word."""
+    """Whether a place is in a node, or right behind its last word."""
     if tree.starts[node] <= place < tree.ends[node]:
         return True
     return tree.starts[node] < place == tree.span(node).end

@@ -71,7 +71,7 @@ OFTEN = 500
 # The low byte of that number, by which a name is searched for: numbers of rules have two.
 LOW = bytes([IDENTIFIER & 0xFF])
 assert len(RULES) < 1 << 16
-# Tokens but for signs, which have no colour.
+# Tokens except for signs, which have no colour.
 TOKEN = re.compile(PATTERN, re.VERBOSE)
 
 
@@ -87,7 +87,7 @@ class Encoder:
         self._start, self._behind = lines.starts[self._line], lines.start_behind(self._line)
 
     def put(self, start: int, end: int, kind: Look) -> None:
-        """Takes a token that stands behind all others."""
+        """Takes a token behind all others."""
         while start >= self._behind:
             self._line, self._start = self._line + 1, self._behind
             self._behind = self._lines.start_behind(self._line)
@@ -120,7 +120,7 @@ def roles(source: Source, start: int, end: int) -> Dict[int, Look]:
             above = tree.above(node)
             table = LATER_ROLES if above == reader else FIRST_ROLES
             reader = above
-            # below it stand blanks in front, which mostly are none, and then the letters
+            # below it is whitespace in front, mostly none, and then the letters
             found[ends[node + 1]] = ROLES[table[rules[above]]]
         node = low.find(LOW, node + 1)
     return found

@@ -26,7 +26,7 @@ MOST = 2000
 
 
 class Front(NamedTuple):
-    """What stands in front of a place: the words of its definition, of a body the last member."""
+    """What is in front of a place: the words of its definition, of a body the last member."""
 
     #: The words of the definition up to its `{`, or empty outside of a body.
     head: Tuple[bytes, ...]
@@ -35,7 +35,7 @@ class Front(NamedTuple):
 
     @property
     def text(self) -> bytes:
-        """All words, each behind a blank."""
+        """All words, each behind a space."""
         return b" ".join([*self.head, *self.words, b""]) or b" "
 
 

@@ -9,7 +9,7 @@ use std::alloc::{AllocError, Global};
 use weedle_build_base::{At, Build, BuildResult, visit};
 use weedle_rules::{Ends, Rule};
 
-/// Builds what stands at a place of a rule that takes the item or nothing.
+/// Builds what is at a place of a rule that takes the item or nothing.
 pub(crate) fn optional<'a, T: Build<'a>>(
     alloc: Global,
     table: &Ends<'a>,

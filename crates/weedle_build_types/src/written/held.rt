@@ -27,7 +27,7 @@ use weedle_types::argument::ParenthesizedArgumentList;
 use weedle_types::attribute::ExtendedAttributeList;
 use weedle_types::types::{AttributedType, ReturnType, Type};
 
-/// How a `T` is built. It is the `Build` of a type that stands in another crate.
+/// How a `T` is built. It is the `Build` of a type in another crate.
 pub struct Held<T>(T);
 
 impl<'a> Build<'a> for Held<Type<'a>> {

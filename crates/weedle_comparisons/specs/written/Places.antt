@@ -1,5 +1,5 @@
--- The place of each variant in its declaration, counted from 0. Of a type that leads back to itself the variants
--- stand as the logic holds them, flat, with the parts of what they hold. Written by tools/orders.py, and not edited by hand.
+-- The place of each variant in its declaration, counted from 0. For a type that leads back to itself the variants
+-- are as the logic holds them, flat, with the parts of what they hold. Written by tools/orders.py, and not edited by hand.
 use Rattle.std.specs.Prelude.{ℕ}
 use Rattle.weedle_parts.specs.declared.types.const_type.ConstType.{ConstType}
 use Rattle.weedle_parts.specs.declared.types.const_type.ConstType.TheVariants.{Integer as ConstType-Integer, FloatingPoint as ConstType-FloatingPoint, Boolean as ConstType-Boolean, Byte as ConstType-Byte, Octet as ConstType-Octet, Identifier as ConstType-Identifier}

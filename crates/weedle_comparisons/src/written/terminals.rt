@@ -43,7 +43,7 @@ pub fn defaults_of_symbols()
     ensures q_mark { (v : QMark) → ⟦<QMark as Default>⟧.is_default v ↔ v ≡ record {} }
 {}
 
-/// A law, which does nothing: of two values of one of the symbols neither stands before the other.
+/// A law, which does nothing: of two values of one of the symbols neither comes before the other.
 pub fn orders_of_symbols()
     ensures open_paren { (a b : OpenParen) → ⟦<OpenParen as Ord>⟧.cmp a b ≡ Ordering.Equal }
     ensures close_paren { (a b : CloseParen) → ⟦<CloseParen as Ord>⟧.cmp a b ≡ Ordering.Equal }
@@ -99,7 +99,7 @@ pub fn defaults_of_definition_keywords()
 {}
 
 /// A law, which does nothing: of two values of one of the keywords of definitions and their members
-/// neither stands before the other.
+/// neither comes before the other.
 pub fn orders_of_definition_keywords()
     ensures async_ { (a b : Async) → ⟦<Async as Ord>⟧.cmp a b ≡ Ordering.Equal }
     ensures attribute { (a b : Attribute) → ⟦<Attribute as Ord>⟧.cmp a b ≡ Ordering.Equal }
@@ -157,7 +157,7 @@ pub fn defaults_of_type_keywords()
 {}
 
 /// A law, which does nothing: of two values of one of the keywords of types, arguments and values
-/// neither stands before the other.
+/// neither comes before the other.
 pub fn orders_of_type_keywords()
     ensures or { (a b : Or) → ⟦<Or as Ord>⟧.cmp a b ≡ Ordering.Equal }
     ensures optional { (a b : Optional) → ⟦<Optional as Ord>⟧.cmp a b ≡ Ordering.Equal }
@@ -221,7 +221,7 @@ pub fn defaults_of_capitalized_keywords()
         ↔ v ≡ record {} }
 {}
 
-/// A law, which does nothing: of two values of one of the keywords with capitals neither stands
+/// A law, which does nothing: of two values of one of the keywords with capitals neither comes
 /// before the other.
 pub fn orders_of_capitalized_keywords()
     ensures byte_string { (a b : ByteString) → ⟦<ByteString as Ord>⟧.cmp a b ≡ Ordering.Equal }

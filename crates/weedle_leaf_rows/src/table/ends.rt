@@ -1,4 +1,4 @@
-//! The table of ends.
+//! The packrat table.
 
 use std::alloc::{AllocError, Global};
 use std::process::Abort;

@@ -19,7 +19,7 @@ fn assert_looks(rt: &impl Abort, ends: &Ends<'_>, text: &str, is_narrow: bool) {
     assert_eq!(rt; ends.is_narrow(), is_narrow);
 }
 
-/// Makes the tables of a text, or counts that memory is wanted.
+/// Makes the tables of a text, or counts that memory runs out.
 fn make(rt: &impl Abort, alloc: Global, wanted: &mut Wanted, text: &str) {
     if let Some(ends) = wanted.given(Ends::new(alloc, text)) {
         assert_looks(rt, &ends, text, true);

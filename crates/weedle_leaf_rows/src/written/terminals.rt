@@ -1,4 +1,4 @@
-//! Each terminal, with and without blanks round it.
+//! Each terminal, with and without whitespace around it.
 //!
 //! Written by tools/terminals.py, and not edited by hand.
 
@@ -8,8 +8,8 @@ use weedle_base::Parse;
 use weedle_base::term::*;
 use weedle_testing::Wanted;
 
-/// Reads a terminal that stands between blanks and before `anything`: with all of it, and alone,
-/// with the blanks before it, with those behind it, and with both.
+/// Reads a terminal between whitespace and before `anything`: with all of it, and alone, with the
+/// whitespace before it, with that behind it, and with both.
 fn reads<'a, T: Parse<'a>>(rt: &impl Abort, alloc: Global, text: &'a str) {
     let padded = text.strip_suffix("anything").unwrap_or("");
     for (text, rest) in [

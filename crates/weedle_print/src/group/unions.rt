@@ -34,8 +34,8 @@ pub(crate) fn print_nullable_union_type(
     Option::<QMark>::print(&type_.q_mark, out, layout)
 }
 
-/// Writes a union, as `(long or DOMString)`: on the line where it fits with what stands behind it,
-/// else each type on a line.
+/// Writes a union, as `(long or DOMString)`: on the line where it fits with what follows it, else
+/// each type on a line.
 #[cycle(prints)]
 #[tactic(auto, using(crate::proofs::AddsFacts::adds_then, crate::proofs::AddsFacts::adds_copied, weedle_types::proofs::TreeLaws::clone_steps))]
 pub(crate) fn print_union_type(

@@ -3,7 +3,7 @@
 use super::{COLUMNS, Front, Layout};
 
 impl Layout {
-    /// Begins to write what begins a line on that line alone, to see how much stands on it.
+    /// Begins to write what begins a line on that line alone, to see how much is on it.
     pub(crate) fn try_line(&mut self) {
         if self.front == Front::Line {
             self.end_line();
@@ -28,7 +28,7 @@ impl Layout {
         }
     }
 
-    /// Keeps that arguments follow, which may be broken: so what stands in front of them has to fit
+    /// Keeps that arguments follow, which may be broken: so what is in front of them has to fit
     /// with their parenthesis alone.
     pub(crate) fn end_head(&mut self) {
         if self.head == 0 {
@@ -37,7 +37,7 @@ impl Layout {
         }
     }
 
-    /// Ends what was tried, behind which a sign of so many characters stands on its line. `start` is
+    /// Ends what was tried, behind which a sign of so many characters is on its line. `start` is
     /// the layout in front of it, from where it is written again.
     pub(crate) fn end_line_try(&mut self, start: &Layout, sign: usize) {
         let fits = if self.is_line_begun {

@@ -2,8 +2,8 @@
 
 use super::{COLUMNS, Front, Layout, MOST_LEVELS};
 
-/// How many characters extended attributes have at most that stand in front of what they belong to,
-/// on its line.
+/// How many characters extended attributes have at most in front of what they belong to, on its
+/// line.
 const MOST_IN_FRONT: usize = 40;
 
 impl Layout {
@@ -12,7 +12,7 @@ impl Layout {
         self.is_flat
     }
 
-    /// Has lists stay on the line, to try whether they fit.
+    /// Keeps lists on the line, to try whether they fit.
     pub fn try_flat(&mut self) {
         self.is_flat = true;
         self.is_broken = false;
@@ -30,15 +30,15 @@ impl Layout {
     }
 
     /// Whether the list that was tried stays on its line: it fits there with a sign of so many
-    /// characters behind it, or stands too deep to be broken.
+    /// characters behind it, or is too deep to be broken.
     pub fn fits(&self, start: &Layout, sign: usize) -> bool {
         start.level >= MOST_LEVELS
             || self.lines == start.lines && self.column.saturating_add(sign) <= COLUMNS
     }
 
-    /// Whether the union that was tried stays on its line: it fits there with all that stands behind
-    /// it in its item, its member or its statement, up to the parenthesis of arguments, or stands
-    /// too deep to be broken.
+    /// Whether the union that was tried stays on its line: it fits there with all behind it in its
+    /// item, its member or its statement, up to the parenthesis of arguments, or is too deep to be
+    /// broken.
     pub(crate) fn fits_with_rest(&self, start: &Layout) -> bool {
         self.fits(start, self.head.saturating_sub(self.count))
             && (start.level >= MOST_LEVELS || self.cut < self.count)
@@ -61,7 +61,7 @@ impl Layout {
         }
     }
 
-    /// Has a line begin where a blank would stand, or nothing.
+    /// Begins a line where a space would be, or nothing.
     fn break_line(&mut self) {
         if self.front == Front::Blank {
             self.count = self.count.saturating_add(1);
@@ -84,7 +84,7 @@ impl Layout {
         self.listed = width;
     }
 
-    /// Has what follows extended attributes take a line of its own where they are long, or it
+    /// Puts what follows extended attributes on a line of its own where they are long, or it
     /// doesn't fit on their line.
     pub fn end_attributes(&mut self) {
         if self.listed > MOST_IN_FRONT || self.is_apart {

@@ -119,8 +119,8 @@ fn is_among(text: &str, texts: &str) -> bool {
     false
 }
 
-/// Whether a name is read as a word of the grammar behind this word. What stands there is `a` for
-/// any name, and nothing for the front of a text, a docstring, a string and a number.
+/// Whether a name is read as a word of the grammar behind this word. What is there is `a` for any
+/// name, and nothing for the front of a text, a docstring, a string and a number.
 pub(crate) fn is_read_behind(before: &str, name: &str) -> bool {
     if before.is_empty() {
         return is_word(name);

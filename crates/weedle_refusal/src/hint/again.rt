@@ -11,8 +11,8 @@ use weedle_grammar::Rule;
 use weedle_starts::source::Source;
 use weedle_syntax::{Limits, lay_by_descent};
 
-/// How many rules are tried for each byte of a definition, with all its changes together. Of what
-/// people write a reading takes two a byte, and with most changes it stops near the slip.
+/// How many rules are tried for each byte of a definition, with all its changes together. For what
+/// people write a reading takes two a byte, and with most changes it stops near the syntax error.
 const STEPS_A_BYTE: usize = 16;
 
 /// How many more are tried, so that a short definition may have long extended attributes.

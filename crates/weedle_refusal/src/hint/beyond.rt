@@ -10,8 +10,7 @@ use crate::hint::unread::Unread;
 use std::alloc::AllocError;
 
 /// Whether the definition is read with a change beyond the second `;` behind what is changed and
-/// behind a place, which is the furthest one or stands behind it. It is read up to the third `;`
-/// alone.
+/// behind a place, which is the furthest one or follows it. It is read up to the third `;` alone.
 pub(crate) fn comes_beyond(
     trials: &mut Trials,
     unread: &Unread<'_>,

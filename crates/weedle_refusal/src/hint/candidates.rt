@@ -1,5 +1,5 @@
-//! Changes that might mend a refused definition. Nothing is promised of them: what is told was
-//! checked.
+//! Changes that might fix a refused definition. Nothing is promised of them: what becomes a hint
+//! was checked.
 
 use crate::hint::Hint;
 use crate::hint::signs::{add_missing, add_other_signs};
@@ -12,7 +12,7 @@ use std::alloc::{AllocError, Global};
 const NEAR: usize = 32;
 
 /// The changes that are worth a try, the likeliest first: a keyword in place of a word, a sign that
-/// is left out or in place of another, two words in the other order, no docstring, a sign more.
+/// is left out or in place of another, two words in the other order, no docstring, a further sign.
 pub(crate) fn candidates(alloc: Global, unread: &Unread<'_>) -> Result<Vec<Hint>, AllocError> {
     let mut hints = Vec::new(alloc);
     let near = last_of(unread.tokens, NEAR);

@@ -17,7 +17,7 @@ pub(crate) struct Change<'a> {
     pub(crate) bytes: &'a str,
 }
 
-/// The text from `start` up to `end` with a change, or None where one of them stands within a
+/// The text from `start` up to `end` with a change, or None where one of them is within a
 /// character, or the change in front of the start.
 pub(crate) fn changed(
     alloc: Global,

@@ -1,4 +1,4 @@
-//! Whether a change is right: each that is told was tried.
+//! Whether a change is right: each that is a hint was tried.
 
 ghost use Rattle.std.specs.Prelude.{◌≤◌, IfOk, IsTrue, length};
 ghost use Rattle.weedle_refusal.specs.Hint.{ArePair, Helps, IsHint, IsMistyped, IsSign};
@@ -108,7 +108,7 @@ fn keyword_helps(
     Ok(helped)
 }
 
-/// Whether a word stands there that differs little from a keyword.
+/// Whether a word is there that differs little from a keyword.
 fn is_mistyped(raw: &[u8], at: usize, taken: usize, keyword: &str) -> bool
     ensures { IsTrue result → IsMistyped raw.now at taken keyword.now }
 {
@@ -121,7 +121,7 @@ fn is_mistyped(raw: &[u8], at: usize, taken: usize, keyword: &str) -> bool
     differ_by_one(&raw[at..at + taken], keyword.as_bytes())
 }
 
-/// Whether a sign more helps.
+/// Whether a further sign helps.
 fn missing_helps(
     trials: &mut Trials,
     unread: &Unread<'_>,
@@ -225,8 +225,8 @@ fn order_helps(
 }
 
 /// Whether it helps to leave a docstring out. Where that doesn't bring the reading to the end of
-/// the definition, it is to come past the word or sign at the place, so that no unknown word behind
-/// a docstring is laid to the docstring.
+/// the definition, it is to come past the word or sign at the place, so that no docstring is blamed
+/// for an unknown word behind it.
 fn docstring_helps(
     trials: &mut Trials,
     unread: &Unread<'_>,

@@ -8,7 +8,7 @@ use memchr::memchr;
 use weedle_grammar::trivia::skip_trivia;
 
 /// Whether so many bytes from a place on are lines of a docstring, the LF of the last left out,
-/// with blanks and comments alone between them.
+/// with whitespace and comments alone between them.
 pub(crate) fn are_doc_lines(raw: &str, at: usize, taken: usize) -> bool
     ensures { IsTrue result → AreDocLines raw.now at (at + taken) }
 {
@@ -62,7 +62,7 @@ fn line_end(raw: &str, at: usize) -> Option<usize>
     Some(end)
 }
 
-/// Whether the line of a docstring stands there, up to its LF or to the end of the text.
+/// Whether the line of a docstring is there, up to its LF or to the end of the text.
 fn is_doc_line(raw: &[u8], at: usize, end: usize) -> bool
     requires order { at ≤ end }
     requires within { end ≤ length raw.now }

@@ -17,7 +17,7 @@ const QUOTE: &[u8] = b"\"";
 /// The bytes of a byte order mark.
 const BYTE_ORDER_MARK: &[u8] = b"\xEF\xBB\xBF";
 
-/// What stands in the text, or lacks in it, where that says enough.
+/// What is in the text, or lacks in it, where that says enough.
 pub(crate) fn fact(unread: &Unread<'_>) -> Option<Hint> {
     let Some(last) = unread.tokens.last() else {
         return if unread.start == 0 {
@@ -50,7 +50,7 @@ fn split_string(unread: &Unread<'_>) -> Option<usize> {
     Some(token.start)
 }
 
-/// Whether the hint says what stands in the text, or lacks in it, and that is so.
+/// Whether the hint says what is in the text, or lacks in it, and that is so.
 pub(crate) fn is_fact(raw: &str, start: usize, place: usize, hint: Hint) -> bool
     requires { place ≤ length raw.now }
     ensures { IsTrue result → IsHint raw.now start place hint }
@@ -95,7 +95,7 @@ fn is_split(raw: &[u8], start: usize, place: usize, at: usize) -> bool
     }
 }
 
-/// Whether a quote stands there that opens a string.
+/// Whether a quote is there that opens a string.
 fn opens_string(raw: &[u8], start: usize, at: usize) -> bool
     ensures outside { IsTrue result → IsOutside raw.now start at }
     ensures quote { IsTrue result → StandAt (codes "\"") raw.now at }

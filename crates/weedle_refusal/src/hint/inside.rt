@@ -1,4 +1,4 @@
-//! Whether a byte of a definition stands in a string or a comment.
+//! Whether a byte of a definition is in a string or a comment.
 
 ghost use Rattle.std.specs.Prelude.{◌≡◌, IsTrue};
 ghost use Rattle.weedle_refusal.specs.Inside.{
@@ -9,7 +9,7 @@ ghost use Rattle.weedle_refusal.specs.Inside.{
   step as the_step,
 };
 
-/// What a byte stands in, and what has been read of what opens or closes it.
+/// What a byte is in, and what has been read of what opens or closes it.
 #[derive(Clone, Copy, Debug, PartialEq, Eq)]
 pub(crate) enum Inside {
     /// Neither a string nor a comment.
@@ -26,7 +26,7 @@ pub(crate) enum Inside {
     Text,
 }
 
-/// Whether a place stands in no string and no comment, where what is read begins at `start`.
+/// Whether a place is in no string and no comment, where what is read begins at `start`.
 pub(crate) fn is_outside(raw: &[u8], start: usize, at: usize) -> bool
     ensures { IsTrue result → IsOutside raw.now start at }
 {
@@ -36,7 +36,7 @@ pub(crate) fn is_outside(raw: &[u8], start: usize, at: usize) -> bool
     }
 }
 
-/// What stands behind some bytes stands in this.
+/// What follows some bytes is in this.
 #[tactic(auto, using(crate::proofs::InsideFacts::one_more, crate::proofs::InsideFacts::all_read))]
 fn inside_behind(bytes: &[u8]) -> Inside
     ensures { result ≡ the_behind Inside.Code bytes.now }
@@ -48,7 +48,7 @@ fn inside_behind(bytes: &[u8]) -> Inside
     inside
 }
 
-/// What the byte behind this one stands in.
+/// What the byte behind this one is in.
 fn step(inside: Inside, byte: u8) -> Inside
     ensures { result ≡ the_step inside byte }
 {

@@ -22,7 +22,7 @@ struct Braces {
 }
 
 /// Whether the definition is read to its end with a change, up to the furthest place at least and
-/// past what is changed, and what stands behind it may begin another.
+/// past what is changed, and what follows it may begin another.
 pub(crate) fn is_mended(
     trials: &mut Trials,
     unread: &Unread<'_>,
@@ -77,8 +77,8 @@ fn depth_behind(depth: usize, token: &[u8]) -> usize {
     }
 }
 
-/// Where the definition ends: behind the first `;` that stands in no braces and has no token
-/// between it and `past`, or else at the end of the text. No further than some 64 kB behind that.
+/// Where the definition ends: behind the first `;` that is in no braces and has no token between it
+/// and `past`, or else at the end of the text. No further than some 64 kB behind that.
 fn end_of_definition(raw: &str, from: usize, past: usize, before: Braces) -> usize
     requires order { from ≤ past }
     requires within { past ≤ length raw.now }
@@ -108,8 +108,8 @@ fn behind_token(raw: &str, braces: Braces, token: Token) -> Braces {
     }
 }
 
-/// Whether what stands behind a place, past blanks and comments, may begin a definition, or the
-/// text ends there.
+/// Whether what follows a place, past whitespace and comments, may begin a definition, or the text
+/// ends there.
 fn goes_on(raw: &str, at: usize) -> bool
     ensures { IsTrue result → Goes (slice_range raw.now at (length raw.now)) }
 {
@@ -119,7 +119,7 @@ fn goes_on(raw: &str, at: usize) -> bool
     }
 }
 
-/// The same of what stands at the front of a text.
+/// The same of what is at the front of a text.
 fn may_go_on(text: &str) -> bool
     ensures { IsTrue result → Goes text.now }
 {

@@ -7,8 +7,8 @@ ghost use Rattle.weedle_refusal.specs.Hint.{AreExchanged};
 use crate::hint::stands::{is_trivia, is_word};
 use std::alloc::{AllocError, Global};
 
-/// Two words and what stands between them, the second in front; or None where no two words stand
-/// there with blanks and comments alone between them.
+/// Two words and what is between them, the second in front; or None where no two words are there
+/// with whitespace and comments alone between them.
 pub(crate) fn exchanged(
     alloc: Global,
     raw: &str,

@@ -13,7 +13,7 @@ use crate::hint::Hint;
 use crate::message::write_place;
 use std::io::{self, Write};
 
-/// What stands between what is meant and what stands there.
+/// What is between what is meant and what is there.
 const IN_PLACE: &[u8] = b"` in place of `";
 
 /// Writes the line and the column of a hint and what it says, as one line:

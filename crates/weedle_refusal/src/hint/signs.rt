@@ -9,7 +9,7 @@ use std::alloc::AllocError;
 const SIGNS: &[&str] = &[";", "=", "{", ",", ")", ">", "]", "(", ":", "};", "}"];
 
 /// Adds the changes of a sign at which the reading stops: without it, where it is a `;` or a `,` or
-/// stands twice, and `,` in place of `;` or the other way round; and without a `,` before that.
+/// occurs twice, and `,` in place of `;` or the other way round; and without a `,` before that.
 pub(crate) fn add_other_signs(
     hints: &mut Vec<Hint>,
     unread: &Unread<'_>,
@@ -110,7 +110,7 @@ pub(crate) fn add_missing(hints: &mut Vec<Hint>, unread: &Unread<'_>) -> Result<
     Ok(())
 }
 
-/// Whether a sign would go on, and one that ends a definition also stands where one may end.
+/// Whether a sign would go on, and one that ends a definition also is where one may end.
 fn may_be_missing(unread: &Unread<'_>, sign: &str, behind: Option<&[u8]>) -> bool {
     match sign {
         "}" => unread.expects("}") && behind == Some(b";".as_slice()),

@@ -1,4 +1,4 @@
-//! What stands at a place of a text.
+//! What is at a place of a text.
 
 ghost use Rattle.std.specs.Prelude.{◌≡◌, ◌==◌, false, IsTrue, length, slice_index};
 ghost use Rattle.std.specs.List.{list_any};
@@ -15,7 +15,7 @@ use weedle_grammar::{Class, holds};
 /// What begins a docstring's line.
 pub(crate) const SLASHES: &[u8] = b"///";
 
-/// Whether a word of so many bytes stands there.
+/// Whether a word of so many bytes is there.
 pub(crate) fn is_word(raw: &[u8], at: usize, taken: usize) -> bool
     ensures { IsTrue result → IsWordAt raw.now at taken }
 {
@@ -31,7 +31,7 @@ pub(crate) fn is_word(raw: &[u8], at: usize, taken: usize) -> bool
     }
 }
 
-/// Whether no letter, digit, `_` or `-` stands there.
+/// Whether no letter, digit, `_` or `-` is there.
 fn ends_word(raw: &[u8], at: usize) -> bool
     ensures { IsTrue result → is_in Name (slice_index raw.now at) ≡ false }
 {
@@ -41,7 +41,7 @@ fn ends_word(raw: &[u8], at: usize) -> bool
     }
 }
 
-/// Whether these bytes stand there.
+/// Whether these bytes are there.
 pub(crate) fn stand_at(bytes: &[u8], raw: &[u8], at: usize) -> bool
     ensures { IsTrue result → StandAt bytes.now raw.now at }
 {
@@ -68,7 +68,7 @@ pub(crate) fn has_line_end(bytes: &[u8]) -> bool
     bytes.iter().any(|byte| *byte == b'\n')
 }
 
-/// Whether the text is blanks and comments alone.
+/// Whether the text is whitespace and comments alone.
 pub(crate) fn is_trivia(raw: &str) -> bool
     ensures { IsTrue result → EndsAt raw.now TRIVIA 0 (length raw.now) }
 {

@@ -20,11 +20,11 @@ pub(crate) enum Kind {
     Word,
     /// A string with both its quotes.
     Closed,
-    /// What stands from a `"` on that no second one follows.
+    /// What is from a `"` on that no second one follows.
     Open,
     /// Lines that begin with `///`, without the LF of the last.
     Docstring,
-    /// What stands from a `/*` on that no `*/` follows.
+    /// What is from a `/*` on that no `*/` follows.
     Comment,
     /// Any other character.
     Sign,
@@ -45,7 +45,7 @@ impl Token {
     }
 }
 
-/// The tokens of a text that begin from one place up to another, past blanks and comments.
+/// The tokens of a text that begin from one place up to another, past whitespace and comments.
 pub(crate) fn tokens_of(
     alloc: Global,
     raw: &str,
@@ -95,7 +95,7 @@ pub(crate) fn past_token(raw: &str, at: usize) -> usize
     }
 }
 
-/// Where the first `;` from a place on ends that stands in no string and no comment, or the text.
+/// Where the first `;` from a place on ends in no string and no comment, or the text.
 pub(crate) fn past_semicolon(raw: &str, at: usize) -> usize
     requires { at ≤ length raw.now }
     ensures after { at ≤ result }
@@ -112,7 +112,7 @@ pub(crate) fn past_semicolon(raw: &str, at: usize) -> usize
     raw.len()
 }
 
-/// The first token from a place on, or None where blanks and comments alone follow.
+/// The first token from a place on, or None where whitespace and comments alone follow.
 pub(crate) fn next_token(raw: &str, at: usize) -> Option<Token>
     requires { at ≤ length raw.now }
     ensures { IfSome result
@@ -131,7 +131,7 @@ pub(crate) fn next_token(raw: &str, at: usize) -> Option<Token>
     })
 }
 
-/// What stands at the front of some bytes, and how many it has.
+/// What is at the front of some bytes, and how many it has.
 fn front_of(text: &[u8]) -> (Kind, usize)
     requires { 0 < length text.now }
     ensures some { 0 < result.1 }
@@ -156,7 +156,7 @@ fn front_of(text: &[u8]) -> (Kind, usize)
     }
 }
 
-/// How many bytes stand in front of the first LF, one at least.
+/// How many bytes are in front of the first LF, one at least.
 fn line_length(text: &[u8]) -> usize
     requires { 0 < length text.now }
     ensures some { 0 < result }

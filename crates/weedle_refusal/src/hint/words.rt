@@ -60,7 +60,7 @@ fn add_keywords_near(
     Ok(())
 }
 
-/// Adds pairs of words that may stand in the wrong order, the last ones first.
+/// Adds pairs of words that may be in the wrong order, the last ones first.
 pub(crate) fn add_orders(
     hints: &mut Vec<Hint>,
     raw: &str,

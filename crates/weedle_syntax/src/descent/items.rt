@@ -15,7 +15,7 @@ use std::alloc::AllocError;
 use weedle_grammar::Rule;
 use weedle_starts::source::Source;
 
-/// Lays down the rule of a row `Many`, from end to end.
+/// Writes the rule of a row `Many`, from end to end.
 #[cycle(descent)]
 pub(crate) fn read_items(
     nodes: &mut Vec<Narrow>,
@@ -49,7 +49,7 @@ pub(crate) fn read_items(
     }
 }
 
-/// Lays down an item of a row `List` and what follows it, or nothing.
+/// Writes an item of a row `List` and what follows it, or nothing.
 #[cycle(descent)]
 pub(crate) fn read_list(
     nodes: &mut Vec<Narrow>,
@@ -80,7 +80,7 @@ pub(crate) fn read_list(
     }
 }
 
-/// Lays down an item of a row `List1` and what follows it.
+/// Writes an item of a row `List1` and what follows it.
 #[cycle(descent)]
 pub(crate) fn read_list1(
     nodes: &mut Vec<Narrow>,
@@ -111,7 +111,7 @@ pub(crate) fn read_list1(
     }
 }
 
-/// Lays down the items of a row `Tail`, each behind a separator.
+/// Writes the items of a row `Tail`, each behind a separator.
 #[cycle(descent)]
 pub(crate) fn read_tail(
     nodes: &mut Vec<Narrow>,

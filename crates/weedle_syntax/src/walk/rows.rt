@@ -14,7 +14,7 @@ use crate::table::Table;
 use std::alloc::AllocError;
 use weedle_grammar::{Row, row_of};
 
-/// Lays down the nodes that a node reads directly.
+/// Writes the nodes that a node reads directly.
 pub(crate) fn lay_parts(
     inner: &mut Vec<Node>,
     table: &Table<'_, '_>,

@@ -1,4 +1,4 @@
-//! What may stand before a member, and what is inherited from.
+//! What may be before a member, and what is inherited from.
 
 use super::{EQUAL, GREATER, LESS, inherited};
 use std::test::Fail;

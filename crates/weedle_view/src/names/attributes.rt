@@ -9,7 +9,7 @@ use std::alloc::AllocError;
 use weedle_parts::common::Identifier;
 use weedle_types::attribute::{ExtendedAttribute, ExtendedAttributeList};
 
-/// Adds the names in extended attributes, where they stand.
+/// Adds the names in extended attributes, where present.
 #[cycle(names)]
 pub(crate) fn push_attributes<'a>(
     attributes: &Option<ExtendedAttributeList<'a>>,

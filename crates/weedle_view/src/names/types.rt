@@ -93,7 +93,7 @@ pub(crate) fn push_return_type<'a>(
     }
 }
 
-/// Adds the names in a type with the extended attributes that stand before it.
+/// Adds the names in a type with the extended attributes before it.
 #[cycle(names)]
 pub(crate) fn push_attributed_type<'a>(
     type_: &AttributedType<'a>,

@@ -32,7 +32,7 @@ use weedle_types::attribute::{
     ExtendedAttributeNoArgs,
 };
 
-/// Builds extended attributes in brackets, where they stand.
+/// Builds extended attributes in brackets, where present.
 #[cycle(group)]
 pub(crate) fn attributes<'a>(
     alloc: Global,

@@ -16,7 +16,7 @@ use Rattle.weedle_syntax.proofs.CountFacts.{count_passed, count_tried, count_lea
 use Rattle.weedle_diagnose.proofs.StepFacts.{count_no_condition, count_absent, count_present}
 use Rattle.weedle_diagnose.proofs.descent.+descent.Goals as goal
 
--- what can't begin with the byte that stands there
+-- what can't begin with the byte there
 pub read-returns-then-is_refused-clause-end : goal.read-returns-then-is_refused-clause-end
 read-returns-then-is_refused-clause-end t c = c.is_refused.ensures.end c.if-is_refused.true
 

@@ -2,7 +2,7 @@ use Rattle.std.proofs.Common.{ℕ, length, ◌≤◌, ◌<◌, ◌-◌}
 use Rattle.weedle_recovery.specs.Stops.{StopsAt, PassesTo}
 use Rattle.weedle_recovery.proofs.stops.stop_behind.Given as goal
 
--- the token stands in the text, and its line begins behind the place; where it stops, the part ends
+-- the token is in the text, and its line begins behind the place; where it stops, the part ends
 abbrev pub invariant-loop-token : goal.invariant-loop-token
 invariant-loop-token l =
     (l.token.at ≤ length l.text.text) × (l.place < l.token.line) × (l.token.line ≤ l.token.at) × (l.token.depth ≤ l.token.at)

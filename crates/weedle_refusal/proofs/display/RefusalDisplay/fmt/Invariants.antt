@@ -4,7 +4,7 @@ use Rattle.weedle_refusal.specs.Texts.{in_a_row, word_text}
 use Rattle.weedle_refusal.proofs.TextFacts.{from, unshown}
 use Rattle.weedle_refusal.proofs.display.RefusalDisplay.fmt.Given as goal
 
--- what is written, and what stands from the next word on, are the words in a row
+-- what is written, and what is from the next word on, are the words in a row
 abbrev pub invariant-loop-at : goal.invariant-loop-at
 invariant-loop-at g l =
     let texts = map word_text l.words ++ unshown l.more in
