@@ -1,6 +1,6 @@
 -- A room that is filled from its front.
-use Rattle.std.proofs.Common.{◌≡◌, ◌<◌, ◌≤◌, ◌+◌, ◌∙◌, ℕ, List, [], ◌∷◌, ◌++◌, All, length, length-drop, take, drop, set, map, get_or, refl, ap, subst, sym, arith}
-use Rattle.std.proofs.lemmas.List.{length-set, get_or-drop, take_more_set, map_more, drop-set-lt, drop-drop, take-append-drop, take_all}
+use Rattle.std.proofs.Common.{◌≡◌, ◌<◌, ◌+◌, ◌∙◌, ℕ, List, [], ◌∷◌, ◌++◌, length, take, drop, set, map, get_or, ap, sym, arith}
+use Rattle.std.proofs.lemmas.List.{length-set, take_more_set, map_more, drop-set-lt, drop-drop, take-append-drop, take_all}
 use Rattle.weedle_c.specs.Nodes.{c_node}
 use Rattle.weedle_c.specs.declared.node.WeedleNode.{WeedleNode}
 use Rattle.weedle_syntax.specs.declared.node.Node.{Node}

@@ -1,5 +1,5 @@
 -- The nodes of runs, and how many they are.
-use Rattle.std.proofs.Common.{◌≡◌, ◌+◌, ◌-◌, ◌≤◌, ◌∙◌, Bool, true, false, ℕ, List, [], ◌∷◌, ◌++◌, length, length-drop, take, drop, ap, arith}
+use Rattle.std.proofs.Common.{◌≡◌, ◌+◌, ◌-◌, ◌≤◌, ◌∙◌, Bool, true, false, ℕ, List, ◌++◌, length, length-drop, take, drop, ap, arith}
 use Rattle.std.specs.Prelude.{if◌then◌else◌, map}
 use Rattle.std.proofs.lemmas.List.{length-take-le, drop_at, length-map, take_rest}
 use Rattle.weedle_syntax.specs.Compact.{node_of, run_nodes, IsInside}

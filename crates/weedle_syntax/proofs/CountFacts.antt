@@ -1,7 +1,7 @@
 -- How many steps a row takes, while it is read.
-use Rattle.std.proofs.Common.{◌≡◌, ◌≢◌, inl, inr, ℕ, ◌+◌, ◌-◌, ◌<◌, List, [], ◌∷◌, Bool, true, false, Option, Some, None, refl, sym, subst, ◌∙◌, ap, arith}
+use Rattle.std.proofs.Common.{◌≡◌, ◌≢◌, inl, inr, ℕ, ◌+◌, List, [], ◌∷◌, true, false, Option, Some, None, refl, sym, subst, ap, arith}
 use Rattle.weedle_grammar.specs.Rows.{Row, Seq, First, Opt, Many, ListOf, List1, Tail, If}
-use Rattle.weedle_grammar.specs.Meaning.{Piece, ReadsSeq, last_end}
+use Rattle.weedle_grammar.specs.Meaning.{Piece, ReadsSeq}
 use Rattle.weedle_grammar.specs.written.Table.{webidl, row_of}
 use Rattle.weedle_grammar.proofs.Takes.{takes}
 use Rattle.weedle_rules.specs.Cells.{HasEnd}
@@ -10,7 +10,6 @@ use Rattle.weedle_rules.proofs.ConditionEnds.{NoteEnds, noted, if_along_fails, i
 use Rattle.weedle_rules.proofs.OutcomeFacts.{it_ends, it_fails}
 use Rattle.weedle_starts.specs.Tries.{EndsWith, TriesHere, has_no_parts}
 use Rattle.weedle_syntax.specs.declared.node.Node.{Node}
-use Rattle.weedle_syntax.specs.Parts.{Gave}
 use Rattle.weedle_syntax.specs.Steps.{Steps, passed, tried, RowSteps, leaf_steps, seq_steps, first_steps, opt_steps, many_last, many_more, list_none, list_more, list1_none, list1_more, tail_last, tail_back, tail_more, if_fails, if_absent, if_present, TurnSteps, turn_end, turn_fails, turn_more, ChoiceSteps, choice_end, choice_fits, choice_next, Spends}
 use Rattle.weedle_syntax.proofs.ConditionFacts.{Testing, gave_by}
 

@@ -1,6 +1,6 @@
 -- A room that is written from some number on.
 use Rattle.std.proofs.Common.{◌≡◌, ◌+◌, ◌<◌, ◌≤◌, ◌∙◌, ℕ, List, [], ◌∷◌, ◌++◌, All, length, take, drop, set, map, get_or, refl, sym, ap, subst, arith, append-nil, append_assoc, length-append}
-use Rattle.std.proofs.lemmas.List.{length-set, take_more_set, map_more, drop-set-lt, drop-drop, drop_more, take-append-drop, take_all, length-map, length-take-le, take-append-le, drop_at, take_more, map-append}
+use Rattle.std.proofs.lemmas.List.{length-set, take_more_set, map_more, drop-set-lt, drop-drop, take-append-drop, take_all, length-map, take-append-le, drop_at, take_more, map-append}
 use Rattle.std.proofs.lemmas.List.Concat.{flat_map-append}
 use Rattle.std.proofs.lemmas.List.Elements.{All-same, All-take, All-drop}
 use Rattle.std.specs.Prelude.{flat_map}
@@ -65,8 +65,8 @@ front_grows front more first old now at h w =
     let e : at + length more ≡ length front + length more = omega (arith, same) in
     let e2 : length front + length more ≡ length (front ++ more) = omega (arith, long) in
     let behind : drop (at + length more) old ≡ drop (length (front ++ more)) first =
-        ap (λ n. drop n old) e ∙ sym (drop-drop (length more) (length front) old) ∙ ap (λ xs. drop (length more) (drop (length front) xs)) h.is
-        ∙ ap (drop (length more)) (drop_at front rest (length front) refl) ∙ drop-drop (length more) (length front) first ∙ ap (λ n. drop n first) e2 in
+    ap (λ n. drop n old) e ∙ sym (drop-drop (length more) (length front) old) ∙ ap (λ xs. drop (length more) (drop (length front) xs)) h.is
+    ∙ ap (drop (length more)) (drop_at front rest (length front) refl) ∙ drop-drop (length more) (length front) first ∙ ap (λ n. drop n first) e2 in
     record {
       many = e ∙ e2;
       is = w.is ∙ ap (λ xs. (xs ++ more) ++ drop (at + length more) old) before ∙ ap (λ xs. (front ++ more) ++ xs) behind;
@@ -93,11 +93,11 @@ module _ {A B : Type 0} (f : A → List B) (xs : List A) where
   of_one_item P i d lt all =
       let front = flat_map f (take i xs) in
       let some : All P (flat_map f (take (i + 1) xs)) =
-          All-same P (flat_map f (take (i + 1) xs)) (take (length (flat_map f (take (i + 1) xs))) (flat_map f xs))
-          (sym (ap (take (length (flat_map f (take (i + 1) xs)))) (sym (all_items (i + 1)))
-          ∙ take-append-le (length (flat_map f (take (i + 1) xs))) (flat_map f (take (i + 1) xs)) (flat_map f (drop (i + 1) xs)) (omega arith)
-          ∙ take_all (length (flat_map f (take (i + 1) xs))) (flat_map f (take (i + 1) xs)) (omega arith)))
-          (All-take P (length (flat_map f (take (i + 1) xs))) (flat_map f xs) all) in
+      All-same P (flat_map f (take (i + 1) xs)) (take (length (flat_map f (take (i + 1) xs))) (flat_map f xs))
+      (sym (ap (take (length (flat_map f (take (i + 1) xs)))) (sym (all_items (i + 1)))
+      ∙ take-append-le (length (flat_map f (take (i + 1) xs))) (flat_map f (take (i + 1) xs)) (flat_map f (drop (i + 1) xs)) (omega arith)
+      ∙ take_all (length (flat_map f (take (i + 1) xs))) (flat_map f (take (i + 1) xs)) (omega arith)))
+      (All-take P (length (flat_map f (take (i + 1) xs))) (flat_map f xs) all) in
       All-same P (f (get_or xs i d)) (drop (length front) (flat_map f (take (i + 1) xs)))
       (sym (ap (drop (length front)) (one_item_more i d lt) ∙ drop_at front (f (get_or xs i d)) (length front) refl))
       (All-drop P (length front) (flat_map f (take (i + 1) xs)) some)

@@ -1,5 +1,5 @@
 -- A byte of a class and a run of another behind it, which are written at once.
-use Rattle.std.proofs.Common.{◌≡◌, ℕ, ◌+◌, ◌≤◌, List, [], ◌∷◌, ◌++◌, length, drop, Option, Some, None, refl, sym, ◌∙◌, ap, option_map, arith}
+use Rattle.std.proofs.Common.{◌≡◌, ℕ, ◌+◌, ◌≤◌, List, [], ◌∷◌, ◌++◌, length, drop, Option, Some, None, refl, ap, option_map, arith}
 use Rattle.weedle_grammar.specs.declared.class.Class.{Class}
 use Rattle.weedle_grammar.specs.Rows.{Row, OneOf, Run, Seq, take_one, run_length}
 use Rattle.weedle_grammar.specs.written.Table.{webidl, row_of}

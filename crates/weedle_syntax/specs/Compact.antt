@@ -1,5 +1,5 @@
 -- Nodes in 8 bytes each: of a run of them, places count from where it begins.
-use Rattle.std.specs.Prelude.{◌≡◌, ◌^◌, ◌+◌, ◌<◌, ◌≤◌, ℕ, All, List, [], ◌∷◌, ◌++◌, flat_map, if◌then◌else◌, length, map, take, drop}
+use Rattle.std.specs.Prelude.{◌≡◌, ◌^◌, ◌+◌, ◌<◌, ◌≤◌, ℕ, All, List, ◌++◌, flat_map, if◌then◌else◌, length, map, take, drop}
 use Rattle.weedle_syntax.specs.declared.node.Node.{Node}
 use Rattle.weedle_syntax.specs.declared.runs.Run.{Run}
 use Rattle.weedle_syntax.specs.declared.runs.Runs.{Runs}

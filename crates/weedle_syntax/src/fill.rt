@@ -20,8 +20,7 @@ pub trait FromNode: Copy {
 
 /// Writes the nodes of a run from number `at` of the room on.
 pub(crate) fn write_run<T: FromNode>(nodes: &Runs, run: Run, room: &mut [T], at: usize)
-    requires inside
-        { IsInside (length nodes.now.shorts.items) (length nodes.now.longs.items) run }
+    requires inside { IsInside (length nodes.now.shorts.items) (length nodes.now.longs.items) run }
     requires narrow { All IsNarrow (run_nodes nodes.now.shorts.items nodes.now.longs.items run) }
     requires room { at + run.many ≤ length room.old }
     ensures { IsWrittenAt at

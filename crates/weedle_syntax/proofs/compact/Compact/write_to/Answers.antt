@@ -1,5 +1,5 @@
-use Rattle.std.proofs.Common.{◌≡◌, ◌<◌, ◌∷◌, ◌≤◌, ◌+◌, ◌∙◌, All, false, length, length-set, map, get_or, sym, ap, subst, arith}
-use Rattle.weedle_syntax.specs.Compact.{IsInside, IsNarrow, IsWrittenAt, nodes_of, run_nodes}
+use Rattle.std.proofs.Common.{◌<◌, ◌∷◌, ◌≤◌, ◌+◌, ◌∙◌, All, false, length, length-set, map, get_or, sym, ap, subst, arith}
+use Rattle.weedle_syntax.specs.Compact.{IsNarrow, IsWrittenAt, nodes_of, run_nodes}
 use Rattle.weedle_syntax.proofs.CompactFacts.{run_length}
 use Rattle.weedle_syntax.proofs.FillFacts.{AreWritten, of_one_item, run_has_room, run_written}
 use Rattle.weedle_syntax.specs.declared.runs.Run.{Run}
@@ -26,9 +26,9 @@ write_run-requires-clause-room g c =
     let less = subst (λ rs. i < length rs) is c.loop-run-test.true in
     let many = run_length below.shorts.items below.longs.items (get_or below.runs.items i none) (c.self.invariant.inside i none less) in
     let all : length (c.self.inside.root ∷ nodes_of below) ≤ length c.args.room.now =
-        subst (λ ns. length ns ≤ length c.args.room.now) (sym c.self.view_is) c.requires in
+    subst (λ ns. length ns ≤ length c.args.room.now) (sym c.self.view_is) c.requires in
     let has = run_has_room g.T.FromNode.of c.self.inside.root below.shorts.items below.longs.items below.runs.items c.args.room.now
-        c.loop-run.room c.loop-run.at i none c.loop-run.invariant less all in
+    c.loop-run.room c.loop-run.at i none c.loop-run.invariant less all in
     let size = c.loop-run.auto.room ∙ length-set c.args.room.now 0 c.from_node.result in
     let same = ap (λ rs. (get_or rs i none).many) is in
     omega (arith, many, has, size, same)
