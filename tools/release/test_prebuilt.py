@@ -47,7 +47,6 @@ class PrebuiltTest(Room):
         self.archive = self.built("built.a", 1)
 
     def declare(self, version="0x000a02", more=""):
-        """Writes the header."""
         self.put({HEADER: DECLARED.format(version=version).replace("static", f"{more}static")})
 
     def built(self, name, number):

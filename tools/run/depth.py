@@ -52,7 +52,6 @@ def depth_of(words, text_of):
 
 
 def add_arguments(parser):
-    """Takes the arguments."""
     parser.add_argument("program", type=runnable, metavar="PROGRAM")
     parser.add_argument("words", nargs="*", metavar="ARGUMENT", help="what the program is given")
     parser.add_argument("--direct", action="store_true", help="the program reads by descent")

@@ -254,7 +254,6 @@ def falls_short(count, figures):
 
 
 def add_arguments(parser):
-    """Takes the arguments."""
     add_program(parser, "weedle_recover")
     parser.add_argument("--texts", type=int, default=100)
     parser.add_argument("--errors", type=int, nargs="+", default=[1, 3, 10])

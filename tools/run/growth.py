@@ -177,7 +177,6 @@ class Runner:
 
 
 def add_arguments(parser: ArgumentParser) -> None:
-    """Takes the arguments."""
     add_program(parser, "weedle_table")
 
 

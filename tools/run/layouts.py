@@ -123,7 +123,6 @@ def kinds(wanted):
 
 
 def add_arguments(parser):
-    """Takes the arguments."""
     add_program(parser, "weedle_format")
     texts.add_arguments(parser)
 

@@ -127,7 +127,6 @@ def failures_of_worked(programs: Programs) -> list[Failure]:
 
 
 def add_arguments(parser: ArgumentParser) -> None:
-    """Takes the arguments."""
     parser.add_argument("check", nargs="?", default=place_of("weedle_check"), metavar="CHECK")
     parser.add_argument("format", nargs="?", default=place_of("weedle_format"), metavar="FORMAT")
     parser.add_argument("--random", type=int, default=2_000, metavar="N")

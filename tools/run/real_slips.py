@@ -145,7 +145,6 @@ def slips_of(texts, kind, each):
 
 
 def add_arguments(parser):
-    """Takes the arguments."""
     parser.add_argument("folder", metavar="FOLDER")
     parser.add_argument("program", metavar="PROGRAM", nargs="?", help="a built weedle_check")
     parser.add_argument("--each", type=int, default=EACH, help="how many slips of each kind")

@@ -70,7 +70,6 @@ class Counts:
 
 
 def add_arguments(parser):
-    """Takes the arguments."""
     add_program(parser, "weedle_check", can_be_tried=True)
 
 

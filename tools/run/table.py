@@ -201,7 +201,6 @@ def failures_of(table, items, wrong_of, text_of):
 
 
 def add_arguments(parser):
-    """Takes the arguments."""
     add_program(parser, "weedle_table", can_be_tried=True)
     parser.add_argument("--most", type=int, default=100)
 

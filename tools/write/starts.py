@@ -96,7 +96,6 @@ def gate(rule):
     return first_set(option_of(rule.row) or rule.name)
 
 
-# Writing.
 class Joined:
     """What rows name, one behind another, each only once."""
 
