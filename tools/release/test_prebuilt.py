@@ -185,8 +185,6 @@ class Compared(PrebuiltTest):
 
 
 class Targets(PrebuiltTest):
-    """What is built for other processors."""
-
     def test_those_that_have_a_folder(self):
         self.assertEqual(prebuilt.targets_in(self.root), ["x86_64-linux"])
         (self.root / PREBUILT / OTHER).mkdir(parents=True)
