@@ -235,11 +235,6 @@ def title_of(tree):
     return f"{TITLES[kind]} {name['Identifier']}"
 
 
-def failures_of_runs(program, kind):
-    found = failures_of(program.program, [run for run in runs() if run.program == kind])
-    return [it for it in found if it], len(found)
-
-
 def taken(cases, share):
     """So large a share of cases, evenly of all."""
     return [case for number, case in enumerate(cases) if int((number + 1) * share) > int(number * share)]
@@ -253,18 +248,11 @@ def share_of(most, chosen, size):
     return min(1, most / every) if every else 1
 
 
-def size_of_text(case):
-    return len(case.text.encode())
-
-
-def size_of_value(case):
-    return len(compact(case.wanted))
-
-
 def run_folder(program, kind, folder, cases, wanted):
     """The failures of a folder, and how many cases it has for the program."""
     if folder == RUNS:
-        return failures_of_runs(program, kind)
+        found = failures_of(program.program, [run for run in runs() if run.program == kind])
+        return found, len(found)
     if folder == "real":
         return real_texts(program, cases, wanted.real) if kind == CHECK else ([], 0)
     if kind == CHECK:
@@ -313,7 +301,8 @@ def chosen_cases(wanted):
     texts = {name: cases for name, cases in found.items() if name not in (RUNS, "real")}
     if wanted.tried:
         texts = {name: [case for case in cases if len(case.text) <= TRIED_TEXT] for name, cases in texts.items()}
-    share = min(share_of(wanted.most, texts, size_of_text), share_of(TRIED_VALUES if wanted.tried else None, texts, size_of_value))
+    share = share_of(wanted.most, texts, lambda case: len(case.text.encode()))
+    share = min(share, share_of(TRIED_VALUES if wanted.tried else None, texts, lambda case: len(compact(case.wanted))))
     return found | {name: taken(cases, share) for name, cases in texts.items()}
 
 

@@ -58,7 +58,6 @@ def add_arguments(parser):
 
 
 def run(wanted, report):
-    """Looks how deep the program reads each family."""
     for name, text_of in families(wanted.direct).items():
         read, end = depth_of([wanted.program, *wanted.words], text_of)
         report.add(name, 1, [], f"; {read}{' and more' if end == 'read' else f', a deeper one: {end}'}")

@@ -263,7 +263,6 @@ def add_arguments(parser):
 
 
 def run(wanted, report):
-    """Sows errors in all texts, and compares."""
     program, texts = meant(wanted.program), texts_of(wanted)
     for count in wanted.errors:
         tally, failures = tallied(program, texts, count, random.Random(wanted.seed + count), wanted.verbose)

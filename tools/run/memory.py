@@ -136,7 +136,6 @@ def add_arguments(parser: ArgumentParser) -> None:
 
 
 def run(wanted: Namespace, report: Report) -> None:
-    """Runs each program over its runs."""
     all_runs = runs(wanted.runs)
     found = built_at(wanted.programs, sorted({one.program for one in all_runs}))
     if not found:

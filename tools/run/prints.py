@@ -134,7 +134,6 @@ def add_arguments(parser: ArgumentParser) -> None:
 
 
 def run(wanted: Namespace, report: Report) -> None:
-    """Has all texts written anew."""
     weedle2 = Weedle2(wanted.weedle2) if wanted.weedle2 else None
     programs = Programs(meant(wanted.check), meant(wanted.format), weedle2)
     report.add("worked texts, by hand", len(worked()), failures_of_worked(programs))

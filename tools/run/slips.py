@@ -74,7 +74,6 @@ def add_arguments(parser):
 
 
 def run(wanted, report):
-    """Asks the program of all slips, and counts."""
     found, counts = slips(), Counts()
     failures = said_otherwise(meant(wanted.program, wanted.is_tried), found)
     for slip in found:

@@ -206,7 +206,6 @@ def add_arguments(parser):
 
 
 def run(wanted, report):
-    """Asks the program of the worked texts, and of those of tests/."""
     table = Table(meant(wanted.program, wanted.is_tried))
     worked = tomllib.loads(WORKED.read_text())["text"]
     report.add("worked", len(worked), failures_of(table, worked, wrong_of_worked, lambda row: row["text"]))

@@ -179,7 +179,7 @@ def use_lines(items, aliases):
 
 def path_of(item, name):
     """The path of a type that a law names; a former's is that of its alias, with what it is given."""
-    known = item.module.knows(name)
+    known = name in item.module.names or name in item.module.imported
     return item.module.path_of(name) if known else item.module.path
 
 
