@@ -24,10 +24,6 @@ FAULTS = "Rattle.weedle_base.specs.declared.fault.Err"
 OUTCOMES = {"Recoverable": "Error as Recoverable", "Failure": "Failure"}
 
 
-def is_by_hand(text):
-    return not WRITTEN.search("\n".join(text.split("\n")[:HEAD_LINES]))
-
-
 def home_of(declaration):
     """The module of the logic that has a declared type."""
     place = f"{declaration.module}.{logic(declaration.name)}"
@@ -40,7 +36,8 @@ def stated_in(root, crate, folders):
         top = Path(root) / "crates" / crate / folder
         for path in files_in(top, ".antt"):
             text = path.read_text(encoding="utf-8")
-            if path.name != "Lib.antt" and is_by_hand(text):
+            is_written = WRITTEN.search("\n".join(text.split("\n")[:HEAD_LINES]))
+            if path.name != "Lib.antt" and not is_written:
                 module = ".".join(["Rattle", crate, folder, *module_in(top, path)])
                 yield from ((name, module) for name in STATED.findall(text))
 

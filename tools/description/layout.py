@@ -31,7 +31,6 @@ def use_line(path, names):
 
 
 def depth(text):
-    """How many brackets are left open in a text."""
     return sum((sign in OPENING) - (sign in CLOSING) for sign in text)
 
 

@@ -34,7 +34,6 @@ from gate.ci import FIRST, LIBRARY, OF_A_JOB, PROGRAMS
 from shared.command_line import ended, parser_of
 from shared.crates import TOP
 
-
 TICKS = os.sysconf("SC_CLK_TCK")
 PAGE = os.sysconf("SC_PAGE_SIZE")
 INTERVAL = 0.5
@@ -43,10 +42,6 @@ LOOKS = 40
 KINDS = ("proof", "tests", "edits", "programs", "library")
 # Of a process with less memory than this, in bytes, it isn't counted.
 SMALL = 50_000_000
-
-
-def boot_time():
-    return time.time() - float(Path("/proc/uptime").read_text().split()[0])
 
 
 def look_at(pid, boot):
@@ -93,8 +88,8 @@ class Sampler:
     """What was seen of each process below one."""
 
     def __init__(self, root, log):
-        self.root, self.log, self.boot, self.seen = root, log, boot_time(), {}
-        self.looks = 0
+        self.root, self.log, self.seen, self.looks = root, log, {}, 0
+        self.boot = time.time() - float(Path("/proc/uptime").read_text().split()[0])
 
     def sample(self):
         processes = all_processes(self.boot)
@@ -133,10 +128,6 @@ class Sampler:
     def end(self, pid):
         self.log.append(self.seen.pop(pid))
 
-    def end_all(self):
-        for pid in list(self.seen):
-            self.end(pid)
-
 
 def run(command):
     """Runs a command; its status, and what was seen of each process."""
@@ -146,8 +137,7 @@ def run(command):
     while process.poll() is None:
         sampler.sample()
         time.sleep(INTERVAL)
-    sampler.end_all()
-    return process.returncode, log
+    return process.returncode, [*log, *sampler.seen.values()]
 
 
 def crate_of(entry):

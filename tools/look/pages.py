@@ -84,7 +84,6 @@ PART = re.compile(r"    (?:pub (\w+):|([A-Z]\w*)\b)")
 
 
 def pages_of(root):
-    """The pages of a repository, in order."""
     for path in sorted(root.rglob("*.md")):
         if not ASIDE.intersection(path.relative_to(root).parts):
             yield path

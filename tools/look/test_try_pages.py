@@ -182,13 +182,10 @@ class Readme(Repository):
         [wrong] = self.tried("README")
         self.assertIn(f"README.md: this piece of the program doesn't stand in {try_pages.PROVED}:\n/// The names of a text.", wrong)
 
-    def test_another_block_has_to_stand_somewhere(self):
-        self.changed("README.md", '// rest is ",": it is', "// rest is")
-        self.assertEqual(self.tried("README"), [NOWHERE])
-
-    def test_another_block_brings_in_what_its_file_does(self):
-        self.changed("README.md", "use weedle::term::Comma;", "use weedle::Comma;")
-        self.assertEqual(self.tried("README"), [NOWHERE])
+    def test_another_block_stands_somewhere_and_brings_in_what_its_file_does(self):
+        for old, new in (('// rest is ",": it is', "// rest is"), ("use weedle::term::Comma;", "use weedle::Comma;")):
+            self.changed("README.md", old, new)
+            self.assertEqual(self.tried("README"), [NOWHERE], new)
 
     def test_a_page_of_blocks_alone(self):
         self.put({"docs/USING.md": "```rust\nlet x = gone;\n```\n"})

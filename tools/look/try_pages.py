@@ -102,7 +102,6 @@ def path_of(name):
 
 
 def blocks_of(rows, file):
-    """The blocks of code of a page."""
     blocks, open_block = [], None
     for number, row in enumerate(rows, 1):
         fence = FENCE.match(row)
@@ -234,7 +233,6 @@ def build_repository(root, pages, room):
 
 
 def run(folder, words, **more):
-    """Runs the program of a folder."""
     words = ["rt", "try", "--seconds", SECONDS, *words]
     return subprocess.run(words, cwd=folder, capture_output=True, text=True, **more)
 

@@ -98,7 +98,6 @@ def copy_of(folder, name, into, changes=()):
 
 
 def put(text, old, new, file):
-    """A text with one piece in the place of another."""
     if text.count(old) != 1:
         raise Unfit(f"{file} of weedle2 has {old} {text.count(old)} times")
     return text.replace(old, new)

@@ -98,7 +98,6 @@ def parts_between(out):
     return re.split(r'^\d+:\d+ .*"between_two_texts".*\n', out, flags=re.M)
 
 
-# The two sides.
 def output_of(words, text=None):
     """What a program writes; a status of more than 1 is none of an answer."""
     try:
@@ -151,7 +150,6 @@ class Port:
         return [[renamed(read(it)) for it in part] for part in texts]
 
 
-# What the rows give.
 TITLES = {
     "Callback": "callback", "CallbackInterface": "callback interface", "Interface": "interface", "InterfaceMixin": "interface mixin",
     "Namespace": "namespace", "Dictionary": "dictionary", "PartialInterface": "partial interface",
@@ -185,7 +183,6 @@ def explanation(text, port, weedle2):
     return None
 
 
-# The texts.
 def worked_texts():
     """Each string of the tests of crates, and each text that stands in tests/ by hand."""
     tests = [name for name in read_lines(TOP) if name.endswith("_rows") or name == "weedle_testing"]
@@ -226,7 +223,6 @@ def files_of(folder):
     return files
 
 
-# The comparing.
 def in_files(texts, room):
     """The paths of files of a folder with these texts."""
     files = [f"{room}/{number}.idl" for number in range(len(texts))]
@@ -242,7 +238,6 @@ class Comparison:
         self.port, self.weedle2, self.counts = port, weedle2, Counter()
 
     def add(self, texts):
-        """Compares the answers of texts."""
         texts = list(texts)
         for start in range(0, len(texts), TOGETHER):
             self.add_together(texts[start:start + TOGETHER])

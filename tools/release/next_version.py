@@ -87,7 +87,6 @@ def newest_commit(changelog: str) -> str:
 
 
 def version_of(root: Path) -> Version:
-    """The version of a tree."""
     header = root / HEADER
     if not header.exists():
         raise Unfit(f"the last version has no {HEADER}")
@@ -157,7 +156,6 @@ def run(top: Path, commit: str | None, most: int | None) -> int:
 
 
 def main() -> int:
-    """Does what the arguments ask for."""
     parser = parser_of(__doc__)
     parser.add_argument("--all", action="store_true", help="print all differences")
     parser.add_argument("commit", metavar="COMMIT", nargs="?", help="the last version's commit")

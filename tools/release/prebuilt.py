@@ -108,7 +108,6 @@ def read_sums(folder: Path) -> Sums:
 
 
 def version_in(header: str) -> str:
-    """The version of a header."""
     number = int(re.search(r"^#define WEEDLE_VERSION 0x([0-9a-f]{6})$", header, re.MULTILINE)[1], 16)
     return f"{number >> 16}.{number >> 8 & 255}.{number & 255}"
 
@@ -219,7 +218,6 @@ def looked(top: Path, target: str, wanted: argparse.Namespace) -> Iterator[str]:
 
 
 def main() -> int:
-    """Does what the arguments ask for."""
     parser = parser_of(__doc__)
     ways = parser.add_mutually_exclusive_group()
     ways.add_argument("--make", action="store_true", help="take ARCHIVE over")

@@ -66,11 +66,9 @@ class Compared(Room):
         self.put({"CHANGELOG.md": f"## 0.1.0 (2026-01-01)\n\nCommit `{commit}`.\n"})
 
     def git(self, *words):
-        """What git prints."""
         return subprocess.run([GIT, *words], cwd=self.root, capture_output=True, text=True, check=True).stdout
 
     def declare(self, version, more="", given="void"):
-        """Writes the header."""
         self.put({HEADER: DECLARED.format(version=version, more=more, given=given)})
 
     def ran(self, *words):

@@ -47,7 +47,6 @@ class PrebuiltTest(Room):
         self.archive = self.built("built.a", 1)
 
     def declare(self, version="0x000a02", more=""):
-        """Writes the header."""
         self.put({HEADER: DECLARED.format(version=version).replace("static", f"{more}static")})
 
     def built(self, name, number):
@@ -186,8 +185,6 @@ class Compared(PrebuiltTest):
 
 
 class Targets(PrebuiltTest):
-    """What is built for other processors."""
-
     def test_those_that_have_a_folder(self):
         self.assertEqual(prebuilt.targets_in(self.root), ["x86_64-linux"])
         (self.root / PREBUILT / OTHER).mkdir(parents=True)

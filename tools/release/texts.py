@@ -56,7 +56,6 @@ def wants_of(place: Path) -> str:
 
 
 def sums_of(folder: Path, top: Path, built: list[Path]) -> str:
-    """The text of SUMS."""
     sums = read_sums(top / FOLDER)
     files = sorted(it for it in folder.iterdir() if it.is_file() and it.name != SUMS)
     heads = [f"weedle {sums.version}", sums.kit, *map(wants_of, built)]
@@ -65,7 +64,6 @@ def sums_of(folder: Path, top: Path, built: list[Path]) -> str:
 
 
 def write(folder: Path, top: Path, built: list[Path]) -> None:
-    """Writes both texts."""
     version = version_in((top / HEADER).read_text(encoding="utf-8"))
     changelog = (top / "CHANGELOG.md").read_text(encoding="utf-8")
     changes = without_links(section_of(changelog, version))
@@ -74,7 +72,6 @@ def write(folder: Path, top: Path, built: list[Path]) -> None:
 
 
 def main() -> None:
-    """Does what the arguments ask for."""
     parser = parser_of(__doc__)
     parser.add_argument("folder", metavar="FOLDER", type=Path)
     parser.add_argument("built", metavar="BUILT", type=Path, nargs="*")

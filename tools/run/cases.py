@@ -40,7 +40,6 @@ LISTED, EVERY = ("tests", "worked"), 10
 TRIED_TEXT, TRIED_VALUES = 2_000, 600_000
 
 
-# weedle_check
 def said_of(case, name):
     """What weedle_check has to write of a text that is refused."""
     wanted = case.wanted
@@ -164,7 +163,6 @@ def in_rooms(program, jobs):
         return list(pool.map(work, jobs))
 
 
-# weedle_list
 def list_one(program, cases, _):
     """A failure, or None, for each case: the lines of its definitions, and its outline."""
     return [failure for case in cases for failure in (listed(program, case, []), listed(program, case, ["outline"]))]
@@ -177,7 +175,6 @@ def listed(program, case, words):
 
 
 def listing_of(wanted, words):
-    """What weedle_list has to write."""
     if "rest" in wanted:
         return f"unread at byte {wanted['rest']}\n"
     lines = []
@@ -187,7 +184,6 @@ def listing_of(wanted, words):
 
 
 def docstring_of(value):
-    """The lines of a definition's docstring."""
     (fields,) = value.values()
     docstring = fields.get("docstring")
     return docstring["Docstring"].split("\n") if docstring else []
@@ -239,13 +235,6 @@ def title_of(tree):
     return f"{TITLES[kind]} {name['Identifier']}"
 
 
-# The runs that are written by hand.
-def failures_of_runs(program, kind):
-    found = failures_of(program.program, [run for run in runs() if run.program == kind])
-    return [it for it in found if it], len(found)
-
-
-# All folders.
 def taken(cases, share):
     """So large a share of cases, evenly of all."""
     return [case for number, case in enumerate(cases) if int((number + 1) * share) > int(number * share)]
@@ -259,18 +248,11 @@ def share_of(most, chosen, size):
     return min(1, most / every) if every else 1
 
 
-def size_of_text(case):
-    return len(case.text.encode())
-
-
-def size_of_value(case):
-    return len(compact(case.wanted))
-
-
 def run_folder(program, kind, folder, cases, wanted):
     """The failures of a folder, and how many cases it has for the program."""
     if folder == RUNS:
-        return failures_of_runs(program, kind)
+        found = failures_of(program.program, [run for run in runs() if run.program == kind])
+        return found, len(found)
     if folder == "real":
         return real_texts(program, cases, wanted.real) if kind == CHECK else ([], 0)
     if kind == CHECK:
@@ -319,12 +301,12 @@ def chosen_cases(wanted):
     texts = {name: cases for name, cases in found.items() if name not in (RUNS, "real")}
     if wanted.tried:
         texts = {name: [case for case in cases if len(case.text) <= TRIED_TEXT] for name, cases in texts.items()}
-    share = min(share_of(wanted.most, texts, size_of_text), share_of(TRIED_VALUES if wanted.tried else None, texts, size_of_value))
+    share = share_of(wanted.most, texts, lambda case: len(case.text.encode()))
+    share = min(share, share_of(TRIED_VALUES if wanted.tried else None, texts, lambda case: len(compact(case.wanted))))
     return found | {name: taken(cases, share) for name, cases in texts.items()}
 
 
 def add_arguments(words):
-    """Takes the arguments."""
     words.add_argument("program", metavar="PROGRAM", help="a built weedle_check or weedle_list, or a folder with both below it")
     words.add_argument("folder", metavar="FOLDER", nargs="*", help="a folder of tests/, as random; without one all")
     words.add_argument("--most", type=int, metavar="BYTES", help="take texts of so many bytes together at most")
@@ -335,7 +317,6 @@ def add_arguments(words):
 
 
 def run(wanted, report):
-    """Runs the programs over the cases."""
     programs, chosen = programs_meant(wanted.program, wanted.tried), chosen_cases(wanted)
     for program, kind in programs:
         run_program(program, kind, wanted, chosen, report)

@@ -52,14 +52,12 @@ def depth_of(words, text_of):
 
 
 def add_arguments(parser):
-    """Takes the arguments."""
     parser.add_argument("program", type=runnable, metavar="PROGRAM")
     parser.add_argument("words", nargs="*", metavar="ARGUMENT", help="what the program is given")
     parser.add_argument("--direct", action="store_true", help="the program reads by descent")
 
 
 def run(wanted, report):
-    """Looks how deep the program reads each family."""
     for name, text_of in families(wanted.direct).items():
         read, end = depth_of([wanted.program, *wanted.words], text_of)
         report.add(name, 1, [], f"; {read}{' and more' if end == 'read' else f', a deeper one: {end}'}")

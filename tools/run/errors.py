@@ -254,7 +254,6 @@ def falls_short(count, figures):
 
 
 def add_arguments(parser):
-    """Takes the arguments."""
     add_program(parser, "weedle_recover")
     parser.add_argument("--texts", type=int, default=100)
     parser.add_argument("--errors", type=int, nargs="+", default=[1, 3, 10])
@@ -264,7 +263,6 @@ def add_arguments(parser):
 
 
 def run(wanted, report):
-    """Sows errors in all texts, and compares."""
     program, texts = meant(wanted.program), texts_of(wanted)
     for count in wanted.errors:
         tally, failures = tallied(program, texts, count, random.Random(wanted.seed + count), wanted.verbose)

@@ -46,6 +46,5 @@ def joined(pieces, part):
 
 
 def families(place=PLACE):
-    """All families, in their order."""
     lines = Path(place).read_text(encoding="utf-8").splitlines()
     return [Family(*line.split("\t")) for line in lines if line and not line.startswith("#")]

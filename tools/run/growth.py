@@ -177,12 +177,10 @@ class Runner:
 
 
 def add_arguments(parser: ArgumentParser) -> None:
-    """Takes the arguments."""
     add_program(parser, "weedle_table")
 
 
 def run(wanted: Namespace, report: Report) -> None:
-    """Measures all families, and the texts with two open brackets."""
     program = Path(wanted.program).resolve()
     if not shutil.which("valgrind"):
         print("left out: how many instructions calls take: there is no valgrind")

@@ -53,5 +53,4 @@ def of_long_layouts():
 
 
 def all_runs():
-    """All of them."""
     return [*runs(OVER_FILES), *of_worked_texts(), *of_deep_texts(), *of_long_layouts()]

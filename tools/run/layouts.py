@@ -123,13 +123,11 @@ def kinds(wanted):
 
 
 def add_arguments(parser):
-    """Takes the arguments."""
     add_program(parser, "weedle_format")
     texts.add_arguments(parser)
 
 
 def run(wanted, report):
-    """Lays out all texts, and runs the program over files."""
     weedle2, program = wanted.weedle2 and Weedle2(wanted.weedle2), meant(wanted.program)
     for kind, given in kinds(wanted):
         asked = None if kind == texts.DEEP else weedle2

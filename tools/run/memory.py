@@ -51,7 +51,6 @@ class Asked:
         self.large = [int(number) for word, number in rows if word == "request"]
 
     def told(self, places: int) -> str:
-        """It in a line."""
         large = ", ".join(f"{size / places:,.2f}" for size in self.large) or "none"
         return f"{self.requests} requests, large ones {large}, held {self.held / places:,.2f} bytes a place"
 
@@ -132,13 +131,11 @@ def built_library(room: str | Path) -> str:
 
 
 def add_arguments(parser: ArgumentParser) -> None:
-    """Takes the arguments."""
     parser.add_argument("programs", nargs="?", default=TOP / "crates", metavar="PROGRAMS")
     parser.add_argument("--runs", default=RUNS, metavar="FILE", help="the runs, if not tests/memory.toml")
 
 
 def run(wanted: Namespace, report: Report) -> None:
-    """Runs each program over its runs."""
     all_runs = runs(wanted.runs)
     found = built_at(wanted.programs, sorted({one.program for one in all_runs}))
     if not found:

@@ -127,7 +127,6 @@ def failures_of_worked(programs: Programs) -> list[Failure]:
 
 
 def add_arguments(parser: ArgumentParser) -> None:
-    """Takes the arguments."""
     parser.add_argument("check", nargs="?", default=place_of("weedle_check"), metavar="CHECK")
     parser.add_argument("format", nargs="?", default=place_of("weedle_format"), metavar="FORMAT")
     parser.add_argument("--random", type=int, default=2_000, metavar="N")
@@ -135,7 +134,6 @@ def add_arguments(parser: ArgumentParser) -> None:
 
 
 def run(wanted: Namespace, report: Report) -> None:
-    """Has all texts written anew."""
     weedle2 = Weedle2(wanted.weedle2) if wanted.weedle2 else None
     programs = Programs(meant(wanted.check), meant(wanted.format), weedle2)
     report.add("worked texts, by hand", len(worked()), failures_of_worked(programs))

@@ -16,8 +16,6 @@ TRY = (sys.executable, str(TOP / "tools/run/try_alone.py"))
 
 
 class Built:
-    """A program that is built."""
-
     def __init__(self, program):
         self.program = program
 
@@ -57,7 +55,6 @@ def told(ended):
 
 
 def place_of(name):
-    """Where the gate builds a program."""
     return TOP / f"crates/{name}/out/{name}"
 
 

@@ -92,10 +92,6 @@ def may_be_exchanged(kind, one, _, other, two):
     return kind == other == "word" and one != two and (one in KEYWORDS or two in KEYWORDS)
 
 
-def strings_opened(text, tokens, chance):
-    return [(end - 1, 1, b"") for kind, start, end in tokens if kind == "string"]
-
-
 KINDS = {
     "a letter of a keyword missing": at_keywords(lambda word, at, chance: word[:at] + word[at + 1:]),
     "a letter of a keyword changed": at_keywords(
@@ -109,7 +105,7 @@ KINDS = {
     ],
     "two words exchanged": at_pairs(may_be_exchanged, lambda text, start, end, behind, until: (
         start, until - start, text[behind:until] + text[end:behind] + text[start:end])),
-    "a string's end missing": strings_opened,
+    "a string's end missing": lambda text, tokens, chance: [(end - 1, 1, b"") for kind, _, end in tokens if kind == "string"],
     "a docstring before a member": at_pairs(
         lambda kind, one, between, other, two: one in (b";", b"{") and b"\n" in between,
         lambda text, start, end, behind, until: (behind, 0, b"/// text\n  ")),
@@ -145,7 +141,6 @@ def slips_of(texts, kind, each):
 
 
 def add_arguments(parser):
-    """Takes the arguments."""
     parser.add_argument("folder", metavar="FOLDER")
     parser.add_argument("program", metavar="PROGRAM", nargs="?", help="a built weedle_check")
     parser.add_argument("--each", type=int, default=EACH, help="how many slips of each kind")
@@ -153,7 +148,6 @@ def add_arguments(parser):
 
 
 def run(wanted, report):
-    """Makes slips of each kind, and counts."""
     program, texts, total = wanted.program and meant(wanted.program), real_texts(wanted.folder), Counts()
     for kind in KINDS:
         slips, counts, shown = list(slips_of(texts, kind, wanted.each)), Counts(), wanted.shown

@@ -68,14 +68,12 @@ def texts_in(folder, cases, real):
 
 
 def add_arguments(parser):
-    """Takes the arguments."""
     parser.add_argument("program", metavar="PROGRAM", help="the program of compare/, built over the package")
     parser.add_argument("folders", nargs="*", metavar="FOLDER", help="a folder of tests/, as random")
     parser.add_argument("--real", metavar="FOLDER", help="the folder of the real files")
 
 
 def run(wanted, report):
-    """Runs the program over the folders."""
     known = [it for it in folders() if it != REAL or wanted.real]
     chosen = wanted.folders or known
     if set(chosen) - set(known):

@@ -70,12 +70,10 @@ class Counts:
 
 
 def add_arguments(parser):
-    """Takes the arguments."""
     add_program(parser, "weedle_check", can_be_tried=True)
 
 
 def run(wanted, report):
-    """Asks the program of all slips, and counts."""
     found, counts = slips(), Counts()
     failures = said_otherwise(meant(wanted.program, wanted.is_tried), found)
     for slip in found:

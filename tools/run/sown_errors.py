@@ -120,7 +120,6 @@ class Maker:
 
 
 def joined(definitions):
-    """The text of definitions."""
     return "".join(piece for definition in definitions for piece in definition)
 
 

@@ -201,13 +201,11 @@ def failures_of(table, items, wrong_of, text_of):
 
 
 def add_arguments(parser):
-    """Takes the arguments."""
     add_program(parser, "weedle_table", can_be_tried=True)
     parser.add_argument("--most", type=int, default=100)
 
 
 def run(wanted, report):
-    """Asks the program of the worked texts, and of those of tests/."""
     table = Table(meant(wanted.program, wanted.is_tried))
     worked = tomllib.loads(WORKED.read_text())["text"]
     report.add("worked", len(worked), failures_of(table, worked, wrong_of_worked, lambda row: row["text"]))

@@ -97,8 +97,6 @@ def trees(text, values, wrong):
 
 
 class Cases(Room):
-    """Runs over cases of a few texts."""
-
     FILES = {archive_of("some"): packed(numbered((text, wanted_of(text)) for text in TEXTS))}
 
     def program(self, name, wrong=None):

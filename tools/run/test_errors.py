@@ -52,12 +52,10 @@ class Run(unittest.TestCase):
         return run_errors.wrong_by_rows(raw, some, nodes)
 
     def test_parts_that_the_rows_give(self):
-        self.assertIsNone(run_errors.wrong_by_rows(b"interface A {};", parts("read definition 0 15 0"), self.nodes()))
-        self.assertIsNone(self.wrong(BROKEN))
-
-    def nodes(self):
         run_errors.NOW.take(b"interface A {};")
-        return run_errors.count_of("DEFINITION", 0)
+        nodes = run_errors.count_of("DEFINITION", 0)
+        self.assertIsNone(run_errors.wrong_by_rows(b"interface A {};", parts("read definition 0 15 0"), nodes))
+        self.assertIsNone(self.wrong(BROKEN))
 
     def test_parts_that_are_wrong(self):
         self.assertIn("in place of", self.wrong(BROKEN, 1))

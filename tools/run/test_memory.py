@@ -51,11 +51,6 @@ class Programs(Room):
         status, out, err = printed(main, ["memory", str(self.root), "--runs", str(self.root / "runs.toml")])
         return status, (out + err).splitlines()
 
-    def assert_failed(self, why, **how):
-        status, lines = self.ended(**how)
-        self.assertEqual((status, lines[-1]), (1, "0 passed, 1 failed"))
-        self.assertIn(why, "\n".join(lines))
-
     def test_what_is_allowed_passes(self):
         status, lines = self.ended()
         self.assertEqual((status, lines[-1]), (0, "1 passed, 0 failed"))
@@ -65,21 +60,17 @@ class Programs(Room):
         self.assertEqual(self.ended(sizes="[100, 48.25]")[0], 0)
         self.assertEqual(self.ended(sizes="[1544, 100]", size=99)[0], 0)
 
-    def test_a_request_that_is_larger(self):
-        self.assert_failed("a request is too large", size=101)
-
-    def test_a_request_too_many(self):
-        self.assert_failed("1 large requests where 0 are allowed", sizes="[]")
-
-    def test_too_much_that_is_held(self):
-        self.assert_failed("more is held than 99 bytes a place", held=99)
-
-    def test_too_many_requests(self):
         self.assertEqual(self.ended(more=1, asks=", requests = 2")[0], 0)
-        self.assert_failed("more requests than 1 for each piece", more=1, asks=", requests = 1")
 
-    def test_another_answer(self):
-        self.assert_failed("wanted: 'status 0", said=7)
+    def test_what_is_more_than_is_allowed_or_another_answer_fails(self):
+        for why, how in (
+            ("a request is too large", {"size": 101}), ("1 large requests where 0 are allowed", {"sizes": "[]"}),
+            ("more is held than 99 bytes a place", {"held": 99}), ("wanted: 'status 0", {"said": 7}),
+            ("more requests than 1 for each piece", {"more": 1, "asks": ", requests = 1"}),
+        ):
+            status, lines = self.ended(**how)
+            self.assertEqual((status, lines[-1]), (1, "0 passed, 1 failed"), why)
+            self.assertIn(why, "\n".join(lines))
 
     def test_one_program_by_its_name(self):
         self.ended()

@@ -31,8 +31,6 @@ ANSWERS = {
 
 
 class Program:
-    """What answers as it is told."""
-
     def __init__(self, answers):
         self.given = answers
 

@@ -38,7 +38,6 @@ OTHERS = (
 
 class Tries(Room):
     def put_rt(self, library=RTLIB, command=RT):
-        """Puts the command there."""
         self.put_command("rt", command.format(python=sys.executable))
         self.put({"rtlib.py": library})
 

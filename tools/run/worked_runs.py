@@ -119,7 +119,6 @@ class Run:
             (room / name).chmod(int(mode, 8))
 
     def given(self):
-        """The bytes on standard input."""
         if "input_bytes" in self.keys:
             return bytes.fromhex(self.keys["input_bytes"])
         return text_of(self.keys.get("input", "")).encode()
@@ -217,5 +216,4 @@ def shown(status, out, err):
 
 
 def runs(file=TESTS / f"{RUNS}.toml"):
-    """All runs, in their order."""
     return [Run(keys) for keys in loads(Path(file).read_text(encoding="utf-8"))["run"]]

@@ -49,7 +49,6 @@ def compact(value):
 
 
 def packed(cases):
-    """The bytes of an archive."""
     room = io.BytesIO()
     with tarfile.open(fileobj=room, mode="w", format=tarfile.USTAR_FORMAT) as archive:
         for name, content in sorted(members_of(cases)):
@@ -74,7 +73,6 @@ def archive_of(folder):
 
 
 def cases_of(folder, tests=TESTS):
-    """The cases of a folder."""
     return unpacked((Path(tests) / archive_of(folder)).read_bytes())
 
 

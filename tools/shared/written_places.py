@@ -48,11 +48,6 @@ def is_below(path, folders):
     return any(path.startswith(f"{folder}/") for folder in folders)
 
 
-def is_fixed(path):
-    """Whether a path is that of a file or module of FIXED, or below it."""
-    return Path(path).with_suffix("").as_posix() in FIXED or is_below(path, FIXED)
-
-
 def folder_above(path):
     """The folder in which the folder `written` of a written file stands."""
     crate, part, *_ = path.split("/")
@@ -63,7 +58,7 @@ def folder_above(path):
 
 def apart(path):
     """A file's path below crates/, with the folder `written` where the file stands in one."""
-    if is_fixed(path) or Path(path).stem == FOLDER:
+    if Path(path).with_suffix("").as_posix() in FIXED or is_below(path, FIXED) or Path(path).stem == FOLDER:
         return path
     folder = folder_above(path)
     return f"{folder}/{FOLDER}/{path[len(folder) + 1:]}"

@@ -339,7 +339,6 @@ def unbuilt(files):
 
 
 def main(root=TOP):
-    """Writes the files."""
     if said := lacking(CRATES, [*BY_OTHERS, *(it for _, *sources in FILES.values() for it in sources)]):
         raise Unfit(f"{said}: FILES says where it is built")
     parts = Parts(root)

@@ -64,7 +64,6 @@ def found_in(pattern, text, path):
 
 
 def header_of(root):
-    """The text of the header."""
     source = root / "crates/weedle_c/src"
     code = (source / "lib.rt").read_text(encoding="utf-8")
     statuses = (source / "status.rt").read_text(encoding="utf-8")

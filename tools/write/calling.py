@@ -339,7 +339,6 @@ def module_text(path, entries, crates):
 
 
 def page(root):
-    """The text of the page."""
     items = public_items(root, CRATE)
     entries = [Entry(f"{path}::{name}", it) for path, names in items.items() for name, it in names.items()]
     crates = {it.item.module.crate: Crate(root, it.item.module.crate) for it in entries}

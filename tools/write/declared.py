@@ -74,9 +74,6 @@ class Module:
         """The path of each name that it brings in."""
         return imported(self.text)
 
-    def knows(self, name):
-        return name in self.names or name in self.imported
-
     def path_of(self, name):
         """The path by which a caller names a type that is named here."""
         if name in self.names:

@@ -102,7 +102,6 @@ for r in RULES:
         if NUMBER[x] >= NUMBER[r.name]:
             sys.exit(f"{r.name} reads {x} before a byte is taken: write {x} above it")
 
-# Writing.
 def quoted(text):
     return '"' + text.replace('"', '\\"').replace("\n", "\\n") + '"'
 

@@ -35,7 +35,6 @@ CRATES = [*LEAVES[1:], TYPES, *IDL]
 
 
 def main(root=TOP):
-    """Writes the files."""
     for crate in CRATES:
         for path, text in list(files_of(root, crate)):
             put(root, path, text)

@@ -19,7 +19,6 @@ MODULE = re.compile(r"(?<![.\w])([a-z]+)\.[A-Z]")
 
 
 def string(text):
-    """A string of JavaScript."""
     return json.dumps(text)
 
 

@@ -53,7 +53,6 @@ BASES = {"Punctuated": "Listed", "PunctuatedNonEmpty": "FilledList"}
 
 
 def field_name(name):
-    """The name of a field in JavaScript."""
     plain = camel(FIELDS.get(name, name))
     return OTHERWISE.get(plain, plain)
 
@@ -211,7 +210,6 @@ class JavaScriptMakers(Makers):
         return "new Variants({\n" + "".join(rows) + "  })"
 
     def name(self, type_):
-        """The class of a type."""
         module, _, name = super().name(type_).partition(".")
         return f"{module if module == 'term' else 'values'}.{name}"
 
@@ -273,7 +271,6 @@ def roles(text):
 
 
 def texts():
-    """The files, by their names."""
     package = Package(Declared.of(TOP))
     classes = Classes(package)
     others = [it for name, all_ in package.modules.items() if name != "term" for it in all_]

@@ -56,9 +56,7 @@ class Disagree(Exception):
     """Of which text the answers disagree."""
 
 
-# The texts.
 def added_texts(tests=TESTS):
-    """The texts of rules that weedle2 lacks."""
     file = Path(tests, f"{ADDED}.txt")
     lines = file.read_text(encoding="utf-8").splitlines() if file.is_file() else []
     return [unescaped(line) for line in lines if line and not line.startswith("#")]
@@ -71,7 +69,6 @@ def worked():
         yield joined(pieces_of(pieces), 1).decode() if pieces else row.pop("text"), row
 
 
-# What is wanted.
 def excerpt(text, place):
     """What weedle_check shows of a place: at most 100 characters of its line, and a mark below it."""
     line, column = position(text, place)
@@ -169,7 +166,6 @@ def real_cases(folder):
         yield with_rows_again(case, texts[case.name])
 
 
-# The writing.
 def write(tests, made):
     """Writes archives by their folders' names, and the list of all."""
     if ADDED not in made:

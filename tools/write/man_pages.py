@@ -49,7 +49,6 @@ class Help(NamedTuple):
 
 
 def options_in(block: str) -> list[tuple[str, str]]:
-    """The options in a block of help."""
     found: list[tuple[str, str]] = []
     for line in block.splitlines():
         row = ROW.match(line)
@@ -171,7 +170,6 @@ def look(top: Path, is_check: bool) -> Iterator[str]:
 
 
 def main() -> int:
-    """Does what the arguments ask for."""
     parser = parser_of(__doc__)
     parser.add_argument("--check", action="store_true", help="change nothing")
     is_check = parser.parse_args().check

@@ -154,7 +154,6 @@ def law_of_enum(item, aliases):
 
 
 def law(item, aliases):
-    """The law function of a type."""
     over = [it if it == "'a" else f"{it}: Ord" for it in item.over]
     over = f"<{', '.join(over)}>" if over else ""
     clauses = law_of_enum(item, aliases) if item.is_enum else law_of_struct(item, aliases)
@@ -180,7 +179,7 @@ def use_lines(items, aliases):
 
 def path_of(item, name):
     """The path of a type that a law names; a former's is that of its alias, with what it is given."""
-    known = item.module.knows(name)
+    known = name in item.module.names or name in item.module.imported
     return item.module.path_of(name) if known else item.module.path
 
 
@@ -202,7 +201,6 @@ def ghost_lines(items, laws):
 
 
 def laws_text(about, items, aliases):
-    """A module of laws."""
     laws = "\n".join(law(item, aliases) for item in items)
     head = f"//! Orders of {about}.\n//!\n//! {HEAD}\n"
     return "\n".join([head, ghost_lines(items, laws), use_lines(items, aliases), laws])
@@ -297,7 +295,6 @@ def files_of(root):
 
 
 def main(root=TOP):
-    """Writes the files."""
     # The terminals have their laws by terminals.py.
     named = [it for _, crates in MODULES.values() for it in crates]
     if why := lacking([*LEAVES[1:], TYPES, *IDL], named):

@@ -190,7 +190,6 @@ class HandedOn:
 
 
 def impl(it: Own | HandedOn) -> str:
-    """The text of an `impl WriteIdl`."""
     type_ = text_of(it.type)
     return f"""impl{"<'a>" if "'a" in type_ else ""} WriteIdl for {type_} {{
     ghost spelling = {{ {it.spelling} }};
@@ -242,7 +241,6 @@ def stated() -> tuple[dict[str, str], dict[str, str]]:
 
 
 def spelling_of(type_: Type) -> str:
-    """The name of a type's spelling."""
     homes, names = stated()
     name = function(type_)
     return name if name in homes else names.get(type_.name, name)
@@ -258,7 +256,6 @@ def ghost_lines(impls: Iterable[Own | HandedOn]) -> str:
 
 
 def text(about: str, impls: list[Own | HandedOn]) -> str:
-    """The text of a file."""
     lines = use_lines(set(ALWAYS).union(*map(paths_of, impls)))
     head = f"{comment(about, '//! ')}\n{HEAD}"
     return "\n".join([head + ghost_lines(impls), lines, *map(impl, impls)])

@@ -127,11 +127,6 @@ def named_in(texts):
     return {name for text in texts for name in WORD.findall(text)}
 
 
-def own_names(code):
-    """What a module names itself."""
-    return set(re.findall(r"^(?:class )?([A-Z]\w*)(?:\(| = )", code, re.M))
-
-
 def brought_in(names, modules, indent=""):
     """The lines that bring in classes of other modules."""
     found = {}
@@ -148,7 +143,7 @@ def module_text(about, classes, modules):
     """
     body = "\n\n".join(classes)
     code = FIELD_DOC.sub(r"\1()", re.sub(r'#:[^\n]*|r?""".*?"""', "", body, flags=re.S))
-    own = own_names(code)
+    own = set(re.findall(r"^(?:class )?([A-Z]\w*)(?:\(| = )", code, re.M))
     wanted = named_in([code, code.replace('"', " ")]) - own
     now = named_in("".join(it) for it in BASES.findall(code)) & wanted
     checked = CHECKED if "TypeAlias" in code else ""

@@ -117,7 +117,6 @@ class Package:
         return found if found and found.module == "formers" else None
 
 
-# The classes.
 def class_text(package, declaration):
     """The class of a declaration, with those of its variants."""
     former = package.former(declaration)
@@ -274,7 +273,6 @@ class Makers:
         return [it for it in parts if it.name not in ("&", "String", "bool")]
 
     def name(self, type_):
-        """The class of a type."""
         name = "Parenthesized" if type_.name == PARENTHESIZED else type_.name
         module = self.package.module[name]
         return f"{module}.{name}"
@@ -369,7 +367,6 @@ READ_BEHIND = {{
 
 
 def texts():
-    """The modules, by their names."""
     package = Package(Declared.of(TOP))
     for name, declarations in package.modules.items():
         classes = [class_text(package, it) for it in declarations]

@@ -46,7 +46,6 @@ NAME = re.compile(r"(?<![:.\w])[A-Z]\w*")
 LEAVES = {"String": "lines", "bool": "truth"}
 
 
-# Declarations.
 class Writer:
     """Writes declarations of types, and finds the rules that read them."""
 
@@ -156,7 +155,6 @@ def own(it):
 
 
 def alias(name, about, text):
-    """A name of a type."""
     line = f"pub type {name} = {text};\n"
     if len(line) > COLUMNS + 1:
         line = f"pub type {name} =\n    {text};\n"
@@ -164,7 +162,6 @@ def alias(name, about, text):
 
 
 def derives(it, body):
-    """What a type derives."""
     derived = {*body.derived} | ALWAYS
     if it.name in NOT_COPIED:
         derived.discard("Copy")
@@ -186,7 +183,6 @@ def doc(text, indent=""):
     return "".join(f"{indent}/// {row}\n" for row in rows)
 
 
-# Modules.
 def uses(module, code, package):
     """The lines that bring in the types of other modules."""
     code = re.sub(r"//.*|#\[derive.*", "", code)
@@ -228,7 +224,6 @@ def term_macro():
 
 
 def module_text(writer, module, declarations):
-    """A module of types."""
     body = "\n".join(map(writer.declaration, declarations))
     if module == "term":
         body += term_macro()
@@ -238,7 +233,6 @@ def module_text(writer, module, declarations):
 
 
 def texts():
-    """The modules, by their names."""
     writer = Writer(Package(Declared.of(TOP)))
     for module, declarations in writer.package.modules.items():
         yield module, module_text(writer, module, declarations)

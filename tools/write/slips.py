@@ -103,7 +103,6 @@ def lines_of(wanted):
     return [f"{wanted['at']}: {wanted['says']}"] + ([wanted["hint"].rstrip("\n")] if "hint" in wanted else [])
 
 
-# The page.
 def page():
     found = [(slip, lines_of(slip.wanted()), slip.told()) for slip in slips()]
     head = HEAD.format(

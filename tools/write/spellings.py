@@ -134,7 +134,6 @@ def clauses(name, said):
 
 
 def spelling(item, known):
-    """The definition of a type's spelling."""
     type_ = type_text(item.type)
     if item.type.name == WHOLE:
         type_ = type_.replace("Vec", "List")

@@ -86,17 +86,12 @@ def first_set(name):
     return WORDS[name] if TAKES[name] else EVERY
 
 
-def option_of(row):
-    """The rule that a row may go without, and then takes nothing, or None."""
-    return {"Opt": row[1], "Many": row[1], "List": row[1], "Tail": row[-1]}.get(row[0])
-
-
 def gate(rule):
     """The ASCII bytes at which the rule isn't passed over: the first set of what it may go without, or else its own."""
-    return first_set(option_of(rule.row) or rule.name)
+    row = rule.row
+    return first_set({"Opt": row[1], "Many": row[1], "List": row[1], "Tail": row[-1]}.get(row[0], rule.name))
 
 
-# Writing.
 class Joined:
     """What rows name, one behind another, each only once."""
 
@@ -152,12 +147,6 @@ def code_words(module, about, words):
     put(TOP, f"{CRATE}/src/{module}.rt", "\n".join(out) + "\n")
 
 
-def code_sets():
-    first = [first_set(it.name) for it in RULES]
-    code_words("first_sets", "The ASCII bytes that each rule can begin with, as the bits of a word.", first)
-    code_words("gates", "The ASCII bytes at which each rule isn't passed over.", [gate(it) for it in RULES])
-
-
 def code_written():
     out = head("What follows from the grammar.")
     out += [f"pub(crate) mod {it};" for it in ("bytes", "first_sets", "gates", "numbers", "ways")]
@@ -177,7 +166,9 @@ def proof_words():
 
 def main():
     code_ways()
-    code_sets()
+    first = [first_set(it.name) for it in RULES]
+    code_words("first_sets", "The ASCII bytes that each rule can begin with, as the bits of a word.", first)
+    code_words("gates", "The ASCII bytes at which each rule isn't passed over.", [gate(it) for it in RULES])
     code_written()
     proof_words()
 

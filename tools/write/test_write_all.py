@@ -64,19 +64,13 @@ class Copies(Room):
         self.assertIn("include/a.h", data)
         self.assertNotIn("include/b.h", data)
 
-    def test_modules_of_python_are_sources_and_nothing_beside_them(self):
-        written = b'"""A. Written by tools/write/x.py."""'
+    def test_modules_of_packages_are_sources_and_what_is_made_beside_them_is_none(self):
+        of_python, of_rust = b'"""A. Written by tools/write/x.py."""', b"//! A.\n//!\n//! Written by tools/x.py.\n"
         data, _ = self.copied({
-            "python/weedle/a.py": written, "python/weedle/b.py": b"b", "python/weedle/__pycache__/b.pyc": b"c",
+            "python/weedle/a.py": of_python, "python/weedle/b.py": b"b", "python/weedle/__pycache__/b.pyc": b"c",
+            "rust/src/a.rs": of_rust, "rust/src/b.rs": b"b", "rust/target/debug/build/c.rs": b"c",
         })
-        self.assertEqual([it for it in data if it.startswith("python")], ["python/weedle/b.py"])
-
-    def test_modules_of_rust_are_sources_and_what_cargo_makes_is_none(self):
-        written = b"//! A.\n//!\n//! Written by tools/x.py.\n"
-        data, _ = self.copied({
-            "rust/src/a.rs": written, "rust/src/b.rs": b"b", "rust/target/debug/build/c.rs": b"c",
-        })
-        self.assertEqual([it for it in data if it.startswith("rust")], ["rust/src/b.rs"])
+        self.assertCountEqual([it for it in data if it.startswith(("python", "rust"))], ["python/weedle/b.py", "rust/src/b.rs"])
 
 
 # What stands for `rt fmt`: it says where it runs, and adds a line to each file below src.

@@ -115,16 +115,11 @@ def lay_out(room, files):
             end.result()
 
 
-def new_room():
-    """A folder that goes when it is done with."""
-    return tempfile.TemporaryDirectory(dir=MEMORY if os.access(MEMORY, os.W_OK) else None)
-
-
 def write_anew(root, files):
     """The files of a copy of the repository in which all that scripts write is written anew."""
     if not shutil.which("rt"):
         raise Unfit("the toolchain's command rt isn't on PATH")
-    with new_room() as room:
+    with tempfile.TemporaryDirectory(dir=MEMORY if os.access(MEMORY, os.W_OK) else None) as room:
         copy(root, files, room)
         for script in WRITERS:
             call([sys.executable, "-c", RUN.format(script)], room, f"tools/write/{script}.py")

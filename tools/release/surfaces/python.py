@@ -23,7 +23,6 @@ Place = tuple[str, str]
 
 
 def is_public(name: str) -> bool:
-    """Whether callers may name it."""
     return not name.startswith("_")
 
 
@@ -63,8 +62,6 @@ class Module:
 
 
 class Package:
-    """All modules of a package."""
-
     def __init__(self, folder: Path) -> None:
         files = sorted(folder.glob("*.py"))
         self.modules = {it.stem.replace("__init__", ""): Module(it.read_text(encoding="utf-8")) for it in files}
@@ -77,7 +74,6 @@ class Package:
                     self.public.setdefault(place, f"{self.path_of(where)}.{name}")
 
     def path_of(self, where: str) -> str:
-        """The path of a module."""
         return f"{NAME}.{where}".rstrip(".")
 
     def shown_by(self, where: str) -> list[str]:

@@ -6,7 +6,6 @@ ALIKE = "Rattle.weedle_base.specs.AlikeLaws"
 
 
 def copied(part, stated):
-    """The copy of a field."""
     if stated.is_copied(part.type):
         return f"self.{part.name}"
     function = stated.copying(part.type)
@@ -14,7 +13,6 @@ def copied(part, stated):
 
 
 def copy_of(item, stated):
-    """The body that copies a struct or an enum."""
     if not item.is_enum:
         fields = ", ".join(f"{part.name}: {copied(part, stated)}" for part in item.parts)
         return f"        Ok({item.name} {{ {fields} }})\n"

@@ -49,7 +49,6 @@ def clause(values):
 
 
 def into_fields(item, parts):
-    """The method that gives a struct's fields."""
     names, types = zip(*parts)
     doc = f"Its {'field' if len(names) == 1 else 'fields, in order'}: {listed(names)}."
     return (
