@@ -1,7 +1,7 @@
 -- A text whose definitions are written anew, and read again as equal ones.
 use Rattle.std.specs.Cmp.Lexicographic.{pointwise}
-use Rattle.std.specs.Prelude.{ℕ, Bool, IsTrue, List, Option, Some, None, string_bytes}
-use Rattle.std.specs.declared.string.String.{String}
+use Rattle.std.specs.Global.{Global}
+use Rattle.std.specs.Prelude.{ℕ, Bool, IsTrue, List, Option, Some, None, String, string_bytes}
 use Rattle.weedle_front.specs.Whole.{IsWhole}
 use Rattle.weedle_idl.specs.declared.definition.Definition.{Definition}
 use Rattle.weedle_spell_idl.specs.written.Definitions.{definitions_spelling}
@@ -22,6 +22,6 @@ module _ (equal : Definition → Definition → Bool) where
     pub read_again : IsReadAgain definitions written
 
   -- None where the grammar doesn't read the whole text
-  abbrev pub WritesAnew : List ℕ → Option String → Type 0
+  abbrev pub WritesAnew : List ℕ → Option (String Global) → Type 0
   WritesAnew raw (Some written) = IsWrittenAnew raw (string_bytes written)
   WritesAnew raw None = (definitions : List Definition) → ¬ IsWhole raw definitions

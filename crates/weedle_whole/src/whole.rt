@@ -1,7 +1,7 @@
 //! Definitions that are read, written, and read again.
 
 ghost use Rattle.std.specs.Cmp.Lexicographic.{pointwise};
-ghost use Rattle.std.specs.Prelude.{◌≡◌, ◌×◌, IfOk, string_bytes};
+ghost use Rattle.std.specs.Prelude.{◌≡◌, IfOk, string_bytes};
 ghost use Rattle.weedle_spell.specs.Forms.{each};
 ghost use Rattle.weedle_whole.specs.Anew.{IsReadAgain, WritesAnew};
 
@@ -57,11 +57,16 @@ fn read_again<'a>(
     definitions: Definitions<'a>,
 ) -> Result<(), WholeError>
     ensures { IfOk result (λ _.
-        IsReadAgain ⟦<Definition<'static> as PartialEq>⟧.eq definitions.items text.entry.now) }
+        IsReadAgain ⟦<Definition<'static> as PartialEq>⟧.eq definitions.entry.items text.entry.now) }
 {
     match parse_quick(alloc, text) {
-        Ok(again) if are_equal(definitions, again) => Ok(()),
-        Ok(_) => Err(WholeError::Differs),
+        Ok(again) => {
+            if are_equal(definitions, again) {
+                Ok(())
+            } else {
+                Err(WholeError::Differs)
+            }
+        }
         Err(Err::Error(_)) => Err(WholeError::Differs),
         Err(Err::Failure(_)) => Err(WholeError::Memory),
     }
