@@ -29,7 +29,7 @@ from shared.crates import TOP
 
 PAGE = "docs/CALLING.md"
 CRATE = "weedle"
-COLUMNS = 118
+COLUMNS = 130
 # A contract of more lines stands once.
 LONG = 3
 INTRO = """# Calling `weedle`
