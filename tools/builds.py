@@ -41,9 +41,7 @@ FILES = {
         "The members of interfaces: constants, attributes, operations, constructors and stringifiers.",
         "weedle_members",
     ),
-    "weedle_build_members/iterables": (
-        "Iterations, maps and sets.", "weedle_iterables", "weedle_async_iterables",
-    ),
+    "weedle_build_members/iterables": ("Iterations, maps and sets.", "weedle_iterables"),
     "weedle_build_interfaces/interfaces": ("Interfaces and their members.", "weedle_interfaces"),
     "weedle_build_definitions/mixins": ("Mixins and their members.", "weedle_mixins"),
     "weedle_build_definitions/namespaces": (

@@ -41,10 +41,7 @@ MODULES = {
     ),
     "types": ("types", ["weedle_types::formers", "weedle_types::types"]),
     "members": ("constants, attributes, operations and stringifiers", ["weedle_members"]),
-    "iterables": (
-        "iterations, and of what is like a map or a set",
-        ["weedle_iterables", "weedle_async_iterables"],
-    ),
+    "iterables": ("iterations, and of what is like a map or a set", ["weedle_iterables"]),
     "namespaces": ("namespaces and dictionaries, with their members", ["weedle_namespaces"]),
     "statements": ("definitions without members", ["weedle_statements"]),
     "interfaces": ("interfaces, with their members", ["weedle_interfaces"]),

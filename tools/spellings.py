@@ -82,7 +82,7 @@ FILES = [
          "constants, attributes, operations, constructors and stringifiers of interfaces, and of the members"
          " of mixins", modules="weedle_members weedle_mixins.mixin"),
     File("Iterables", "iterations, maps and sets are spelt", "iterations, maps and sets",
-         modules="weedle_iterables weedle_async_iterables"),
+         modules="weedle_iterables"),
     File("Namespaces", "namespaces and dictionaries are spelt, and their members",
          "namespaces and dictionaries, and of their members", modules="weedle_namespaces"),
     File("Statements", "definitions without members are spelt", "definitions without members",

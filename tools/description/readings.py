@@ -19,7 +19,6 @@ CRATES = """
     weedle_modifier
     weedle_members
     weedle_iterables
-    weedle_async_iterables
     weedle_interfaces
     weedle_mixins
     weedle_namespaces

@@ -19,7 +19,6 @@ ghost use Rattle.weedle_interfaces.specs.written.Trees.{
 
 use crate::part::InterfacePart;
 use std::alloc::Global;
-use weedle_async_iterables::AsyncIterableInterfaceMember;
 use weedle_base::term::{Callback, Interface, Partial, SemiColon};
 use weedle_build_base::{
     At, Build, BuildResult, alternative, choice, eight_fields, seven_fields, six_fields,
@@ -29,7 +28,10 @@ use weedle_build_types::Attributes;
 use weedle_interfaces::{
     CallbackInterfaceDefinition, InterfaceDefinition, InterfaceMember, PartialInterfaceDefinition,
 };
-use weedle_iterables::{IterableInterfaceMember, MaplikeInterfaceMember, SetlikeInterfaceMember};
+use weedle_iterables::{
+    AsyncIterableInterfaceMember, IterableInterfaceMember, MaplikeInterfaceMember,
+    SetlikeInterfaceMember,
+};
 use weedle_members::{
     AttributeInterfaceMember, ConstMember, ConstructorInterfaceMember, OperationInterfaceMember,
     StringifierMember,

@@ -14,30 +14,26 @@ ghost use Rattle.weedle_grammar.specs.written.Table.InterfaceMembers.{
   SINGLE_TYPED_ASYNC_ITERABLE,
   SINGLE_TYPED_ITERABLE,
 };
-ghost use Rattle.weedle_async_iterables.specs.written.Trees.{
+ghost use Rattle.weedle_iterables.specs.written.Trees.{
   async_iterable_interface_member_tree,
   double_typed_async_iterable_tree,
-  single_typed_async_iterable_tree,
-};
-ghost use Rattle.weedle_iterables.specs.written.Trees.{
   double_typed_iterable_tree,
   iterable_interface_member_tree,
   maplike_interface_member_tree,
   setlike_interface_member_tree,
+  single_typed_async_iterable_tree,
   single_typed_iterable_tree,
 };
 
 use crate::part::{MemberPart, OneType, TwoTypes};
 use std::alloc::Global;
-use weedle_async_iterables::{
-    AsyncIterableInterfaceMember, DoubleTypedAsyncIterable, SingleTypedAsyncIterable,
-};
 use weedle_base::term::{Async, Iterable, Maplike, ReadOnly, SemiColon, Setlike};
 use weedle_build_base::{At, Build, BuildResult, alternative, choice, five_fields, four_fields};
 use weedle_build_types::{Arguments, Attributes};
 use weedle_iterables::{
-    DoubleTypedIterable, IterableInterfaceMember, MaplikeInterfaceMember, SetlikeInterfaceMember,
-    SingleTypedIterable,
+    AsyncIterableInterfaceMember, DoubleTypedAsyncIterable, DoubleTypedIterable,
+    IterableInterfaceMember, MaplikeInterfaceMember, SetlikeInterfaceMember,
+    SingleTypedAsyncIterable, SingleTypedIterable,
 };
 use weedle_rules::{Ends, Rule};
 

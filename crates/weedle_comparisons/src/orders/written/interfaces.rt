@@ -7,13 +7,15 @@ ghost use Rattle.std.specs.Ordering.{ordering_then};
 ghost use Rattle.weedle_comparisons.specs.written.Places.{interface_member_place};
 
 use std::cmp::Ordering;
-use weedle_async_iterables::AsyncIterableInterfaceMember;
 use weedle_base::term::{Callback, Interface, Partial, SemiColon};
 use weedle_interfaces::{
     CallbackInterfaceDefinition, InterfaceDefinition, InterfaceMember, InterfaceMembers,
     PartialInterfaceDefinition,
 };
-use weedle_iterables::{IterableInterfaceMember, MaplikeInterfaceMember, SetlikeInterfaceMember};
+use weedle_iterables::{
+    AsyncIterableInterfaceMember, IterableInterfaceMember, MaplikeInterfaceMember,
+    SetlikeInterfaceMember,
+};
 use weedle_members::{
     AttributeInterfaceMember, ConstMember, ConstructorInterfaceMember, OperationInterfaceMember,
     StringifierMember,

@@ -1,6 +1,6 @@
 use Rattle.std.proofs.Common.{refl}
 use Rattle.weedle_base.proofs.RuleFacts.{option_rule, own_rule}
-use Rattle.weedle_async_iterables.proofs.parts.optional_arguments.Goals as goal
+use Rattle.weedle_iterables.proofs.parts.optional_arguments.Goals as goal
 use Rattle.weedle_grammar.specs.written.Table.InterfaceMembers.{OPT_PARENTHESIZED_ARGUMENT_LIST}
 use Rattle.weedle_grammar.specs.written.Table.Types.{PARENTHESIZED_ARGUMENT_LIST}
 use Rattle.weedle_types.proofs.SharedRules.{answers_rule}

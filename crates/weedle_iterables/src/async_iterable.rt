@@ -1,8 +1,17 @@
 //! Asynchronous iterations.
+//!
+//! ```rust
+//! use weedle_base::Parse;
+//! use weedle_iterables::AsyncIterableInterfaceMember;
+//!
+//! let text = "async iterable<DOMString, long>; void f();";
+//! let (rest, member) = AsyncIterableInterfaceMember::parse(rt.alloc(), text).expect(rt, "member");
+//! assert!(rt; rest == "void f();");
+//! ```
 
 ghost use Rattle.weedle_base.specs.Own.{own};
 ghost use Rattle.weedle_base.specs.OwnLaws.{own_lawful};
-ghost use Rattle.weedle_async_iterables.specs.written.Trees.{
+ghost use Rattle.weedle_iterables.specs.written.Trees.{
   double_typed_async_iterable_tree,
   single_typed_async_iterable_tree,
 };

@@ -1,7 +1,7 @@
 -- Parts that are alike have the same tree.
 use Rattle.std.specs.Prelude.{Option, ◌≡◌}
-use Rattle.weedle_async_iterables.specs.written.PartTrees.{optional_arguments_tree}
 use Rattle.weedle_base.specs.Alike.{option_alike}
+use Rattle.weedle_iterables.specs.written.PartTrees.{optional_arguments_tree}
 use Rattle.weedle_types.proofs.CopyFacts.{option_same}
 use Rattle.weedle_types.specs.Trees.{arguments_tree}
 use Rattle.weedle_types.specs.declared.argument.ParenthesizedArgumentList.{ParenthesizedArgumentList}

@@ -2,7 +2,7 @@
 
 ghost use Rattle.weedle_base.specs.Own.{own};
 ghost use Rattle.weedle_base.specs.Reading.{Answers};
-ghost use Rattle.weedle_async_iterables.specs.written.PartTrees.{
+ghost use Rattle.weedle_iterables.specs.written.PartTrees.{
   async_iterable_tree,
   optional_arguments_tree,
 };

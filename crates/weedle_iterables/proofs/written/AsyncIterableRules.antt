@@ -2,13 +2,6 @@
 use Rattle.std.proofs.Common.{refl}
 use Rattle.std.specs.Borrow.{Bor}
 use Rattle.std.specs.Prelude.{ℕ, List, [], ◌∷◌, Option}
-use Rattle.weedle_async_iterables.proofs.PartRules.{async_iterable_reading, async_iterable_rule, optional_arguments_reading, optional_arguments_rule}
-use Rattle.weedle_async_iterables.specs.declared.async_iterable.AsyncIterableInterfaceMember.TheVariants.{Single as IsSingle, Double as IsDouble}
-use Rattle.weedle_async_iterables.specs.declared.async_iterable.AsyncIterableInterfaceMember.{AsyncIterableInterfaceMember}
-use Rattle.weedle_async_iterables.specs.declared.async_iterable.DoubleTypedAsyncIterable.{DoubleTypedAsyncIterable}
-use Rattle.weedle_async_iterables.specs.declared.async_iterable.SingleTypedAsyncIterable.{SingleTypedAsyncIterable}
-use Rattle.weedle_async_iterables.specs.written.PartTrees.{AsyncIterable, async_iterable_tree, optional_arguments_tree}
-use Rattle.weedle_async_iterables.specs.written.Trees.{async_iterable_interface_member_tree, double_typed_async_iterable_tree, single_typed_async_iterable_tree}
 use Rattle.weedle_base.proofs.ChoiceFacts.{choice_tree, first_last, first_more, first_rule}
 use Rattle.weedle_base.proofs.ChoiceSteps.{first_seen}
 use Rattle.weedle_base.proofs.RuleFacts.{fault_rule, got_rule, mark, own_rule, seq_last, seq_next, seq_rule}
@@ -26,6 +19,13 @@ use Rattle.weedle_base.specs.declared.term.written.symbols.SemiColon.{SemiColon}
 use Rattle.weedle_grammar.specs.Trees.{Alt, Mark, Node, trees}
 use Rattle.weedle_grammar.specs.written.Table.InterfaceMembers.{ASYNC_ITERABLE_INTERFACE_MEMBER, DOUBLE_TYPED_ASYNC_ITERABLE, SINGLE_TYPED_ASYNC_ITERABLE}
 use Rattle.weedle_grammar.specs.written.Table.Symbols.{SEMI_COLON}
+use Rattle.weedle_iterables.proofs.PartRules.{async_iterable_reading, async_iterable_rule, optional_arguments_reading, optional_arguments_rule}
+use Rattle.weedle_iterables.specs.declared.async_iterable.AsyncIterableInterfaceMember.TheVariants.{Single as IsSingle, Double as IsDouble}
+use Rattle.weedle_iterables.specs.declared.async_iterable.AsyncIterableInterfaceMember.{AsyncIterableInterfaceMember}
+use Rattle.weedle_iterables.specs.declared.async_iterable.DoubleTypedAsyncIterable.{DoubleTypedAsyncIterable}
+use Rattle.weedle_iterables.specs.declared.async_iterable.SingleTypedAsyncIterable.{SingleTypedAsyncIterable}
+use Rattle.weedle_iterables.specs.written.PartTrees.{AsyncIterable, async_iterable_tree, optional_arguments_tree}
+use Rattle.weedle_iterables.specs.written.Trees.{async_iterable_interface_member_tree, double_typed_async_iterable_tree, single_typed_async_iterable_tree}
 use Rattle.weedle_types.proofs.GenericsRules.{one_type_reading, one_type_rule, two_types_reading, two_types_rule}
 use Rattle.weedle_types.proofs.SharedRules.{attributes_reading, attributes_rule, word}
 use Rattle.weedle_types.specs.GenericsTrees.{OneType, TwoTypes, one_type_tree, two_types_tree}

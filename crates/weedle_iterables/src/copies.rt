@@ -1,7 +1,7 @@
 //! Copies of a part that both kinds of asynchronous iterations have, with the tree of its original.
 
 ghost use Rattle.std.specs.Prelude.{IfOk, ◌≡◌};
-ghost use Rattle.weedle_async_iterables.specs.written.PartTrees.{optional_arguments_tree};
+ghost use Rattle.weedle_iterables.specs.written.PartTrees.{optional_arguments_tree};
 
 use std::alloc::{AllocError, Global};
 use weedle_base::TryClone;

@@ -1,11 +1,11 @@
 -- How the parts of asynchronous iterations are read, and that this is what their rules read.
 use Rattle.std.specs.Prelude.{Option}
-use Rattle.weedle_async_iterables.specs.written.PartTrees.{AsyncIterable, async_iterable_tree, optional_arguments_tree}
 use Rattle.weedle_base.proofs.RuleFacts.{own_rule, still_rule}
 use Rattle.weedle_base.specs.Own.{own}
 use Rattle.weedle_base.specs.Reading.{Reading}
 use Rattle.weedle_base.specs.Rules.{IsRule}
 use Rattle.weedle_grammar.specs.written.Table.InterfaceMembers.{ASYNC_ITERABLE, OPT_PARENTHESIZED_ARGUMENT_LIST}
+use Rattle.weedle_iterables.specs.written.PartTrees.{AsyncIterable, async_iterable_tree, optional_arguments_tree}
 use Rattle.weedle_types.specs.declared.argument.ParenthesizedArgumentList.{ParenthesizedArgumentList}
 
 -- arguments in parentheses, or none

@@ -3,16 +3,16 @@
 //! Written by tools/impls.py, and not edited by hand.
 
 ghost use Rattle.std.specs.Prelude.{◌↔◌, ◌≡◌};
-ghost use Rattle.weedle_async_iterables.specs.written.Trees.{
-  async_iterable_interface_member_tree,
-  double_typed_async_iterable_tree,
-  single_typed_async_iterable_tree,
-};
 ghost use Rattle.weedle_base.specs.AlikeLaws.{equal_equivalence, seen_equivalence};
 ghost use Rattle.weedle_base.specs.Own.{own};
 ghost use Rattle.weedle_base.specs.OwnLaws.{own_lawful};
 ghost use Rattle.weedle_grammar.specs.written.Table.InterfaceMembers.{
   ASYNC_ITERABLE_INTERFACE_MEMBER,
+};
+ghost use Rattle.weedle_iterables.specs.written.Trees.{
+  async_iterable_interface_member_tree,
+  double_typed_async_iterable_tree,
+  single_typed_async_iterable_tree,
 };
 
 use super::{AsyncIterableInterfaceMember, DoubleTypedAsyncIterable, SingleTypedAsyncIterable};
@@ -158,7 +158,7 @@ impl TryClone for AsyncIterableInterfaceMember<'_> {
 }
 
 impl<'a> From<SingleTypedAsyncIterable<'a>> for AsyncIterableInterfaceMember<'a> {
-    ghost use Rattle.weedle_async_iterables.specs.declared.async_iterable.AsyncIterableInterfaceMember.TheVariants.{
+    ghost use Rattle.weedle_iterables.specs.declared.async_iterable.AsyncIterableInterfaceMember.TheVariants.{
       Single,
     };
 
@@ -170,7 +170,7 @@ impl<'a> From<SingleTypedAsyncIterable<'a>> for AsyncIterableInterfaceMember<'a>
 }
 
 impl<'a> From<DoubleTypedAsyncIterable<'a>> for AsyncIterableInterfaceMember<'a> {
-    ghost use Rattle.weedle_async_iterables.specs.declared.async_iterable.AsyncIterableInterfaceMember.TheVariants.{
+    ghost use Rattle.weedle_iterables.specs.declared.async_iterable.AsyncIterableInterfaceMember.TheVariants.{
       Double,
     };
 
