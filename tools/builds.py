@@ -34,7 +34,8 @@ TOP = Path(__file__).resolve().parent.parent
 FILES = {
     "weedle_build_base/literals": ("Literals, and the values of defaults and constants.", "weedle_parts::literal"),
     "weedle_build_base/modifiers": (
-        "What is inherited from, and the words before a member.", "weedle_modifier",
+        "What is inherited from, and the words before a member.",
+        "weedle_parts::inheritance", "weedle_parts::modifier",
     ),
     "weedle_build_base/simple_types": ("Types that hold no other type.", "weedle_parts::types"),
     "weedle_build_members/members": (

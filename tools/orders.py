@@ -34,7 +34,10 @@ LAWS = "weedle_comparisons"
 MODULES = {
     "parts": ("generic parts, names, docstrings and plain types", ["weedle_parts::common", "weedle_parts::types"]),
     "literals": ("literals and defaults", ["weedle_parts::literal"]),
-    "modifiers": ("words before a member, and of what is inherited from", ["weedle_modifier"]),
+    "modifiers": (
+        "words before a member, and of what is inherited from",
+        ["weedle_parts::inheritance", "weedle_parts::modifier"],
+    ),
     "attributes": (
         "extended attributes and arguments",
         ["weedle_types::argument", "weedle_types::attribute"],

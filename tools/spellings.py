@@ -75,7 +75,7 @@ FILES = [
                " Box<ReturnType> SequenceType FrozenArrayType PromiseType RecordType UnionType AttributedType"
                " AttributedNonAnyType", modules="weedle_types.types"),
     File("Modifiers", "what is inherited from is spelt, and the words before a member",
-         "what is inherited from, and of the words before a member", modules="weedle_modifier"),
+         "what is inherited from, and of the words before a member", modules="weedle_parts.inheritance weedle_parts.modifier"),
     File("Members",
          "constants, attributes, operations, constructors and stringifiers of interfaces are spelt, and the"
          " members of mixins",

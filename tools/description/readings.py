@@ -14,9 +14,12 @@ from description.webidl import BY_CONTENT, BY_NAME
 # what is of a crate, as FILES of builds.py and MODULES of orders.py, name a crate that they lack.
 CRATES = """
     weedle_base::term
-    weedle_parts
+    weedle_parts::common
+    weedle_parts::literal
+    weedle_parts::types
     weedle_types
-    weedle_modifier
+    weedle_parts::inheritance
+    weedle_parts::modifier
     weedle_members
     weedle_iterables
     weedle_interfaces

@@ -43,8 +43,8 @@ APART = {
 }
 # What is said otherwise than the docs say it: of modules, and of types.
 ABOUT = {
-    "weedle_modifier.inheritance": "What interfaces and dictionaries inherit from.",
-    "weedle_modifier.modifier": "The words that may stand before a member.",
+    "weedle_parts.inheritance": "What interfaces and dictionaries inherit from.",
+    "weedle_parts.modifier": "The words that may stand before a member.",
     "weedle_members.stringifier": "Stringifiers.",
     "weedle_interfaces.member": "Members of interfaces.",
     "weedle_interfaces.definition": "Interfaces.",
@@ -200,7 +200,7 @@ def files():
     """The files of all modules that declare members or definitions, or words before them."""
     found = {}
     for it in DECLARED.types.values():
-        if it.crate in CRATES:
+        if it.home in CRATES:
             found.setdefault((it.crate, it.module, APART.get(it.name)), []).append(it)
     for (crate, module, apart), declarations in found.items():
         text = (TOP / "crates" / crate / "src" / f"{module}.rt").read_text(encoding="utf-8")

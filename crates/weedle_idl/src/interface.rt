@@ -10,6 +10,5 @@ pub use weedle_members::{
     AttributeInterfaceMember, ConstMember, ConstructorInterfaceMember, OperationInterfaceMember,
     StringifierMember,
 };
-pub use weedle_modifier::{
-    Inheritance, Special, StringifierOrInheritOrStatic, StringifierOrStatic,
-};
+pub use weedle_parts::inheritance::Inheritance;
+pub use weedle_parts::modifier::{Special, StringifierOrInheritOrStatic, StringifierOrStatic};

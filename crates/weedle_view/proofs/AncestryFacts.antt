@@ -4,7 +4,7 @@ use Rattle.std.proofs.lemmas.List.Folds.{list_any-append}
 use Rattle.std.proofs.lemmas.List.{map-append}
 use Rattle.std.proofs.lemmas.Slice.Eq.{bytes_eq-Decides}
 use Rattle.weedle_idl.specs.declared.definition.Definition.{Definition}
-use Rattle.weedle_modifier.specs.declared.inheritance.Inheritance.{Inheritance}
+use Rattle.weedle_parts.specs.declared.inheritance.Inheritance.{Inheritance}
 use Rattle.weedle_report.specs.Titles.{name_text}
 use Rattle.weedle_view.specs.Ancestry.{is_met, inherited, AreAncestors, HasAncestors}
 use Rattle.weedle_view.specs.Definitions.{inheritance_of_definition}

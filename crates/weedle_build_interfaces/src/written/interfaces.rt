@@ -36,8 +36,8 @@ use weedle_members::{
     AttributeInterfaceMember, ConstMember, ConstructorInterfaceMember, OperationInterfaceMember,
     StringifierMember,
 };
-use weedle_modifier::Inheritance;
 use weedle_parts::common::{Braced, Docstring, Identifier};
+use weedle_parts::inheritance::Inheritance;
 use weedle_rules::{Ends, Rule};
 
 impl<'a> Build<'a> for InterfacePart<InterfaceMember<'a>> {

@@ -30,9 +30,9 @@ use weedle_members::{
     AttributeInterfaceMember, ConstMember, ConstructorInterfaceMember, OperationInterfaceMember,
     StringifierMember,
 };
-use weedle_modifier::{Special, StringifierOrInheritOrStatic, StringifierOrStatic};
 use weedle_parts::common::{Docstring, Identifier};
 use weedle_parts::literal::ConstValue;
+use weedle_parts::modifier::{Special, StringifierOrInheritOrStatic, StringifierOrStatic};
 use weedle_parts::types::ConstType;
 use weedle_rules::{Ends, Rule};
 use weedle_types::types::{AttributedType, ReturnType};

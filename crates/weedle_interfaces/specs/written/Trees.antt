@@ -9,7 +9,7 @@ use Rattle.weedle_interfaces.specs.declared.member.InterfaceMember.TheVariants.{
 use Rattle.weedle_interfaces.specs.declared.member.InterfaceMember.{InterfaceMember}
 use Rattle.weedle_iterables.specs.written.Trees.{async_iterable_interface_member_tree, iterable_interface_member_tree, maplike_interface_member_tree, setlike_interface_member_tree}
 use Rattle.weedle_members.specs.written.Trees.{attribute_interface_member_tree, const_member_tree, constructor_interface_member_tree, operation_interface_member_tree, stringifier_member_tree}
-use Rattle.weedle_modifier.specs.written.Trees.{inheritance_tree}
+use Rattle.weedle_parts.specs.ModifierTrees.{inheritance_tree}
 use Rattle.weedle_parts.specs.ValueTrees.{braced_tree, docstring_tree, identifier_tree}
 use Rattle.weedle_types.specs.PartTrees.{members_tree}
 use Rattle.weedle_types.specs.Trees.{attributes_tree}

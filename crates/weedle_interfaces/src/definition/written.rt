@@ -26,8 +26,8 @@ use weedle_base::{IResult, Parse, TryClone};
 use weedle_fields::{
     attributes_and_five, docstring_attributes_and_five, docstring_attributes_and_six,
 };
-use weedle_modifier::Inheritance;
 use weedle_parts::common::{Braced, Docstring, Identifier};
+use weedle_parts::inheritance::Inheritance;
 use weedle_types::attribute::ExtendedAttributeList;
 use weedle_types::copies::{copy_attributes, copy_docstring};
 

@@ -22,8 +22,8 @@ use std::alloc::{AllocError, Global};
 use weedle_base::term::{Dictionary, Partial, SemiColon};
 use weedle_base::{IResult, Parse, TryClone};
 use weedle_fields::{attributes_and_five, docstring_attributes_and_five};
-use weedle_modifier::Inheritance;
 use weedle_parts::common::{Braced, Docstring, Identifier};
+use weedle_parts::inheritance::Inheritance;
 use weedle_types::attribute::ExtendedAttributeList;
 use weedle_types::copies::{copy_attributes, copy_docstring};
 

@@ -20,8 +20,8 @@ use weedle_members::{
     AttributeInterfaceMember, ConstMember, ConstructorInterfaceMember, OperationInterfaceMember,
     StringifierMember,
 };
-use weedle_modifier::Inheritance;
 use weedle_parts::common::{Braced, Docstring, Identifier};
+use weedle_parts::inheritance::Inheritance;
 use weedle_types::attribute::ExtendedAttributeList;
 
 /// A law, which does nothing: `cmp` of `CallbackInterfaceDefinition` goes by its fields, in order.

@@ -1,4 +1,15 @@
 //! The words that may stand before a member of an interface.
+//!
+//! None of them takes memory, so none ever gives a failure.
+//!
+//! ```rust
+//! use weedle_base::Parse;
+//! use weedle_base::term::Getter;
+//! use weedle_parts::modifier::Special;
+//!
+//! let (rest, special) = Special::parse(rt.alloc(), "getter any (long i);").expect(rt, "special");
+//! assert!(rt; rest == "any (long i);" && special == Special::Getter(Getter));
+//! ```
 
 mod written;
 

@@ -5,7 +5,7 @@
 ghost use Rattle.weedle_base.specs.Own.{own};
 ghost use Rattle.weedle_base.specs.OwnLaws.{own_lawful};
 ghost use Rattle.weedle_grammar.specs.written.Table.InterfaceMembers.{INHERITANCE};
-ghost use Rattle.weedle_modifier.specs.written.Trees.{inheritance_tree};
+ghost use Rattle.weedle_parts.specs.ModifierTrees.{inheritance_tree};
 
 use super::Inheritance;
 use std::alloc::Global;

@@ -24,13 +24,13 @@ use Rattle.weedle_base.specs.declared.term.written.definition_keywords.Stringifi
 use Rattle.weedle_grammar.specs.Trees.{Alt, Mark}
 use Rattle.weedle_grammar.specs.written.Table.InterfaceMembers.{SPECIAL, STRINGIFIER_OR_INHERIT_OR_STATIC, STRINGIFIER_OR_STATIC}
 use Rattle.weedle_grammar.specs.written.Table.Keywords.{DELETER, GETTER, INHERIT, LEGACY_CALLER, SETTER, STATIC, STRINGIFIER}
-use Rattle.weedle_modifier.specs.declared.modifier.Special.TheVariants.{Getter as IsGetter, Setter as IsSetter, Deleter as IsDeleter, LegacyCaller as IsLegacyCaller}
-use Rattle.weedle_modifier.specs.declared.modifier.Special.{Special}
-use Rattle.weedle_modifier.specs.declared.modifier.StringifierOrInheritOrStatic.TheVariants.{Stringifier as IsStringifier, Inherit as IsInherit, Static as IsStatic}
-use Rattle.weedle_modifier.specs.declared.modifier.StringifierOrInheritOrStatic.{StringifierOrInheritOrStatic}
-use Rattle.weedle_modifier.specs.declared.modifier.StringifierOrStatic.TheVariants.{Stringifier as IsStringifier, Static as IsStatic}
-use Rattle.weedle_modifier.specs.declared.modifier.StringifierOrStatic.{StringifierOrStatic}
-use Rattle.weedle_modifier.specs.written.Trees.{special_tree, stringifier_or_inherit_or_static_tree, stringifier_or_static_tree}
+use Rattle.weedle_parts.specs.ModifierTrees.{special_tree, stringifier_or_inherit_or_static_tree, stringifier_or_static_tree}
+use Rattle.weedle_parts.specs.declared.modifier.Special.TheVariants.{Getter as IsGetter, Setter as IsSetter, Deleter as IsDeleter, LegacyCaller as IsLegacyCaller}
+use Rattle.weedle_parts.specs.declared.modifier.Special.{Special}
+use Rattle.weedle_parts.specs.declared.modifier.StringifierOrInheritOrStatic.TheVariants.{Stringifier as IsStringifier, Inherit as IsInherit, Static as IsStatic}
+use Rattle.weedle_parts.specs.declared.modifier.StringifierOrInheritOrStatic.{StringifierOrInheritOrStatic}
+use Rattle.weedle_parts.specs.declared.modifier.StringifierOrStatic.TheVariants.{Stringifier as IsStringifier, Static as IsStatic}
+use Rattle.weedle_parts.specs.declared.modifier.StringifierOrStatic.{StringifierOrStatic}
 
 -- one of four words
 abbrev special_parts : Reading (Choice Getter (Choice Setter (Choice Deleter LegacyCaller)))

@@ -14,10 +14,10 @@ use Rattle.weedle_grammar.specs.Trees.{Mark, Node, trees}
 use Rattle.weedle_grammar.specs.written.Table.InterfaceMembers.{INHERITANCE}
 use Rattle.weedle_grammar.specs.written.Table.Leaves.{IDENTIFIER}
 use Rattle.weedle_grammar.specs.written.Table.Symbols.{COLON}
-use Rattle.weedle_modifier.specs.declared.inheritance.Inheritance.{Inheritance}
-use Rattle.weedle_modifier.specs.written.Trees.{inheritance_tree}
+use Rattle.weedle_parts.specs.ModifierTrees.{inheritance_tree}
 use Rattle.weedle_parts.specs.ValueTrees.{identifier_tree}
 use Rattle.weedle_parts.specs.declared.common.identifier.Identifier.{Identifier}
+use Rattle.weedle_parts.specs.declared.inheritance.Inheritance.{Inheritance}
 
 -- a colon and a name
 abbrev inheritance_parts : Reading (Colon × Identifier)

@@ -10,7 +10,7 @@ ghost use Rattle.weedle_grammar.specs.written.Table.InterfaceMembers.{
   STRINGIFIER_OR_INHERIT_OR_STATIC,
   STRINGIFIER_OR_STATIC,
 };
-ghost use Rattle.weedle_modifier.specs.written.Trees.{
+ghost use Rattle.weedle_parts.specs.ModifierTrees.{
   special_tree,
   stringifier_or_inherit_or_static_tree,
   stringifier_or_static_tree,
@@ -41,7 +41,7 @@ impl<'a> Parse<'a> for Special {
 }
 
 impl From<Getter> for Special {
-    ghost use Rattle.weedle_modifier.specs.declared.modifier.Special.TheVariants.{Getter};
+    ghost use Rattle.weedle_parts.specs.declared.modifier.Special.TheVariants.{Getter};
 
     ghost from_gives = { λ value made. made ≡ Getter value };
 
@@ -51,7 +51,7 @@ impl From<Getter> for Special {
 }
 
 impl From<Setter> for Special {
-    ghost use Rattle.weedle_modifier.specs.declared.modifier.Special.TheVariants.{Setter};
+    ghost use Rattle.weedle_parts.specs.declared.modifier.Special.TheVariants.{Setter};
 
     ghost from_gives = { λ value made. made ≡ Setter value };
 
@@ -61,7 +61,7 @@ impl From<Setter> for Special {
 }
 
 impl From<Deleter> for Special {
-    ghost use Rattle.weedle_modifier.specs.declared.modifier.Special.TheVariants.{Deleter};
+    ghost use Rattle.weedle_parts.specs.declared.modifier.Special.TheVariants.{Deleter};
 
     ghost from_gives = { λ value made. made ≡ Deleter value };
 
@@ -71,7 +71,7 @@ impl From<Deleter> for Special {
 }
 
 impl From<LegacyCaller> for Special {
-    ghost use Rattle.weedle_modifier.specs.declared.modifier.Special.TheVariants.{LegacyCaller};
+    ghost use Rattle.weedle_parts.specs.declared.modifier.Special.TheVariants.{LegacyCaller};
 
     ghost from_gives = { λ value made. made ≡ LegacyCaller value };
 
@@ -100,7 +100,7 @@ impl<'a> Parse<'a> for StringifierOrInheritOrStatic {
 }
 
 impl From<Stringifier> for StringifierOrInheritOrStatic {
-    ghost use Rattle.weedle_modifier.specs.declared.modifier.StringifierOrInheritOrStatic.TheVariants.{
+    ghost use Rattle.weedle_parts.specs.declared.modifier.StringifierOrInheritOrStatic.TheVariants.{
       Stringifier,
     };
 
@@ -112,7 +112,7 @@ impl From<Stringifier> for StringifierOrInheritOrStatic {
 }
 
 impl From<Inherit> for StringifierOrInheritOrStatic {
-    ghost use Rattle.weedle_modifier.specs.declared.modifier.StringifierOrInheritOrStatic.TheVariants.{
+    ghost use Rattle.weedle_parts.specs.declared.modifier.StringifierOrInheritOrStatic.TheVariants.{
       Inherit,
     };
 
@@ -124,7 +124,7 @@ impl From<Inherit> for StringifierOrInheritOrStatic {
 }
 
 impl From<Static> for StringifierOrInheritOrStatic {
-    ghost use Rattle.weedle_modifier.specs.declared.modifier.StringifierOrInheritOrStatic.TheVariants.{
+    ghost use Rattle.weedle_parts.specs.declared.modifier.StringifierOrInheritOrStatic.TheVariants.{
       Static,
     };
 
@@ -152,7 +152,7 @@ impl<'a> Parse<'a> for StringifierOrStatic {
 }
 
 impl From<Stringifier> for StringifierOrStatic {
-    ghost use Rattle.weedle_modifier.specs.declared.modifier.StringifierOrStatic.TheVariants.{
+    ghost use Rattle.weedle_parts.specs.declared.modifier.StringifierOrStatic.TheVariants.{
       Stringifier,
     };
 
@@ -164,9 +164,7 @@ impl From<Stringifier> for StringifierOrStatic {
 }
 
 impl From<Static> for StringifierOrStatic {
-    ghost use Rattle.weedle_modifier.specs.declared.modifier.StringifierOrStatic.TheVariants.{
-      Static,
-    };
+    ghost use Rattle.weedle_parts.specs.declared.modifier.StringifierOrStatic.TheVariants.{Static};
 
     ghost from_gives = { λ value made. made ≡ Static value };
 

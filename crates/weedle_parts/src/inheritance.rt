@@ -2,8 +2,8 @@
 
 mod written;
 
+use crate::common::Identifier;
 use weedle_base::term::Colon;
-use weedle_parts::common::Identifier;
 
 /// What an interface or a dictionary inherits from, as `: Node`. It takes no memory and never gives
 /// a failure.
