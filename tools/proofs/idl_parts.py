@@ -28,7 +28,7 @@ SHARED = {
 }
 # What is read by a function of its own.
 ALONE = ("attributes_reading", "async_iterable_reading", "optional_arguments_reading", "enum_values_reading")
-# The structs that are read by one call of `weedle_fields`: how many fields there are up to the extended
+# The structs that are read by one call of `weedle_types::fields`: how many fields there are up to the extended
 # attributes, and behind them.
 BY_ONE_CALL = ((1, 3), (1, 4), (1, 5), (1, 6), (2, 4), (2, 5), (2, 6))
 # A function that reads a few variants, with the enum and the number of the first.

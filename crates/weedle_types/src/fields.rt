@@ -8,7 +8,7 @@
 //! byte besides.
 //!
 //! ```rust
-//! use weedle_fields::attributes_and_four;
+//! use weedle_types::fields::attributes_and_four;
 //! use weedle_parts::common::Identifier;
 //! use weedle_base::term::{Includes, SemiColon};
 //!
@@ -18,7 +18,6 @@
 //! assert!(rt; rest == "enum E" && attributes.is_none());
 //! assert!(rt; user.0 == "Request" && mixin.0 == "Body");
 //! ```
-#![tactic(auto, using(weedle_base::proofs::Steps::part_steps))]
 
 mod attributed;
 mod documented;

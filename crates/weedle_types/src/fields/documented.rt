@@ -1,13 +1,14 @@
 //! A docstring, extended attributes and what stands behind them.
+#![tactic(auto, using(weedle_base::proofs::Steps::part_steps))]
 
 ghost use Rattle.weedle_base.specs.Generic.{pair_reading};
-ghost use Rattle.weedle_fields.specs.Fields.{AnswersInPairs, attributes_then, docstring_then};
+ghost use Rattle.weedle_types.specs.Fields.{AnswersInPairs, attributes_then, docstring_then};
 
-use crate::attributed::{attributes_and_five, attributes_and_four, attributes_and_six};
+use super::attributed::{attributes_and_five, attributes_and_four, attributes_and_six};
+use crate::attribute::ExtendedAttributeList;
 use std::alloc::Global;
 use weedle_base::{IResult, Parse};
 use weedle_parts::common::Docstring;
-use weedle_types::attribute::ExtendedAttributeList;
 
 /// Reads a docstring and extended attributes, each where it stands, and then four others, as the
 /// type, the name, the arguments and the `;` of `long f();`. Where one of the four isn't there it

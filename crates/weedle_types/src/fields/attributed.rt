@@ -1,13 +1,14 @@
 //! Extended attributes and what stands behind them.
+#![tactic(auto, using(weedle_base::proofs::Steps::part_steps))]
 
 ghost use Rattle.weedle_base.specs.Generic.{pair_reading};
 ghost use Rattle.weedle_base.specs.Reading.{Answers};
-ghost use Rattle.weedle_fields.specs.Fields.{AnswersInPairs, attributes_then};
+ghost use Rattle.weedle_types.specs.Fields.{AnswersInPairs, attributes_then};
 
+use crate::attribute::ExtendedAttributeList;
+use crate::parts::attributes;
 use std::alloc::Global;
 use weedle_base::{IResult, Parse};
-use weedle_types::attribute::ExtendedAttributeList;
-use weedle_types::parts::attributes;
 
 /// Reads extended attributes where they stand, and then others as pairs within pairs.
 fn attributes_and<'a, R: Parse<'a>>(
