@@ -1,8 +1,8 @@
 use Rattle.std.proofs.Common.{ℕ, List, Option, subst}
 use Rattle.std.specs.Borrow.{Bor}
-use Rattle.weedle_explain.proofs.RefusalFacts.{refused}
-use Rattle.weedle_explain.specs.Refusal.{IsUnreadRest}
-use Rattle.weedle_explain.proofs.refusal.explain.Goals as goal
+use Rattle.weedle_front.proofs.RefusalFacts.{refused}
+use Rattle.weedle_front.specs.Refusal.{IsUnreadRest}
+use Rattle.weedle_front.proofs.refusal.explain.Goals as goal
 
 pub returns-clause-explains : goal.returns-clause-explains
 returns-clause-explains c =

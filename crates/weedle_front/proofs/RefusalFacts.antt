@@ -3,7 +3,7 @@ use Rattle.std.proofs.Common.{◌≡◌, ◌≤◌, ◌+◌, ◌-◌, ◌∙◌,
 use Rattle.std.proofs.lemmas.List.{length-drop}
 use Rattle.std.proofs.lemmas.Str.{IsCharBoundary-from_rest}
 use Rattle.std.specs.Global.{Vec}
-use Rattle.weedle_explain.specs.Refusal.{IsRefusal, IsRest}
+use Rattle.weedle_front.specs.Refusal.{IsRefusal, IsRest}
 use Rattle.weedle_front.specs.Whole.{IsLeft}
 use Rattle.weedle_refusal.specs.Furthest.{IsFurthest}
 use Rattle.weedle_refusal.specs.Hint.{IsHint}

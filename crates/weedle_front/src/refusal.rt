@@ -1,11 +1,24 @@
-//! Why a text is refused.
+//! Why a text is refused, in words: what would have been read, and at which line and column.
+//!
+//! ```rust
+//! use weedle_front::explain;
+//! use weedle_refusal::position_of;
+//!
+//! let text = "interface A {\n  readonly attribute long x\n};";
+//! if let Some(refusal) = explain(rt.alloc(), text)? {
+//!     let position = position_of(text, refusal.place);
+//!     println!(rt; "a.webidl:{position}: {refusal}")?;
+//! }
+//! ```
+//!
+//! It prints ``a.webidl:3:1: expected `;` ``.
 
 ghost use Rattle.std.specs.Prelude.{◌≤◌, IfOk, IfSome, length};
-ghost use Rattle.weedle_explain.specs.Refusal.{Explains, IsUnreadRest};
+ghost use Rattle.weedle_front.specs.Refusal.{Explains, IsUnreadRest};
 
+use crate::parse_quick;
 use std::alloc::{AllocError, Global};
 use weedle_base::Err;
-use weedle_front::parse_quick;
 use weedle_refusal::{Refusal, furthest_in, hint_of};
 
 /// Why a text is refused, or None where it is read whole.
