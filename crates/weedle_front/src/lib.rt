@@ -29,4 +29,4 @@ pub use reader::{Counted, parse, parse_counted};
 pub use refusal::explain;
 pub use weedle_idl::{Definition, Definitions};
 pub use weedle_nesting::{Depths, nesting};
-pub use weedle_report::{Entry, kind_of, lend, name_of, outline};
+pub use weedle_view::{Entry, kind_of, lend, name_of, outline};

@@ -1,8 +1,8 @@
 //! Reports: what is written of the definitions of a text.
 
 ghost use Rattle.std.specs.Prelude.{◌≡◌, ℕ, List, ◌++◌, IfOk, OnOk, string_bytes};
-ghost use Rattle.weedle_report.specs.Outline.{outline_lines};
-ghost use Rattle.weedle_report.specs.Report.{definition_line, list_report};
+ghost use Rattle.weedle_view.specs.Outline.{outline_lines};
+ghost use Rattle.weedle_view.specs.Report.{definition_line, list_report};
 ghost use Rattle.weedle_idl.specs.declared.definition.Definition.{Definition};
 
 use crate::entries::push_docstring;

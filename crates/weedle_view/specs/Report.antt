@@ -1,7 +1,7 @@
 -- What is written of definitions.
 use Rattle.std.specs.Prelude.{ℕ, List, [], ◌∷◌, ◌++◌, length, flat_map, decimal, codes}
 use Rattle.weedle_idl.specs.declared.definition.Definition.{Definition}
-use Rattle.weedle_report.specs.Titles.{kind_text, name_text}
+use Rattle.weedle_view.specs.Titles.{kind_text, name_text}
 
 -- a text and a line feed
 abbrev pub line : List ℕ → List ℕ

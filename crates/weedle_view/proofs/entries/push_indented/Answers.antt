@@ -2,8 +2,8 @@ use Rattle.std.proofs.Common.{◌∙◌, ap, flat_map, lit<}
 use Rattle.std.proofs.lemmas.Iterator.Consumers.{YieldsList-end}
 use Rattle.std.proofs.lemmas.Iterator.Splits.{YieldsList-from_str_split}
 use Rattle.std.specs.Prelude.{◌++◌, string_bytes}
-use Rattle.weedle_report.specs.Outline.{indented_line}
-use Rattle.weedle_report.proofs.entries.push_indented.Goals as goal
+use Rattle.weedle_view.specs.Outline.{indented_line}
+use Rattle.weedle_view.proofs.entries.push_indented.Goals as goal
 
 -- after the loop each part has its line
 pub returns : goal.returns

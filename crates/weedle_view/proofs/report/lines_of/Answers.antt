@@ -1,6 +1,6 @@
 use Rattle.std.proofs.Common.{◌≡◌, take}
 use Rattle.std.proofs.lemmas.List.{take_all}
-use Rattle.weedle_report.proofs.report.lines_of.Goals as goal
+use Rattle.weedle_view.proofs.report.lines_of.Goals as goal
 
 -- after the loop each has its lines
 pub returns : goal.returns

@@ -1,7 +1,19 @@
 //! What definitions are called.
+//!
+//! ```rust
+//! use weedle_base::Parse;
+//! use weedle_idl::Definitions;
+//! use weedle_view::{kind_of, name_of};
+//!
+//! let text = "interface Window {};";
+//! let (_, definitions) = Definitions::parse(rt.alloc(), text).expect(rt, "definitions");
+//! for definition in definitions {
+//!     assert!(rt; kind_of(&definition) == "interface" && name_of(&definition) == "Window");
+//! }
+//! ```
 
 ghost use Rattle.std.specs.Prelude.{◌≡◌};
-ghost use Rattle.weedle_report.specs.Titles.{kind_text, name_text};
+ghost use Rattle.weedle_view.specs.Titles.{kind_text, name_text};
 
 use weedle_idl::Definition;
 

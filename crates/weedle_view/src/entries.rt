@@ -2,7 +2,7 @@
 
 ghost use Rattle.std.specs.Prelude.{◌≡◌, map, ◌++◌, IfOk, OnOk, string_bytes};
 ghost use Rattle.std.specs.Option.{option_map};
-ghost use Rattle.weedle_report.specs.Outline.{
+ghost use Rattle.weedle_view.specs.Outline.{
   indented,
   docstring_lines,
   docstring_text,

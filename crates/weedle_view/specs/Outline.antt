@@ -2,9 +2,9 @@
 use Rattle.std.specs.List.{slice_split}
 use Rattle.std.specs.Option.{option_map}
 use Rattle.std.specs.Prelude.{ℕ, List, [], ◌++◌, ◌==◌, flat_map, codes, Option, None, Some, string_bytes}
-use Rattle.weedle_report.specs.Report.{line, definition_line, list_report}
-use Rattle.weedle_report.specs.Titles.{kind_text, name_text}
-use Rattle.weedle_report.specs.declared.entries.Entry.{Entry}
+use Rattle.weedle_view.specs.Report.{line, definition_line, list_report}
+use Rattle.weedle_view.specs.Titles.{kind_text, name_text}
+use Rattle.weedle_view.specs.declared.entries.Entry.{Entry}
 use Rattle.weedle_idl.specs.declared.definition.Definition.{Definition}
 use Rattle.weedle_idl.specs.declared.definition.Definition.TheVariants.{Callback as IsCallback, CallbackInterface as IsCallbackInterface, Interface as IsInterface, InterfaceMixin as IsInterfaceMixin, Namespace as IsNamespace, Dictionary as IsDictionary, PartialInterface as IsPartialInterface, PartialInterfaceMixin as IsPartialInterfaceMixin, PartialDictionary as IsPartialDictionary, PartialNamespace as IsPartialNamespace, Enum as IsEnum, Typedef as IsTypedef, IncludesStatement as IsIncludesStatement, Implements as IsImplements}
 use Rattle.weedle_parts.specs.declared.common.docstring.Docstring.{Docstring}
