@@ -1,6 +1,6 @@
 //! Definitions, by hand from the grammar, also where memory is refused.
 
-use crate::answers::{assert_no_text, assert_written};
+use super::answers::{assert_no_text, assert_written};
 use std::alloc::{AllocError, Global};
 use std::test::Fail;
 use weedle_base::term::{CloseBrace, Comma, Enum, OpenBrace, SemiColon};

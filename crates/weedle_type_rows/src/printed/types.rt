@@ -1,6 +1,6 @@
 //! Arguments and extended attributes, by hand from the grammar.
 
-use crate::answers::{assert_no_text, assert_written};
+use super::answers::{assert_no_text, assert_written};
 use std::test::Fail;
 use weedle_base::term::{
     Any, Assign, CloseBracket, CloseParen, Comma, OpenBracket, OpenParen, Optional,
