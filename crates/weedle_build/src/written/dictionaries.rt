@@ -15,7 +15,7 @@ ghost use Rattle.weedle_namespaces.specs.written.Trees.{
   partial_dictionary_definition_tree,
 };
 
-use crate::part::DefinitionPart;
+use crate::part::IdlPart;
 use std::alloc::Global;
 use weedle_base::term::{Dictionary, Partial, Required, SemiColon};
 use weedle_build_base::{At, Build, BuildResult, seven_fields, six_fields};
@@ -28,7 +28,7 @@ use weedle_parts::literal::Default;
 use weedle_rules::{Ends, Rule};
 use weedle_types::types::Type;
 
-impl<'a> Build<'a> for DefinitionPart<DictionaryMember<'a>> {
+impl<'a> Build<'a> for IdlPart<DictionaryMember<'a>> {
     type Value = DictionaryMember<'a>;
 
     ghost fits = { λ r. r ≡ DICTIONARY_MEMBER };
@@ -69,7 +69,7 @@ impl<'a> Build<'a> for DefinitionPart<DictionaryMember<'a>> {
     }
 }
 
-impl<'a> Build<'a> for DefinitionPart<DictionaryDefinition<'a>> {
+impl<'a> Build<'a> for IdlPart<DictionaryDefinition<'a>> {
     type Value = DictionaryDefinition<'a>;
 
     ghost fits = { λ r. r ≡ DICTIONARY_DEFINITION };
@@ -88,7 +88,7 @@ impl<'a> Build<'a> for DefinitionPart<DictionaryDefinition<'a>> {
             Dictionary,
             Identifier<'a>,
             Option<Inheritance<'a>>,
-            Braced<Vec<DefinitionPart<DictionaryMember<'a>>>>,
+            Braced<Vec<IdlPart<DictionaryMember<'a>>>>,
             SemiColon,
         >(alloc, table, Rule::DICTIONARY_DEFINITION, at)
         {
@@ -122,7 +122,7 @@ impl<'a> Build<'a> for DefinitionPart<DictionaryDefinition<'a>> {
     }
 }
 
-impl<'a> Build<'a> for DefinitionPart<PartialDictionaryDefinition<'a>> {
+impl<'a> Build<'a> for IdlPart<PartialDictionaryDefinition<'a>> {
     type Value = PartialDictionaryDefinition<'a>;
 
     ghost fits = { λ r. r ≡ PARTIAL_DICTIONARY_DEFINITION };
@@ -140,7 +140,7 @@ impl<'a> Build<'a> for DefinitionPart<PartialDictionaryDefinition<'a>> {
             Partial,
             Dictionary,
             Identifier<'a>,
-            Braced<Vec<DefinitionPart<DictionaryMember<'a>>>>,
+            Braced<Vec<IdlPart<DictionaryMember<'a>>>>,
             SemiColon,
         >(alloc, table, Rule::PARTIAL_DICTIONARY_DEFINITION, at)
         {

@@ -17,13 +17,12 @@ ghost use Rattle.weedle_interfaces.specs.written.Trees.{
   partial_interface_definition_tree,
 };
 
-use crate::part::InterfacePart;
+use crate::part::IdlPart;
 use std::alloc::Global;
 use weedle_base::term::{Callback, Interface, Partial, SemiColon};
 use weedle_build_base::{
     At, Build, BuildResult, alternative, choice, eight_fields, seven_fields, six_fields,
 };
-use weedle_build_members::MemberPart;
 use weedle_build_types::Attributes;
 use weedle_interfaces::{
     CallbackInterfaceDefinition, InterfaceDefinition, InterfaceMember, PartialInterfaceDefinition,
@@ -40,7 +39,7 @@ use weedle_parts::common::{Braced, Docstring, Identifier};
 use weedle_parts::inheritance::Inheritance;
 use weedle_rules::{Ends, Rule};
 
-impl<'a> Build<'a> for InterfacePart<InterfaceMember<'a>> {
+impl<'a> Build<'a> for IdlPart<InterfaceMember<'a>> {
     type Value = InterfaceMember<'a>;
 
     ghost fits = { λ r. r ≡ INTERFACE_MEMBER };
@@ -56,55 +55,55 @@ impl<'a> Build<'a> for InterfacePart<InterfaceMember<'a>> {
         let rule = Rule::INTERFACE_MEMBER;
         match choice(table, rule, at.place) {
             0 => {
-                let (member, at) = alternative::<MemberPart<ConstMember<'a>>>(
+                let (member, at) = alternative::<IdlPart<ConstMember<'a>>>(
                     alloc, table, rule, 0, at,
                 )?;
                 Ok((InterfaceMember::Const(member), at))
             }
             1 => {
-                let (member, at) = alternative::<MemberPart<AttributeInterfaceMember<'a>>>(
+                let (member, at) = alternative::<IdlPart<AttributeInterfaceMember<'a>>>(
                     alloc, table, rule, 1, at,
                 )?;
                 Ok((InterfaceMember::Attribute(member), at))
             }
             2 => {
-                let (member, at) = alternative::<MemberPart<ConstructorInterfaceMember<'a>>>(
+                let (member, at) = alternative::<IdlPart<ConstructorInterfaceMember<'a>>>(
                     alloc, table, rule, 2, at,
                 )?;
                 Ok((InterfaceMember::Constructor(member), at))
             }
             3 => {
-                let (member, at) = alternative::<MemberPart<OperationInterfaceMember<'a>>>(
+                let (member, at) = alternative::<IdlPart<OperationInterfaceMember<'a>>>(
                     alloc, table, rule, 3, at,
                 )?;
                 Ok((InterfaceMember::Operation(member), at))
             }
             4 => {
-                let (member, at) = alternative::<MemberPart<IterableInterfaceMember<'a>>>(
+                let (member, at) = alternative::<IdlPart<IterableInterfaceMember<'a>>>(
                     alloc, table, rule, 4, at,
                 )?;
                 Ok((InterfaceMember::Iterable(member), at))
             }
             5 => {
-                let (member, at) = alternative::<MemberPart<AsyncIterableInterfaceMember<'a>>>(
+                let (member, at) = alternative::<IdlPart<AsyncIterableInterfaceMember<'a>>>(
                     alloc, table, rule, 5, at,
                 )?;
                 Ok((InterfaceMember::AsyncIterable(member), at))
             }
             6 => {
-                let (member, at) = alternative::<MemberPart<MaplikeInterfaceMember<'a>>>(
+                let (member, at) = alternative::<IdlPart<MaplikeInterfaceMember<'a>>>(
                     alloc, table, rule, 6, at,
                 )?;
                 Ok((InterfaceMember::Maplike(member), at))
             }
             7 => {
-                let (member, at) = alternative::<MemberPart<SetlikeInterfaceMember<'a>>>(
+                let (member, at) = alternative::<IdlPart<SetlikeInterfaceMember<'a>>>(
                     alloc, table, rule, 7, at,
                 )?;
                 Ok((InterfaceMember::Setlike(member), at))
             }
             8 => {
-                let (member, at) = alternative::<MemberPart<StringifierMember<'a>>>(
+                let (member, at) = alternative::<IdlPart<StringifierMember<'a>>>(
                     alloc, table, rule, 8, at,
                 )?;
                 Ok((InterfaceMember::Stringifier(member), at))
@@ -114,7 +113,7 @@ impl<'a> Build<'a> for InterfacePart<InterfaceMember<'a>> {
     }
 }
 
-impl<'a> Build<'a> for InterfacePart<CallbackInterfaceDefinition<'a>> {
+impl<'a> Build<'a> for IdlPart<CallbackInterfaceDefinition<'a>> {
     type Value = CallbackInterfaceDefinition<'a>;
 
     ghost fits = { λ r. r ≡ CALLBACK_INTERFACE_DEFINITION };
@@ -134,7 +133,7 @@ impl<'a> Build<'a> for InterfacePart<CallbackInterfaceDefinition<'a>> {
             Interface,
             Identifier<'a>,
             Option<Inheritance<'a>>,
-            Braced<Vec<InterfacePart<InterfaceMember<'a>>>>,
+            Braced<Vec<IdlPart<InterfaceMember<'a>>>>,
             SemiColon,
         >(alloc, table, Rule::CALLBACK_INTERFACE_DEFINITION, at)
         {
@@ -170,7 +169,7 @@ impl<'a> Build<'a> for InterfacePart<CallbackInterfaceDefinition<'a>> {
     }
 }
 
-impl<'a> Build<'a> for InterfacePart<InterfaceDefinition<'a>> {
+impl<'a> Build<'a> for IdlPart<InterfaceDefinition<'a>> {
     type Value = InterfaceDefinition<'a>;
 
     ghost fits = { λ r. r ≡ INTERFACE_DEFINITION };
@@ -189,7 +188,7 @@ impl<'a> Build<'a> for InterfacePart<InterfaceDefinition<'a>> {
             Interface,
             Identifier<'a>,
             Option<Inheritance<'a>>,
-            Braced<Vec<InterfacePart<InterfaceMember<'a>>>>,
+            Braced<Vec<IdlPart<InterfaceMember<'a>>>>,
             SemiColon,
         >(alloc, table, Rule::INTERFACE_DEFINITION, at)
         {
@@ -223,7 +222,7 @@ impl<'a> Build<'a> for InterfacePart<InterfaceDefinition<'a>> {
     }
 }
 
-impl<'a> Build<'a> for InterfacePart<PartialInterfaceDefinition<'a>> {
+impl<'a> Build<'a> for IdlPart<PartialInterfaceDefinition<'a>> {
     type Value = PartialInterfaceDefinition<'a>;
 
     ghost fits = { λ r. r ≡ PARTIAL_INTERFACE_DEFINITION };
@@ -241,7 +240,7 @@ impl<'a> Build<'a> for InterfacePart<PartialInterfaceDefinition<'a>> {
             Partial,
             Interface,
             Identifier<'a>,
-            Braced<Vec<InterfacePart<InterfaceMember<'a>>>>,
+            Braced<Vec<IdlPart<InterfaceMember<'a>>>>,
             SemiColon,
         >(alloc, table, Rule::PARTIAL_INTERFACE_DEFINITION, at)
         {

@@ -25,7 +25,7 @@ ghost use Rattle.weedle_iterables.specs.written.Trees.{
   single_typed_iterable_tree,
 };
 
-use crate::part::{MemberPart, OneType, TwoTypes};
+use crate::part::{IdlPart, OneType, TwoTypes};
 use std::alloc::Global;
 use weedle_base::term::{Async, Iterable, Maplike, ReadOnly, SemiColon, Setlike};
 use weedle_build_base::{At, Build, BuildResult, alternative, choice, five_fields, four_fields};
@@ -37,7 +37,7 @@ use weedle_iterables::{
 };
 use weedle_rules::{Ends, Rule};
 
-impl<'a> Build<'a> for MemberPart<SingleTypedIterable<'a>> {
+impl<'a> Build<'a> for IdlPart<SingleTypedIterable<'a>> {
     type Value = SingleTypedIterable<'a>;
 
     ghost fits = { λ r. r ≡ SINGLE_TYPED_ITERABLE };
@@ -70,7 +70,7 @@ impl<'a> Build<'a> for MemberPart<SingleTypedIterable<'a>> {
     }
 }
 
-impl<'a> Build<'a> for MemberPart<DoubleTypedIterable<'a>> {
+impl<'a> Build<'a> for IdlPart<DoubleTypedIterable<'a>> {
     type Value = DoubleTypedIterable<'a>;
 
     ghost fits = { λ r. r ≡ DOUBLE_TYPED_ITERABLE };
@@ -103,7 +103,7 @@ impl<'a> Build<'a> for MemberPart<DoubleTypedIterable<'a>> {
     }
 }
 
-impl<'a> Build<'a> for MemberPart<IterableInterfaceMember<'a>> {
+impl<'a> Build<'a> for IdlPart<IterableInterfaceMember<'a>> {
     type Value = IterableInterfaceMember<'a>;
 
     ghost fits = { λ r. r ≡ ITERABLE_INTERFACE_MEMBER };
@@ -119,13 +119,13 @@ impl<'a> Build<'a> for MemberPart<IterableInterfaceMember<'a>> {
         let rule = Rule::ITERABLE_INTERFACE_MEMBER;
         match choice(table, rule, at.place) {
             0 => {
-                let (member, at) = alternative::<MemberPart<SingleTypedIterable<'a>>>(
+                let (member, at) = alternative::<IdlPart<SingleTypedIterable<'a>>>(
                     alloc, table, rule, 0, at,
                 )?;
                 Ok((IterableInterfaceMember::Single(member), at))
             }
             1 => {
-                let (member, at) = alternative::<MemberPart<DoubleTypedIterable<'a>>>(
+                let (member, at) = alternative::<IdlPart<DoubleTypedIterable<'a>>>(
                     alloc, table, rule, 1, at,
                 )?;
                 Ok((IterableInterfaceMember::Double(member), at))
@@ -135,7 +135,7 @@ impl<'a> Build<'a> for MemberPart<IterableInterfaceMember<'a>> {
     }
 }
 
-impl<'a> Build<'a> for MemberPart<SingleTypedAsyncIterable<'a>> {
+impl<'a> Build<'a> for IdlPart<SingleTypedAsyncIterable<'a>> {
     type Value = SingleTypedAsyncIterable<'a>;
 
     ghost fits = { λ r. r ≡ SINGLE_TYPED_ASYNC_ITERABLE };
@@ -171,7 +171,7 @@ impl<'a> Build<'a> for MemberPart<SingleTypedAsyncIterable<'a>> {
     }
 }
 
-impl<'a> Build<'a> for MemberPart<DoubleTypedAsyncIterable<'a>> {
+impl<'a> Build<'a> for IdlPart<DoubleTypedAsyncIterable<'a>> {
     type Value = DoubleTypedAsyncIterable<'a>;
 
     ghost fits = { λ r. r ≡ DOUBLE_TYPED_ASYNC_ITERABLE };
@@ -207,7 +207,7 @@ impl<'a> Build<'a> for MemberPart<DoubleTypedAsyncIterable<'a>> {
     }
 }
 
-impl<'a> Build<'a> for MemberPart<AsyncIterableInterfaceMember<'a>> {
+impl<'a> Build<'a> for IdlPart<AsyncIterableInterfaceMember<'a>> {
     type Value = AsyncIterableInterfaceMember<'a>;
 
     ghost fits = { λ r. r ≡ ASYNC_ITERABLE_INTERFACE_MEMBER };
@@ -223,13 +223,13 @@ impl<'a> Build<'a> for MemberPart<AsyncIterableInterfaceMember<'a>> {
         let rule = Rule::ASYNC_ITERABLE_INTERFACE_MEMBER;
         match choice(table, rule, at.place) {
             0 => {
-                let (member, at) = alternative::<MemberPart<SingleTypedAsyncIterable<'a>>>(
+                let (member, at) = alternative::<IdlPart<SingleTypedAsyncIterable<'a>>>(
                     alloc, table, rule, 0, at,
                 )?;
                 Ok((AsyncIterableInterfaceMember::Single(member), at))
             }
             1 => {
-                let (member, at) = alternative::<MemberPart<DoubleTypedAsyncIterable<'a>>>(
+                let (member, at) = alternative::<IdlPart<DoubleTypedAsyncIterable<'a>>>(
                     alloc, table, rule, 1, at,
                 )?;
                 Ok((AsyncIterableInterfaceMember::Double(member), at))
@@ -239,7 +239,7 @@ impl<'a> Build<'a> for MemberPart<AsyncIterableInterfaceMember<'a>> {
     }
 }
 
-impl<'a> Build<'a> for MemberPart<MaplikeInterfaceMember<'a>> {
+impl<'a> Build<'a> for IdlPart<MaplikeInterfaceMember<'a>> {
     type Value = MaplikeInterfaceMember<'a>;
 
     ghost fits = { λ r. r ≡ MAPLIKE_INTERFACE_MEMBER };
@@ -273,7 +273,7 @@ impl<'a> Build<'a> for MemberPart<MaplikeInterfaceMember<'a>> {
     }
 }
 
-impl<'a> Build<'a> for MemberPart<SetlikeInterfaceMember<'a>> {
+impl<'a> Build<'a> for IdlPart<SetlikeInterfaceMember<'a>> {
     type Value = SetlikeInterfaceMember<'a>;
 
     ghost fits = { λ r. r ≡ SETLIKE_INTERFACE_MEMBER };

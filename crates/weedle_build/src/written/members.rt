@@ -19,7 +19,7 @@ ghost use Rattle.weedle_members.specs.written.Trees.{
   stringifier_member_tree,
 };
 
-use crate::part::MemberPart;
+use crate::part::IdlPart;
 use std::alloc::Global;
 use weedle_base::term::{Assign, Attribute, Const, Constructor, ReadOnly, SemiColon, Stringifier};
 use weedle_build_base::{
@@ -37,7 +37,7 @@ use weedle_parts::types::ConstType;
 use weedle_rules::{Ends, Rule};
 use weedle_types::types::{AttributedType, ReturnType};
 
-impl<'a> Build<'a> for MemberPart<ConstMember<'a>> {
+impl<'a> Build<'a> for IdlPart<ConstMember<'a>> {
     type Value = ConstMember<'a>;
 
     ghost fits = { λ r. r ≡ CONST_MEMBER };
@@ -74,7 +74,7 @@ impl<'a> Build<'a> for MemberPart<ConstMember<'a>> {
     }
 }
 
-impl<'a> Build<'a> for MemberPart<AttributeInterfaceMember<'a>> {
+impl<'a> Build<'a> for IdlPart<AttributeInterfaceMember<'a>> {
     type Value = AttributeInterfaceMember<'a>;
 
     ghost fits = { λ r. r ≡ ATTRIBUTE_INTERFACE_MEMBER };
@@ -115,7 +115,7 @@ impl<'a> Build<'a> for MemberPart<AttributeInterfaceMember<'a>> {
     }
 }
 
-impl<'a> Build<'a> for MemberPart<ConstructorInterfaceMember<'a>> {
+impl<'a> Build<'a> for IdlPart<ConstructorInterfaceMember<'a>> {
     type Value = ConstructorInterfaceMember<'a>;
 
     ghost fits = { λ r. r ≡ CONSTRUCTOR_INTERFACE_MEMBER };
@@ -151,7 +151,7 @@ impl<'a> Build<'a> for MemberPart<ConstructorInterfaceMember<'a>> {
     }
 }
 
-impl<'a> Build<'a> for MemberPart<OperationInterfaceMember<'a>> {
+impl<'a> Build<'a> for IdlPart<OperationInterfaceMember<'a>> {
     type Value = OperationInterfaceMember<'a>;
 
     ghost fits = { λ r. r ≡ OPERATION_INTERFACE_MEMBER };
@@ -207,7 +207,7 @@ impl<'a> Build<'a> for MemberPart<OperationInterfaceMember<'a>> {
     }
 }
 
-impl<'a> Build<'a> for MemberPart<StringifierMember<'a>> {
+impl<'a> Build<'a> for IdlPart<StringifierMember<'a>> {
     type Value = StringifierMember<'a>;
 
     ghost fits = { λ r. r ≡ STRINGIFIER_MEMBER };

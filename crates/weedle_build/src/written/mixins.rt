@@ -21,11 +21,10 @@ ghost use Rattle.weedle_mixins.specs.written.Trees.{
   partial_interface_mixin_definition_tree,
 };
 
-use crate::part::DefinitionPart;
+use crate::part::IdlPart;
 use std::alloc::Global;
 use weedle_base::term::{Attribute, Interface, Mixin, Partial, ReadOnly, SemiColon, Stringifier};
 use weedle_build_base::{At, Build, BuildResult, alternative, choice, seven_fields, six_fields};
-use weedle_build_members::MemberPart;
 use weedle_build_types::{Arguments, Attributes, Held};
 use weedle_members::{ConstMember, StringifierMember};
 use weedle_mixins::mixin::{AttributeMixinMember, MixinMember, OperationMixinMember};
@@ -34,7 +33,7 @@ use weedle_parts::common::{Braced, Identifier};
 use weedle_rules::{Ends, Rule};
 use weedle_types::types::{AttributedType, ReturnType};
 
-impl<'a> Build<'a> for DefinitionPart<OperationMixinMember<'a>> {
+impl<'a> Build<'a> for IdlPart<OperationMixinMember<'a>> {
     type Value = OperationMixinMember<'a>;
 
     ghost fits = { λ r. r ≡ OPERATION_MIXIN_MEMBER };
@@ -72,7 +71,7 @@ impl<'a> Build<'a> for DefinitionPart<OperationMixinMember<'a>> {
     }
 }
 
-impl<'a> Build<'a> for DefinitionPart<AttributeMixinMember<'a>> {
+impl<'a> Build<'a> for IdlPart<AttributeMixinMember<'a>> {
     type Value = AttributeMixinMember<'a>;
 
     ghost fits = { λ r. r ≡ ATTRIBUTE_MIXIN_MEMBER };
@@ -114,7 +113,7 @@ impl<'a> Build<'a> for DefinitionPart<AttributeMixinMember<'a>> {
     }
 }
 
-impl<'a> Build<'a> for DefinitionPart<MixinMember<'a>> {
+impl<'a> Build<'a> for IdlPart<MixinMember<'a>> {
     type Value = MixinMember<'a>;
 
     ghost fits = { λ r. r ≡ MIXIN_MEMBER };
@@ -125,25 +124,25 @@ impl<'a> Build<'a> for DefinitionPart<MixinMember<'a>> {
         let rule = Rule::MIXIN_MEMBER;
         match choice(table, rule, at.place) {
             0 => {
-                let (member, at) = alternative::<MemberPart<ConstMember<'a>>>(
+                let (member, at) = alternative::<IdlPart<ConstMember<'a>>>(
                     alloc, table, rule, 0, at,
                 )?;
                 Ok((MixinMember::Const(member), at))
             }
             1 => {
-                let (member, at) = alternative::<DefinitionPart<OperationMixinMember<'a>>>(
+                let (member, at) = alternative::<IdlPart<OperationMixinMember<'a>>>(
                     alloc, table, rule, 1, at,
                 )?;
                 Ok((MixinMember::Operation(member), at))
             }
             2 => {
-                let (member, at) = alternative::<DefinitionPart<AttributeMixinMember<'a>>>(
+                let (member, at) = alternative::<IdlPart<AttributeMixinMember<'a>>>(
                     alloc, table, rule, 2, at,
                 )?;
                 Ok((MixinMember::Attribute(member), at))
             }
             3 => {
-                let (member, at) = alternative::<MemberPart<StringifierMember<'a>>>(
+                let (member, at) = alternative::<IdlPart<StringifierMember<'a>>>(
                     alloc, table, rule, 3, at,
                 )?;
                 Ok((MixinMember::Stringifier(member), at))
@@ -153,7 +152,7 @@ impl<'a> Build<'a> for DefinitionPart<MixinMember<'a>> {
     }
 }
 
-impl<'a> Build<'a> for DefinitionPart<InterfaceMixinDefinition<'a>> {
+impl<'a> Build<'a> for IdlPart<InterfaceMixinDefinition<'a>> {
     type Value = InterfaceMixinDefinition<'a>;
 
     ghost fits = { λ r. r ≡ INTERFACE_MIXIN_DEFINITION };
@@ -171,7 +170,7 @@ impl<'a> Build<'a> for DefinitionPart<InterfaceMixinDefinition<'a>> {
             Interface,
             Mixin,
             Identifier<'a>,
-            Braced<Vec<DefinitionPart<MixinMember<'a>>>>,
+            Braced<Vec<IdlPart<MixinMember<'a>>>>,
             SemiColon,
         >(alloc, table, Rule::INTERFACE_MIXIN_DEFINITION, at)
         {
@@ -191,7 +190,7 @@ impl<'a> Build<'a> for DefinitionPart<InterfaceMixinDefinition<'a>> {
     }
 }
 
-impl<'a> Build<'a> for DefinitionPart<PartialInterfaceMixinDefinition<'a>> {
+impl<'a> Build<'a> for IdlPart<PartialInterfaceMixinDefinition<'a>> {
     type Value = PartialInterfaceMixinDefinition<'a>;
 
     ghost fits = { λ r. r ≡ PARTIAL_INTERFACE_MIXIN_DEFINITION };
@@ -210,7 +209,7 @@ impl<'a> Build<'a> for DefinitionPart<PartialInterfaceMixinDefinition<'a>> {
             Interface,
             Mixin,
             Identifier<'a>,
-            Braced<Vec<DefinitionPart<MixinMember<'a>>>>,
+            Braced<Vec<IdlPart<MixinMember<'a>>>>,
             SemiColon,
         >(alloc, table, Rule::PARTIAL_INTERFACE_MIXIN_DEFINITION, at)
         {

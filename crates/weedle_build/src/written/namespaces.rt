@@ -21,7 +21,7 @@ ghost use Rattle.weedle_namespaces.specs.written.Trees.{
   partial_namespace_definition_tree,
 };
 
-use crate::part::DefinitionPart;
+use crate::part::IdlPart;
 use std::alloc::Global;
 use weedle_base::term::{Attribute, Namespace, Partial, ReadOnly, SemiColon};
 use weedle_build_base::{At, Build, BuildResult, alternative, choice, seven_fields, six_fields};
@@ -34,7 +34,7 @@ use weedle_parts::common::{Braced, Docstring, Identifier};
 use weedle_rules::{Ends, Rule};
 use weedle_types::types::{AttributedType, ReturnType};
 
-impl<'a> Build<'a> for DefinitionPart<OperationNamespaceMember<'a>> {
+impl<'a> Build<'a> for IdlPart<OperationNamespaceMember<'a>> {
     type Value = OperationNamespaceMember<'a>;
 
     ghost fits = { λ r. r ≡ OPERATION_NAMESPACE_MEMBER };
@@ -72,7 +72,7 @@ impl<'a> Build<'a> for DefinitionPart<OperationNamespaceMember<'a>> {
     }
 }
 
-impl<'a> Build<'a> for DefinitionPart<AttributeNamespaceMember<'a>> {
+impl<'a> Build<'a> for IdlPart<AttributeNamespaceMember<'a>> {
     type Value = AttributeNamespaceMember<'a>;
 
     ghost fits = { λ r. r ≡ ATTRIBUTE_NAMESPACE_MEMBER };
@@ -113,7 +113,7 @@ impl<'a> Build<'a> for DefinitionPart<AttributeNamespaceMember<'a>> {
     }
 }
 
-impl<'a> Build<'a> for DefinitionPart<NamespaceMember<'a>> {
+impl<'a> Build<'a> for IdlPart<NamespaceMember<'a>> {
     type Value = NamespaceMember<'a>;
 
     ghost fits = { λ r. r ≡ NAMESPACE_MEMBER };
@@ -129,13 +129,13 @@ impl<'a> Build<'a> for DefinitionPart<NamespaceMember<'a>> {
         let rule = Rule::NAMESPACE_MEMBER;
         match choice(table, rule, at.place) {
             0 => {
-                let (member, at) = alternative::<DefinitionPart<OperationNamespaceMember<'a>>>(
+                let (member, at) = alternative::<IdlPart<OperationNamespaceMember<'a>>>(
                     alloc, table, rule, 0, at,
                 )?;
                 Ok((NamespaceMember::Operation(member), at))
             }
             1 => {
-                let (member, at) = alternative::<DefinitionPart<AttributeNamespaceMember<'a>>>(
+                let (member, at) = alternative::<IdlPart<AttributeNamespaceMember<'a>>>(
                     alloc, table, rule, 1, at,
                 )?;
                 Ok((NamespaceMember::Attribute(member), at))
@@ -145,7 +145,7 @@ impl<'a> Build<'a> for DefinitionPart<NamespaceMember<'a>> {
     }
 }
 
-impl<'a> Build<'a> for DefinitionPart<NamespaceDefinition<'a>> {
+impl<'a> Build<'a> for IdlPart<NamespaceDefinition<'a>> {
     type Value = NamespaceDefinition<'a>;
 
     ghost fits = { λ r. r ≡ NAMESPACE_DEFINITION };
@@ -163,7 +163,7 @@ impl<'a> Build<'a> for DefinitionPart<NamespaceDefinition<'a>> {
             Attributes<'a>,
             Namespace,
             Identifier<'a>,
-            Braced<Vec<DefinitionPart<NamespaceMember<'a>>>>,
+            Braced<Vec<IdlPart<NamespaceMember<'a>>>>,
             SemiColon,
         >(alloc, table, Rule::NAMESPACE_DEFINITION, at)
         {
@@ -183,7 +183,7 @@ impl<'a> Build<'a> for DefinitionPart<NamespaceDefinition<'a>> {
     }
 }
 
-impl<'a> Build<'a> for DefinitionPart<PartialNamespaceDefinition<'a>> {
+impl<'a> Build<'a> for IdlPart<PartialNamespaceDefinition<'a>> {
     type Value = PartialNamespaceDefinition<'a>;
 
     ghost fits = { λ r. r ≡ PARTIAL_NAMESPACE_DEFINITION };
@@ -201,7 +201,7 @@ impl<'a> Build<'a> for DefinitionPart<PartialNamespaceDefinition<'a>> {
             Partial,
             Namespace,
             Identifier<'a>,
-            Braced<Vec<DefinitionPart<NamespaceMember<'a>>>>,
+            Braced<Vec<IdlPart<NamespaceMember<'a>>>>,
             SemiColon,
         >(alloc, table, Rule::PARTIAL_NAMESPACE_DEFINITION, at)
         {

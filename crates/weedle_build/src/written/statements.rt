@@ -21,7 +21,7 @@ ghost use Rattle.weedle_statements.specs.written.Trees.{
   typedef_definition_tree,
 };
 
-use crate::part::{DefinitionPart, EnumValues};
+use crate::part::{EnumValues, IdlPart};
 use std::alloc::Global;
 use weedle_base::term::{Assign, Callback, Enum, Implements, Includes, SemiColon, Typedef};
 use weedle_build_base::{
@@ -37,7 +37,7 @@ use weedle_statements::{
 };
 use weedle_types::types::{AttributedType, ReturnType};
 
-impl<'a> Build<'a> for DefinitionPart<EnumVariant<'a>> {
+impl<'a> Build<'a> for IdlPart<EnumVariant<'a>> {
     type Value = EnumVariant<'a>;
 
     ghost fits = { λ r. r ≡ ENUM_VARIANT };
@@ -55,7 +55,7 @@ impl<'a> Build<'a> for DefinitionPart<EnumVariant<'a>> {
     }
 }
 
-impl<'a> Build<'a> for DefinitionPart<CallbackDefinition<'a>> {
+impl<'a> Build<'a> for IdlPart<CallbackDefinition<'a>> {
     type Value = CallbackDefinition<'a>;
 
     ghost fits = { λ r. r ≡ CALLBACK_DEFINITION };
@@ -100,7 +100,7 @@ impl<'a> Build<'a> for DefinitionPart<CallbackDefinition<'a>> {
     }
 }
 
-impl<'a> Build<'a> for DefinitionPart<EnumDefinition<'a>> {
+impl<'a> Build<'a> for IdlPart<EnumDefinition<'a>> {
     type Value = EnumDefinition<'a>;
 
     ghost fits = { λ r. r ≡ ENUM_DEFINITION };
@@ -138,7 +138,7 @@ impl<'a> Build<'a> for DefinitionPart<EnumDefinition<'a>> {
     }
 }
 
-impl<'a> Build<'a> for DefinitionPart<TypedefDefinition<'a>> {
+impl<'a> Build<'a> for IdlPart<TypedefDefinition<'a>> {
     type Value = TypedefDefinition<'a>;
 
     ghost fits = { λ r. r ≡ TYPEDEF_DEFINITION };
@@ -174,7 +174,7 @@ impl<'a> Build<'a> for DefinitionPart<TypedefDefinition<'a>> {
     }
 }
 
-impl<'a> Build<'a> for DefinitionPart<IncludesStatementDefinition<'a>> {
+impl<'a> Build<'a> for IdlPart<IncludesStatementDefinition<'a>> {
     type Value = IncludesStatementDefinition<'a>;
 
     ghost fits = { λ r. r ≡ INCLUDES_STATEMENT_DEFINITION };
@@ -208,7 +208,7 @@ impl<'a> Build<'a> for DefinitionPart<IncludesStatementDefinition<'a>> {
     }
 }
 
-impl<'a> Build<'a> for DefinitionPart<ImplementsDefinition<'a>> {
+impl<'a> Build<'a> for IdlPart<ImplementsDefinition<'a>> {
     type Value = ImplementsDefinition<'a>;
 
     ghost fits = { λ r. r ≡ IMPLEMENTS_DEFINITION };
