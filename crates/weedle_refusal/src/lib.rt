@@ -1,6 +1,6 @@
 //! What is said of a text that is refused: where, at which line and column, in words what would
 //! have been read there, and what would mend it. It stands on the grammar and the table of ends,
-//! and on no type of the tree.
+//! and on no type of the tree. [`diagnose`] says the same by rules, in place of words.
 //!
 //! ```rust
 //! use weedle_refusal::{position_of, refusal_of};
@@ -16,6 +16,7 @@
 #![tactic(auto)]
 
 mod behind;
+pub mod diagnose;
 mod display;
 mod excerpt;
 mod expected;
