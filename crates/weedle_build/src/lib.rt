@@ -1,4 +1,5 @@
-//! The second pass over a text: the list of its definitions, built along its table of ends.
+//! The second pass over a text: the list of its definitions, built along its table of ends or along
+//! a memo of them.
 //!
 //! ```rust
 //! use weedle_build::build_definitions;
@@ -19,5 +20,5 @@
 mod built;
 mod written;
 
-pub use built::{Built, build_definitions};
+pub use built::{Built, build_by_memo, build_definitions};
 use written::definition;

@@ -8,7 +8,7 @@ ghost use Rattle.weedle_grammar.specs.written.Table.Definitions.{DEFINITION};
 ghost use Rattle.weedle_idl.specs.written.DefinitionTrees.{definition_tree};
 
 use std::alloc::Global;
-use weedle_build_base::{At, Build, BuildResult, alternative, choice};
+use weedle_build_base::{At, Build, BuildResult, Table, alternative, choice};
 use weedle_build_definitions::DefinitionPart;
 use weedle_build_interfaces::InterfacePart;
 use weedle_idl::{
@@ -18,7 +18,7 @@ use weedle_idl::{
     PartialInterfaceDefinition, PartialInterfaceMixinDefinition, PartialNamespaceDefinition,
     TypedefDefinition,
 };
-use weedle_rules::{Ends, Rule};
+use weedle_rules::Rule;
 
 /// How a definition is built.
 pub(crate) struct AnyDefinition;
@@ -30,7 +30,12 @@ impl<'a> Build<'a> for AnyDefinition {
 
     ghost tree = { definition_tree };
 
-    fn build(alloc: Global, table: &Ends<'a>, _rule: Rule, at: At) -> BuildResult<Definition<'a>> {
+    fn build(
+        alloc: Global,
+        table: Table<'_, 'a>,
+        _rule: Rule,
+        at: At,
+    ) -> BuildResult<Definition<'a>> {
         let rule = Rule::DEFINITION;
         match choice(table, rule, at.place) {
             0 => {

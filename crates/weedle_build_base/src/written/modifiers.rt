@@ -21,13 +21,14 @@ use crate::alternatives::{alternative, choice};
 use crate::at::At;
 use crate::build::{Build, BuildResult};
 use crate::structs::two_fields;
+use crate::table::Table;
 use std::alloc::Global;
 use weedle_base::term::{
     Colon, Deleter, Getter, Inherit, LegacyCaller, Setter, Static, Stringifier,
 };
 use weedle_modifier::{Inheritance, Special, StringifierOrInheritOrStatic, StringifierOrStatic};
 use weedle_parts::common::Identifier;
-use weedle_rules::{Ends, Rule};
+use weedle_rules::Rule;
 
 impl<'a> Build<'a> for Inheritance<'a> {
     type Value = Self;
@@ -36,7 +37,7 @@ impl<'a> Build<'a> for Inheritance<'a> {
 
     ghost tree = { inheritance_tree };
 
-    fn build(alloc: Global, table: &Ends<'a>, _rule: Rule, at: At) -> BuildResult<Self> {
+    fn build(alloc: Global, table: Table<'_, 'a>, _rule: Rule, at: At) -> BuildResult<Self> {
         let ((colon, identifier), at) = two_fields::<Colon, Identifier>(
             alloc,
             table,
@@ -54,7 +55,7 @@ impl<'a> Build<'a> for Special {
 
     ghost tree = { special_tree };
 
-    fn build(alloc: Global, table: &Ends<'a>, _rule: Rule, at: At) -> BuildResult<Self> {
+    fn build(alloc: Global, table: Table<'_, 'a>, _rule: Rule, at: At) -> BuildResult<Self> {
         let rule = Rule::SPECIAL;
         match choice(table, rule, at.place) {
             0 => {
@@ -85,7 +86,7 @@ impl<'a> Build<'a> for StringifierOrInheritOrStatic {
 
     ghost tree = { stringifier_or_inherit_or_static_tree };
 
-    fn build(alloc: Global, table: &Ends<'a>, _rule: Rule, at: At) -> BuildResult<Self> {
+    fn build(alloc: Global, table: Table<'_, 'a>, _rule: Rule, at: At) -> BuildResult<Self> {
         let rule = Rule::STRINGIFIER_OR_INHERIT_OR_STATIC;
         match choice(table, rule, at.place) {
             0 => {
@@ -112,7 +113,7 @@ impl<'a> Build<'a> for StringifierOrStatic {
 
     ghost tree = { stringifier_or_static_tree };
 
-    fn build(alloc: Global, table: &Ends<'a>, _rule: Rule, at: At) -> BuildResult<Self> {
+    fn build(alloc: Global, table: Table<'_, 'a>, _rule: Rule, at: At) -> BuildResult<Self> {
         let rule = Rule::STRINGIFIER_OR_STATIC;
         match choice(table, rule, at.place) {
             0 => {

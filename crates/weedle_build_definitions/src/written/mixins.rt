@@ -24,14 +24,16 @@ ghost use Rattle.weedle_mixins.specs.written.Trees.{
 use crate::part::DefinitionPart;
 use std::alloc::Global;
 use weedle_base::term::{Attribute, Interface, Mixin, Partial, ReadOnly, SemiColon, Stringifier};
-use weedle_build_base::{At, Build, BuildResult, alternative, choice, seven_fields, six_fields};
+use weedle_build_base::{
+    At, Build, BuildResult, Table, alternative, choice, seven_fields, six_fields,
+};
 use weedle_build_members::MemberPart;
 use weedle_build_types::{Arguments, Attributes, Held};
 use weedle_members::{ConstMember, StringifierMember};
 use weedle_mixins::mixin::{AttributeMixinMember, MixinMember, OperationMixinMember};
 use weedle_mixins::{InterfaceMixinDefinition, PartialInterfaceMixinDefinition};
 use weedle_parts::common::{Braced, Identifier};
-use weedle_rules::{Ends, Rule};
+use weedle_rules::Rule;
 use weedle_types::types::{AttributedType, ReturnType};
 
 impl<'a> Build<'a> for DefinitionPart<OperationMixinMember<'a>> {
@@ -43,7 +45,7 @@ impl<'a> Build<'a> for DefinitionPart<OperationMixinMember<'a>> {
 
     fn build(
         alloc: Global,
-        table: &Ends<'a>,
+        table: Table<'_, 'a>,
         _rule: Rule,
         at: At,
     ) -> BuildResult<OperationMixinMember<'a>> {
@@ -81,7 +83,7 @@ impl<'a> Build<'a> for DefinitionPart<AttributeMixinMember<'a>> {
 
     fn build(
         alloc: Global,
-        table: &Ends<'a>,
+        table: Table<'_, 'a>,
         _rule: Rule,
         at: At,
     ) -> BuildResult<AttributeMixinMember<'a>> {
@@ -121,7 +123,12 @@ impl<'a> Build<'a> for DefinitionPart<MixinMember<'a>> {
 
     ghost tree = { mixin_member_tree };
 
-    fn build(alloc: Global, table: &Ends<'a>, _rule: Rule, at: At) -> BuildResult<MixinMember<'a>> {
+    fn build(
+        alloc: Global,
+        table: Table<'_, 'a>,
+        _rule: Rule,
+        at: At,
+    ) -> BuildResult<MixinMember<'a>> {
         let rule = Rule::MIXIN_MEMBER;
         match choice(table, rule, at.place) {
             0 => {
@@ -162,7 +169,7 @@ impl<'a> Build<'a> for DefinitionPart<InterfaceMixinDefinition<'a>> {
 
     fn build(
         alloc: Global,
-        table: &Ends<'a>,
+        table: Table<'_, 'a>,
         _rule: Rule,
         at: At,
     ) -> BuildResult<InterfaceMixinDefinition<'a>> {
@@ -200,7 +207,7 @@ impl<'a> Build<'a> for DefinitionPart<PartialInterfaceMixinDefinition<'a>> {
 
     fn build(
         alloc: Global,
-        table: &Ends<'a>,
+        table: Table<'_, 'a>,
         _rule: Rule,
         at: At,
     ) -> BuildResult<PartialInterfaceMixinDefinition<'a>> {

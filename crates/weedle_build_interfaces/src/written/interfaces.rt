@@ -22,7 +22,7 @@ use std::alloc::Global;
 use weedle_async_iterables::AsyncIterableInterfaceMember;
 use weedle_base::term::{Callback, Interface, Partial, SemiColon};
 use weedle_build_base::{
-    At, Build, BuildResult, alternative, choice, eight_fields, seven_fields, six_fields,
+    At, Build, BuildResult, Table, alternative, choice, eight_fields, seven_fields, six_fields,
 };
 use weedle_build_members::MemberPart;
 use weedle_build_types::Attributes;
@@ -36,7 +36,7 @@ use weedle_members::{
 };
 use weedle_modifier::Inheritance;
 use weedle_parts::common::{Braced, Docstring, Identifier};
-use weedle_rules::{Ends, Rule};
+use weedle_rules::Rule;
 
 impl<'a> Build<'a> for InterfacePart<InterfaceMember<'a>> {
     type Value = InterfaceMember<'a>;
@@ -47,7 +47,7 @@ impl<'a> Build<'a> for InterfacePart<InterfaceMember<'a>> {
 
     fn build(
         alloc: Global,
-        table: &Ends<'a>,
+        table: Table<'_, 'a>,
         _rule: Rule,
         at: At,
     ) -> BuildResult<InterfaceMember<'a>> {
@@ -121,7 +121,7 @@ impl<'a> Build<'a> for InterfacePart<CallbackInterfaceDefinition<'a>> {
 
     fn build(
         alloc: Global,
-        table: &Ends<'a>,
+        table: Table<'_, 'a>,
         _rule: Rule,
         at: At,
     ) -> BuildResult<CallbackInterfaceDefinition<'a>> {
@@ -177,7 +177,7 @@ impl<'a> Build<'a> for InterfacePart<InterfaceDefinition<'a>> {
 
     fn build(
         alloc: Global,
-        table: &Ends<'a>,
+        table: Table<'_, 'a>,
         _rule: Rule,
         at: At,
     ) -> BuildResult<InterfaceDefinition<'a>> {
@@ -230,7 +230,7 @@ impl<'a> Build<'a> for InterfacePart<PartialInterfaceDefinition<'a>> {
 
     fn build(
         alloc: Global,
-        table: &Ends<'a>,
+        table: Table<'_, 'a>,
         _rule: Rule,
         at: At,
     ) -> BuildResult<PartialInterfaceDefinition<'a>> {

@@ -33,13 +33,15 @@ use weedle_async_iterables::{
     AsyncIterableInterfaceMember, DoubleTypedAsyncIterable, SingleTypedAsyncIterable,
 };
 use weedle_base::term::{Async, Iterable, Maplike, ReadOnly, SemiColon, Setlike};
-use weedle_build_base::{At, Build, BuildResult, alternative, choice, five_fields, four_fields};
+use weedle_build_base::{
+    At, Build, BuildResult, Table, alternative, choice, five_fields, four_fields,
+};
 use weedle_build_types::{Arguments, Attributes};
 use weedle_iterables::{
     DoubleTypedIterable, IterableInterfaceMember, MaplikeInterfaceMember, SetlikeInterfaceMember,
     SingleTypedIterable,
 };
-use weedle_rules::{Ends, Rule};
+use weedle_rules::Rule;
 
 impl<'a> Build<'a> for MemberPart<SingleTypedIterable<'a>> {
     type Value = SingleTypedIterable<'a>;
@@ -50,7 +52,7 @@ impl<'a> Build<'a> for MemberPart<SingleTypedIterable<'a>> {
 
     fn build(
         alloc: Global,
-        table: &Ends<'a>,
+        table: Table<'_, 'a>,
         _rule: Rule,
         at: At,
     ) -> BuildResult<SingleTypedIterable<'a>> {
@@ -83,7 +85,7 @@ impl<'a> Build<'a> for MemberPart<DoubleTypedIterable<'a>> {
 
     fn build(
         alloc: Global,
-        table: &Ends<'a>,
+        table: Table<'_, 'a>,
         _rule: Rule,
         at: At,
     ) -> BuildResult<DoubleTypedIterable<'a>> {
@@ -116,7 +118,7 @@ impl<'a> Build<'a> for MemberPart<IterableInterfaceMember<'a>> {
 
     fn build(
         alloc: Global,
-        table: &Ends<'a>,
+        table: Table<'_, 'a>,
         _rule: Rule,
         at: At,
     ) -> BuildResult<IterableInterfaceMember<'a>> {
@@ -148,7 +150,7 @@ impl<'a> Build<'a> for MemberPart<SingleTypedAsyncIterable<'a>> {
 
     fn build(
         alloc: Global,
-        table: &Ends<'a>,
+        table: Table<'_, 'a>,
         _rule: Rule,
         at: At,
     ) -> BuildResult<SingleTypedAsyncIterable<'a>> {
@@ -184,7 +186,7 @@ impl<'a> Build<'a> for MemberPart<DoubleTypedAsyncIterable<'a>> {
 
     fn build(
         alloc: Global,
-        table: &Ends<'a>,
+        table: Table<'_, 'a>,
         _rule: Rule,
         at: At,
     ) -> BuildResult<DoubleTypedAsyncIterable<'a>> {
@@ -220,7 +222,7 @@ impl<'a> Build<'a> for MemberPart<AsyncIterableInterfaceMember<'a>> {
 
     fn build(
         alloc: Global,
-        table: &Ends<'a>,
+        table: Table<'_, 'a>,
         _rule: Rule,
         at: At,
     ) -> BuildResult<AsyncIterableInterfaceMember<'a>> {
@@ -252,7 +254,7 @@ impl<'a> Build<'a> for MemberPart<MaplikeInterfaceMember<'a>> {
 
     fn build(
         alloc: Global,
-        table: &Ends<'a>,
+        table: Table<'_, 'a>,
         _rule: Rule,
         at: At,
     ) -> BuildResult<MaplikeInterfaceMember<'a>> {
@@ -286,7 +288,7 @@ impl<'a> Build<'a> for MemberPart<SetlikeInterfaceMember<'a>> {
 
     fn build(
         alloc: Global,
-        table: &Ends<'a>,
+        table: Table<'_, 'a>,
         _rule: Rule,
         at: At,
     ) -> BuildResult<SetlikeInterfaceMember<'a>> {
