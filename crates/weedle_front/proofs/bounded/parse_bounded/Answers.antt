@@ -1,0 +1,16 @@
+use Rattle.weedle_front.proofs.WholeFacts.{built, read_answers, answers_within, whole_spells, whole_texts}
+use Rattle.weedle_front.proofs.bounded.parse_bounded.Goals as goal
+
+pub returns-in-Ok-build_by_memo-clause-answers : goal.returns-in-Ok-build_by_memo-clause-answers
+returns-in-Ok-build_by_memo-clause-answers c = read_answers _ (built c.in-Ok-build_by_memo.ensures) _ c.whole.ensures
+
+pub returns-in-Ok-build_by_memo-clause-spells : goal.returns-in-Ok-build_by_memo-clause-spells
+returns-in-Ok-build_by_memo-clause-spells c =
+    whole_spells c.definitions.ensures _ _ (read_answers _ (built c.in-Ok-build_by_memo.ensures) _ c.whole.ensures)
+
+pub returns-in-Ok-build_by_memo-clause-pieces : goal.returns-in-Ok-build_by_memo-clause-pieces
+returns-in-Ok-build_by_memo-clause-pieces c =
+    whole_texts c.definitions.ensures _ _ (read_answers _ (built c.in-Ok-build_by_memo.ensures) _ c.whole.ensures)
+
+pub returns-in-Ok-build_by_memo-clause-within : goal.returns-in-Ok-build_by_memo-clause-within
+returns-in-Ok-build_by_memo-clause-within c = answers_within _ _ (read_answers _ (built c.in-Ok-build_by_memo.ensures) _ c.whole.ensures)
