@@ -14,7 +14,7 @@ from pathlib import Path
 
 from command_line import refuse_writer
 from crates import Unfit
-from description.webidl import NUMBER, SECTIONS
+from description.today import NUMBER, SECTIONS
 
 TOP = Path(__file__).resolve().parent.parent
 PLACE, TEMPLATE = "include/weedle.h", TOP / "tools/weedle.h.in"

@@ -21,15 +21,18 @@ from textwrap import wrap
 from c_header import VERSION, found_in
 from command_line import refuse_writer
 from crates import Unfit
+from description import today
 from description.names import upper
 from description.readings import Declared
-from description.webidl import BY_NAME, RULES
+from description.webidl import BY_NAME
 from javascript_text import camel, declared_module, doc, module, string
 from python_types import ABOUT, FIELDS, LIBRARY, LISTS, PARENTHESIZED, TUPLE, VARIANTS, Makers, Package
 
 TOP = Path(__file__).resolve().parent.parent
 FOLDER = TOP / "js/lib/written"
 ROLES = "crates/weedle_places/src/role.rt"
+# Its functions that say what the first name of a rule stands for.
+FIRST_ROLES = "of_definition of_member of_part of_today_definition of_today_part".split()
 # A class may not have an accessor of this name.
 OTHERWISE = {"constructor": "constructor_"}
 VALUES = "The typed tree: literals, types, arguments, extended attributes, members and definitions."
@@ -266,7 +269,7 @@ def role_rows(text, function):
 
 def roles(text):
     """The module of roles, and what is declared of it."""
-    first = [row for name in ("of_definition", "of_member", "of_part") for row in role_rows(text, name)]
+    first = [row for name in FIRST_ROLES for row in role_rows(text, name)]
     tables = [("ROLES", "the rule that reads it", first),
               ("LATER", "that rule, where it has read a name before", role_rows(text, "of_later"))]
     code = "".join(
@@ -295,7 +298,7 @@ def texts():
         yield f"{name}.js", module(about, [code for code, _ in pairs if code], names)
         yield f"{name}.d.ts", declared_module(about, name, [declared for _, declared in pairs])
     yield "makers.js", module("Which class each rule makes.", [JavaScriptMakers(package).text()])
-    names = "".join(f"  {string(it.name.lower())},\n" for it in RULES)
+    names = "".join(f"  {string(it.name.lower())},\n" for it in today.RULES)
     version = found_in(VERSION, (TOP / LIBRARY).read_text(encoding="utf-8"), LIBRARY)
     about = "The rules of the grammar. What each reads stands in docs/GRAMMAR.md."
     yield "grammar.js", module(about, [GRAMMAR.format(version=version, names=names)])

@@ -19,6 +19,7 @@ from textwrap import wrap
 
 from c_header import VERSION, found_in
 from command_line import refuse_writer
+from description import today
 from description.declarations import Type
 from description.following import NAME_BEFORE, read_behind, texts_of
 from description.names import upper
@@ -367,7 +368,7 @@ def texts():
         classes = [class_text(package, it) for it in declarations]
         yield name, module_text(ABOUT[name], classes, package.module)
     yield "_readers", Makers(package).text()
-    names = "".join(f'    "{it.name.lower()}",\n' for it in RULES)
+    names = "".join(f'    "{it.name.lower()}",\n' for it in today.RULES)
     version = found_in(VERSION, (TOP / LIBRARY).read_text(encoding="utf-8"), LIBRARY)
     behind = "".join(f'    "{word}": {words_of(it)},\n' for word, it in read_behind(RULES).items())
     yield "grammar", GRAMMAR.format(

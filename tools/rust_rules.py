@@ -6,6 +6,7 @@ others, as an option of what another rule reads, or such a thing between parenth
 
 import re
 
+from description import today
 from description.names import upper
 from description.webidl import BY_NAME, NUMBER, RULES
 
@@ -128,10 +129,10 @@ def rules_text(written, version, named):
     constants = "".join(
         f"pub const {it.name}: u16 = {NUMBER[it.name]};\n" for it in RULES if it.name in used
     )
-    names = "".join(f'    "{it.name.lower()}",\n' for it in RULES)
-    head = HEAD.format(written=written, count=len(RULES), version=version)
+    names = "".join(f'    "{it.name.lower()}",\n' for it in today.RULES)
+    head = HEAD.format(written=written, count=len(today.RULES), version=version)
     about = "/// The names of the rules, by their numbers."
-    listed = f"\n{about}\npub const NAMES: [&str; {len(RULES)}] = [\n{names}];\n"
+    listed = f"\n{about}\npub const NAMES: [&str; {len(today.RULES)}] = [\n{names}];\n"
     return f"{head}\n{constants}{functions}{listed}"
 
 

@@ -22,7 +22,7 @@ from pathlib import Path
 
 from command_line import refuse_writer
 from description.classes import CLASSES
-from description.webidl import NUMBER, RULES
+from description.today import NUMBER, RULES
 from grammar import TAKES
 from written_places import put
 

@@ -4,7 +4,7 @@ import re
 
 import c_header
 from crates import Unfit
-from description.webidl import RULES
+from description.today import RULES
 from test_support import Room
 
 CODE = "/// The version.\nconst VERSION: u32 = 0x010203;\n"

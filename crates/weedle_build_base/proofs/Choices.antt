@@ -12,6 +12,7 @@ use Rattle.weedle_rules.specs.Cells.{HasEnd}
 use Rattle.weedle_build_base.specs.Fits.{firsts, is_choice}
 use Rattle.weedle_build_base.specs.Built.{Due, Builds, Visits, IsChosen}
 use Rattle.weedle_build_base.proofs.Finding.{absent, present}
+use Rattle.weedle_rules.proofs.TableRows.{are_low, first_low, get_low}
 use Rattle.weedle_build_base.proofs.Sequences.{part_here, drop_none}
 
 -- the alternatives before number i don't fit, and one from there on does
@@ -20,18 +21,19 @@ pub record Choosing (text parts : List ℕ) (p i : ℕ) : Type 0 where
   pub end : ℕ
   pub left : ReadsFirst webidl text (drop i parts) i p (Gives given end)
   pub whole : (o : Outcome) → ReadsFirst webidl text (drop i parts) i p o → ReadsFirst webidl text parts 0 p o
+  pub low : are_low parts ≡ true
   pub utf8 : IsUtf8 text
   pub boundary : IsCharBoundary text p
 
-start_from : {text parts : List ℕ} {p e : ℕ} {ts : List Tree} (shape : Shape) (row : Row) (o : Outcome) → IsUtf8 text → IsCharBoundary text p
+start_from : {text parts : List ℕ} {p e : ℕ} {ts : List Tree} (shape : Shape) (row : Row) (o : Outcome) → are_low parts ≡ true → IsUtf8 text → IsCharBoundary text p
     → ReadsFirst webidl text parts 0 p o → Gives ts e ≡ shaped text row shape p (raw_of o) → Choosing text parts p 0
-start_from shape row Fails u b d h = cc
-start_from shape row (Gives us q) u b d h = record { given = us; end = q; left = d; whole = λ o d. d; utf8 = u; boundary = b }
+start_from shape row Fails l u b d h = cc
+start_from shape row (Gives us q) l u b d h = record { given = us; end = q; left = d; whole = λ o d. d; low = l; utf8 = u; boundary = b }
 
 -- at first
 pub choosing_start : {text parts : List ℕ} {r p : ℕ} → Due text r p → First parts ≡ row_of r → Choosing text parts p 0
 choosing_start {text} {parts} {r} {p} d e =
-    let c = choice_of (sym e) d.reads in start_from (shape_of r) (First parts) c.0 d.utf8 d.boundary c.1 c.2
+    let c = choice_of (sym e) d.reads in start_from (shape_of r) (First parts) c.0 (first_low d.low (sym e)) d.utf8 d.boundary c.1 c.2
 
 module _ {text parts : List ℕ} {p i : ℕ} (h : Choosing text parts p i) {x : ℕ} (at : slice_get parts i ≡ Some x) where
   split : ReadsFirst webidl text (x ∷ drop (i + 1) parts) i p (Gives h.given h.end)
@@ -57,6 +59,7 @@ module _ {text parts : List ℕ} {p i : ℕ} (h : Choosing text parts p i) {x : 
           end = h.end;
           left = numbered _ g.1;
           whole = λ o d. back o (first_next f (unnumbered o d));
+          low = h.low;
           utf8 = h.utf8;
           boundary = h.boundary;
         }
@@ -70,7 +73,7 @@ module _ {text parts : List ℕ} {p i : ℕ} (h : Choosing text parts p i) {x : 
       let w : i < length parts = slice_get_within parts i x at in
       record {
         below = subst (λ ys. i < length ys) (sym ps) w;
-        due = subst (λ y. Due text y p) (sym n) (present h.utf8 h.boundary f);
+        due = subst (λ y. Due text y p) (sym n) (present (get_low parts i h.low at) h.utf8 h.boundary f);
         gives = λ t q d.
             let g : ReadsFirst webidl text parts 0 p (Gives (Alt i t ∷ []) q) = back _ (first_here (subst (λ y. Reads text y p (Gives (t ∷ []) q)) n d) refl) in
             by_row (subst (λ row. ReadsRow webidl text row p (raw_of (Gives (Alt i t ∷ []) q))) row (by_first g refl)) (rw (shape, sym row) refl);

@@ -1,8 +1,9 @@
 -- What the table says of a rule at a place.
-use Rattle.std.proofs.Common.{◌≡◌, ℕ, List, [], ◌∷◌, Some, None, refl, sym, subst}
+use Rattle.std.proofs.Common.{◌≡◌, ℕ, ◌<◌, List, [], ◌∷◌, Some, None, refl, sym, subst}
 use Rattle.std.specs.Prelude.{IsUtf8, IsCharBoundary}
 use Rattle.weedle_grammar.specs.Trees.{Tree, Mark, Outcome, Fails, Gives}
 use Rattle.weedle_grammar.specs.Meaning.{Marked, Raw, Breaks, Yields, shaped}
+use Rattle.weedle_grammar.specs.written.Bound.{table_count}
 use Rattle.weedle_grammar.specs.written.Table.{row_of, shape_of, Reads}
 use Rattle.weedle_rules.specs.Cells.{HasEnd, end_of}
 use Rattle.weedle_grammar.proofs.Unique.{one_outcome}
@@ -30,8 +31,8 @@ pub not_absent : {text : List ℕ} {r p : ℕ} → Due text r p → HasEnd text 
 not_absent d h = let e = one_outcome (absent h) d.reads refl in cc
 
 -- where the table has an end, something is to be built
-pub present : {text : List ℕ} {r p e : ℕ} → IsUtf8 text → IsCharBoundary text p → HasEnd text r p (Some e) → Due text r p
-present {text} {r} {p} {e} utf8 boundary h = let f = found h in record { given = f.given; end = e; reads = f.reads; utf8 = utf8; boundary = boundary }
+pub present : {text : List ℕ} {r p e : ℕ} → r < table_count → IsUtf8 text → IsCharBoundary text p → HasEnd text r p (Some e) → Due text r p
+present {text} {r} {p} {e} low utf8 boundary h = let f = found h in record { low = low; given = f.given; end = e; reads = f.reads; utf8 = utf8; boundary = boundary }
 
 marked_from : (text : List ℕ) (r p : ℕ) {e : ℕ} {ts : List Tree} → shape_of r ≡ Marked → (w : Raw) → Gives ts e ≡ shaped text (row_of r) (shape_of r) p w → ts ≡ Mark ∷ []
 marked_from text r p s Breaks h = cc

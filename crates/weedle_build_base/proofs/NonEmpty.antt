@@ -1,5 +1,5 @@
 -- A list of one item at least, and perhaps a separator behind it.
-use Rattle.std.proofs.Common.{◌≡◌, ℕ, List, [], ◌∷◌, slice_get, Option, Some, None, refl, sym, subst, ap, ◌∙◌, arith, inl, inr}
+use Rattle.std.proofs.Common.{◌≡◌, ℕ, ◌<◌, List, [], ◌∷◌, slice_get, Option, Some, None, refl, sym, subst, ap, ◌∙◌, arith, inl, inr}
 use Rattle.std.specs.Prelude.{IsUtf8, IsCharBoundary}
 use Rattle.weedle_grammar.specs.Rows.{Row, Bytes, OneOf, NotNext, Run as RunOf, Past, Seq, First, Opt, Many, ListOf, List1, Tail, If}
 use Rattle.weedle_grammar.specs.declared.row.Row as rows
@@ -7,11 +7,13 @@ use Rattle.weedle_grammar.specs.declared.row.Row.TheVariants as code
 use Rattle.weedle_grammar.specs.View.{row_view}
 use Rattle.weedle_grammar.specs.Trees.{Tree, trees, Items, Gives}
 use Rattle.weedle_grammar.specs.Meaning.{Shape, Silent, Marked, Kept, Line, Joined, Inner, Plain, Piece, piece, Raw, Breaks, before, raw_of, shaped, together, with_piece, ReadsRow, list1_more, by_row}
+use Rattle.weedle_grammar.specs.written.Bound.{table_count}
 use Rattle.weedle_grammar.specs.written.Table.{webidl, row_of, shape_of, Reads}
 use Rattle.weedle_grammar.proofs.Unique.{one_outcome}
 use Rattle.weedle_grammar.proofs.Inversion.{at_row, of_list1, parts_of, of_parts}
 use Rattle.weedle_grammar.proofs.GrammarFacts.{at_boundary}
 use Rattle.weedle_grammar.proofs.Size.Lists.{size_trees}
+use Rattle.weedle_rules.proofs.TableRows.{list1_part, list1_tail}
 use Rattle.weedle_build_base.specs.Fits.{list_of, fits_list1, fits_tail, fits_non_empty}
 use Rattle.weedle_build_base.specs.Built.{plus, Due, Found, Builds, IsDueList, BuiltItems}
 use Rattle.weedle_build_base.proofs.Separated.{due_behind}
@@ -120,22 +122,23 @@ seen_list1 (code.List y z) e n = cc
 seen_list1 (code.Tail y z) e n = cc
 seen_list1 (code.If ps k y) e n = cc
 
-list1_due_from : {text : List ℕ} {x t p : ℕ} (given : List Tree) (end : ℕ) (shape : Shape) (raw : Raw) → IsUtf8 text → IsCharBoundary text p
+list1_due_from : {text : List ℕ} {x t p : ℕ} (given : List Tree) (end : ℕ) (shape : Shape) (raw : Raw) → (x < table_count) × (t < table_count) → IsUtf8 text → IsCharBoundary text p
     → ReadsRow webidl text (List1 x t) p raw → Gives given end ≡ shaped text (List1 x t) shape p raw → IsDueList text x t p
-list1_due_from {text} {x} {t} {p} given end shape raw u b d h = elim (of_list1 d) [
+list1_due_from {text} {x} {t} {p} given end shape raw l u b d h = elim (of_list1 d) [
   | inl n ↦ absurd (let z : raw ≡ Breaks = n.1 in let y = h ∙ ap (shaped text (List1 x t) shape p) z in cc)
   | inr m ↦ record {
-    item = record { given = m.0; end = m.1; reads = m.3; utf8 = u; boundary = b };
+    low = l.1;
+    item = record { low = l.0; given = m.0; end = m.1; reads = m.3; utf8 = u; boundary = b };
     next = λ us q g. (let z = one_outcome m.3 g refl in
         let j : m.1 ≡ q = cc in
         let k : raw ≡ before m.0 (raw_of m.2) = m.5 in
-        due_behind (List1 x t) shape p q given m.0 end m.2 u (at_boundary text x p u b us q g) (h ∙ ap (shaped text (List1 x t) shape p) k) (subst (λ y. Reads text t y m.2) j m.4));
+        due_behind (List1 x t) shape p q given m.0 end m.2 l.1 u (at_boundary text x p u b us q g) (h ∙ ap (shaped text (List1 x t) shape p) k) (subst (λ y. Reads text t y m.2) j m.4));
   }
 ]
 
 -- its items are due where it is
 pub list1_due : {text : List ℕ} {m x t p : ℕ} → Due text m p → row_of m ≡ List1 x t → IsDueList text x t p
-list1_due {text} {m} {x} {t} {p} d row = let h = at_row row d.reads in list1_due_from d.given d.end (shape_of m) h.0 d.utf8 d.boundary h.1 h.2
+list1_due {text} {m} {x} {t} {p} d row = let h = at_row row d.reads in list1_due_from d.given d.end (shape_of m) h.0 (list1_part d.low row, list1_tail d.low row) d.utf8 d.boundary h.1 h.2
 
 inner_from : (text : List ℕ) (parts : List ℕ) (p q e : ℕ) (t : Tree) (given : List Tree) (o : Option (List Piece)) → Gives given e ≡ shaped text (Seq parts) Inner p (together p (with_piece (piece (t ∷ []) q) o)) → given ≡ t ∷ []
 inner_from text parts p q e t given None h = cc

@@ -5,6 +5,7 @@ use Rattle.std.proofs.lemmas.List.{append-nil}
 use Rattle.weedle_grammar.specs.Rows.{Row, Bytes, OneOf, NotNext, Run as RunOf, Past, Seq, First, Opt, Many, ListOf, List1, Tail, If}
 use Rattle.weedle_grammar.specs.Trees.{Tree, trees, Items, Outcome, Fails, Gives}
 use Rattle.weedle_grammar.specs.Meaning.{Shape, Silent, Marked, Kept, Line, Joined, Inner, Plain, Raw, Breaks, Yields, before, raw_of, shaped, ReadsRow, tail_end, tail_back, tail_more, list_none, list_more, by_row}
+use Rattle.weedle_grammar.specs.written.Bound.{table_count}
 use Rattle.weedle_grammar.specs.written.Table.{webidl, row_of, shape_of, Reads}
 use Rattle.weedle_rules.specs.Cells.{HasEnd}
 use Rattle.weedle_grammar.specs.Size.{size, total_size}
@@ -13,6 +14,7 @@ use Rattle.weedle_grammar.proofs.Inversion.{at_row, of_tail, of_list}
 use Rattle.weedle_grammar.proofs.Exists.{grows}
 use Rattle.weedle_grammar.proofs.GrammarFacts.{at_boundary}
 use Rattle.weedle_grammar.proofs.Size.Lists.{size_trees, size_append}
+use Rattle.weedle_rules.proofs.TableRows.{tail_part, tail_mark, list_tail}
 use Rattle.weedle_build_base.specs.Fits.{fits_list, fits_tail}
 use Rattle.weedle_build_base.specs.Built.{plus, Due, Builds, Visits, IsDueList, BuiltItems}
 use Rattle.weedle_build_base.proofs.Finding.{absent, present, found}
@@ -27,13 +29,14 @@ pub record Tailing (text : List ℕ) (x s p v : ℕ) (ts : List Tree) (q w : ℕ
   pub whole : (r : Raw) → ReadsRow webidl text (Tail x s) q r → ReadsRow webidl text (Tail x s) p (before ts r)
   pub counts : (k : ℕ) → plus w k ≡ plus v (total_size ts + k)
   pub after : p ≤ q
+  pub low : (x < table_count) × (s < table_count)
   pub utf8 : IsUtf8 text
   pub boundary : IsCharBoundary text q
 
-tail_from : {text : List ℕ} {x s q : ℕ} (w : ℕ) (row : Row) (shape : Shape) (r : Raw) (us : List Tree) (e : ℕ) → IsUtf8 text → IsCharBoundary text q
+tail_from : {text : List ℕ} {x s q : ℕ} (w : ℕ) (row : Row) (shape : Shape) (r : Raw) (us : List Tree) (e : ℕ) → (x < table_count) × (s < table_count) → IsUtf8 text → IsCharBoundary text q
     → ReadsRow webidl text (Tail x s) q r → Gives us e ≡ shaped text row shape q r → Tailing text x s q w [] q w
-tail_from w row shape Breaks us e u b d h = cc
-tail_from {text} {x} {s} {q} w row shape (Yields os ends z) us e u b d h = record {
+tail_from w row shape Breaks us e l u b d h = cc
+tail_from {text} {x} {s} {q} w row shape (Yields os ends z) us e l u b d h = record {
   given = os;
   ends = ends;
   end = z;
@@ -41,13 +44,14 @@ tail_from {text} {x} {s} {q} w row shape (Yields os ends z) us e u b d h = recor
   whole = λ r d. subst (λ y. ReadsRow webidl text (Tail x s) q y) (before_none r) d;
   counts = λ k. omega arith;
   after = omega arith;
+  low = l;
   utf8 = u;
   boundary = b;
 }
 
 -- behind the first item
 pub tailing_start : {text : List ℕ} {t x s q : ℕ} (w : ℕ) → Due text t q → row_of t ≡ Tail x s → Tailing text x s q w [] q w
-tailing_start {text} {t} {x} {s} {q} w d e = let a = at_row e d.reads in tail_from w (Tail x s) (shape_of t) a.0 d.given d.end d.utf8 d.boundary a.1 a.2
+tailing_start {text} {t} {x} {s} {q} w d e = let a = at_row e d.reads in tail_from w (Tail x s) (shape_of t) a.0 d.given d.end (tail_part d.low e, tail_mark d.low e) d.utf8 d.boundary a.1 a.2
 
 module _ {text : List ℕ} {x s p v : ℕ} {ts : List Tree} {q w : ℕ} (h : Tailing text x s p v ts q w) where
   module _ {k : ℕ} (sep : HasEnd text s q (Some k)) where
@@ -56,7 +60,7 @@ module _ {text : List ℕ} {x s p v : ℕ} {ts : List Tree} {q w : ℕ} (h : Tai
     behind_boundary = let f = found sep in at_boundary text s q h.utf8 h.boundary f.given k f.reads
 
     pub behind_due : {e : ℕ} → HasEnd text x k (Some e) → Due text x k
-    behind_due e = present h.utf8 behind_boundary e
+    behind_due e = present h.low.0 h.utf8 behind_boundary e
 
     module _ {t : Tree} {e z : ℕ} (g : Builds text x t k w e z) where
       go_on : (us us' : List Tree) (ends : List ℕ) (r : Raw) → Reads text s q (Gives us k) → k ≢ q → ReadsRow webidl text (Tail x s) e r
@@ -70,6 +74,7 @@ module _ {text : List ℕ} {x s p v : ℕ} {ts : List Tree} {q w : ℕ} (h : Tai
         whole = λ r d. subst (λ b. ReadsRow webidl text (Tail x s) p b) (before_more ts t r) (h.whole (before (t ∷ []) r) (tail_more f n g.reads d refl));
         counts = λ j. let a = h.counts (size t + j) in omega (arith, g.counts, a, size_append ts (t ∷ []));
         after = let l : q ≤ k = grows webidl text f in let m : k ≤ e = grows webidl text g.reads in omega (arith, h.after);
+        low = h.low;
         utf8 = h.utf8;
         boundary = at_boundary text x k h.utf8 behind_boundary (t ∷ []) e g.reads;
       }
@@ -160,27 +165,28 @@ module _ {text : List ℕ} {x s p v : ℕ} {ts : List Tree} {q w : ℕ} (h : Lis
     listing_back sep f = items_from (tailing_back h.tail sep f)
 
 -- what follows the items of a list is due where the list is
-pub due_behind : {text : List ℕ} {t : ℕ} (row : Row) (shape : Shape) (p q : ℕ) (given ts : List Tree) (end : ℕ) (o : Outcome) → IsUtf8 text → IsCharBoundary text q
+pub due_behind : {text : List ℕ} {t : ℕ} (row : Row) (shape : Shape) (p q : ℕ) (given ts : List Tree) (end : ℕ) (o : Outcome) → t < table_count → IsUtf8 text → IsCharBoundary text q
     → Gives given end ≡ shaped text row shape p (before ts (raw_of o)) → Reads text t q o → Due text t q
-due_behind row shape p q given ts end Fails u b h d = cc
-due_behind row shape p q given ts end (Gives us z) u b h d = record { given = us; end = z; reads = d; utf8 = u; boundary = b }
+due_behind row shape p q given ts end Fails l u b h d = cc
+due_behind row shape p q given ts end (Gives us z) l u b h d = record { low = l; given = us; end = z; reads = d; utf8 = u; boundary = b }
 
 due_list_from : {text : List ℕ} {x t p : ℕ} (given : List Tree) (end : ℕ) (shape : Shape) (raw : Raw) → ReadsRow webidl text (ListOf x t) p raw → Gives given end ≡ shaped text (ListOf x t) shape p raw
-    → Due text x p → IsDueList text x t p
-due_list_from {text} {x} {t} {p} given end shape raw d h item = record {
+    → t < table_count → Due text x p → IsDueList text x t p
+due_list_from {text} {x} {t} {p} given end shape raw d h l item = record {
+  low = l;
   item = item;
   next = λ us q g. elim (of_list d) [
     | inl n ↦ absurd (let z = one_outcome n.0 g refl in cc)
     | inr m ↦ (let z = one_outcome m.3 g refl in
         let j : m.1 ≡ q = cc in
         let k : raw ≡ before m.0 (raw_of m.2) = m.5 in
-        due_behind (ListOf x t) shape p q given m.0 end m.2 item.utf8 (at_boundary text x p item.utf8 item.boundary us q g) (h ∙ ap (shaped text (ListOf x t) shape p) k) (subst (λ y. Reads text t y m.2) j m.4))
+        due_behind (ListOf x t) shape p q given m.0 end m.2 l item.utf8 (at_boundary text x p item.utf8 item.boundary us q g) (h ∙ ap (shaped text (ListOf x t) shape p) k) (subst (λ y. Reads text t y m.2) j m.4))
   ];
 }
 
 -- a list where an item is next
 pub due_list : {text : List ℕ} {r x t p : ℕ} → Due text r p → row_of r ≡ ListOf x t → Due text x p → IsDueList text x t p
-due_list {text} {r} {x} {t} {p} d row item = let h = at_row row d.reads in due_list_from d.given d.end (shape_of r) h.0 h.1 h.2 item
+due_list {text} {r} {x} {t} {p} d row item = let h = at_row row d.reads in due_list_from d.given d.end (shape_of r) h.0 h.1 h.2 (list_tail d.low row) item
 
 -- what was built of a list
 pub list_built : {text : List ℕ} {r x t p v q w y a : ℕ} {ts : List Tree} → row_of r ≡ ListOf x t → shape_of r ≡ Plain → BuiltItems text x t p v ts q w → Visits q w y a

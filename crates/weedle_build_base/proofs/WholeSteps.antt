@@ -32,7 +32,7 @@ shaped_fails text row shape p (Yields ts ends q) e = cc
 
 whole_from : {text : List ℕ} (o : Outcome) → IsUtf8 text → Reads text DEFINITIONS 0 o → Due text DEFINITIONS 0
 whole_from {text} Fails u d = absurd (let h = at_row {row = Many DEFINITION} refl d in many_goes h.1 refl (shaped_fails text (Many DEFINITION) (shape_of DEFINITIONS) 0 h.0 h.2))
-whole_from {text} (Gives ts e) u d = record { given = ts; end = e; reads = d; utf8 = u; boundary = IsCharBoundary-start text u }
+whole_from {text} (Gives ts e) u d = record { low = (let l : DEFINITIONS < table_count = omega arith in l); given = ts; end = e; reads = d; utf8 = u; boundary = IsCharBoundary-start text u }
 
 -- the whole reads something on each text
 pub whole_due : (text : List ℕ) → IsUtf8 text → Due text DEFINITIONS 0

@@ -1,7 +1,9 @@
 -- What is to be built, and what was built.
-use Rattle.std.specs.Prelude.{◌≡◌, ℕ, ◌+◌, ◌-◌, ◌^◌, min, List, [], ◌∷◌, IsUtf8, IsCharBoundary, Result, Ok, Err, Some, ◌<◌, length, get_or}
+use Rattle.std.specs.Prelude.{◌≡◌, true, ℕ, ◌+◌, ◌-◌, ◌^◌, min, List, [], ◌∷◌, IsUtf8, IsCharBoundary, Result, Ok, Err, Some, ◌<◌, length, get_or}
 use Rattle.weedle_build_base.specs.declared.at.At.{At}
 use Rattle.weedle_grammar.specs.Trees.{Tree, Alt, Gives}
+use Rattle.weedle_grammar.specs.written.Bound.{table_count}
+use Rattle.weedle_rules.proofs.TableRows.{are_low}
 use Rattle.weedle_grammar.specs.written.Table.{webidl, row_of, Reads}
 use Rattle.weedle_build_base.specs.Fits.{firsts}
 use Rattle.weedle_grammar.specs.Size.{size, total_size}
@@ -11,8 +13,9 @@ use Rattle.weedle_grammar.specs.Meaning.{Piece, ReadsSeq, given_of, last_end}
 abbrev pub plus : ℕ → ℕ → ℕ
 plus count more = min (count + more) (2 ^ 128 - 1)
 
--- the rule reads something at the place, where a character of the text begins
+-- the table has the rule, which reads something at the place, where a character of the text begins
 pub record Due (text : List ℕ) (r p : ℕ) : Type 0 where
+  pub low : r < table_count
   pub given : List Tree
   pub end : ℕ
   pub reads : Reads text r p (Gives given end)
@@ -34,8 +37,9 @@ pub record Found (text : List ℕ) (r p e : ℕ) : Type 0 where
   pub given : List Tree
   pub reads : Reads text r p (Gives given e)
 
--- the rules read something one after another from the place
+-- the table has the rules, which read something one after another from the place
 pub record Rest (text : List ℕ) (rs : List ℕ) (p : ℕ) : Type 0 where
+  pub low : are_low rs ≡ true
   pub pieces : List Piece
   pub reads : ReadsSeq webidl text rs p (Some pieces)
   pub utf8 : IsUtf8 text
@@ -70,8 +74,9 @@ pub record IsChosen (text : List ℕ) (r p i : ℕ) : Type 0 where
   -- what it gives is what the rule gives
   pub gives : (t : Tree) (q : ℕ) → Reads text (get_or (firsts (row_of r)) i 0) p (Gives (t ∷ []) q) → Reads text r p (Gives (Alt i t ∷ []) q)
 
--- a list of items of rule x, behind which rule t reads those behind separators: a first item is due, and at its end the others
+-- a list of items of rule x, behind which rule t, which the table has, reads those behind separators: a first item is due, and at its end the others
 pub record IsDueList (text : List ℕ) (x t p : ℕ) : Type 0 where
+  pub low : t < table_count
   pub item : Due text x p
   pub next : (ts : List Tree) (q : ℕ) → Reads text x p (Gives ts q) → Due text t q
 

@@ -2,6 +2,7 @@
 use Rattle.std.proofs.Common.{◌≡◌, ℕ, ◌<◌, ◌≤◌, List, true, Some, refl, sym, subst, arith}
 use Rattle.std.specs.Prelude.{Result}
 use Rattle.weedle_grammar.specs.Rows.{If, Opt}
+use Rattle.weedle_grammar.specs.written.Bound.{table_count}
 use Rattle.weedle_grammar.specs.written.Table.{webidl, row_of, shape_of}
 use Rattle.weedle_grammar.specs.Trees.{Tree}
 use Rattle.weedle_grammar.specs.Meaning.{Plain}
@@ -25,8 +26,8 @@ pub not_before : {text : List ℕ} {r p v q w : ℕ} {t : Tree} → Builds text 
 not_before {text} {r} {p} {v} {q} {w} {t} g = grows webidl text g.reads
 
 -- where something is due, a character begins
-pub place_of : {text : List ℕ} {r p : ℕ} → Due text r p → IsPlace text p
-place_of d = record { utf8 = d.utf8; boundary = d.boundary }
+pub place_of : {text : List ℕ} {r x p : ℕ} → x < table_count → Due text r p → IsPlace text x p
+place_of low d = record { low = low; utf8 = d.utf8; boundary = d.boundary }
 
 -- a rule that takes another, or nothing
 pub option_of : {x r : ℕ} → row_of r ≡ Opt x → shape_of r ≡ Plain → IsOption x r

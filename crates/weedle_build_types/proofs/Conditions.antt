@@ -1,14 +1,16 @@
 -- A row whose last part stands only where another was there.
-use Rattle.std.proofs.Common.{◌≡◌, ℕ, ◌+◌, List, [], ◌∷◌, ◌++◌, true, false, refl, sym, subst, ap, ◌∙◌, arith, inl, inr, min, Some}
+use Rattle.std.proofs.Common.{◌≡◌, ℕ, ◌+◌, ◌<◌, List, [], ◌∷◌, ◌++◌, true, false, refl, sym, subst, ap, ◌∙◌, arith, inl, inr, min, Some}
 use Rattle.std.specs.Prelude.{IsUtf8, IsCharBoundary}
 use Rattle.weedle_grammar.specs.Rows.{If}
 use Rattle.weedle_grammar.specs.Trees.{Tree, trees, Node, Absent, Outcome, Fails, Gives}
 use Rattle.weedle_grammar.specs.Meaning.{Plain, Piece, piece, Raw, Breaks, Yields, before, raw_of, shaped, gave_some, ReadsRow, ReadsSeq, if_absent, if_present, seq_end, seq_more, by_row, given_of, last_end}
+use Rattle.weedle_grammar.specs.written.Bound.{table_count}
 use Rattle.weedle_grammar.specs.written.Table.{webidl, row_of, shape_of, Reads}
 use Rattle.weedle_grammar.specs.Size.{size, sizes}
 use Rattle.weedle_grammar.proofs.Unique.{one_seq}
 use Rattle.weedle_grammar.proofs.Inversion.{at_row, of_if}
 use Rattle.weedle_grammar.proofs.GrammarFacts.{at_boundary}
+use Rattle.weedle_rules.proofs.TableRows.{if_last}
 use Rattle.weedle_build_base.specs.Built.{plus, Due, Builds, Visits}
 
 -- four pieces of a tree each
@@ -21,10 +23,10 @@ module _ {text : List ℕ} {a b c d p v q1 w1 q2 w2 q3 w3 q4 w4 : ℕ} {t1 t2 t3
   parts : ReadsSeq webidl text (a ∷ b ∷ c ∷ d ∷ []) p (Some (pieces_of t1 t2 t3 t4 q1 q2 q3 q4))
   parts = seq_more g1.reads (seq_more g2.reads (seq_more g3.reads (seq_more g4.reads (seq_end refl) refl) refl) refl) refl
 
-  due_from : (r y : ℕ) (o : Outcome) (given : List Tree) (end : ℕ) (raw : Raw) → IsUtf8 text → IsCharBoundary text q4 → Reads text y q4 o → Gives given end ≡ shaped text (If (a ∷ b ∷ c ∷ d ∷ []) 1 y) (shape_of r) p raw
+  due_from : (r y : ℕ) (o : Outcome) (given : List Tree) (end : ℕ) (raw : Raw) → y < table_count → IsUtf8 text → IsCharBoundary text q4 → Reads text y q4 o → Gives given end ≡ shaped text (If (a ∷ b ∷ c ∷ d ∷ []) 1 y) (shape_of r) p raw
       → raw ≡ before (given_of (pieces_of t1 t2 t3 t4 q1 q2 q3 q4)) (raw_of o) → Due text y q4
-  due_from r y Fails given end raw u k m h e = let z : raw ≡ Breaks = e in let x = h ∙ ap (shaped text (If (a ∷ b ∷ c ∷ d ∷ []) 1 y) (shape_of r) p) z in cc
-  due_from r y (Gives ts e) given end raw u k m h z = record { given = ts; end = e; reads = m; utf8 = u; boundary = k }
+  due_from r y Fails given end raw l u k m h e = let z : raw ≡ Breaks = e in let x = h ∙ ap (shaped text (If (a ∷ b ∷ c ∷ d ∷ []) 1 y) (shape_of r) p) z in cc
+  due_from r y (Gives ts e) given end raw l u k m h z = record { low = l; given = ts; end = e; reads = m; utf8 = u; boundary = k }
 
   module _ (there : gave_some 1 (pieces_of t1 t2 t3 t4 q1 q2 q3 q4) ≡ true) where
     -- what follows is due
@@ -41,7 +43,7 @@ module _ {text : List ℕ} {a b c d p v q1 w1 q2 w2 q3 w3 q4 w4 : ℕ} {t1 t2 t3
             | inl f ↦ absurd (let s = one_seq f.1 parts refl in let e : f.0 ≡ pieces_of t1 t2 t3 t4 q1 q2 q3 q4 = cc in let z = ap (gave_some 1) e in cc)
             | inr f ↦ (let s = one_seq f.2 parts refl in
                 let e : f.0 ≡ pieces_of t1 t2 t3 t4 q1 q2 q3 q4 = cc in
-                due_from r y f.1 h.given h.end i.0 h.utf8 k4 (subst (λ ps. Reads text y (last_end p ps) f.1) e f.4) i.2 (subst (λ ps. i.0 ≡ before (given_of ps) (raw_of f.1)) e f.5))
+                due_from r y f.1 h.given h.end i.0 (if_last h.low row) h.utf8 k4 (subst (λ ps. Reads text y (last_end p ps) f.1) e f.4) i.2 (subst (λ ps. i.0 ≡ before (given_of ps) (raw_of f.1)) e f.5))
           ]
         ]
 

@@ -1,14 +1,16 @@
 -- What a part of a rule that may be absent is built of, and what is put into a list.
-use Rattle.std.specs.Prelude.{◌≡◌, ℕ, List, [], ◌∷◌, ◌++◌, Result, Ok, IsUtf8, IsCharBoundary}
+use Rattle.std.specs.Prelude.{◌≡◌, ◌<◌, ℕ, List, [], ◌∷◌, ◌++◌, Result, Ok, IsUtf8, IsCharBoundary}
 use Rattle.weedle_build_base.specs.Built.{Builds, Visits}
 use Rattle.weedle_build_base.specs.declared.at.At.{At}
 use Rattle.weedle_grammar.specs.Rows.{Opt}
+use Rattle.weedle_grammar.specs.written.Bound.{table_count}
 use Rattle.weedle_grammar.specs.Meaning.{Plain}
 use Rattle.weedle_grammar.specs.written.Table.{row_of, shape_of}
 use Rattle.weedle_grammar.specs.Trees.{Tree, Alt}
 
--- a character of the text begins at the place
-pub record IsPlace (text : List ℕ) (p : ℕ) : Type 0 where
+-- the table has rule x, and a character of the text begins at the place
+pub record IsPlace (text : List ℕ) (x p : ℕ) : Type 0 where
+  pub low : x < table_count
   pub utf8 : IsUtf8 text
   pub boundary : IsCharBoundary text p
 

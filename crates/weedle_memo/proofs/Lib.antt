@@ -9,4 +9,5 @@ pub mod IfCovered
 pub mod GrowthFacts
 pub mod LeafFacts
 pub mod StepFacts
+pub mod OwnFacts
 pub mod MemoFacts

@@ -5,18 +5,21 @@ ghost use Rattle.std.specs.Prelude.{
   ◌≤◌,
   ◌<◌,
   ◌+◌,
+  ◌↔◌,
   length,
   drop,
   slice_index,
   slice_range,
   true,
   false,
+  IsTrue,
   IfOk,
   IfSome,
   OnOk,
 };
 ghost use Rattle.std.specs.Bool.{OnFalse};
 ghost use Rattle.weedle_recovery.specs.Stops.{IsReadAt};
+ghost use Rattle.weedle_grammar.specs.written.Bound.{table_count};
 ghost use Rattle.weedle_grammar.specs.Rows.{run_length, begins as begins_with_bytes};
 ghost use Rattle.weedle_rules.specs.Cells.{HasEnd};
 ghost use Rattle.weedle_rules.specs.Outcomes.{FailsAt};
@@ -26,7 +29,7 @@ ghost use Rattle.weedle_syntax.specs.Steps.{Spends, Steps};
 use std::alloc::{AllocError, Global};
 use std::marker::Model;
 use weedle_grammar::scan::run;
-use weedle_grammar::{Class, Rule, leaf_ends};
+use weedle_grammar::{Class, Rule, TABLE_RULES, leaf_ends};
 use weedle_rules::Ends;
 use weedle_starts::source::Source;
 use weedle_syntax::{Limits, Node, lay_by_descent, lay_over_table};
@@ -51,6 +54,13 @@ impl<'t> Model for Reading<'t> {
 
     ghost invariant = { λ r. (r.source ≡ r.bytes.now)
         × IfSome r.ends (λ e. e.now.text ≡ r.bytes.now) };
+}
+
+/// Whether a table of ends has the rule, as it has each of weedle2's.
+fn has(rule: Rule) -> bool
+    ensures { IsTrue result ↔ (rule < table_count) }
+{
+    (rule.number() as usize) < TABLE_RULES
 }
 
 impl<'t> Reading<'t> {
@@ -161,8 +171,8 @@ impl<'t> Reading<'t> {
         ensures falls { OnOk result (limits.new.steps ≤ limits.old.steps) }
     {
         match self.ends {
-            Some(ends) => Ok(ends.end(rule, place)),
-            None => {
+            Some(ends) if has(rule) => Ok(ends.end(rule, place)),
+            _ => {
                 let mut nodes = Vec::new(alloc);
                 let end = lay_by_descent(&mut nodes, &self.source, rule, place, limits)?;
                 Ok(end)
@@ -209,8 +219,8 @@ impl<'t> Reading<'t> {
         ensures falls { OnOk result (limits.new.steps ≤ limits.old.steps) }
     {
         match self.ends {
-            Some(ends) => lay_over_table(alloc, nodes, ends, rule, place),
-            None => lay_by_descent(nodes, &self.source, rule, place, limits),
+            Some(ends) if has(rule) => lay_over_table(alloc, nodes, ends, rule, place),
+            _ => lay_by_descent(nodes, &self.source, rule, place, limits),
         }
     }
 }

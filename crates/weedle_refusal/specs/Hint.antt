@@ -4,6 +4,7 @@ use Rattle.std.specs.List.{list_any}
 use Rattle.weedle_diagnose.specs.Diagnosis.{IsDiagnosis}
 use Rattle.weedle_grammar.specs.Rows.{Bytes, is_in, run_length}
 use Rattle.weedle_grammar.specs.declared.class.Class.TheVariants.{Letter, Name}
+use Rattle.weedle_grammar.specs.written.Bound.{table_count}
 use Rattle.weedle_grammar.specs.written.Table.{row_of}
 use Rattle.weedle_grammar.specs.written.Table.Trivia.{TRIVIA}
 use Rattle.weedle_refusal.specs.Inside.{IsOutside}
@@ -79,9 +80,9 @@ pub record ComesBeyond (raw : List ℕ) (start place at taken : ℕ) (bytes : Li
 abbrev pub Helps : List ℕ → ℕ → ℕ → ℕ → ℕ → List ℕ → Type 0
 Helps raw start place at taken bytes = IsMended raw start place at taken bytes ⊎ ComesBeyond raw start place at taken bytes
 
--- the bytes of a keyword: some rule reads just them, and a letter is among them
+-- the bytes of a keyword: some rule of weedle2's reads just them, and a letter is among them
 abbrev pub IsKeyword : List ℕ → Type 0
-IsKeyword bytes = (rule : ℕ) × (row_of rule ≡ Bytes bytes) × (has_letter bytes ≡ true)
+IsKeyword bytes = (rule : ℕ) × (rule < table_count) × (row_of rule ≡ Bytes bytes) × (has_letter bytes ≡ true)
 
 -- a word of so many bytes stands there: letters, digits, `_` and `-`, and none of them on either side
 pub record IsWordAt (raw : List ℕ) (at taken : ℕ) : Type 0 where

@@ -6,7 +6,7 @@ use std::alloc::{AllocError, Global};
 use std::process::Abort;
 use weedle::{Counted, Err, Error, ErrorKind, parse_counted};
 use weedle_build::{Built, build_definitions};
-use weedle_rules::{Ends, READS, RULES};
+use weedle_rules::{Ends, READS, TABLE_RULES};
 
 /// What a reader answers of a text.
 #[derive(Clone, Copy, Debug, PartialEq, Eq)]
@@ -81,7 +81,7 @@ pub fn built<'a>(
 
 /// How many workings-out there are for a text.
 fn all_workings(text: &str) -> u128 {
-    (RULES as u128).saturating_mul(text.len() as u128 + 1)
+    (TABLE_RULES as u128).saturating_mul(text.len() as u128 + 1)
 }
 
 /// Asserts the bounds of an answer that didn't want memory: each rule is worked out at each place,

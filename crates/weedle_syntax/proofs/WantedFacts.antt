@@ -3,6 +3,7 @@ use Rattle.std.proofs.Common.{◌≡◌, ◌≢◌, ◌⊎◌, inl, inr, ℕ, �
 use Rattle.std.specs.Prelude.{reverse}
 use Rattle.weedle_grammar.specs.Rows.{Row, Bytes, OneOf, NotNext, Run, Past, Seq, First, Opt, Many, ListOf, List1, Tail, If}
 use Rattle.weedle_grammar.specs.Meaning.{last_end}
+use Rattle.weedle_grammar.specs.written.Bound.{table_count}
 use Rattle.weedle_grammar.specs.written.Table.{row_of}
 use Rattle.weedle_grammar.proofs.Inversion.{of_tail}
 use Rattle.weedle_rules.specs.Outcomes.{EndsAt}
@@ -10,13 +11,19 @@ use Rattle.weedle_rules.proofs.RowEnds.{raw_end, row_ends}
 use Rattle.weedle_rules.proofs.OutcomeFacts.{has_end, one_end, not_both}
 use Rattle.weedle_starts.specs.Tries.{TriesInTurn, TriesByChoice, TriesListed, RowTries}
 use Rattle.weedle_starts.proofs.ReadFacts.{many_goes, tail_goes}
-use Rattle.weedle_memo.specs.Wanted.{WantedFrom, by}
+use Rattle.weedle_starts.proofs.TableFacts.{tries_low}
+use Rattle.weedle_memo.specs.Wanted.{WantedFrom, at_first, by}
 use Rattle.weedle_syntax.specs.declared.node.Node.{Node}
 use Rattle.weedle_syntax.specs.Parts.{IsNode, AreInTurn, IsFirst, AreItems, AreFollowing, AreListed, AreParts, HasParts, Gave}
 use Rattle.weedle_syntax.specs.Table.{TableView, IsWanted}
 use Rattle.weedle_syntax.proofs.ChildFacts.{Each, each_append}
 use Rattle.weedle_syntax.proofs.SyntaxFacts.{on_top}
 use Rattle.weedle_syntax.proofs.TurnFacts.{turn_end_is}
+
+-- what is read of a rule of the table is of the table
+pub wanted_low : {text : List ℕ} {first start x q : ℕ} → first < table_count → WantedFrom text first start x q → x < table_count
+wanted_low l (at_first s) = subst (λ z. z < table_count) (sym s.0) l
+wanted_low {text} l (by w d t) = tries_low text (wanted_low l w) t
 
 -- what a row tries is wanted, where its rule is wanted and ends
 pub wanted_by : {t : TableView} {r p e x q : ℕ} {row : Row} → IsWanted t r p → EndsAt t.text r p e → row_of r ≡ row → RowTries t.text row r p x q → IsWanted t x q

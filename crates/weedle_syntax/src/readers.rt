@@ -1,6 +1,7 @@
 //! The calls that lay down the nodes of a text, over its packrat table and by descent.
 
-ghost use Rattle.std.specs.Prelude.{◌≡◌, ◌↔◌, All, IsSome, IfOk, IfSome, IfNone};
+ghost use Rattle.std.specs.Prelude.{◌≡◌, ◌<◌, ◌↔◌, All, IsSome, IfOk, IfSome, IfNone};
+ghost use Rattle.weedle_grammar.specs.written.Bound.{table_count};
 ghost use Rattle.weedle_rules.specs.Outcomes.{FailsAt};
 ghost use Rattle.weedle_syntax.specs.Syntax.{
   IsWhole,
@@ -103,7 +104,7 @@ pub fn front_of(alloc: Global, ends: &Ends<'_>) -> Result<Vec<Node>, AllocError>
 }
 
 /// Every rule that was read where a rule is read at the front of a text, in preorder, over the
-/// table of ends of the whole text; None where the rule fails there.
+/// table of ends of the whole text; None where the rule fails there. The rule is one of the table's.
 ///
 /// It asks for memory for the nodes alone.
 pub fn rule_of_table(
@@ -111,6 +112,7 @@ pub fn rule_of_table(
     ends: &Ends<'_>,
     rule: Rule,
 ) -> Result<Option<Vec<Node>>, AllocError>
+    requires { rule < table_count }
     ensures fails { IfOk result (λ found. IfNone found (FailsAt ends.now.text rule 0)) }
     ensures are { IfOk result
         (λ found. IfSome found (λ nodes. IsRuleFront ends.now.text rule nodes.items)) }

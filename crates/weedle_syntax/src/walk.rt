@@ -4,7 +4,7 @@
 //! directly takes its place.
 
 ghost use Rattle.std.specs.Prelude.{◌≡◌, ◌≤◌, ◌<◌, ◌∷◌, [], ◌++◌, length, reverse, IfOk, OnOk};
-ghost use Rattle.weedle_grammar.specs.written.Bound.{rule_count};
+ghost use Rattle.weedle_grammar.specs.written.Bound.{rule_count, table_count};
 ghost use Rattle.weedle_rules.specs.Cells.{HasEnd};
 ghost use Rattle.weedle_rules.specs.Outcomes.{EndsAt};
 ghost use Rattle.weedle_syntax.specs.Laid.{LaysNode, Piles, node};
@@ -90,8 +90,8 @@ pub(crate) fn laid_from(
 /// Lays down the nodes of a rule that is read at a place, behind those that stand there, over the
 /// table of ends, and says where it ends; where it fails, nothing is laid down.
 ///
-/// The first of them is the rule's own, of depth 0. There is no recursion, and it asks for memory
-/// for the nodes alone.
+/// The first of them is the rule's own, of depth 0. The rule is one of the table's. There is no
+/// recursion, and it asks for memory for the nodes alone.
 pub fn lay_over_table(
     alloc: Global,
     nodes: &mut Vec<Node>,
@@ -99,6 +99,7 @@ pub fn lay_over_table(
     rule: Rule,
     place: usize,
 ) -> Result<Option<usize>, AllocError>
+    requires low { rule < table_count }
     requires within { place ≤ length ends.now.text }
     ensures end { IfOk result (λ o. HasEnd ends.now.text rule place o) }
     ensures lays { IfOk result

@@ -17,7 +17,7 @@ pub(crate) fn optional<'a, T: Build<'a>>(
     at: At,
 ) -> BuildResult<Option<T::Value>>
     requires fit { T.fits item }
-    requires place { IsPlace table.now.text at.place }
+    requires place { IsPlace table.now.text item at.place }
     ensures { (r : ℕ) → IsOption item r
         → Answers table.now.text r (option_tree T.tree) at.place at.visits result }
 {

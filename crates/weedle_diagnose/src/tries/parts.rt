@@ -1,7 +1,7 @@
 //! Rows of several parts: sequences, choices, and sequences whose last part has a condition.
 
 ghost use Rattle.std.specs.Prelude.{◌^◌, ◌≡◌, ◌≤◌, ◌<◌, ◌*◌, ℕ, length, MatchOption, if◌then◌else◌};
-ghost use Rattle.weedle_grammar.specs.written.Bound.{rule_count};
+ghost use Rattle.weedle_grammar.specs.written.Bound.{table_count};
 ghost use Rattle.weedle_grammar.specs.Rows.{If};
 ghost use Rattle.weedle_grammar.specs.written.Table.{row_of};
 ghost use Rattle.weedle_grammar.specs.View.{numbers_of};
@@ -67,7 +67,7 @@ fn end_with(
     y: Rule,
 ) -> Option<usize>
     requires within { place ≤ length ends.now.text }
-    requires low { rule < rule_count }
+    requires low { rule < table_count }
     requires row { row_of rule ≡ If (numbers_of parts) k y }
     ensures { MatchOption result ((q : ℕ) → EndsWith ends.now.text (numbers_of parts) k place q → ⊥)
         (λ q. EndsWith ends.now.text (numbers_of parts) k place q) }

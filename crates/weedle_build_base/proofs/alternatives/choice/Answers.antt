@@ -1,5 +1,6 @@
 use Rattle.std.proofs.Common.{sym}
 use Rattle.weedle_build_base.proofs.Choices.{choosing_start, choosing_next, choosing_here, choosing_end, choice_shape}
+use Rattle.weedle_rules.proofs.TableRows.{get_low}
 use Rattle.weedle_build_base.proofs.alternatives.choice.Goals as goal
 
 pub loop-part-init : goal.loop-part-init
@@ -14,3 +15,6 @@ returns-in-Some-end c =
 
 pub loop-part-preserved : goal.loop-part-preserved
 loop-part-preserved c = choosing_next c.loop-part.invariant (sym c.in-Some.ensures) c.in_default-end.ensures.right
+
+pub end-requires-clause-low : goal.end-requires-clause-low
+end-requires-clause-low c = get_low _ _ c.loop-part.invariant.low (sym c.in-Some.ensures)

@@ -12,11 +12,11 @@ loop-behind-init g c =
     let r = fits_tail_is c.args.item (row_of c.args.tail) (shape_of c.args.tail) c.in-Tail.ensures c.requires.tail in
     rw (c.in_ok-push.ensures.items, c.new-list.ensures.items) (listing_start c.requires.due r.0 c.in_ok-first.ensures)
 
-pub end-requires : goal.end-requires
-end-requires g c = c.loop-behind.invariant.tail.boundary.0
+pub end-requires-clause-within : goal.end-requires-clause-within
+end-requires-clause-within g c = c.loop-behind.invariant.tail.boundary.0
 
-pub end-requires-in-Some : goal.end-requires-in-Some
-end-requires-in-Some g c = (behind_boundary c.loop-behind.invariant.tail c.in-Some.ensures.right).0
+pub end-requires-in-Some-clause-within : goal.end-requires-in-Some-clause-within
+end-requires-in-Some-clause-within g c = (behind_boundary c.loop-behind.invariant.tail c.in-Some.ensures.right).0
 
 pub returns-in_default-end-2 : goal.returns-in_default-end-2
 returns-in_default-end-2 g c =
@@ -38,3 +38,9 @@ pub returns : goal.returns
 returns g c =
     let r = fits_tail_is c.args.item (row_of c.args.tail) (shape_of c.args.tail) c.in-Tail.ensures c.requires.tail in
     listing_end c.loop-behind.invariant r.0 r.1 c.in_default-end.ensures.right
+
+pub end-requires-clause-low : goal.end-requires-clause-low
+end-requires-clause-low g c = c.loop-behind.invariant.tail.low.1
+
+pub end-requires-in-Some-clause-low : goal.end-requires-in-Some-clause-low
+end-requires-in-Some-clause-low g c = c.loop-behind.invariant.tail.low.0

@@ -1,11 +1,12 @@
 use Rattle.std.proofs.Common.{refl, sym}
 use Rattle.weedle_build_base.proofs.Options.{option_some, option_none, option_fits}
 use Rattle.weedle_build_base.proofs.Finding.{absent, present}
+use Rattle.weedle_rules.proofs.TableRows.{opt_part}
 use Rattle.weedle_build_base.proofs.generic.OptionBuild.build.Goals as goal
 
 pub build-requires : goal.build-requires
 build-requires g c κs =
-    ((refl, tt), ((option_fits g.T.Build.fits c.args.rule c.requires.fit c.in-Opt.ensures).0, present c.requires.due.utf8 c.requires.due.boundary c.in-Some.ensures.right))
+    ((refl, tt), ((option_fits g.T.Build.fits c.args.rule c.requires.fit c.in-Opt.ensures).0, present (opt_part c.requires.due.low (sym c.in-Opt.ensures)) c.requires.due.utf8 c.requires.due.boundary c.in-Some.ensures.right))
 
 pub returns-in_ok-value-in-Some : goal.returns-in_ok-value-in-Some
 returns-in_ok-value-in-Some g c =
@@ -14,3 +15,6 @@ returns-in_ok-value-in-Some g c =
 pub returns-in-None : goal.returns-in-None
 returns-in-None g c =
     option_none (sym c.in-Opt.ensures) (option_fits g.T.Build.fits c.args.rule c.requires.fit c.in-Opt.ensures).1 (absent c.in-None.ensures.right) c.visit-in-None.ensures
+
+pub end-requires-clause-low : goal.end-requires-clause-low
+end-requires-clause-low g c = opt_part c.requires.due.low (sym c.in-Opt.ensures)

@@ -5,8 +5,8 @@ use Rattle.weedle_build_base.proofs.generic.VecBuild.build.Goals as goal
 pub loop-list-init : goal.loop-list-init
 loop-list-init g c = rw c.new-list.ensures.items (repeating_start c.args.at.visits c.requires.due c.in-Many.ensures)
 
-pub end-requires : goal.end-requires
-end-requires g c = c.loop-list.invariant.boundary.0
+pub end-requires-clause-within : goal.end-requires-clause-within
+end-requires-clause-within g c = c.loop-list.invariant.boundary.0
 
 pub build-requires : goal.build-requires
 build-requires g c κs =
@@ -24,3 +24,6 @@ loop-list-preserved g c =
 
 pub returns : goal.returns
 returns g c = repeating_end c.loop-list.invariant c.in_default-end.ensures.right c.in-Many.ensures (fits_many_is g.T.Build.fits _ _ c.in-Many.ensures c.requires.fit).1 c.visit.ensures
+
+pub end-requires-clause-low : goal.end-requires-clause-low
+end-requires-clause-low g c = c.loop-list.invariant.low

@@ -4,10 +4,13 @@ use Rattle.weedle_build_base.proofs.Options.{option_none, option_some}
 use Rattle.weedle_build_types.proofs.types.steps.optional.Goals as goal
 
 pub build-requires : goal.build-requires
-build-requires g c κs = ((refl, tt), (c.requires.fit, present c.requires.place.utf8 c.requires.place.boundary c.in-Some.ensures.right))
+build-requires g c κs = ((refl, tt), (c.requires.fit, present c.requires.place.low c.requires.place.utf8 c.requires.place.boundary c.in-Some.ensures.right))
 
 pub returns-in_ok-value-in-Some : goal.returns-in_ok-value-in-Some
 returns-in_ok-value-in-Some g c = λ r o. option_some o.row o.shape c.in_ok-value-in-Some.ensures c.visit.ensures
 
 pub returns-in-None : goal.returns-in-None
 returns-in-None g c = λ r o. option_none o.row o.shape (absent c.in-None.ensures.right) c.visit-in-None.ensures
+
+pub end-requires-clause-low : goal.end-requires-clause-low
+end-requires-clause-low g c = c.requires.place.low

@@ -8,6 +8,7 @@ use Rattle.weedle_build_types.proofs.Conditions.{if_due, if_not_there, if_there}
 use Rattle.weedle_types.proofs.TreeLaws.{arg_list_of, argument_single_of, argument_variadic_of, named_arg_list_of, promise_of, record_of, single_type_of, union_of}
 use Rattle.weedle_build_base.proofs.Choices.{chosen}
 use Rattle.weedle_build_base.proofs.Finding.{absent, present}
+use Rattle.weedle_rules.proofs.TableRows.{list_part, opt_part}
 use Rattle.weedle_build_base.proofs.Repeats.{map_push}
 use Rattle.weedle_build_base.proofs.Options.{option_none, option_some}
 use Rattle.weedle_build_base.proofs.Separated.{behind_boundary, behind_due, due_list, list_built, list_empty, listing_back, listing_end, listing_next, listing_start}
@@ -72,7 +73,7 @@ pub generic_types::nullable_sequence_type-sequence_type-requires : goal.generic_
 generic_types::nullable_sequence_type-sequence_type-requires t c = let d = front (rest_of_row c.requires refl) in (omega (arith, d.boundary.0), d)
 
 pub generic_types::nullable_sequence_type-optional-requires : goal.generic_types::nullable_sequence_type-optional-requires
-generic_types::nullable_sequence_type-optional-requires t c = λ k. ((refl, tt), (refl, place_of (front (next c.in_ok-type_.ensures (rest_of_row c.requires refl)))))
+generic_types::nullable_sequence_type-optional-requires t c = λ k. ((refl, tt), (refl, place_of (omega arith) (front (next c.in_ok-type_.ensures (rest_of_row c.requires refl)))))
 
 pub generic_types::nullable_sequence_type-returns : goal.generic_types::nullable_sequence_type-returns
 generic_types::nullable_sequence_type-returns t c = node refl refl refl (run_more c.in_ok-type_.ensures (run_one (c.in_ok-q_mark.ensures OPT_Q_MARK (option_of refl refl)))) c.visit.ensures
@@ -81,7 +82,7 @@ pub generic_types::nullable_frozen_array_type-frozen_array_type-requires : goal.
 generic_types::nullable_frozen_array_type-frozen_array_type-requires t c = let d = front (rest_of_row c.requires refl) in (omega (arith, d.boundary.0), d)
 
 pub generic_types::nullable_frozen_array_type-optional-requires : goal.generic_types::nullable_frozen_array_type-optional-requires
-generic_types::nullable_frozen_array_type-optional-requires t c = λ k. ((refl, tt), (refl, place_of (front (next c.in_ok-type_.ensures (rest_of_row c.requires refl)))))
+generic_types::nullable_frozen_array_type-optional-requires t c = λ k. ((refl, tt), (refl, place_of (omega arith) (front (next c.in_ok-type_.ensures (rest_of_row c.requires refl)))))
 
 pub generic_types::nullable_frozen_array_type-returns : goal.generic_types::nullable_frozen_array_type-returns
 generic_types::nullable_frozen_array_type-returns t c = node refl refl refl (run_more c.in_ok-type_.ensures (run_one (c.in_ok-q_mark.ensures OPT_Q_MARK (option_of refl refl)))) c.visit.ensures
@@ -90,7 +91,7 @@ pub generic_types::nullable_record_type-record_type-requires : goal.generic_type
 generic_types::nullable_record_type-record_type-requires t c = let d = front (rest_of_row c.requires refl) in (omega (arith, d.boundary.0), d)
 
 pub generic_types::nullable_record_type-optional-requires : goal.generic_types::nullable_record_type-optional-requires
-generic_types::nullable_record_type-optional-requires t c = λ k. ((refl, tt), (refl, place_of (front (next c.in_ok-type_.ensures (rest_of_row c.requires refl)))))
+generic_types::nullable_record_type-optional-requires t c = λ k. ((refl, tt), (refl, place_of (omega arith) (front (next c.in_ok-type_.ensures (rest_of_row c.requires refl)))))
 
 pub generic_types::nullable_record_type-returns : goal.generic_types::nullable_record_type-returns
 generic_types::nullable_record_type-returns t c = node refl refl refl (run_more c.in_ok-type_.ensures (run_one (c.in_ok-q_mark.ensures OPT_Q_MARK (option_of refl refl)))) c.visit.ensures
@@ -159,7 +160,7 @@ pub unions::nullable_union_type-union_type-requires : goal.unions::nullable_unio
 unions::nullable_union_type-union_type-requires t c = let d = front (rest_of_row c.requires refl) in (omega (arith, d.boundary.0), d)
 
 pub unions::nullable_union_type-optional-requires : goal.unions::nullable_union_type-optional-requires
-unions::nullable_union_type-optional-requires t c = λ k. ((refl, tt), (refl, place_of (front (next c.in_ok-type_.ensures (rest_of_row c.requires refl)))))
+unions::nullable_union_type-optional-requires t c = λ k. ((refl, tt), (refl, place_of (omega arith) (front (next c.in_ok-type_.ensures (rest_of_row c.requires refl)))))
 
 pub unions::nullable_union_type-returns : goal.unions::nullable_union_type-returns
 unions::nullable_union_type-returns t c = node refl refl refl (run_more c.in_ok-type_.ensures (run_one (c.in_ok-q_mark.ensures OPT_Q_MARK (option_of refl refl)))) c.visit.ensures
@@ -306,16 +307,16 @@ pub unions::union_member_types-returns-in_default : goal.unions::union_member_ty
 unions::union_member_types-returns-in_default t c = rw c.new-list.ensures.items (list_empty refl refl (absent c.in_default.ensures.right) c.visit.ensures)
 
 pub unions::union_member_types-add_union_member_type-requires : goal.unions::union_member_types-add_union_member_type-requires
-unions::union_member_types-add_union_member_type-requires t c = (omega arith, present c.requires.utf8 c.requires.boundary c.in-Some.ensures.right)
+unions::union_member_types-add_union_member_type-requires t c = (omega arith, present (list_part c.requires.low refl) c.requires.utf8 c.requires.boundary c.in-Some.ensures.right)
 
 pub unions::union_member_types-loop-behind-init : goal.unions::union_member_types-loop-behind-init
-unions::union_member_types-loop-behind-init t c = rw (c.in_ok-here.ensures.items, c.new-list.ensures.items) (listing_start (due_list c.requires refl (present c.requires.utf8 c.requires.boundary c.in-Some.ensures.right)) refl c.in_ok-here.ensures.built)
+unions::union_member_types-loop-behind-init t c = rw (c.in_ok-here.ensures.items, c.new-list.ensures.items) (listing_start (due_list c.requires refl (present (list_part c.requires.low refl) c.requires.utf8 c.requires.boundary c.in-Some.ensures.right)) refl c.in_ok-here.ensures.built)
 
-pub unions::union_member_types-end-requires-in-loop-behind : goal.unions::union_member_types-end-requires-in-loop-behind
-unions::union_member_types-end-requires-in-loop-behind t c = c.loop-behind.invariant.tail.boundary.0
+pub unions::union_member_types-end-requires-in-loop-behind-clause-within : goal.unions::union_member_types-end-requires-in-loop-behind-clause-within
+unions::union_member_types-end-requires-in-loop-behind-clause-within t c = c.loop-behind.invariant.tail.boundary.0
 
-pub unions::union_member_types-end-requires-in-Some-end : goal.unions::union_member_types-end-requires-in-Some-end
-unions::union_member_types-end-requires-in-Some-end t c = (behind_boundary c.loop-behind.invariant.tail c.in-Some-end.ensures.right).0
+pub unions::union_member_types-end-requires-in-Some-end-clause-within : goal.unions::union_member_types-end-requires-in-Some-end-clause-within
+unions::union_member_types-end-requires-in-Some-end-clause-within t c = (behind_boundary c.loop-behind.invariant.tail c.in-Some-end.ensures.right).0
 
 pub unions::union_member_types-returns-in_default-end-2 : goal.unions::union_member_types-returns-in_default-end-2
 unions::union_member_types-returns-in_default-end-2 t c = list_built refl refl (listing_back c.loop-behind.invariant refl refl c.in-Some-end.ensures.right c.in_default-end-2.ensures.right) c.visit-in_default-end-2.ensures
@@ -336,16 +337,16 @@ pub attributes::extended_attributes-returns-in_default : goal.attributes::extend
 attributes::extended_attributes-returns-in_default t c = rw c.new-list.ensures.items (list_empty refl refl (absent c.in_default.ensures.right) c.visit.ensures)
 
 pub attributes::extended_attributes-extended_attribute-requires : goal.attributes::extended_attributes-extended_attribute-requires
-attributes::extended_attributes-extended_attribute-requires t c = (omega arith, present c.requires.utf8 c.requires.boundary c.in-Some.ensures.right)
+attributes::extended_attributes-extended_attribute-requires t c = (omega arith, present (list_part c.requires.low refl) c.requires.utf8 c.requires.boundary c.in-Some.ensures.right)
 
 pub attributes::extended_attributes-loop-behind-init : goal.attributes::extended_attributes-loop-behind-init
-attributes::extended_attributes-loop-behind-init t c = rw (c.in_ok-here.ensures.items, c.new-list.ensures.items) (listing_start (due_list c.requires refl (present c.requires.utf8 c.requires.boundary c.in-Some.ensures.right)) refl (kept extended_attribute_tree c.in_ok-here.ensures c.extended_attribute.ensures))
+attributes::extended_attributes-loop-behind-init t c = rw (c.in_ok-here.ensures.items, c.new-list.ensures.items) (listing_start (due_list c.requires refl (present (list_part c.requires.low refl) c.requires.utf8 c.requires.boundary c.in-Some.ensures.right)) refl (kept extended_attribute_tree c.in_ok-here.ensures c.extended_attribute.ensures))
 
-pub attributes::extended_attributes-end-requires-in-loop-behind : goal.attributes::extended_attributes-end-requires-in-loop-behind
-attributes::extended_attributes-end-requires-in-loop-behind t c = c.loop-behind.invariant.tail.boundary.0
+pub attributes::extended_attributes-end-requires-in-loop-behind-clause-within : goal.attributes::extended_attributes-end-requires-in-loop-behind-clause-within
+attributes::extended_attributes-end-requires-in-loop-behind-clause-within t c = c.loop-behind.invariant.tail.boundary.0
 
-pub attributes::extended_attributes-end-requires-in-Some-end : goal.attributes::extended_attributes-end-requires-in-Some-end
-attributes::extended_attributes-end-requires-in-Some-end t c = (behind_boundary c.loop-behind.invariant.tail c.in-Some-end.ensures.right).0
+pub attributes::extended_attributes-end-requires-in-Some-end-clause-within : goal.attributes::extended_attributes-end-requires-in-Some-end-clause-within
+attributes::extended_attributes-end-requires-in-Some-end-clause-within t c = (behind_boundary c.loop-behind.invariant.tail c.in-Some-end.ensures.right).0
 
 pub attributes::extended_attributes-returns-in_default-end-2 : goal.attributes::extended_attributes-returns-in_default-end-2
 attributes::extended_attributes-returns-in_default-end-2 t c = list_built refl refl (listing_back c.loop-behind.invariant refl refl c.in-Some-end.ensures.right c.in_default-end-2.ensures.right) c.visit-in_default-end-2.ensures
@@ -366,16 +367,16 @@ pub arguments::argument_list-returns-in_default : goal.arguments::argument_list-
 arguments::argument_list-returns-in_default t c = rw c.new-list.ensures.items (list_empty refl refl (absent c.in_default.ensures.right) c.visit.ensures)
 
 pub arguments::argument_list-argument-requires : goal.arguments::argument_list-argument-requires
-arguments::argument_list-argument-requires t c = (omega arith, present c.requires.utf8 c.requires.boundary c.in-Some.ensures.right)
+arguments::argument_list-argument-requires t c = (omega arith, present (list_part c.requires.low refl) c.requires.utf8 c.requires.boundary c.in-Some.ensures.right)
 
 pub arguments::argument_list-loop-behind-init : goal.arguments::argument_list-loop-behind-init
-arguments::argument_list-loop-behind-init t c = rw (c.in_ok-here.ensures.items, c.new-list.ensures.items) (listing_start (due_list c.requires refl (present c.requires.utf8 c.requires.boundary c.in-Some.ensures.right)) refl (kept argument_tree c.in_ok-here.ensures c.argument.ensures))
+arguments::argument_list-loop-behind-init t c = rw (c.in_ok-here.ensures.items, c.new-list.ensures.items) (listing_start (due_list c.requires refl (present (list_part c.requires.low refl) c.requires.utf8 c.requires.boundary c.in-Some.ensures.right)) refl (kept argument_tree c.in_ok-here.ensures c.argument.ensures))
 
-pub arguments::argument_list-end-requires-in-loop-behind : goal.arguments::argument_list-end-requires-in-loop-behind
-arguments::argument_list-end-requires-in-loop-behind t c = c.loop-behind.invariant.tail.boundary.0
+pub arguments::argument_list-end-requires-in-loop-behind-clause-within : goal.arguments::argument_list-end-requires-in-loop-behind-clause-within
+arguments::argument_list-end-requires-in-loop-behind-clause-within t c = c.loop-behind.invariant.tail.boundary.0
 
-pub arguments::argument_list-end-requires-in-Some-end : goal.arguments::argument_list-end-requires-in-Some-end
-arguments::argument_list-end-requires-in-Some-end t c = (behind_boundary c.loop-behind.invariant.tail c.in-Some-end.ensures.right).0
+pub arguments::argument_list-end-requires-in-Some-end-clause-within : goal.arguments::argument_list-end-requires-in-Some-end-clause-within
+arguments::argument_list-end-requires-in-Some-end-clause-within t c = (behind_boundary c.loop-behind.invariant.tail c.in-Some-end.ensures.right).0
 
 pub arguments::argument_list-returns-in_default-end-2 : goal.arguments::argument_list-returns-in_default-end-2
 arguments::argument_list-returns-in_default-end-2 t c = list_built refl refl (listing_back c.loop-behind.invariant refl refl c.in-Some-end.ensures.right c.in_default-end-2.ensures.right) c.visit-in_default-end-2.ensures
@@ -393,7 +394,7 @@ pub arguments::argument_list-returns : goal.arguments::argument_list-returns
 arguments::argument_list-returns t c = list_built refl refl (listing_end c.loop-behind.invariant refl refl c.in_default-end.ensures.right) c.visit-2.ensures
 
 pub attributes::attributes-extended_attribute_list-requires : goal.attributes::attributes-extended_attribute_list-requires
-attributes::attributes-extended_attribute_list-requires t c = (omega arith, present c.requires.utf8 c.requires.boundary c.in-Some.ensures.right)
+attributes::attributes-extended_attribute_list-requires t c = (omega arith, present (opt_part c.requires.low refl) c.requires.utf8 c.requires.boundary c.in-Some.ensures.right)
 
 pub attributes::attributes-returns-in_ok-list-in-Some : goal.attributes::attributes-returns-in_ok-list-in-Some
 attributes::attributes-returns-in_ok-list-in-Some t c = option_some refl refl c.in_ok-list-in-Some.ensures c.visit.ensures
@@ -405,7 +406,7 @@ pub arguments::single_argument-attributes-requires : goal.arguments::single_argu
 arguments::single_argument-attributes-requires t c = let d = front (rest_of_if c.requires refl) in (omega (arith, d.boundary.0), d)
 
 pub arguments::single_argument-optional-requires : goal.arguments::single_argument-optional-requires
-arguments::single_argument-optional-requires t c = λ k. ((refl, tt), (refl, place_of (front (next c.in_ok-attributes.ensures (rest_of_if c.requires refl)))))
+arguments::single_argument-optional-requires t c = λ k. ((refl, tt), (refl, place_of (omega arith) (front (next c.in_ok-attributes.ensures (rest_of_if c.requires refl)))))
 
 pub arguments::single_argument-attributed_type-requires : goal.arguments::single_argument-attributed_type-requires
 arguments::single_argument-attributed_type-requires t c = let d = front (next (c.in_ok-modifier.ensures OPT_OPTIONAL (option_of refl refl)) (next c.in_ok-attributes.ensures (rest_of_if c.requires refl))) in let b0 = not_before c.in_ok-attributes.ensures in let b1 = not_before (c.in_ok-modifier.ensures OPT_OPTIONAL (option_of refl refl)) in (omega (arith, d.boundary.0), d)
@@ -414,7 +415,7 @@ pub arguments::single_argument-build-requires : goal.arguments::single_argument-
 arguments::single_argument-build-requires t c = (refl, front (next c.in_ok-type_.ensures (next (c.in_ok-modifier.ensures OPT_OPTIONAL (option_of refl refl)) (next c.in_ok-attributes.ensures (rest_of_if c.requires refl)))))
 
 pub arguments::single_argument-optional-requires-in-Some : goal.arguments::single_argument-optional-requires-in-Some
-arguments::single_argument-optional-requires-in-Some t c = λ k. ((refl, tt), (refl, place_of (if_due c.in_ok-attributes.ensures (rw c.in-Some.is at c.in_ok-modifier.ensures OPT_OPTIONAL (option_of refl refl)) c.in_ok-type_.ensures c.in_ok-identifier.ensures refl refl c.requires)))
+arguments::single_argument-optional-requires-in-Some t c = λ k. ((refl, tt), (refl, place_of (omega arith) (if_due c.in_ok-attributes.ensures (rw c.in-Some.is at c.in_ok-modifier.ensures OPT_OPTIONAL (option_of refl refl)) c.in_ok-type_.ensures c.in_ok-identifier.ensures refl refl c.requires)))
 
 pub arguments::single_argument-returns-in_ok-default-in-Some : goal.arguments::single_argument-returns-in_ok-default-in-Some
 arguments::single_argument-returns-in_ok-default-in-Some t c = if_there c.in_ok-attributes.ensures (rw c.in-Some.is at c.in_ok-modifier.ensures OPT_OPTIONAL (option_of refl refl)) c.in_ok-type_.ensures c.in_ok-identifier.ensures refl refl refl (c.in_ok-default-in-Some.ensures OPT_DEFAULT (option_of refl refl)) c.visit.ensures
