@@ -37,7 +37,7 @@ waits_own text (Past b) f is w l = absurd w
 -- the rule of the frame on top, of those that wait
 pub top_own : (text : List ℕ) (m : Memory) (waiting : List Frame) {r p : ℕ} → AreWaiting text m waiting r p → IsOwn m.start.rule r
 top_own text m [] w l = below w.0 l
-top_own text m (f ∷ fs) w l = waits_own text (row_of f.rule) f refl w.1.onward (top_own text m fs w.2.2.2 l)
+top_own text m (f ∷ fs) w l = waits_own text (row_of f.rule) f refl w.1.onward (top_own text m fs w.4 l)
 
 -- what it waits for
 pub next_own : (text : List ℕ) (m : Memory) (waiting : List Frame) (f : Frame) {x q k : ℕ} → AreWaiting text m waiting f.rule f.place → Waits text f x q k → IsOwn m.start.rule x

@@ -1,5 +1,5 @@
 -- The table's rules name no others: weedle2's rules read none of today's.
-use Rattle.std.proofs.Common.{◌≡◌, ℕ, zero, suc, ◌<◌, List, [], ◌∷◌, get_or, slice_index, sym, Bool, true, false, ◌&&◌, refl, subst, arith}
+use Rattle.std.proofs.Common.{◌≡◌, ℕ, zero, suc, ◌<◌, List, [], ◌∷◌, get_or, slice_get, slice_index, Some, sym, Bool, true, false, ◌&&◌, refl, subst, arith}
 use Rattle.std.specs.Prelude.{nat_lt}
 use borrow.Author.Tests.{ltb-true}
 use Rattle.weedle_grammar.specs.written.Bound.{table_count, rule_count}
@@ -45,7 +45,7 @@ names_low (Tail x s) = nat_lt x table_count && nat_lt s table_count
 names_low (If parts k y) = are_low parts && nat_lt y table_count
 
 -- the table passes: its rules read no others
-table_low : {r : ℕ} {row : Row} → r < table_count → row_of r ≡ row → names_low row ≡ true
+pub table_low : {r : ℕ} {row : Row} → r < table_count → row_of r ≡ row → names_low row ≡ true
 table_low {r} l e = subst (λ row. names_low row ≡ true) e (row_at names_low table_count table r refl l)
 
 lt : (a b : ℕ) → nat_lt a b ≡ true → a < b
@@ -55,6 +55,22 @@ pub low_at : (ns : List ℕ) (i : ℕ) → are_low ns ≡ true → get_or ns i 0
 low_at [] i h = omega arith
 low_at (n ∷ ns) zero h = lt n table_count (both (nat_lt n table_count) (are_low ns) h).0
 low_at (n ∷ ns) (suc i) h = low_at ns i (both (nat_lt n table_count) (are_low ns) h).1
+
+-- the part of a number
+pub get_low : (ns : List ℕ) (i : ℕ) {x : ℕ} → are_low ns ≡ true → slice_get ns i ≡ Some x → x < table_count
+get_low [] i h e = cc
+get_low (n ∷ ns) zero {x} h e = let s : n ≡ x = cc in subst (λ z. z < table_count) s (lt n table_count (both (nat_lt n table_count) (are_low ns) h).0)
+get_low (n ∷ ns) (suc i) h e = get_low ns i (both (nat_lt n table_count) (are_low ns) h).1 e
+
+-- all parts of a row
+pub seq_low : {r : ℕ} {parts : List ℕ} → r < table_count → row_of r ≡ Seq parts → are_low parts ≡ true
+seq_low l e = table_low l e
+
+pub first_low : {r : ℕ} {parts : List ℕ} → r < table_count → row_of r ≡ First parts → are_low parts ≡ true
+first_low l e = table_low l e
+
+pub if_low : {r k y : ℕ} {parts : List ℕ} → r < table_count → row_of r ≡ If parts k y → are_low parts ≡ true
+if_low {y = y} {parts = parts} l e = (both (are_low parts) (nat_lt y table_count) (table_low l e)).0
 
 -- what a look at a part of the row says
 pub part_is : {x : ℕ} (parts : List ℕ) (i : ℕ) → x ≡ slice_index parts i → get_or parts i 0 < table_count → x < table_count

@@ -25,3 +25,4 @@ mod MemoFacts
 pub mod InnerFacts
 mod RunFacts
 mod CompactFacts
+mod DialectFacts

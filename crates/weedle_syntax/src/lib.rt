@@ -20,6 +20,7 @@
 mod below;
 mod compact;
 mod descent;
+mod dialect;
 mod empty;
 mod front;
 mod iter;
@@ -40,6 +41,7 @@ mod trivia;
 mod walk;
 
 pub use compact::{Compact, CompactNodes};
+pub use dialect::{Dialect, syntax_quick_in};
 pub use front::{compact_of_front, compact_of_rule};
 pub use iter::{Children, Leaves};
 pub use lay::lay_by_descent;
