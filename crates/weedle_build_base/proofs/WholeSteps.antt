@@ -5,6 +5,7 @@ use Rattle.std.proofs.lemmas.Str.{IsCharBoundary-start}
 use Rattle.weedle_grammar.specs.Rows.{Row, Many}
 use Rattle.weedle_grammar.specs.Trees.{Tree, Outcome, Fails, Gives}
 use Rattle.weedle_grammar.specs.Meaning.{Shape, Raw, Breaks, Yields, before, shaped, ReadsRow, many_end, many_stuck, many_more}
+use Rattle.weedle_grammar.specs.written.Bound.{table_count}
 use Rattle.weedle_grammar.specs.written.Table.{webidl, shape_of, Reads}
 use Rattle.weedle_grammar.specs.written.Table.Definitions.{DEFINITION, DEFINITIONS}
 use Rattle.weedle_grammar.proofs.Inversion.{at_row}

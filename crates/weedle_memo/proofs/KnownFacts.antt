@@ -75,32 +75,53 @@ few_numbered by (x ∷ xs) are apart =
     let f = length-le_from_distinct_below numbers by.most d b in
     omega (arith, f, l)
 
--- by the turn of its rule at its place
-by_turn : List ℕ → Numbering
-by_turn text = record {
-  good = IsRight text;
-  number = λ (a : MemoEntry). turn_number (length text) a.rule a.place;
-  most = (length text + 1) * rule_count;
-  apart = λ a b n m e. (let al = n.low in let bl = m.low in let aw = n.within in let bw = m.within in let p : a.place ≡ b.place = omega arith in (omega arith, p));
-  under = λ a n. (let al = n.low in let aw = n.within in omega arith);
-}
+-- the turn of its rule at its place
+abbrev turn_at : List ℕ → MemoEntry → ℕ
+turn_at text note = turn_number (length text) note.rule note.place
 
--- by the cell that it has in a table
+same_turn : (text : List ℕ) (a b : MemoEntry) → IsRight text a → IsRight text b → turn_at text a ≡ turn_at text b → (a.rule ≡ b.rule) × (a.place ≡ b.place)
+same_turn text a b n m e =
+    let al = n.low in
+    let bl = m.low in
+    let aw = n.within in
+    let bw = m.within in
+    let p : a.place ≡ b.place = omega arith in
+    (omega arith, p)
+
+turn_under : (text : List ℕ) (a : MemoEntry) → IsRight text a → turn_at text a < (length text + 1) * rule_count
+turn_under text a n = let low = n.low in let within = n.within in omega arith
+
+by_turn : List ℕ → Numbering
+by_turn text = record { good = IsRight text; number = turn_at text; most = (length text + 1) * rule_count; apart = same_turn text; under = turn_under text }
+
+-- the cell of its rule, where a table has it
+abbrev cell_at : List ℕ → MemoEntry → ℕ
+cell_at text note = cell_number (length text) note.rule note.place
+
+abbrev IsCell : List ℕ → MemoEntry → Type 0
+IsCell text note = IsRight text note × (note.rule < table_count)
+
+same_cell : (text : List ℕ) (a b : MemoEntry) → IsCell text a → IsCell text b → cell_at text a ≡ cell_at text b → (a.rule ≡ b.rule) × (a.place ≡ b.place)
+same_cell text a b n m e =
+    let al = n.1 in
+    let bl = m.1 in
+    let aw = n.0.within in
+    let bw = m.0.within in
+    let p : a.place ≡ b.place = omega arith in
+    (omega arith, p)
+
+cell_under : (text : List ℕ) (a : MemoEntry) → IsCell text a → cell_at text a < (length text + 1) * table_count
+cell_under text a n = let low = n.1 in let within = n.0.within in omega arith
+
 by_cell : List ℕ → Numbering
-by_cell text = record {
-  good = λ a. IsRight text a × (a.rule < table_count);
-  number = λ (a : MemoEntry). cell_number (length text) a.rule a.place;
-  most = (length text + 1) * table_count;
-  apart = λ a b n m e. (let al = n.1 in let bl = m.1 in let aw = n.0.within in let bw = m.0.within in let p : a.place ≡ b.place = omega arith in (omega arith, p));
-  under = λ a n. (let al = n.1 in let aw = n.0.within in omega arith);
-}
+by_cell text = record { good = IsCell text; number = cell_at text; most = (length text + 1) * table_count; apart = same_cell text; under = cell_under text }
 
 -- at most one of each rule at each place
 pub few_known : (text : List ℕ) (known : List MemoEntry) → AreRight text known → AreDistinct known → length known ≤ (length text + 1) * rule_count
 few_known text known are apart = few_numbered (by_turn text) known are apart
 
 pub few_own : (text : List ℕ) (first : ℕ) (known : List MemoEntry) → AreRight text known → AreOwn first known → AreDistinct known → first < table_count → length known ≤ (length text + 1) * table_count
-few_own text first known are own apart l = few_numbered (by_cell text) known (λ i d k. (are i d k, own i d k l)) apart
+few_own text first known are own apart l = few_numbered (by_cell text) known (λ i d k. (are i d k, (own i d k).stays l)) apart
 
 -- one note more
 pub one_right : (text : List ℕ) (known : List MemoEntry) (n : MemoEntry) → AreRight text known → IsRight text n → AreRight text (known ++ n ∷ [])

@@ -35,17 +35,20 @@ waits_own text (Run c) f is w l = absurd w
 waits_own text (Past b) f is w l = absurd w
 
 -- the rule of the frame on top, of those that wait
+top_low : (text : List ℕ) (m : Memory) (waiting : List Frame) {r p : ℕ} → AreWaiting text m waiting r p → m.start.rule < table_count → r < table_count
+top_low text m [] w l = below w.0 l
+top_low text m (f ∷ fs) w l = waits_own text (row_of f.rule) f refl w.1.onward (top_low text m fs w.4 l)
+
 pub top_own : (text : List ℕ) (m : Memory) (waiting : List Frame) {r p : ℕ} → AreWaiting text m waiting r p → IsOwn m.start.rule r
-top_own text m [] w l = below w.0 l
-top_own text m (f ∷ fs) w l = waits_own text (row_of f.rule) f refl w.1.onward (top_own text m fs w.4 l)
+top_own text m waiting w = record { stays = λ l. top_low text m waiting w l }
 
 -- what it waits for
 pub next_own : (text : List ℕ) (m : Memory) (waiting : List Frame) (f : Frame) {x q k : ℕ} → AreWaiting text m waiting f.rule f.place → Waits text f x q k → IsOwn m.start.rule x
-next_own text m waiting f w n l = waits_own text (row_of f.rule) f refl n.onward (top_own text m waiting w l)
+next_own text m waiting f w n = record { stays = λ l. waits_own text (row_of f.rule) f refl n.onward (top_low text m waiting w l) }
 
 -- the rule that is read
 pub first_own : {first r : ℕ} → r ≡ first → IsOwn first r
-first_own e l = below e l
+first_own e = record { stays = λ l. below e l }
 
 pub own_on : {s t : Start} (r : ℕ) → t ≡ s → IsOwn s.rule r → IsOwn t.rule r
 own_on r e o = subst (λ (z : Start). IsOwn z.rule r) (sym e) o

@@ -45,8 +45,8 @@ abbrev pub AreRight : List ℕ → List MemoEntry → Type 0
 AreRight text known = (i : ℕ) (d : MemoEntry) → i < length known → IsRight text (get_or known i d)
 
 -- where the rule that is read is one of weedle2's, rule r is one too
-abbrev pub IsOwn : ℕ → ℕ → Type 0
-IsOwn first r = first < table_count → r < table_count
+pub record IsOwn (first r : ℕ) : Type 0 where
+  pub stays : first < table_count → r < table_count
 
 -- the same of all entries
 abbrev pub AreOwn : ℕ → List MemoEntry → Type 0
