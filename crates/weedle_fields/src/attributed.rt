@@ -1,4 +1,4 @@
-//! Extended attributes and what stands behind them.
+//! Extended attributes and what follows them.
 
 ghost use Rattle.weedle_base.specs.Generic.{pair_reading};
 ghost use Rattle.weedle_base.specs.Reading.{Answers};
@@ -9,7 +9,7 @@ use weedle_base::{IResult, Parse};
 use weedle_types::attribute::ExtendedAttributeList;
 use weedle_types::parts::attributes;
 
-/// Reads extended attributes where they stand, and then others as pairs within pairs.
+/// Reads extended attributes where present, and then others as pairs within pairs.
 fn attributes_and<'a, R: Parse<'a>>(
     alloc: Global,
     input: &'a str,
@@ -21,8 +21,8 @@ fn attributes_and<'a, R: Parse<'a>>(
     Ok((rest, (attributes, others)))
 }
 
-/// Reads extended attributes where they stand, and then three others, as the word, the types and
-/// the `;` of `[A] iterable<long>;`. Where one of the three isn't there it is a mismatch.
+/// Reads extended attributes where present, and then three others, as the word, the types and the
+/// `;` of `[A] iterable<long>;`. Where one of the three isn't there it is a mismatch.
 pub fn attributes_and_three<'a, A: Parse<'a>, B: Parse<'a>, C: Parse<'a>>(
     alloc: Global,
     input: &'a str,
@@ -35,9 +35,8 @@ pub fn attributes_and_three<'a, A: Parse<'a>, B: Parse<'a>, C: Parse<'a>>(
     Ok((rest, (attributes, first, second, third)))
 }
 
-/// Reads extended attributes where they stand, and then four others, as the name, the word, the
-/// name and the `;` of `[A] Request includes Body;`. Where one of the four isn't there it is a
-/// mismatch.
+/// Reads extended attributes where present, and then four others, as the name, the word, the name
+/// and the `;` of `[A] Request includes Body;`. Where one of the four isn't there it is a mismatch.
 pub fn attributes_and_four<'a, A: Parse<'a>, B: Parse<'a>, C: Parse<'a>, D: Parse<'a>>(
     alloc: Global,
     input: &'a str,
@@ -50,9 +49,9 @@ pub fn attributes_and_four<'a, A: Parse<'a>, B: Parse<'a>, C: Parse<'a>, D: Pars
     Ok((rest, (attributes, first, second, third, fourth)))
 }
 
-/// Reads extended attributes where they stand, and then five others, as the two words, the name,
-/// the members and the `;` of `[A] partial interface B {};`. Where one of the five isn't there it
-/// is a mismatch.
+/// Reads extended attributes where present, and then five others, as the two words, the name, the
+/// members and the `;` of `[A] partial interface B {};`. Where one of the five isn't there it is a
+/// mismatch.
 pub fn attributes_and_five<
     'a,
     A: Parse<'a>,
@@ -74,7 +73,7 @@ pub fn attributes_and_five<
     Ok((rest, (attributes, first, second, third, fourth, fifth)))
 }
 
-/// Reads extended attributes where they stand, and then six others, as the word, the name, the `=`,
+/// Reads extended attributes where present, and then six others, as the word, the name, the `=`,
 /// the type, the arguments and the `;` of `[A] callback F = undefined (long x);`. Where one of the
 /// six isn't there it is a mismatch.
 pub fn attributes_and_six<

@@ -1,8 +1,8 @@
-//! What stands before or behind the name of a member or an interface: what is inherited from, and
-//! the words before an attribute or an operation.
+//! What precedes or behind the name of a member or an interface: what is inherited from, and the
+//! words before an attribute or an operation.
 //!
-//! None of them takes memory, so none ever gives a failure. What each type reads stands in words
-//! in docs/GRAMMAR.md.
+//! None of them takes memory, so none ever gives a failure. What each type reads is in words in
+//! docs/GRAMMAR.md.
 //!
 //! ```rust
 //! use weedle_base::Parse;

@@ -1,6 +1,6 @@
 //! What the types and definitions of the grammar share: brackets, lists with separators, names,
-//! docstrings, literals, defaults and the types that hold no other type. What each type reads
-//! stands in words in docs/GRAMMAR.md.
+//! docstrings, literals, defaults and the types that hold no other type. What each type reads is in
+//! words in docs/GRAMMAR.md.
 //!
 //! ```rust
 //! use weedle_parts::common::{Identifier, Parenthesized, Punctuated};

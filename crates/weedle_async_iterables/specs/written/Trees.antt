@@ -9,13 +9,15 @@ use Rattle.weedle_grammar.specs.Trees.{Alt, Mark, Node, Tree, trees}
 use Rattle.weedle_types.specs.GenericsTrees.{one_type_tree, two_types_tree}
 use Rattle.weedle_types.specs.Trees.{attributes_tree}
 
--- an asynchronous iteration over values: its extended attributes where they stand, `async` and `iterable`,
--- the type of its values in angle brackets, the arguments between parentheses where they stand, `;`
+-- an asynchronous iteration over values: its extended attributes where present, `async` and
+-- `iterable`, the type of its values in angle brackets, the arguments between parentheses where
+-- present, `;`
 abbrev pub single_typed_async_iterable_tree : SingleTypedAsyncIterable → Tree
 single_typed_async_iterable_tree v = Node (trees (attributes_tree v.attributes ∷ async_iterable_tree v.async_iterable ∷ one_type_tree v.generics ∷ optional_arguments_tree v.args ∷ Mark ∷ []))
 
--- an asynchronous iteration over pairs: its extended attributes where they stand, `async` and `iterable`, the
--- types of its keys and values in angle brackets, the arguments between parentheses where they stand, `;`
+-- an asynchronous iteration over pairs: its extended attributes where present, `async` and
+-- `iterable`, the types of its keys and values in angle brackets, the arguments between parentheses
+-- where present, `;`
 abbrev pub double_typed_async_iterable_tree : DoubleTypedAsyncIterable → Tree
 double_typed_async_iterable_tree v = Node (trees (attributes_tree v.attributes ∷ async_iterable_tree v.async_iterable ∷ two_types_tree v.generics ∷ optional_arguments_tree v.args ∷ Mark ∷ []))
 

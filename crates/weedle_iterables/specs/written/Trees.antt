@@ -11,23 +11,23 @@ use Rattle.weedle_iterables.specs.declared.iterable.SingleTypedIterable.{SingleT
 use Rattle.weedle_types.specs.GenericsTrees.{one_type_tree, two_types_tree}
 use Rattle.weedle_types.specs.Trees.{attributes_tree}
 
--- a map: its extended attributes where they stand, `readonly` where it stands, `maplike`, the types of its
--- keys and values in angle brackets, `;`
+-- a map: its extended attributes where present, `readonly` where present, `maplike`, the types of
+-- its keys and values in angle brackets, `;`
 abbrev pub maplike_interface_member_tree : MaplikeInterfaceMember → Tree
 maplike_interface_member_tree v = Node (trees (attributes_tree v.attributes ∷ option_tree mark_tree v.readonly ∷ Mark ∷ two_types_tree v.generics ∷ Mark ∷ []))
 
--- a set: its extended attributes where they stand, `readonly` where it stands, `setlike`, the type of its
--- values in angle brackets, `;`
+-- a set: its extended attributes where present, `readonly` where present, `setlike`, the type of
+-- its values in angle brackets, `;`
 abbrev pub setlike_interface_member_tree : SetlikeInterfaceMember → Tree
 setlike_interface_member_tree v = Node (trees (attributes_tree v.attributes ∷ option_tree mark_tree v.readonly ∷ Mark ∷ one_type_tree v.generics ∷ Mark ∷ []))
 
--- an iteration over values: its extended attributes where they stand, `iterable`, the type of its values in
--- angle brackets, `;`
+-- an iteration over values: its extended attributes where present, `iterable`, the type of its
+-- values in angle brackets, `;`
 abbrev pub single_typed_iterable_tree : SingleTypedIterable → Tree
 single_typed_iterable_tree v = Node (trees (attributes_tree v.attributes ∷ Mark ∷ one_type_tree v.generics ∷ Mark ∷ []))
 
--- an iteration over pairs: its extended attributes where they stand, `iterable`, the types of its keys and
--- values in angle brackets, `;`
+-- an iteration over pairs: its extended attributes where present, `iterable`, the types of its keys
+-- and values in angle brackets, `;`
 abbrev pub double_typed_iterable_tree : DoubleTypedIterable → Tree
 double_typed_iterable_tree v = Node (trees (attributes_tree v.attributes ∷ Mark ∷ two_types_tree v.generics ∷ Mark ∷ []))
 

@@ -34,23 +34,24 @@ ghost use Rattle.weedle_spell_idl.specs.written.Iterables.{
   single_typed_iterable_spelling,
 };
 
-/// A law, which does nothing: the text of a map, as `readonly maplike<DOMString, long>;`, spells
-/// its value.
+/// A law, which does nothing: the text of a map, as `readonly maplike<DOMString, long>;`, is a
+/// rendering of its value.
 #[tactic(auto, using(crate::proofs::written::IterableLaws::maplike_interface_member_law))]
 pub fn maplike_interface_member()
     ensures { SpellsValues MAPLIKE_INTERFACE_MEMBER maplike_interface_member_tree
         maplike_interface_member_spelling }
 {}
 
-/// A law, which does nothing: the text of a set, as `readonly setlike<long>;`, spells its value.
+/// A law, which does nothing: the text of a set, as `readonly setlike<long>;`, is a rendering of
+/// its value.
 #[tactic(auto, using(crate::proofs::written::IterableLaws::setlike_interface_member_law))]
 pub fn setlike_interface_member()
     ensures { SpellsValues SETLIKE_INTERFACE_MEMBER setlike_interface_member_tree
         setlike_interface_member_spelling }
 {}
 
-/// A law, which does nothing: the text of an iteration over values, as `iterable<long>;`, spells
-/// its value.
+/// A law, which does nothing: the text of an iteration over values, as `iterable<long>;`, is a
+/// rendering of its value.
 #[tactic(auto, using(crate::proofs::written::IterableLaws::single_typed_iterable_law))]
 pub fn single_typed_iterable()
     ensures { SpellsValues SINGLE_TYPED_ITERABLE single_typed_iterable_tree
@@ -58,7 +59,7 @@ pub fn single_typed_iterable()
 {}
 
 /// A law, which does nothing: the text of an iteration over pairs, as `iterable<DOMString, long>;`,
-/// spells its value.
+/// is a rendering of its value.
 #[tactic(auto, using(crate::proofs::written::IterableLaws::double_typed_iterable_law))]
 pub fn double_typed_iterable()
     ensures { SpellsValues DOUBLE_TYPED_ITERABLE double_typed_iterable_tree
@@ -66,7 +67,7 @@ pub fn double_typed_iterable()
 {}
 
 /// A law, which does nothing: the text of an iteration over values or pairs, as `iterable<long>;`,
-/// spells its value.
+/// is a rendering of its value.
 #[tactic(auto, using(crate::proofs::written::IterableLaws::iterable_interface_member_law))]
 pub fn iterable_interface_member()
     ensures { SpellsValues ITERABLE_INTERFACE_MEMBER iterable_interface_member_tree
@@ -74,7 +75,7 @@ pub fn iterable_interface_member()
 {}
 
 /// A law, which does nothing: the text of an asynchronous iteration over values, as
-/// `async iterable<long>;`, spells its value.
+/// `async iterable<long>;`, is a rendering of its value.
 #[tactic(auto, using(crate::proofs::written::IterableLaws::single_typed_async_iterable_law))]
 pub fn single_typed_async_iterable()
     ensures { SpellsValues SINGLE_TYPED_ASYNC_ITERABLE single_typed_async_iterable_tree
@@ -82,7 +83,7 @@ pub fn single_typed_async_iterable()
 {}
 
 /// A law, which does nothing: the text of an asynchronous iteration over pairs, as
-/// `async iterable<DOMString, long>(long x);`, spells its value.
+/// `async iterable<DOMString, long>(long x);`, is a rendering of its value.
 #[tactic(auto, using(crate::proofs::written::IterableLaws::double_typed_async_iterable_law))]
 pub fn double_typed_async_iterable()
     ensures { SpellsValues DOUBLE_TYPED_ASYNC_ITERABLE double_typed_async_iterable_tree
@@ -90,7 +91,7 @@ pub fn double_typed_async_iterable()
 {}
 
 /// A law, which does nothing: the text of an asynchronous iteration over values or pairs, as
-/// `async iterable<long>;`, spells its value.
+/// `async iterable<long>;`, is a rendering of its value.
 #[tactic(auto, using(crate::proofs::written::IterableLaws::async_iterable_interface_member_law))]
 pub fn async_iterable_interface_member()
     ensures { SpellsValues ASYNC_ITERABLE_INTERFACE_MEMBER async_iterable_interface_member_tree
