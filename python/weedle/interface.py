@@ -285,6 +285,85 @@ class StringifierMember(Value):
 
 
 @value_class
+class SingleTypedAsyncIterable(Value):
+    """An asynchronous iteration over values, as `async iterable<long>;`."""
+
+    attributes: Optional[ExtendedAttributeList] = part(
+        "The extended attributes in brackets, as `[Exposed=Window]`, where they stand."
+    )
+    async_iterable: Tuple[term.Async, term.Iterable] = word("The words `async` and `iterable`.")
+    generics: Generics[AttributedType] = part(
+        "The type of its values in angle brackets, as `<long>`."
+    )
+    args: Optional[Parenthesized[ArgumentList]] = part(
+        "The arguments between parentheses, as `(long x)`, where they stand."
+    )
+    semi_colon: term.SemiColon = word("The `;` at the end.")
+
+    def __init__(
+        self, *, attributes: Optional[ExtendedAttributeList] = None,
+        generics: Generics[AttributedType], args: Optional[Parenthesized[ArgumentList]] = None,
+    ) -> None:
+        self._hold(attributes, generics, args)
+
+
+@value_class
+class DoubleTypedAsyncIterable(Value):
+    """An asynchronous iteration over pairs, as `async iterable<DOMString, long>(long x);`."""
+
+    attributes: Optional[ExtendedAttributeList] = part(
+        "The extended attributes in brackets, as `[Exposed=Window]`, where they stand."
+    )
+    async_iterable: Tuple[term.Async, term.Iterable] = word("The words `async` and `iterable`.")
+    generics: Generics[Tuple[AttributedType, term.Comma, AttributedType]] = part(
+        "The types of its keys and values in angle brackets, as `<DOMString, long>`."
+    )
+    args: Optional[Parenthesized[ArgumentList]] = part(
+        "The arguments between parentheses, as `(long x)`, where they stand."
+    )
+    semi_colon: term.SemiColon = word("The `;` at the end.")
+
+    def __init__(
+        self, *, attributes: Optional[ExtendedAttributeList] = None,
+        generics: Generics[Tuple[AttributedType, term.Comma, AttributedType]],
+        args: Optional[Parenthesized[ArgumentList]] = None,
+    ) -> None:
+        self._hold(attributes, generics, args)
+
+
+class AsyncIterableInterfaceMember(Choice):
+    """An asynchronous iteration over values or pairs, as `async iterable<long>;`."""
+
+    if TYPE_CHECKING:
+        Single: TypeAlias = "AsyncIterableInterfaceMember_Single"
+        Double: TypeAlias = "AsyncIterableInterfaceMember_Double"
+        Variants: TypeAlias = (
+            "typing.Union[AsyncIterableInterfaceMember_Single, "
+            "AsyncIterableInterfaceMember_Double]"
+        )
+
+
+class AsyncIterableInterfaceMember_Single(AsyncIterableInterfaceMember, variant="Single"):
+    """`[extended attributes] async iterable<type>(arguments);`, also without `(arguments)`."""
+
+    value: SingleTypedAsyncIterable
+
+    def __init__(self, value: SingleTypedAsyncIterable) -> None:
+        self._hold(value)
+
+
+class AsyncIterableInterfaceMember_Double(AsyncIterableInterfaceMember, variant="Double"):
+    """`[extended attributes] async iterable<type, type>(arguments);`, also without
+    `(arguments)`.
+    """
+
+    value: DoubleTypedAsyncIterable
+
+    def __init__(self, value: DoubleTypedAsyncIterable) -> None:
+        self._hold(value)
+
+
+@value_class
 class MaplikeInterfaceMember(Value):
     """A map, as `readonly maplike<DOMString, long>;`."""
 
@@ -393,85 +472,6 @@ class IterableInterfaceMember_Double(IterableInterfaceMember, variant="Double"):
     value: DoubleTypedIterable
 
     def __init__(self, value: DoubleTypedIterable) -> None:
-        self._hold(value)
-
-
-@value_class
-class SingleTypedAsyncIterable(Value):
-    """An asynchronous iteration over values, as `async iterable<long>;`."""
-
-    attributes: Optional[ExtendedAttributeList] = part(
-        "The extended attributes in brackets, as `[Exposed=Window]`, where they stand."
-    )
-    async_iterable: Tuple[term.Async, term.Iterable] = word("The words `async` and `iterable`.")
-    generics: Generics[AttributedType] = part(
-        "The type of its values in angle brackets, as `<long>`."
-    )
-    args: Optional[Parenthesized[ArgumentList]] = part(
-        "The arguments between parentheses, as `(long x)`, where they stand."
-    )
-    semi_colon: term.SemiColon = word("The `;` at the end.")
-
-    def __init__(
-        self, *, attributes: Optional[ExtendedAttributeList] = None,
-        generics: Generics[AttributedType], args: Optional[Parenthesized[ArgumentList]] = None,
-    ) -> None:
-        self._hold(attributes, generics, args)
-
-
-@value_class
-class DoubleTypedAsyncIterable(Value):
-    """An asynchronous iteration over pairs, as `async iterable<DOMString, long>(long x);`."""
-
-    attributes: Optional[ExtendedAttributeList] = part(
-        "The extended attributes in brackets, as `[Exposed=Window]`, where they stand."
-    )
-    async_iterable: Tuple[term.Async, term.Iterable] = word("The words `async` and `iterable`.")
-    generics: Generics[Tuple[AttributedType, term.Comma, AttributedType]] = part(
-        "The types of its keys and values in angle brackets, as `<DOMString, long>`."
-    )
-    args: Optional[Parenthesized[ArgumentList]] = part(
-        "The arguments between parentheses, as `(long x)`, where they stand."
-    )
-    semi_colon: term.SemiColon = word("The `;` at the end.")
-
-    def __init__(
-        self, *, attributes: Optional[ExtendedAttributeList] = None,
-        generics: Generics[Tuple[AttributedType, term.Comma, AttributedType]],
-        args: Optional[Parenthesized[ArgumentList]] = None,
-    ) -> None:
-        self._hold(attributes, generics, args)
-
-
-class AsyncIterableInterfaceMember(Choice):
-    """An asynchronous iteration over values or pairs, as `async iterable<long>;`."""
-
-    if TYPE_CHECKING:
-        Single: TypeAlias = "AsyncIterableInterfaceMember_Single"
-        Double: TypeAlias = "AsyncIterableInterfaceMember_Double"
-        Variants: TypeAlias = (
-            "typing.Union[AsyncIterableInterfaceMember_Single, "
-            "AsyncIterableInterfaceMember_Double]"
-        )
-
-
-class AsyncIterableInterfaceMember_Single(AsyncIterableInterfaceMember, variant="Single"):
-    """`[extended attributes] async iterable<type>(arguments);`, also without `(arguments)`."""
-
-    value: SingleTypedAsyncIterable
-
-    def __init__(self, value: SingleTypedAsyncIterable) -> None:
-        self._hold(value)
-
-
-class AsyncIterableInterfaceMember_Double(AsyncIterableInterfaceMember, variant="Double"):
-    """`[extended attributes] async iterable<type, type>(arguments);`, also without
-    `(arguments)`.
-    """
-
-    value: DoubleTypedAsyncIterable
-
-    def __init__(self, value: DoubleTypedAsyncIterable) -> None:
         self._hold(value)
 
 

@@ -188,6 +188,64 @@ pub struct StringifierMember<'a> {
 
 record! { StringifierMember<'a> = STRINGIFIER_MEMBER { attributes, stringifier, semi_colon } }
 
+/// An asynchronous iteration over values, as `async iterable<long>;`.
+#[derive(Clone, Debug, PartialEq, Eq, PartialOrd, Ord, Hash)]
+pub struct SingleTypedAsyncIterable<'a> {
+    /// The extended attributes in brackets, as `[Exposed=Window]`, where they stand.
+    pub attributes: Option<ExtendedAttributeList<'a>>,
+    /// The words `async` and `iterable`.
+    pub async_iterable: (term::Async, term::Iterable),
+    /// The type of its values in angle brackets, as `<long>`.
+    pub generics: Generics<AttributedType<'a>>,
+    /// The arguments between parentheses, as `(long x)`, where they stand.
+    pub args: Option<Parenthesized<ArgumentList<'a>>>,
+    /// The `;` at the end.
+    pub semi_colon: term::SemiColon,
+}
+
+record! {
+    SingleTypedAsyncIterable<'a> = SINGLE_TYPED_ASYNC_ITERABLE {
+        attributes, async_iterable, generics, args, semi_colon
+    }
+}
+
+/// An asynchronous iteration over pairs, as `async iterable<DOMString, long>(long x);`.
+#[derive(Clone, Debug, PartialEq, Eq, PartialOrd, Ord, Hash)]
+pub struct DoubleTypedAsyncIterable<'a> {
+    /// The extended attributes in brackets, as `[Exposed=Window]`, where they stand.
+    pub attributes: Option<ExtendedAttributeList<'a>>,
+    /// The words `async` and `iterable`.
+    pub async_iterable: (term::Async, term::Iterable),
+    /// The types of its keys and values in angle brackets, as `<DOMString, long>`.
+    pub generics: Generics<(AttributedType<'a>, term::Comma, AttributedType<'a>)>,
+    /// The arguments between parentheses, as `(long x)`, where they stand.
+    pub args: Option<Parenthesized<ArgumentList<'a>>>,
+    /// The `;` at the end.
+    pub semi_colon: term::SemiColon,
+}
+
+record! {
+    DoubleTypedAsyncIterable<'a> = DOUBLE_TYPED_ASYNC_ITERABLE {
+        attributes, async_iterable, generics, args, semi_colon
+    }
+}
+
+/// An asynchronous iteration over values or pairs, as `async iterable<long>;`.
+#[derive(Clone, Debug, PartialEq, Eq, PartialOrd, Ord, Hash)]
+pub enum AsyncIterableInterfaceMember<'a> {
+    /// `[extended attributes] async iterable<type>(arguments);`, also without `(arguments)`.
+    Single(SingleTypedAsyncIterable<'a>),
+    /// `[extended attributes] async iterable<type, type>(arguments);`, also without `(arguments)`.
+    Double(DoubleTypedAsyncIterable<'a>),
+}
+
+choice! {
+    AsyncIterableInterfaceMember<'a> = ASYNC_ITERABLE_INTERFACE_MEMBER {
+        Single(SingleTypedAsyncIterable<'a>),
+        Double(DoubleTypedAsyncIterable<'a>),
+    }
+}
+
 /// A map, as `readonly maplike<DOMString, long>;`.
 #[derive(Clone, Debug, PartialEq, Eq, PartialOrd, Ord, Hash)]
 pub struct MaplikeInterfaceMember<'a> {
@@ -281,64 +339,6 @@ choice! {
     IterableInterfaceMember<'a> = ITERABLE_INTERFACE_MEMBER {
         Single(SingleTypedIterable<'a>),
         Double(DoubleTypedIterable<'a>),
-    }
-}
-
-/// An asynchronous iteration over values, as `async iterable<long>;`.
-#[derive(Clone, Debug, PartialEq, Eq, PartialOrd, Ord, Hash)]
-pub struct SingleTypedAsyncIterable<'a> {
-    /// The extended attributes in brackets, as `[Exposed=Window]`, where they stand.
-    pub attributes: Option<ExtendedAttributeList<'a>>,
-    /// The words `async` and `iterable`.
-    pub async_iterable: (term::Async, term::Iterable),
-    /// The type of its values in angle brackets, as `<long>`.
-    pub generics: Generics<AttributedType<'a>>,
-    /// The arguments between parentheses, as `(long x)`, where they stand.
-    pub args: Option<Parenthesized<ArgumentList<'a>>>,
-    /// The `;` at the end.
-    pub semi_colon: term::SemiColon,
-}
-
-record! {
-    SingleTypedAsyncIterable<'a> = SINGLE_TYPED_ASYNC_ITERABLE {
-        attributes, async_iterable, generics, args, semi_colon
-    }
-}
-
-/// An asynchronous iteration over pairs, as `async iterable<DOMString, long>(long x);`.
-#[derive(Clone, Debug, PartialEq, Eq, PartialOrd, Ord, Hash)]
-pub struct DoubleTypedAsyncIterable<'a> {
-    /// The extended attributes in brackets, as `[Exposed=Window]`, where they stand.
-    pub attributes: Option<ExtendedAttributeList<'a>>,
-    /// The words `async` and `iterable`.
-    pub async_iterable: (term::Async, term::Iterable),
-    /// The types of its keys and values in angle brackets, as `<DOMString, long>`.
-    pub generics: Generics<(AttributedType<'a>, term::Comma, AttributedType<'a>)>,
-    /// The arguments between parentheses, as `(long x)`, where they stand.
-    pub args: Option<Parenthesized<ArgumentList<'a>>>,
-    /// The `;` at the end.
-    pub semi_colon: term::SemiColon,
-}
-
-record! {
-    DoubleTypedAsyncIterable<'a> = DOUBLE_TYPED_ASYNC_ITERABLE {
-        attributes, async_iterable, generics, args, semi_colon
-    }
-}
-
-/// An asynchronous iteration over values or pairs, as `async iterable<long>;`.
-#[derive(Clone, Debug, PartialEq, Eq, PartialOrd, Ord, Hash)]
-pub enum AsyncIterableInterfaceMember<'a> {
-    /// `[extended attributes] async iterable<type>(arguments);`, also without `(arguments)`.
-    Single(SingleTypedAsyncIterable<'a>),
-    /// `[extended attributes] async iterable<type, type>(arguments);`, also without `(arguments)`.
-    Double(DoubleTypedAsyncIterable<'a>),
-}
-
-choice! {
-    AsyncIterableInterfaceMember<'a> = ASYNC_ITERABLE_INTERFACE_MEMBER {
-        Single(SingleTypedAsyncIterable<'a>),
-        Double(DoubleTypedAsyncIterable<'a>),
     }
 }
 

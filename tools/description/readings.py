@@ -14,12 +14,14 @@ from description.webidl import BY_CONTENT, BY_NAME
 # what is of a crate, as FILES of write/builds.py and MODULES of write/orders.py, name a crate that they lack.
 CRATES = """
     weedle_base::term
-    weedle_parts
+    weedle_parts::common
+    weedle_parts::literal
+    weedle_parts::types
     weedle_types
-    weedle_modifier
+    weedle_parts::inheritance
+    weedle_parts::modifier
     weedle_members
     weedle_iterables
-    weedle_async_iterables
     weedle_interfaces
     weedle_mixins
     weedle_namespaces

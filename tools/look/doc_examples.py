@@ -17,11 +17,11 @@ END = "    Ok(())\n"
 # function begins and ends.
 LENT = "    assert_eq!(rt; count, 1);\n" + END
 AROUND = {
-    ("crates/weedle_report/src/lending.rt", 1): (
+    ("crates/weedle_view/src/lending.rt", 1): (
         "use weedle::{Definitions, lend, outline, parse};\n",
         '    let alloc = rt.alloc();\n    let text = "interface A {};";\n', LENT,
     ),
-    ("crates/weedle_report/src/lending.rt", 2): (
+    ("crates/weedle_view/src/lending.rt", 2): (
         "use weedle::{Definitions, lend, parse};\n\n"
         "fn has_interface(definitions: &Definitions<'_>, name: &str) -> bool {\n"
         '    definitions.len() == 1 && name == "A"\n}\n',

@@ -41,13 +41,13 @@ MOD = re.compile(r"^(?:pub(?:\(crate\))? )?mod (\w+)", re.M)
 IMPL = re.compile(r"^impl(?:<[^{;]*?>)? (?:\w+::)*(\w+)(?:<[^{}]*?>)? for (?:\w+::)*(\w+)", re.M)
 # Where it is said what a definition has: the function, the field, and the arm of those that lack it.
 HAVING = (
-    ("weedle_report/src/entries.rt", "docstring_of", "docstring", "None"),
+    ("weedle_view/src/entries.rt", "docstring_of", "docstring", "None"),
     ("weedle_view/src/definition.rt", "docstring_of", "docstring", "None"),
     ("weedle_view/src/definition.rt", "extended_attributes_of", "attributes", "None"),
     ("weedle_view/src/definition.rt", "inheritance_of", "inheritance", "None"),
     ("weedle_view/src/members.rt", "members_of", "members", "Ok(Vec::new(alloc))"),
 )
-KINDS, PARTS = "weedle_report/src/titles.rt", "weedle_view/src/parts.rt"
+KINDS, PARTS = "weedle_view/src/titles.rt", "weedle_view/src/parts.rt"
 RESERVED = "weedle_print/src/written/reserved.rt"
 # What the doc of a public function says that has no `ensures`; the reason stands behind it.
 WITHOUT = "It has no contract:"

@@ -9,9 +9,9 @@ HOME = "crates/weedle_statements/src/callback.rt"
 DECLARED = "pub struct Callback {\n    pub name: Or,\n    pub result: Or,\n}\npub fn read(x: usize) {}\n"
 FILES = {
     HOME: DECLARED,
-    "crates/weedle_report/src/titles.rt": "callback.result,\n",
-    "crates/weedle_report/src/others.rt": "other.result,\n",
-    "crates/weedle_report/src/written.rt": "//! Callback. Written by tools/x.py.\n\nit.result\n",
+    "crates/weedle_view/src/titles.rt": "callback.result,\n",
+    "crates/weedle_view/src/others.rt": "other.result,\n",
+    "crates/weedle_view/src/written.rt": "//! Callback. Written by tools/x.py.\n\nit.result\n",
     "docs/USING.md": "`read` reads.\n",
     "CHANGELOG.md": "`read` is new.\n",
 }
@@ -34,7 +34,7 @@ class Renames(Room):
     def test_a_field_in_files_that_name_its_type(self):
         self.assertEqual(self.found(DECLARED.replace("result", "answer")), [
             "Callback.result is declared no more, and 1 lines have the word:",
-            "  crates/weedle_report/src/titles.rt:1: callback.result,",
+            "  crates/weedle_view/src/titles.rt:1: callback.result,",
         ])
 
     def test_a_function_anywhere_but_in_what_is_written_or_past(self):

@@ -35,27 +35,26 @@ from write.written.imports import imported
 FILES = {
     "weedle_build_base/literals": ("Literals, and the values of defaults and constants.", "weedle_parts::literal"),
     "weedle_build_base/modifiers": (
-        "What is inherited from, and the words before a member.", "weedle_modifier",
+        "What is inherited from, and the words before a member.",
+        "weedle_parts::inheritance", "weedle_parts::modifier",
     ),
     "weedle_build_base/simple_types": ("Types that hold no other type.", "weedle_parts::types"),
-    "weedle_build_members/members": (
+    "weedle_build/members": (
         "The members of interfaces: constants, attributes, operations, constructors and stringifiers.",
         "weedle_members",
     ),
-    "weedle_build_members/iterables": (
-        "Iterations, maps and sets.", "weedle_iterables", "weedle_async_iterables",
-    ),
-    "weedle_build_interfaces/interfaces": ("Interfaces and their members.", "weedle_interfaces"),
-    "weedle_build_definitions/mixins": ("Mixins and their members.", "weedle_mixins"),
-    "weedle_build_definitions/namespaces": (
+    "weedle_build/iterables": ("Iterations, maps and sets.", "weedle_iterables"),
+    "weedle_build/interfaces": ("Interfaces and their members.", "weedle_interfaces"),
+    "weedle_build/mixins": ("Mixins and their members.", "weedle_mixins"),
+    "weedle_build/namespaces": (
         "Namespaces and their members.",
         "weedle_namespaces::namespace", "weedle_namespaces::namespace_definition",
     ),
-    "weedle_build_definitions/dictionaries": (
+    "weedle_build/dictionaries": (
         "Dictionaries and their members.",
         "weedle_namespaces::dictionary", "weedle_namespaces::dictionary_definition",
     ),
-    "weedle_build_definitions/statements": ("The definitions without members.", "weedle_statements"),
+    "weedle_build/statements": ("The definitions without members.", "weedle_statements"),
     "weedle_build/definition": ("A definition of any kind.", "weedle_idl"),
 }
 BASE = "weedle_build_base"
@@ -124,7 +123,7 @@ def parts_declared(root, crate):
 class Parts:
     """How a field of a type is built: what stands for it in code.
 
-    A crate of the second pass with a struct as `MemberPart<T>` builds by it each type of the crates
+    A crate of the second pass with a struct as `IdlPart<T>` builds by it each type of the crates
     that it serves; a type of another crate is built by itself. Where there is a `type` for what
     comes of that, it has this name. What weedle_types has by a `type` leads back to itself, and is
     built as it stands; a `type` of another crate as what it stands for.
@@ -172,6 +171,8 @@ class Built:
         self.text = f"{item.name}<'a>" if item.is_borrowing else item.name
         self.is_own = crate == BASE
         self.over = parts.over.get(item.crate)
+        if not self.is_own and not self.over:
+            raise Unfit(f"{crate} has no part for what {item.crate} declares")
         self.fields = [(part.name, parts.of(part.text, crate)) for part in item.parts]
         if self.is_own:
             self.fields = [(name, text.replace("<'a>", "")) for name, text in self.fields]
@@ -185,7 +186,7 @@ class Built:
     def part(self):
         if self.is_own:
             return self.text
-        return f"{self.over}<{self.text}>" if self.over else f"Any{self.name}"
+        return f"{self.over}<{self.text}>"
 
     def alternatives(self):
         """What its alternatives are built by, each with the pattern of a value and what is made of it."""
@@ -233,14 +234,10 @@ def body_of_choice(it):
 
 
 def impl(it):
-    """The `impl Build` of a type; where no crate has a part for it, behind a struct that stands for it."""
+    """The `impl Build` of a type."""
     is_choice = it.item.is_enum or it.is_flag
     value = "Self" if it.is_own else it.text
-    own = "" if it.is_own or it.over else f"""/// How a {it.name.lower()} is built.
-pub(crate) struct {it.part};
-
-"""
-    return own + f"""impl<'a> Build<'a> for {it.part} {{
+    return f"""impl<'a> Build<'a> for {it.part} {{
     type Value = {value};
 
     ghost fits = {{ λ r. r ≡ {it.rule} }};

@@ -35,8 +35,8 @@ CRATES = [*LEAVES[1:], TYPES, *IDL]
 
 
 def main(root=TOP):
-    for crate in CRATES:
-        for path, text in list(files_of(root, crate)):
+    for home in CRATES:
+        for path, text in list(files_of(root, home)):
             put(root, path, text)
 
 

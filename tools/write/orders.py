@@ -35,17 +35,17 @@ LAWS = "weedle_comparisons"
 MODULES = {
     "parts": ("generic parts, names, docstrings and plain types", ["weedle_parts::common", "weedle_parts::types"]),
     "literals": ("literals and defaults", ["weedle_parts::literal"]),
-    "modifiers": ("words before a member, and of what is inherited from", ["weedle_modifier"]),
+    "modifiers": (
+        "words before a member, and of what is inherited from",
+        ["weedle_parts::inheritance", "weedle_parts::modifier"],
+    ),
     "attributes": (
         "extended attributes and arguments",
         ["weedle_types::argument", "weedle_types::attribute"],
     ),
     "types": ("types", ["weedle_types::formers", "weedle_types::types"]),
     "members": ("constants, attributes, operations and stringifiers", ["weedle_members"]),
-    "iterables": (
-        "iterations, and of what is like a map or a set",
-        ["weedle_iterables", "weedle_async_iterables"],
-    ),
+    "iterables": ("iterations, and of what is like a map or a set", ["weedle_iterables"]),
     "namespaces": ("namespaces and dictionaries, with their members", ["weedle_namespaces"]),
     "statements": ("definitions without members", ["weedle_statements"]),
     "interfaces": ("interfaces, with their members", ["weedle_interfaces"]),

@@ -99,8 +99,8 @@ def part_of(type_: Type) -> str:
         is_pair = parts[1:2] == ["Comma"] and parts[::2] == parts[:1] * 2
         return f"KeyAndValue<{parts[0]}>" if is_pair else f"({', '.join(parts)})"
     it = declaration_of(type_)
-    if it and it.crate in PARTS and not is_list(it):
-        return f"{PARTS[it.crate][0]}<{text_of(type_)}>"
+    if it and it.home in PARTS and not is_list(it):
+        return f"{PARTS[it.home][0]}<{text_of(type_)}>"
     if it and it.kind == "type":
         return part_of(it.parts[0].type)
     words = ["'a"] if it and it.is_borrowing else []
@@ -111,7 +111,7 @@ def part_of(type_: Type) -> str:
 
 def is_list(declaration: Declaration) -> bool:
     """Whether it is a name for a list of members, of definitions or of an enum's values."""
-    return declaration.kind == "type" and declaration.crate in IDL
+    return declaration.kind == "type" and declaration.home in IDL
 
 
 def named_in(type_: Type) -> Iterator[str]:
@@ -168,7 +168,7 @@ class Own:
 
     def arm(self, type_: Type) -> str:
         """How the value of a variant is written."""
-        if declaration_of(type_).crate not in IDL:
+        if declaration_of(type_).home not in IDL:
             return call_of(type_, "value")
         if self.type.name != WHOLE:
             return "value.write_part(out, layout)"
@@ -274,7 +274,7 @@ def families() -> Iterator[tuple[str, str, list[Own]]]:
 def handed_on() -> Iterator[tuple[str, str, list[HandedOn]]]:
     """The files of types that others write, each with what it is about and its `impl`s."""
     for name, (about, crates) in HANDED_ON.items():
-        found = [it for it in [*DECLARED.types.values(), *DECLARED.aliases.values()] if it.crate in crates]
+        found = [it for it in [*DECLARED.types.values(), *DECLARED.aliases.values()] if it.home in crates]
         yield name, about, [HandedOn(type_of(it.name)) for it in found if is_written(it)]
 
 

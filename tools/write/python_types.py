@@ -37,9 +37,10 @@ MODULES = {
     "weedle_base.term": "term", "weedle_parts.common": "common", "weedle_parts.types": "types",
     "weedle_parts.literal.default": "common", "weedle_parts.literal": "literal",
     "weedle_types.argument": "argument", "weedle_types.attribute": "attribute",
-    "weedle_types": "types", "weedle_modifier": "interface", "weedle_members": "interface",
-    "weedle_iterables": "interface", "weedle_async_iterables": "interface",
-    "weedle_interfaces.member": "interface", "weedle_interfaces.members": "interface",
+    "weedle_types": "types", "weedle_parts.inheritance": "interface",
+    "weedle_parts.modifier": "interface", "weedle_members": "interface",
+    "weedle_iterables": "interface", "weedle_interfaces.member": "interface",
+    "weedle_interfaces.members": "interface",
     "weedle_mixins.mixin": "mixin", "weedle_namespaces.namespace": "namespace",
     "weedle_namespaces.dictionary": "dictionary",
 }

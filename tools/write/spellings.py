@@ -79,14 +79,14 @@ FILES = [
                " Box<ReturnType> SequenceType FrozenArrayType PromiseType RecordType UnionType AttributedType"
                " AttributedNonAnyType", modules="weedle_types.types"),
     File("Modifiers", "what is inherited from is spelt, and the words before a member",
-         "what is inherited from, and of the words before a member", modules="weedle_modifier"),
+         "what is inherited from, and of the words before a member", modules="weedle_parts.inheritance weedle_parts.modifier"),
     File("Members",
          "constants, attributes, operations, constructors and stringifiers of interfaces are spelt, and the"
          " members of mixins",
          "constants, attributes, operations, constructors and stringifiers of interfaces, and of the members"
          " of mixins", modules="weedle_members weedle_mixins.mixin"),
     File("Iterables", "iterations, maps and sets are spelt", "iterations, maps and sets",
-         modules="weedle_iterables weedle_async_iterables"),
+         modules="weedle_iterables"),
     File("Namespaces", "namespaces and dictionaries are spelt, and their members",
          "namespaces and dictionaries, and of their members", modules="weedle_namespaces"),
     File("Statements", "definitions without members are spelt", "definitions without members",

@@ -17,10 +17,12 @@ TEXTS = {
     "crates/weedle_base/src/term.rt": "pub struct Assign;\n",
     "crates/weedle_build_base/src/lib.rt": "pub use build::{Build, BuildResult};\n",
     "crates/build_low/src/lib.rt": "",
+    "crates/build_low/src/part.rt": "pub struct LowPart<T>(T);\n",
     "crates/high/src/lib.rt": "mod definition;\n\npub use low::Default;\n",
     "crates/high/src/definition.rt": "pub enum Definition<'a> {\n    Callback(Default<'a>),\n}\n",
     "crates/high/specs/Trees.antt": "abbrev pub definition_tree : Definition → Tree\n",
     "crates/build_high/src/lib.rt": "",
+    "crates/build_high/src/part.rt": "pub struct HighPart<T>(T);\n",
 }
 
 
@@ -48,6 +50,11 @@ class BuildsTest(Room):
         self.put({"crates/low/specs/Trees.antt": trees, "crates/low/src/other.rt": declared})
         with self.assertRaisesRegex(Unfit, "no file of FILES has Inheritance"):
             builds.main(self.root)
+
+    def test_a_crate_without_a_part_is_refused(self):
+        self.put({"crates/build_high/src/part.rt": ""})
+        with self.assertRaisesRegex(Unfit, "build_high has no part for what high declares"):
+            builds.run(self.root)
 
     def test_a_type_without_a_tree_is_refused(self):
         self.put({"crates/high/specs/Trees.antt": ""})

@@ -32,7 +32,7 @@ FILES = {
     "low/specs/Trees.antt": "pub member_tree :\n",
     "low/proofs/MemberRules.antt": "pub ruleset member_steps\n",
     apart("weedle_grammar/specs/Table/Members.antt"): "abbrev pub MEMBER : Rule\n",
-    "weedle_fields/src/lib.rt": "pub fn attributes_and_three<'a, A: Parse<'a>>(\n",
+    "weedle_types/src/fields/all.rt": "pub fn attributes_and_three<'a, A: Parse<'a>>(\n",
     "weedle_base/src/term.rt": "#[derive(Clone, Copy)]\npub struct Word;\n",
     "weedle_types/src/copies.rt": COPIES,
 }

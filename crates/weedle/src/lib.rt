@@ -102,12 +102,9 @@ pub mod literal;
 pub mod types;
 
 pub use weedle_base::{Err, Error, ErrorKind, IResult, Parse, TryClone, at_byte, term};
-pub use weedle_explain::{
-    Class, Expected, Hint, Lines, Position, Refusal, explain, position_of, write_hint,
-};
 pub use weedle_front::{
-    Counted, Depths, Entry, RunFault, Status, kind_of, lend, name_of, nesting, outline, parse,
-    parse_by_descent, parse_counted, parse_quick, run, run_outline,
+    Counted, Depths, Entry, RunFault, Status, explain, kind_of, lend, name_of, nesting, outline,
+    parse, parse_by_descent, parse_counted, parse_quick, run, run_outline,
 };
 pub use weedle_idl::{
     CallbackDefinition, CallbackInterfaceDefinition, Definition, Definitions, DictionaryDefinition,
@@ -118,6 +115,9 @@ pub use weedle_idl::{
 };
 pub use weedle_places::{MemberPlace, Name, Place, Role, Span, names, places, references};
 pub use weedle_print_idl::{Nullable, PrintError, Reserved, Words, WriteIdl, write_list};
+pub use weedle_refusal::{
+    Class, Expected, Hint, Lines, Position, Refusal, position_of, write_hint,
+};
 pub use weedle_types::{argument, attribute};
 pub use weedle_view::{
     MemberKind, MemberView, ancestors, definition_named, docstring_of, extended_attributes_of,

@@ -4,10 +4,10 @@ ghost use Rattle.std.specs.Prelude.{◌≡◌, IfOk};
 ghost use Rattle.weedle_build_base.specs.Whole.{IsBuilt};
 ghost use Rattle.weedle_idl.specs.written.DefinitionTrees.{definitions_tree};
 
-use crate::definition::AnyDefinition;
+use crate::part::IdlPart;
 use std::alloc::{AllocError, Global};
 use weedle_build_base::build_front;
-use weedle_idl::Definitions;
+use weedle_idl::{Definition, Definitions};
 use weedle_rules::Ends;
 
 /// What was built of a text.
@@ -36,6 +36,6 @@ pub fn build_definitions<'a>(
     ensures { IfOk result
         (λ built. IsBuilt raw.now (definitions_tree built.list.items) built.rest.now built.visits) }
 {
-    let (list, rest, visits) = build_front::<Vec<AnyDefinition>>(alloc, ends, raw)?;
+    let (list, rest, visits) = build_front::<Vec<IdlPart<Definition<'a>>>>(alloc, ends, raw)?;
     Ok(Built { list, rest, visits })
 }

@@ -10,14 +10,13 @@
 //! assert!(rt; built.list.len() == 2 && built.rest == "x");
 //! ```
 //!
-//! How the values of each type are built is in the crates below: in `weedle_build_base` for what
-//! holds no other type, in `weedle_build_types` for the types that hold one another, in
-//! `weedle_build_members` for the members of interfaces, in `weedle_build_interfaces` for
-//! interfaces, and in `weedle_build_definitions` for the other kinds of definitions.
+//! How the values of members and definitions are built stands here too. Of other types it stands in
+//! the crates below: in `weedle_build_base` for what holds no other type, in `weedle_build_types`
+//! for the types that hold one another.
 #![tactic(auto)]
 
 mod built;
+mod part;
 mod written;
 
 pub use built::{Built, build_definitions};
-use written::definition;

@@ -3,9 +3,8 @@
 use std::alloc::{AllocError, Global};
 use std::io::{self, Write};
 use weedle_base::Err;
-use weedle_explain::{Hint, Refusal, explain, write_hint};
-use weedle_front::parse_quick;
-use weedle_refusal::write_message;
+use weedle_front::{explain, parse_quick};
+use weedle_refusal::{Hint, Refusal, write_hint, write_message};
 
 /// Where a text is refused.
 #[derive(Debug, Drop)]

@@ -7,10 +7,10 @@ use std::fmt::Debug;
 use std::io::{self, ErrorKind, Write};
 use weedle_base::{Parse, sp};
 use weedle_build::{Built, build_definitions};
-use weedle_explain::{Position, position_of};
 use weedle_idl::Definition;
 use weedle_places::{Place, places_of};
 use weedle_program::Fault;
+use weedle_refusal::{Position, position_of};
 use weedle_rules::Ends;
 
 /// Writes each definition of a text on a line, behind the line and the column at which it begins:

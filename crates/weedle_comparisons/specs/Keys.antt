@@ -14,8 +14,8 @@ use Rattle.weedle_parts.specs.declared.literal.value.ConstValue.{ConstValue}
 use Rattle.weedle_parts.specs.declared.literal.value.ConstValue.TheVariants.{Boolean as ConstBoolean, Float as ConstFloat, Integer as ConstInteger, Null as ConstNull}
 use Rattle.weedle_parts.specs.declared.literal.value.DefaultValue.{DefaultValue}
 use Rattle.weedle_parts.specs.declared.literal.value.DefaultValue.TheVariants.{Boolean as DefaultBoolean, EmptyArray, EmptyDictionary, Float as DefaultFloat, Integer as DefaultInteger, Null as DefaultNull, String as DefaultString}
-use Rattle.weedle_modifier.specs.declared.modifier.Special.{Special}
-use Rattle.weedle_modifier.specs.declared.modifier.Special.TheVariants.{Getter, Setter, Deleter, LegacyCaller}
+use Rattle.weedle_parts.specs.declared.modifier.Special.{Special}
+use Rattle.weedle_parts.specs.declared.modifier.Special.TheVariants.{Getter, Setter, Deleter, LegacyCaller}
 use Rattle.weedle_types.specs.declared.attribute.IdentifierOrString.{IdentifierOrString}
 use Rattle.weedle_types.specs.declared.attribute.IdentifierOrString.TheVariants.{Identifier as Named, String as Quoted}
 

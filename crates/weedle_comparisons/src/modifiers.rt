@@ -11,7 +11,8 @@ use crate::laws::{compare, hash_alike};
 use std::alloc::AllocError;
 use std::cmp::Ordering;
 use std::hash::Hash;
-use weedle_modifier::{Inheritance, Special};
+use weedle_parts::inheritance::Inheritance;
+use weedle_parts::modifier::Special;
 
 /// What is inherited from is compared by its name, since there is but one colon: of `: Event` and
 /// `: Node` `(false, Less)`.

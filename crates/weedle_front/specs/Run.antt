@@ -5,7 +5,7 @@ use Rattle.weedle_front.specs.Whole.{IsWhole, IsLeft}
 use Rattle.weedle_front.specs.declared.program.Status.{Status}
 use Rattle.weedle_front.specs.declared.program.Status.TheVariants.{Read, Unread}
 use Rattle.weedle_idl.specs.declared.definition.Definition.{Definition}
-use Rattle.weedle_report.specs.Report.{line}
+use Rattle.weedle_view.specs.Report.{line}
 
 -- the line of a text that is not read whole: the byte at which the remaining input begins
 abbrev pub unread_report : List ℕ → List ℕ → List ℕ

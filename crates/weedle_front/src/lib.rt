@@ -2,8 +2,8 @@
 //!
 //! [`parse`] reads a text as a list of definitions, or says from where on it is none.
 //! [`parse_by_descent`] and [`parse_quick`] answer the same, and need less time and memory for what
-//! people write. [`run`] is the program: it reads its input to the end, and writes what the text
-//! defines.
+//! people write. [`explain`] says why a text is refused. [`run`] is the program: it reads its input
+//! to the end, and writes what the text defines.
 //!
 //! ```rust
 //! use weedle_front::{name_of, parse};
@@ -21,10 +21,12 @@ mod descent;
 mod fault_text;
 mod program;
 mod reader;
+mod refusal;
 
 pub use descent::{parse_by_descent, parse_quick};
 pub use program::{RunFault, Status, run, run_outline};
 pub use reader::{Counted, parse, parse_counted};
+pub use refusal::explain;
 pub use weedle_idl::{Definition, Definitions};
 pub use weedle_nesting::{Depths, nesting};
-pub use weedle_report::{Entry, kind_of, lend, name_of, outline};
+pub use weedle_view::{Entry, kind_of, lend, name_of, outline};

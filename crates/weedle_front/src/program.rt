@@ -4,15 +4,15 @@ ghost use Rattle.std.specs.Io.KnownBytes.{Keeps, Appends};
 ghost use Rattle.std.specs.IoError.{error_kind};
 ghost use Rattle.weedle_front.specs.declared.program.RunFault.TheVariants.{Memory};
 ghost use Rattle.weedle_front.specs.Run.{IsReport, Reports, ReportsPart, ReadsNoText, AppendsPart};
-ghost use Rattle.weedle_report.specs.Outline.{outline_report};
-ghost use Rattle.weedle_report.specs.Report.{list_report, whole_report};
+ghost use Rattle.weedle_view.specs.Outline.{outline_report};
+ghost use Rattle.weedle_view.specs.Report.{list_report, whole_report};
 
 use crate::descent::parse_quick;
 use std::alloc::{AllocError, Global};
 use std::io;
 use std::io::{ErrorKind, Read, Write};
 use weedle_idl::Definitions;
-use weedle_report::{Outlines, Report, Titles, lend, lines_of};
+use weedle_view::{Outlines, Report, Titles, lend, lines_of};
 
 /// Whether the grammar read the whole text.
 #[derive(Clone, Copy, Debug, PartialEq, Eq)]

@@ -4,8 +4,8 @@ mod written;
 
 use crate::InterfaceMembers;
 use weedle_base::term::{Callback, Interface, Partial, SemiColon};
-use weedle_modifier::Inheritance;
 use weedle_parts::common::{Braced, Docstring, Identifier};
+use weedle_parts::inheritance::Inheritance;
 use weedle_types::attribute::ExtendedAttributeList;
 
 /// A callback interface, as `callback interface A {};`. A docstring may stand before it.

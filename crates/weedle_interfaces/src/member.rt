@@ -15,10 +15,12 @@ ghost use Rattle.weedle_types.specs.Steps.{members};
 mod written;
 
 use std::alloc::Global;
-use weedle_async_iterables::AsyncIterableInterfaceMember;
 use weedle_base::Choice::{self, First, Second};
 use weedle_base::{Err, IResult, Parse};
-use weedle_iterables::{IterableInterfaceMember, MaplikeInterfaceMember, SetlikeInterfaceMember};
+use weedle_iterables::{
+    AsyncIterableInterfaceMember, IterableInterfaceMember, MaplikeInterfaceMember,
+    SetlikeInterfaceMember,
+};
 use weedle_members::{
     AttributeInterfaceMember, ConstMember, ConstructorInterfaceMember, OperationInterfaceMember,
     StringifierMember,

@@ -1,1 +1,3 @@
+pub mod PartRules
+pub mod CopyFacts
 pub mod written

@@ -1,3 +1,4 @@
 -- What follows from the grammar and the declarations.
+pub mod AsyncIterableRules
 pub mod CollectionRules
 pub mod IterableRules

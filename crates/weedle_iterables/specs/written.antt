@@ -1,2 +1,3 @@
 -- What follows from the grammar and the declarations.
+pub mod PartTrees
 pub mod Trees

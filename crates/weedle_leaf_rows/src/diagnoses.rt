@@ -10,7 +10,7 @@ ghost use Rattle.std.specs.Prelude.{◌≤◌, length};
 use std::alloc::Global;
 use std::process::Abort;
 use std::test::Fail;
-use weedle_diagnose::{diagnose_by_descent, diagnose_from, diagnose_quick};
+use weedle_refusal::diagnose::{diagnose_by_descent, diagnose_from, diagnose_quick};
 use weedle_rules::Ends;
 use weedle_testing::{Wanted, repeated};
 

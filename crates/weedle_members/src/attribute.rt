@@ -3,8 +3,8 @@
 mod written;
 
 use weedle_base::term::{Attribute, ReadOnly, SemiColon};
-use weedle_modifier::StringifierOrInheritOrStatic;
 use weedle_parts::common::Identifier;
+use weedle_parts::modifier::StringifierOrInheritOrStatic;
 use weedle_types::attribute::ExtendedAttributeList;
 use weedle_types::types::AttributedType;
 

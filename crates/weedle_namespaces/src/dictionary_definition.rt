@@ -4,8 +4,8 @@ mod written;
 
 use crate::dictionary::DictionaryMembers;
 use weedle_base::term::{Dictionary, Partial, SemiColon};
-use weedle_modifier::Inheritance;
 use weedle_parts::common::{Braced, Docstring, Identifier};
+use weedle_parts::inheritance::Inheritance;
 use weedle_types::attribute::ExtendedAttributeList;
 
 /// A dictionary, as `dictionary A : B { long x = 5; };`. A docstring may stand before it.

@@ -14,3 +14,4 @@ pub mod FloatLitRules
 pub mod EmptyRules
 pub mod ValueRules
 pub mod DefaultRules
+pub mod written

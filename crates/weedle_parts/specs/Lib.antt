@@ -5,4 +5,5 @@ pub mod MayBeNull
 pub mod PartLaws
 pub mod ValueTrees
 pub mod LiteralTrees
+pub mod ModifierTrees
 pub mod RuleLaws

@@ -1,6 +1,7 @@
 //! What the types and definitions of the grammar share: brackets, lists with separators, names,
-//! docstrings, literals, defaults and the types that hold no other type. What each type reads
-//! stands in words in docs/GRAMMAR.md.
+//! docstrings, literals, defaults, the types that hold no other type, what is inherited from, and
+//! the words before an attribute or an operation. What each type reads stands in words in
+//! docs/GRAMMAR.md.
 //!
 //! ```rust
 //! use weedle_parts::common::{Identifier, Parenthesized, Punctuated};
@@ -15,6 +16,8 @@
 #![tactic(auto)]
 
 pub mod common;
+pub mod inheritance;
 pub mod laws;
 pub mod literal;
+pub mod modifier;
 pub mod types;

@@ -1,11 +1,11 @@
 -- The words of values that are one word, or some.
 use Rattle.std.specs.Prelude.{ℕ, List, codes, ◌++◌, Option, None, Some}
-use Rattle.weedle_modifier.specs.declared.modifier.Special.TheVariants.{Getter, Setter, Deleter, LegacyCaller}
-use Rattle.weedle_modifier.specs.declared.modifier.Special.{Special}
-use Rattle.weedle_modifier.specs.declared.modifier.StringifierOrInheritOrStatic.TheVariants.{Stringifier as OrInheritOrStatic-Stringifier, Inherit, Static as OrInheritOrStatic-Static}
-use Rattle.weedle_modifier.specs.declared.modifier.StringifierOrInheritOrStatic.{StringifierOrInheritOrStatic}
-use Rattle.weedle_modifier.specs.declared.modifier.StringifierOrStatic.TheVariants.{Stringifier as OrStatic-Stringifier, Static as OrStatic-Static}
-use Rattle.weedle_modifier.specs.declared.modifier.StringifierOrStatic.{StringifierOrStatic}
+use Rattle.weedle_parts.specs.declared.modifier.Special.TheVariants.{Getter, Setter, Deleter, LegacyCaller}
+use Rattle.weedle_parts.specs.declared.modifier.Special.{Special}
+use Rattle.weedle_parts.specs.declared.modifier.StringifierOrInheritOrStatic.TheVariants.{Stringifier as OrInheritOrStatic-Stringifier, Inherit, Static as OrInheritOrStatic-Static}
+use Rattle.weedle_parts.specs.declared.modifier.StringifierOrInheritOrStatic.{StringifierOrInheritOrStatic}
+use Rattle.weedle_parts.specs.declared.modifier.StringifierOrStatic.TheVariants.{Stringifier as OrStatic-Stringifier, Static as OrStatic-Static}
+use Rattle.weedle_parts.specs.declared.modifier.StringifierOrStatic.{StringifierOrStatic}
 use Rattle.weedle_parts.specs.declared.types.floating_point.DoubleType.{DoubleType}
 use Rattle.weedle_parts.specs.declared.types.floating_point.FloatType.{FloatType}
 use Rattle.weedle_parts.specs.declared.types.floating_point.FloatingPointType.{FloatingPointType}

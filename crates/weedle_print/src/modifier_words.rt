@@ -7,7 +7,7 @@ ghost use Rattle.weedle_print.specs.Words.{
 };
 
 use crate::words::Words;
-use weedle_modifier::{Special, StringifierOrInheritOrStatic, StringifierOrStatic};
+use weedle_parts::modifier::{Special, StringifierOrInheritOrStatic, StringifierOrStatic};
 
 impl Words for Special {
     ghost words = { special_word };

@@ -2,7 +2,7 @@
 use Rattle.std.proofs.Common.{ℕ, List}
 use Rattle.std.proofs.lemmas.Str.{IsCharBoundary-start}
 use Rattle.std.specs.Prelude.{IsUtf8}
-use Rattle.weedle_diagnose.specs.Diagnosis.{IsDiagnosis}
+use Rattle.weedle_refusal.specs.Diagnosis.{IsDiagnosis}
 use Rattle.weedle_refusal.specs.Furthest.{IsFurthest}
 use Rattle.weedle_refusal.specs.Words.{AreWords}
 use Rattle.weedle_refusal.specs.declared.expected.Expected.{Expected}

@@ -1,6 +1,6 @@
 -- Where the reading of a text comes furthest, and the words for what is unmet there.
 use Rattle.std.specs.Prelude.{ℕ, List, IsCharBoundary}
-use Rattle.weedle_diagnose.specs.Diagnosis.{IsDiagnosis}
+use Rattle.weedle_refusal.specs.Diagnosis.{IsDiagnosis}
 use Rattle.weedle_refusal.specs.Words.{AreWords}
 use Rattle.weedle_refusal.specs.declared.expected.Expected.{Expected}
 

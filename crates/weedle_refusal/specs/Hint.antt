@@ -1,7 +1,7 @@
 -- What a hint says of a text whose definition at `start` is read up to `place` and no further.
 use Rattle.std.specs.Prelude.{◌≡◌, ◌≤◌, ◌<◌, ◌+◌, ◌-◌, ◌⊎◌, ◌==◌, ◌||◌, ℕ, Bool, true, false, List, [], ◌++◌, ◌∷◌, length, max, take, drop, slice_index, slice_range, codes}
 use Rattle.std.specs.List.{list_any}
-use Rattle.weedle_diagnose.specs.Diagnosis.{IsDiagnosis}
+use Rattle.weedle_refusal.specs.Diagnosis.{IsDiagnosis}
 use Rattle.weedle_grammar.specs.Rows.{Bytes, is_in, run_length}
 use Rattle.weedle_grammar.specs.declared.class.Class.TheVariants.{Letter, Name}
 use Rattle.weedle_grammar.specs.written.Table.{row_of}

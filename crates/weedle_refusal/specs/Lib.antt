@@ -1,3 +1,8 @@
+pub mod Marks
+pub mod Ways
+pub mod Noted
+pub mod Diagnosis
+pub mod Descent
 pub mod Position
 pub mod Lines
 pub mod Words

@@ -3,10 +3,10 @@
 ghost use Rattle.std.specs.Prelude.{◌≤◌, IfOk, length};
 ghost use Rattle.weedle_refusal.specs.Furthest.{IsFurthest};
 
+use crate::diagnose::diagnose_quick;
 use crate::expected::Expected;
 use crate::words::words_of;
 use std::alloc::{AllocError, Global};
-use weedle_diagnose::diagnose_quick;
 
 /// Where the reading of a text as definitions comes furthest, in bytes from its front, and what
 /// would have been read there.

@@ -16,6 +16,7 @@
 #![tactic(auto)]
 
 mod behind;
+pub mod diagnose;
 mod display;
 mod excerpt;
 mod expected;

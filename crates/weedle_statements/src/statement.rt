@@ -10,9 +10,9 @@ mod written;
 use std::alloc::Global;
 use weedle_base::term::{Implements, Includes, SemiColon};
 use weedle_base::{IResult, Parse};
-use weedle_fields::attributes_and_four;
 use weedle_parts::common::Identifier;
 use weedle_types::attribute::ExtendedAttributeList;
+use weedle_types::fields::attributes_and_four;
 
 /// The use of a mixin by an interface, as `A includes B;`. No docstring may stand before it.
 #[derive(Debug, PartialEq, Eq, PartialOrd, Ord, Hash)]

@@ -4,9 +4,9 @@ use std::alloc::Global;
 use std::env::{self, Args};
 use std::io::{self, BufWriter, Write};
 use std::rt::Runtime;
-use weedle_diagnose::diagnose_from;
 use weedle_places::{MemberPlace, Place, Span, names_of, places_of};
 use weedle_program::{Fault, Outcome, ended, text_of};
+use weedle_refusal::diagnose::diagnose_from;
 use weedle_rules::Ends;
 use weedle_syntax::Syntax;
 

@@ -40,8 +40,8 @@ mod types;
 use std::alloc::{AllocError, Global};
 use std::cmp::Ordering;
 use weedle_base::term::{Colon, Comma, Long, Short, Unsigned};
-use weedle_modifier::Inheritance;
 use weedle_parts::common::{Docstring, Identifier, Punctuated};
+use weedle_parts::inheritance::Inheritance;
 use weedle_parts::types::{IntegerType, LongType, ShortType};
 
 const LESS: (bool, Ordering) = (false, Ordering::Less);

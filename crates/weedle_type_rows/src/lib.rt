@@ -1,5 +1,6 @@
 //! Tests of types, extended attributes, arguments and members: what is read, how values compare,
-//! and what is answered where memory is refused.
+//! what is written of values that were put together by hand, and what is answered where memory is
+//! refused.
 #![tactic(auto)]
 
 #[cfg(test)]
@@ -10,6 +11,8 @@ mod attributes;
 mod comparisons;
 #[cfg(test)]
 mod members;
+#[cfg(test)]
+mod printed;
 #[cfg(test)]
 mod types;
 #[cfg(test)]

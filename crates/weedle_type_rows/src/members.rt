@@ -8,9 +8,10 @@
 use std::test::Fail;
 use weedle_interfaces::InterfaceMember;
 use weedle_mixins::mixin::MixinMember;
-use weedle_modifier::{Inheritance, Special, StringifierOrInheritOrStatic, StringifierOrStatic};
 use weedle_namespaces::dictionary::DictionaryMember;
 use weedle_namespaces::namespace::NamespaceMember;
+use weedle_parts::inheritance::Inheritance;
+use weedle_parts::modifier::{Special, StringifierOrInheritOrStatic, StringifierOrStatic};
 use weedle_testing::{Wanted, reads_with_no_memory};
 
 #[test]

@@ -7,6 +7,7 @@ pub mod argument;
 pub mod attribute;
 mod clones;
 pub mod copies;
+pub mod fields;
 mod formers;
 pub mod laws;
 pub mod parts;

@@ -4,11 +4,11 @@ use Rattle.std.proofs.lemmas.List.Folds.{list_any-append}
 use Rattle.std.proofs.lemmas.List.{map-append}
 use Rattle.std.proofs.lemmas.Slice.Eq.{bytes_eq-Decides}
 use Rattle.weedle_idl.specs.declared.definition.Definition.{Definition}
-use Rattle.weedle_modifier.specs.declared.inheritance.Inheritance.{Inheritance}
-use Rattle.weedle_report.specs.Titles.{name_text}
+use Rattle.weedle_parts.specs.declared.inheritance.Inheritance.{Inheritance}
 use Rattle.weedle_view.specs.Ancestry.{is_met, inherited, AreAncestors, HasAncestors}
 use Rattle.weedle_view.specs.Definitions.{inheritance_of_definition}
 use Rattle.weedle_view.specs.Parts.{is_whole, is_whole_of}
+use Rattle.weedle_view.specs.Titles.{name_text}
 
 -- what passes a narrower test is no longer
 no_longer : {X : Type 0} (p q : X → Bool) → ((x : X) → q x ≡ true → p x ≡ true) → (xs : List X) → length (filter q xs) ≤ length (filter p xs)

@@ -2,10 +2,10 @@
 use Rattle.std.specs.List.{list_any}
 use Rattle.std.specs.Prelude.{◌≡◌, ℕ, Bool, List, [], ◌∷◌, ◌++◌, Option, None, Some, MatchOption, bytes_eq, find, if◌then◌else◌}
 use Rattle.weedle_idl.specs.declared.definition.Definition.{Definition}
-use Rattle.weedle_modifier.specs.declared.inheritance.Inheritance.{Inheritance}
-use Rattle.weedle_report.specs.Titles.{name_text}
+use Rattle.weedle_parts.specs.declared.inheritance.Inheritance.{Inheritance}
 use Rattle.weedle_view.specs.Definitions.{inheritance_of_definition}
 use Rattle.weedle_view.specs.Parts.{is_whole_of}
+use Rattle.weedle_view.specs.Titles.{name_text}
 
 -- the name is one of these
 abbrev pub is_met : List (List ℕ) → List ℕ → Bool

@@ -2,7 +2,7 @@
 use Rattle.std.specs.Prelude.{Option, None}
 use Rattle.weedle_idl.specs.declared.definition.Definition.{Definition}
 use Rattle.weedle_idl.specs.declared.definition.Definition.TheVariants.{Callback as IsCallback, CallbackInterface as IsCallbackInterface, Interface as IsInterface, InterfaceMixin as IsInterfaceMixin, Namespace as IsNamespace, Dictionary as IsDictionary, PartialInterface as IsPartialInterface, PartialInterfaceMixin as IsPartialInterfaceMixin, PartialDictionary as IsPartialDictionary, PartialNamespace as IsPartialNamespace, Enum as IsEnum, Typedef as IsTypedef, IncludesStatement as IsIncludesStatement, Implements as IsImplements}
-use Rattle.weedle_modifier.specs.declared.inheritance.Inheritance.{Inheritance}
+use Rattle.weedle_parts.specs.declared.inheritance.Inheritance.{Inheritance}
 use Rattle.weedle_parts.specs.declared.common.docstring.Docstring.{Docstring}
 use Rattle.weedle_types.specs.PartTrees.{Attributes}
 

@@ -1,3 +1,6 @@
+pub mod Outline
+pub mod Report
+pub mod Titles
 pub mod Definitions
 pub mod Members
 pub mod Parts

@@ -9,10 +9,10 @@ ghost use Rattle.weedle_view.specs.Ancestry.{
 ghost use Rattle.weedle_view.specs.Definitions.{inheritance_of_definition};
 
 use crate::definition::inheritance_of;
+use crate::name_of;
 use crate::parts::definition_named;
 use std::alloc::{AllocError, Global};
 use weedle_idl::Definition;
-use weedle_report::name_of;
 
 /// What a name inherits from, the nearest first, as `B` and then `C` for `A` of `interface A : B
 /// {}; interface B : C {}; interface C {};`.
@@ -28,7 +28,7 @@ use weedle_report::name_of;
 /// ```rust
 /// use weedle_base::Parse;
 /// use weedle_idl::Definitions;
-/// use weedle_report::{lend, name_of};
+/// use weedle_view::{lend, name_of};
 /// use weedle_view::ancestors;
 ///
 /// let text = "interface A : B {}; interface B : C {}; interface C : A {};";

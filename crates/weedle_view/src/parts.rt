@@ -12,9 +12,9 @@ ghost use Rattle.weedle_view.specs.Parts.{
   is_whole_of,
 };
 
+use crate::name_of;
 use std::alloc::{AllocError, Global};
 use weedle_idl::Definition;
-use weedle_report::name_of;
 
 /// The first definition of a name that is neither a part nor a statement, as the interface of `A
 /// includes M; interface A {};` for `A`. It takes no memory, and looks through the definitions
@@ -23,7 +23,7 @@ use weedle_report::name_of;
 /// ```rust
 /// use weedle_base::Parse;
 /// use weedle_idl::Definitions;
-/// use weedle_report::{kind_of, lend};
+/// use weedle_view::{kind_of, lend};
 /// use weedle_view::definition_named;
 ///
 /// let text = "A includes M; partial interface A {}; enum A { \"a\" };";
@@ -55,7 +55,7 @@ pub fn definition_named<'d, 'a>(
 /// ```rust
 /// use weedle_base::Parse;
 /// use weedle_idl::Definitions;
-/// use weedle_report::lend;
+/// use weedle_view::lend;
 /// use weedle_view::parts_named;
 ///
 /// let text = "partial interface A {}; A includes M; interface A {}; partial dictionary A {};";
@@ -93,7 +93,7 @@ pub fn parts_named<'d, 'a>(
 /// ```rust
 /// use weedle_base::Parse;
 /// use weedle_idl::Definitions;
-/// use weedle_report::{lend, name_of};
+/// use weedle_view::{lend, name_of};
 /// use weedle_view::included_into;
 ///
 /// let text = "A includes M; B includes N; interface mixin N {}; interface mixin M {};";

@@ -965,6 +965,52 @@ export abstract class StringifierMember extends Value {
   readonly semiColon: term.SemiColon;
 }
 
+/** An asynchronous iteration over values, as `async iterable<long>;`. */
+export abstract class SingleTypedAsyncIterable extends Value {
+  readonly kind: "SingleTypedAsyncIterable";
+  /** The extended attributes in brackets, as `[Exposed=Window]`, where they stand. */
+  readonly attributes: ExtendedAttributeList | null;
+  /** The words `async` and `iterable`. */
+  readonly asyncIterable: readonly [term.Async, term.Iterable];
+  /** The type of its values in angle brackets, as `<long>`. */
+  readonly generics: Generics<AttributedType>;
+  /** The arguments between parentheses, as `(long x)`, where they stand. */
+  readonly args: Parenthesized<ArgumentList> | null;
+  /** The `;` at the end. */
+  readonly semiColon: term.SemiColon;
+}
+
+/** An asynchronous iteration over pairs, as `async iterable<DOMString, long>(long x);`. */
+export abstract class DoubleTypedAsyncIterable extends Value {
+  readonly kind: "DoubleTypedAsyncIterable";
+  /** The extended attributes in brackets, as `[Exposed=Window]`, where they stand. */
+  readonly attributes: ExtendedAttributeList | null;
+  /** The words `async` and `iterable`. */
+  readonly asyncIterable: readonly [term.Async, term.Iterable];
+  /** The types of its keys and values in angle brackets, as `<DOMString, long>`. */
+  readonly generics: Generics<readonly [AttributedType, term.Comma, AttributedType]>;
+  /** The arguments between parentheses, as `(long x)`, where they stand. */
+  readonly args: Parenthesized<ArgumentList> | null;
+  /** The `;` at the end. */
+  readonly semiColon: term.SemiColon;
+}
+
+/** An asynchronous iteration over values or pairs, as `async iterable<long>;`. */
+export type AsyncIterableInterfaceMember =
+  | AsyncIterableInterfaceMember.Single | AsyncIterableInterfaceMember.Double;
+export declare namespace AsyncIterableInterfaceMember {
+  /** `[extended attributes] async iterable<type>(arguments);`, also without `(arguments)`. */
+  interface Single extends Choice<"AsyncIterableInterfaceMember", "Single", values.SingleTypedAsyncIterable> {}
+  /** `[extended attributes] async iterable<type, type>(arguments);`, also without `(arguments)`. */
+  interface Double extends Choice<"AsyncIterableInterfaceMember", "Double", values.DoubleTypedAsyncIterable> {}
+}
+export declare const AsyncIterableInterfaceMember: Kind<AsyncIterableInterfaceMember> & {
+  /** `[extended attributes] async iterable<type>(arguments);`, also without `(arguments)`. */
+  readonly Single: Kind<AsyncIterableInterfaceMember.Single>;
+  /** `[extended attributes] async iterable<type, type>(arguments);`, also without `(arguments)`. */
+  readonly Double: Kind<AsyncIterableInterfaceMember.Double>;
+};
+
 /** A map, as `readonly maplike<DOMString, long>;`. */
 export abstract class MaplikeInterfaceMember extends Value {
   readonly kind: "MaplikeInterfaceMember";
@@ -1035,52 +1081,6 @@ export declare const IterableInterfaceMember: Kind<IterableInterfaceMember> & {
   readonly Single: Kind<IterableInterfaceMember.Single>;
   /** `[extended attributes] iterable<type, type>;`. */
   readonly Double: Kind<IterableInterfaceMember.Double>;
-};
-
-/** An asynchronous iteration over values, as `async iterable<long>;`. */
-export abstract class SingleTypedAsyncIterable extends Value {
-  readonly kind: "SingleTypedAsyncIterable";
-  /** The extended attributes in brackets, as `[Exposed=Window]`, where they stand. */
-  readonly attributes: ExtendedAttributeList | null;
-  /** The words `async` and `iterable`. */
-  readonly asyncIterable: readonly [term.Async, term.Iterable];
-  /** The type of its values in angle brackets, as `<long>`. */
-  readonly generics: Generics<AttributedType>;
-  /** The arguments between parentheses, as `(long x)`, where they stand. */
-  readonly args: Parenthesized<ArgumentList> | null;
-  /** The `;` at the end. */
-  readonly semiColon: term.SemiColon;
-}
-
-/** An asynchronous iteration over pairs, as `async iterable<DOMString, long>(long x);`. */
-export abstract class DoubleTypedAsyncIterable extends Value {
-  readonly kind: "DoubleTypedAsyncIterable";
-  /** The extended attributes in brackets, as `[Exposed=Window]`, where they stand. */
-  readonly attributes: ExtendedAttributeList | null;
-  /** The words `async` and `iterable`. */
-  readonly asyncIterable: readonly [term.Async, term.Iterable];
-  /** The types of its keys and values in angle brackets, as `<DOMString, long>`. */
-  readonly generics: Generics<readonly [AttributedType, term.Comma, AttributedType]>;
-  /** The arguments between parentheses, as `(long x)`, where they stand. */
-  readonly args: Parenthesized<ArgumentList> | null;
-  /** The `;` at the end. */
-  readonly semiColon: term.SemiColon;
-}
-
-/** An asynchronous iteration over values or pairs, as `async iterable<long>;`. */
-export type AsyncIterableInterfaceMember =
-  | AsyncIterableInterfaceMember.Single | AsyncIterableInterfaceMember.Double;
-export declare namespace AsyncIterableInterfaceMember {
-  /** `[extended attributes] async iterable<type>(arguments);`, also without `(arguments)`. */
-  interface Single extends Choice<"AsyncIterableInterfaceMember", "Single", values.SingleTypedAsyncIterable> {}
-  /** `[extended attributes] async iterable<type, type>(arguments);`, also without `(arguments)`. */
-  interface Double extends Choice<"AsyncIterableInterfaceMember", "Double", values.DoubleTypedAsyncIterable> {}
-}
-export declare const AsyncIterableInterfaceMember: Kind<AsyncIterableInterfaceMember> & {
-  /** `[extended attributes] async iterable<type>(arguments);`, also without `(arguments)`. */
-  readonly Single: Kind<AsyncIterableInterfaceMember.Single>;
-  /** `[extended attributes] async iterable<type, type>(arguments);`, also without `(arguments)`. */
-  readonly Double: Kind<AsyncIterableInterfaceMember.Double>;
 };
 
 /** A member of an interface, as `attribute long length;`. */

@@ -888,6 +888,74 @@ class StringifierMember extends Value {
   }
 }
 
+/** An asynchronous iteration over values, as `async iterable<long>;`. */
+class SingleTypedAsyncIterable extends Value {
+  static fields = {
+    attributes: "attributes",
+    asyncIterable: "async_iterable",
+    generics: "generics",
+    args: "args",
+    semiColon: "semi_colon",
+  };
+
+  get attributes() {
+    return part(this, 0);
+  }
+
+  get asyncIterable() {
+    return part(this, 1);
+  }
+
+  get generics() {
+    return part(this, 2);
+  }
+
+  get args() {
+    return part(this, 3);
+  }
+
+  get semiColon() {
+    return part(this, 4);
+  }
+}
+
+/** An asynchronous iteration over pairs, as `async iterable<DOMString, long>(long x);`. */
+class DoubleTypedAsyncIterable extends Value {
+  static fields = {
+    attributes: "attributes",
+    asyncIterable: "async_iterable",
+    generics: "generics",
+    args: "args",
+    semiColon: "semi_colon",
+  };
+
+  get attributes() {
+    return part(this, 0);
+  }
+
+  get asyncIterable() {
+    return part(this, 1);
+  }
+
+  get generics() {
+    return part(this, 2);
+  }
+
+  get args() {
+    return part(this, 3);
+  }
+
+  get semiColon() {
+    return part(this, 4);
+  }
+}
+
+/** An asynchronous iteration over values or pairs, as `async iterable<long>;`. */
+class AsyncIterableInterfaceMember extends Choice {
+  static Single = this.variant("Single");
+  static Double = this.variant("Double");
+}
+
 /** A map, as `readonly maplike<DOMString, long>;`. */
 class MaplikeInterfaceMember extends Value {
   static fields = {
@@ -1004,74 +1072,6 @@ class DoubleTypedIterable extends Value {
 
 /** An iteration over values or pairs, as `iterable<long>;`. */
 class IterableInterfaceMember extends Choice {
-  static Single = this.variant("Single");
-  static Double = this.variant("Double");
-}
-
-/** An asynchronous iteration over values, as `async iterable<long>;`. */
-class SingleTypedAsyncIterable extends Value {
-  static fields = {
-    attributes: "attributes",
-    asyncIterable: "async_iterable",
-    generics: "generics",
-    args: "args",
-    semiColon: "semi_colon",
-  };
-
-  get attributes() {
-    return part(this, 0);
-  }
-
-  get asyncIterable() {
-    return part(this, 1);
-  }
-
-  get generics() {
-    return part(this, 2);
-  }
-
-  get args() {
-    return part(this, 3);
-  }
-
-  get semiColon() {
-    return part(this, 4);
-  }
-}
-
-/** An asynchronous iteration over pairs, as `async iterable<DOMString, long>(long x);`. */
-class DoubleTypedAsyncIterable extends Value {
-  static fields = {
-    attributes: "attributes",
-    asyncIterable: "async_iterable",
-    generics: "generics",
-    args: "args",
-    semiColon: "semi_colon",
-  };
-
-  get attributes() {
-    return part(this, 0);
-  }
-
-  get asyncIterable() {
-    return part(this, 1);
-  }
-
-  get generics() {
-    return part(this, 2);
-  }
-
-  get args() {
-    return part(this, 3);
-  }
-
-  get semiColon() {
-    return part(this, 4);
-  }
-}
-
-/** An asynchronous iteration over values or pairs, as `async iterable<long>;`. */
-class AsyncIterableInterfaceMember extends Choice {
   static Single = this.variant("Single");
   static Double = this.variant("Double");
 }

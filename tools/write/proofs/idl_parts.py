@@ -27,7 +27,7 @@ SHARED = {
 }
 # What is read by a function of its own.
 ALONE = ("attributes_reading", "async_iterable_reading", "optional_arguments_reading", "enum_values_reading")
-# The structs that are read by one call of `weedle_fields`: how many fields there are up to the extended
+# The structs that are read by one call of `weedle_types::fields`: how many fields there are up to the extended
 # attributes, and behind them.
 BY_ONE_CALL = ((1, 3), (1, 4), (1, 5), (1, 6), (2, 4), (2, 5), (2, 6))
 # A function that reads a few variants, with the enum and the number of the first.
@@ -42,8 +42,8 @@ APART = {
 }
 # What is said otherwise than the docs say it: of modules, and of types.
 ABOUT = {
-    "weedle_modifier.inheritance": "What interfaces and dictionaries inherit from.",
-    "weedle_modifier.modifier": "The words that may stand before a member.",
+    "weedle_parts.inheritance": "What interfaces and dictionaries inherit from.",
+    "weedle_parts.modifier": "The words that may stand before a member.",
     "weedle_members.stringifier": "Stringifiers.",
     "weedle_interfaces.member": "Members of interfaces.",
     "weedle_interfaces.definition": "Interfaces.",
@@ -199,7 +199,7 @@ def files():
     """The files of all modules that declare members or definitions, or words before them."""
     found = {}
     for it in DECLARED.types.values():
-        if it.crate in CRATES:
+        if it.home in CRATES:
             found.setdefault((it.crate, it.module, APART.get(it.name)), []).append(it)
     for (crate, module, apart), declarations in found.items():
         text = (TOP / "crates" / crate / "src" / f"{module}.rt").read_text(encoding="utf-8")

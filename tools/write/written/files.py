@@ -2,8 +2,9 @@
 
 import re
 
-from description.declarations import Declaration, Part, declared_by, split
+from description.declarations import Declaration, Part, crate_of, declared_by, split
 from description.names import snake
+from description.readings import LEAVES, TYPES
 from description.uses import ghost_lines
 from shared.written_places import FOLDER
 from write.written.conversions import conversions
@@ -18,7 +19,7 @@ OUT = FOLDER
 KINDS = (parses, copies, conversions, methods)
 # What holds no other type is read by hand. The types that hold one another are read and copied together, in
 # modules of their own, and no other crate takes them apart.
-ONLY = {"weedle_parts": (conversions,), "weedle_types": (conversions,)}
+ONLY = dict.fromkeys([*LEAVES, TYPES], (conversions,))
 # An enum with more variants has its conversions in a file of their own.
 MANY = 16
 HEAD = """//! {}
@@ -44,7 +45,7 @@ def formed(alias, former):
         for part in former.parts
     ]
     item = Declaration("enum", alias.name, (), parts, derived=former.derived)
-    item.crate, item.module, item.former = alias.crate, alias.module, former
+    item.home, item.crate, item.module, item.former = alias.home, alias.crate, alias.module, former
     item.is_borrowing = alias.is_borrowing
     return item
 
@@ -63,7 +64,7 @@ def pieces_of(items, stated):
     """What is written of some types, by the names of its files, each with its first line."""
     files = {}
     for item in items:
-        for kind in (conversions,) if item.former else ONLY.get(item.crate, KINDS):
+        for kind in (conversions,) if item.former else ONLY.get(item.home, KINDS):
             alone = kind is conversions and item.is_enum and len(item.parts) > MANY
             name = (f"from_{snake(item.name)}", ABOUT_ONE.format(item.name)) if alone else (OUT, ABOUT)
             files.setdefault(name, []).extend(kind(item, stated))
@@ -87,9 +88,10 @@ def file_text(about, mods, pieces, paths):
     return "\n".join(part for part in parts if part)
 
 
-def files_of(root, crate):
-    """The files of a crate, each by its path below crates/, with its text."""
-    declared, stated = list(declared_by(root, crate)), Stated(root, crate)
+def files_of(root, home):
+    """The files of a crate or of a module of one, each by its path below crates/, with its text."""
+    crate = crate_of(home)
+    declared, stated = list(declared_by(root, home)), Stated(root, crate)
     for module in dict.fromkeys(it.module for it in declared):
         items = list(items_of(module, declared))
         found = pieces_of(items, stated)

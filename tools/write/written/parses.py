@@ -7,7 +7,7 @@ from write.written.pieces import Piece, bound
 
 OWN, LAWS = "Rattle.weedle_base.specs.Own", "Rattle.weedle_base.specs.OwnLaws"
 # What a docstring and extended attributes that may be absent are declared as: the functions of
-# weedle_fields are named by these, and by how many fields stand behind them.
+# weedle_types::fields are named by these, and by how many fields stand behind them.
 BEGIN = {"docstring": type_of("Option<Docstring>"), "attributes": type_of("Option<ExtendedAttributeList>")}
 NUMBERS = {3: "three", 4: "four", 5: "five", 6: "six"}
 # How many fields are read as pairs within pairs, and how many variants as choices within choices.
@@ -24,7 +24,7 @@ def filled_in(item):
 
 
 def reader_of(item, stated):
-    """The function of weedle_fields that reads the fields of a struct, or None."""
+    """The function of weedle_types::fields that reads the fields of a struct, or None."""
     begin = [name for name, type_ in BEGIN.items() if type_ in [part.type for part in item.parts[:2]]]
     name = f"{'_'.join(begin)}_and_{NUMBERS.get(len(item.parts) - len(begin))}"
     return name if begin and name in stated.readers else None

@@ -14,7 +14,7 @@ from shared.written_places import in_logic, place
 COPYING = re.compile(r"^pub(?:\(crate\))? fn (copy_\w+)(?:<'a>)?\(\s*\w+: &([^;{]+?),\s*alloc: Global", re.M)
 READING = re.compile(r"^pub fn (\w+)<", re.M)
 # Where functions stand that other crates call.
-COPIES, FIELDS = ("weedle_types", "copies"), "weedle_fields"
+COPIES, FIELDS = ("weedle_types", "copies"), ("weedle_types", "fields")
 TABLE = "weedle_grammar.specs.Table"
 
 
@@ -57,7 +57,7 @@ class Stated:
         self.copies = list(copies_in(shared, "::".join(COPIES)))
         for path in sorted(source_of(root, crate).glob("*.rt")) if crate != COPIES[0] else ():
             self.copies += copies_in(path, f"crate::{path.stem}")
-        files = sorted(source_of(root, FIELDS).glob("*.rt"))
+        files = sorted((source_of(root, FIELDS[0]) / FIELDS[1]).glob("*.rt"))
         self.readers = {it for path in files for it in READING.findall(path.read_text(encoding="utf-8"))}
 
     def tree(self, item):
@@ -103,4 +103,4 @@ class Stated:
 
     def paths(self):
         """The path of each function that pieces call."""
-        return {name: module for _, name, module in self.copies} | dict.fromkeys(self.readers, FIELDS)
+        return {name: module for _, name, module in self.copies} | dict.fromkeys(self.readers, "::".join(FIELDS))

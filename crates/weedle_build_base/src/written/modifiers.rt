@@ -10,7 +10,7 @@ ghost use Rattle.weedle_grammar.specs.written.Table.InterfaceMembers.{
   STRINGIFIER_OR_INHERIT_OR_STATIC,
   STRINGIFIER_OR_STATIC,
 };
-ghost use Rattle.weedle_modifier.specs.written.Trees.{
+ghost use Rattle.weedle_parts.specs.ModifierTrees.{
   inheritance_tree,
   special_tree,
   stringifier_or_inherit_or_static_tree,
@@ -25,8 +25,9 @@ use std::alloc::Global;
 use weedle_base::term::{
     Colon, Deleter, Getter, Inherit, LegacyCaller, Setter, Static, Stringifier,
 };
-use weedle_modifier::{Inheritance, Special, StringifierOrInheritOrStatic, StringifierOrStatic};
 use weedle_parts::common::Identifier;
+use weedle_parts::inheritance::Inheritance;
+use weedle_parts::modifier::{Special, StringifierOrInheritOrStatic, StringifierOrStatic};
 use weedle_rules::{Ends, Rule};
 
 impl<'a> Build<'a> for Inheritance<'a> {

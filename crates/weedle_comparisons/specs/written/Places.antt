@@ -15,12 +15,12 @@ use Rattle.weedle_parts.specs.declared.literal.value.DefaultValue.{DefaultValue}
 use Rattle.weedle_parts.specs.declared.literal.value.DefaultValue.TheVariants.{Boolean as DefaultValue-Boolean, EmptyArray as DefaultValue-EmptyArray, EmptyDictionary as DefaultValue-EmptyDictionary, Float as DefaultValue-Float, Integer as DefaultValue-Integer, Null as DefaultValue-Null, String as DefaultValue-String}
 use Rattle.weedle_parts.specs.declared.literal.value.ConstValue.{ConstValue}
 use Rattle.weedle_parts.specs.declared.literal.value.ConstValue.TheVariants.{Boolean as ConstValue-Boolean, Float as ConstValue-Float, Integer as ConstValue-Integer, Null as ConstValue-Null}
-use Rattle.weedle_modifier.specs.declared.modifier.Special.{Special}
-use Rattle.weedle_modifier.specs.declared.modifier.Special.TheVariants.{Getter as Special-Getter, Setter as Special-Setter, Deleter as Special-Deleter, LegacyCaller as Special-LegacyCaller}
-use Rattle.weedle_modifier.specs.declared.modifier.StringifierOrInheritOrStatic.{StringifierOrInheritOrStatic}
-use Rattle.weedle_modifier.specs.declared.modifier.StringifierOrInheritOrStatic.TheVariants.{Stringifier as StringifierOrInheritOrStatic-Stringifier, Inherit as StringifierOrInheritOrStatic-Inherit, Static as StringifierOrInheritOrStatic-Static}
-use Rattle.weedle_modifier.specs.declared.modifier.StringifierOrStatic.{StringifierOrStatic}
-use Rattle.weedle_modifier.specs.declared.modifier.StringifierOrStatic.TheVariants.{Stringifier as StringifierOrStatic-Stringifier, Static as StringifierOrStatic-Static}
+use Rattle.weedle_parts.specs.declared.modifier.Special.{Special}
+use Rattle.weedle_parts.specs.declared.modifier.Special.TheVariants.{Getter as Special-Getter, Setter as Special-Setter, Deleter as Special-Deleter, LegacyCaller as Special-LegacyCaller}
+use Rattle.weedle_parts.specs.declared.modifier.StringifierOrInheritOrStatic.{StringifierOrInheritOrStatic}
+use Rattle.weedle_parts.specs.declared.modifier.StringifierOrInheritOrStatic.TheVariants.{Stringifier as StringifierOrInheritOrStatic-Stringifier, Inherit as StringifierOrInheritOrStatic-Inherit, Static as StringifierOrInheritOrStatic-Static}
+use Rattle.weedle_parts.specs.declared.modifier.StringifierOrStatic.{StringifierOrStatic}
+use Rattle.weedle_parts.specs.declared.modifier.StringifierOrStatic.TheVariants.{Stringifier as StringifierOrStatic-Stringifier, Static as StringifierOrStatic-Static}
 use Rattle.weedle_types.specs.declared.argument.Argument.{Argument}
 use Rattle.weedle_types.specs.declared.argument.Argument.TheVariants.{Single' as Argument-Single', Variadic' as Argument-Variadic'}
 use Rattle.weedle_types.specs.declared.attribute.ExtendedAttribute.{ExtendedAttribute}
@@ -39,10 +39,10 @@ use Rattle.weedle_types.specs.declared.types.NonAnyType.{NonAnyType}
 use Rattle.weedle_types.specs.declared.types.NonAnyType.TheVariants.{Promise' as NonAnyType-Promise', Integer as NonAnyType-Integer, FloatingPoint as NonAnyType-FloatingPoint, Boolean as NonAnyType-Boolean, Byte as NonAnyType-Byte, Octet as NonAnyType-Octet, ByteString as NonAnyType-ByteString, DOMString as NonAnyType-DOMString, USVString as NonAnyType-USVString, Sequence' as NonAnyType-Sequence', Object as NonAnyType-Object, Symbol as NonAnyType-Symbol, Error as NonAnyType-Error, ArrayBuffer as NonAnyType-ArrayBuffer, DataView as NonAnyType-DataView, Int8Array as NonAnyType-Int8Array, Int16Array as NonAnyType-Int16Array, Int32Array as NonAnyType-Int32Array, Uint8Array as NonAnyType-Uint8Array, Uint16Array as NonAnyType-Uint16Array, Uint32Array as NonAnyType-Uint32Array, Uint8ClampedArray as NonAnyType-Uint8ClampedArray, Float32Array as NonAnyType-Float32Array, Float64Array as NonAnyType-Float64Array, ArrayBufferView as NonAnyType-ArrayBufferView, BufferSource as NonAnyType-BufferSource, FrozenArrayType' as NonAnyType-FrozenArrayType', RecordType' as NonAnyType-RecordType', Identifier as NonAnyType-Identifier}
 use Rattle.weedle_types.specs.declared.types.UnionMemberType.{UnionMemberType}
 use Rattle.weedle_types.specs.declared.types.UnionMemberType.TheVariants.{Single' as UnionMemberType-Single', Union' as UnionMemberType-Union'}
+use Rattle.weedle_iterables.specs.declared.async_iterable.AsyncIterableInterfaceMember.{AsyncIterableInterfaceMember}
+use Rattle.weedle_iterables.specs.declared.async_iterable.AsyncIterableInterfaceMember.TheVariants.{Single as AsyncIterableInterfaceMember-Single, Double as AsyncIterableInterfaceMember-Double}
 use Rattle.weedle_iterables.specs.declared.iterable.IterableInterfaceMember.{IterableInterfaceMember}
 use Rattle.weedle_iterables.specs.declared.iterable.IterableInterfaceMember.TheVariants.{Single as IterableInterfaceMember-Single, Double as IterableInterfaceMember-Double}
-use Rattle.weedle_async_iterables.specs.declared.async_iterable.AsyncIterableInterfaceMember.{AsyncIterableInterfaceMember}
-use Rattle.weedle_async_iterables.specs.declared.async_iterable.AsyncIterableInterfaceMember.TheVariants.{Single as AsyncIterableInterfaceMember-Single, Double as AsyncIterableInterfaceMember-Double}
 use Rattle.weedle_namespaces.specs.declared.namespace.NamespaceMember.{NamespaceMember}
 use Rattle.weedle_namespaces.specs.declared.namespace.NamespaceMember.TheVariants.{Operation as NamespaceMember-Operation, Attribute as NamespaceMember-Attribute}
 use Rattle.weedle_interfaces.specs.declared.member.InterfaceMember.{InterfaceMember}
@@ -197,15 +197,15 @@ abbrev pub union_member_type_place : UnionMemberType → ℕ
 union_member_type_place (UnionMemberType-Single' _ _) = 0
 union_member_type_place (UnionMemberType-Union' _ _ _ _ _ _) = 1
 
--- `IterableInterfaceMember`
-abbrev pub iterable_interface_member_place : IterableInterfaceMember → ℕ
-iterable_interface_member_place (IterableInterfaceMember-Single _) = 0
-iterable_interface_member_place (IterableInterfaceMember-Double _) = 1
-
 -- `AsyncIterableInterfaceMember`
 abbrev pub async_iterable_interface_member_place : AsyncIterableInterfaceMember → ℕ
 async_iterable_interface_member_place (AsyncIterableInterfaceMember-Single _) = 0
 async_iterable_interface_member_place (AsyncIterableInterfaceMember-Double _) = 1
+
+-- `IterableInterfaceMember`
+abbrev pub iterable_interface_member_place : IterableInterfaceMember → ℕ
+iterable_interface_member_place (IterableInterfaceMember-Single _) = 0
+iterable_interface_member_place (IterableInterfaceMember-Double _) = 1
 
 -- `NamespaceMember`
 abbrev pub namespace_member_place : NamespaceMember → ℕ

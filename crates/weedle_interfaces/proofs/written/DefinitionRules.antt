@@ -25,14 +25,14 @@ use Rattle.weedle_interfaces.specs.declared.definition.InterfaceDefinition.{Inte
 use Rattle.weedle_interfaces.specs.declared.definition.PartialInterfaceDefinition.{PartialInterfaceDefinition}
 use Rattle.weedle_interfaces.specs.declared.member.InterfaceMember.{InterfaceMember}
 use Rattle.weedle_interfaces.specs.written.Trees.{callback_interface_definition_tree, interface_definition_tree, interface_member_tree, partial_interface_definition_tree}
-use Rattle.weedle_modifier.specs.declared.inheritance.Inheritance.{Inheritance}
-use Rattle.weedle_modifier.specs.written.Trees.{inheritance_tree}
 use Rattle.weedle_parts.proofs.PartRules.{braced_rule}
 use Rattle.weedle_parts.specs.Brackets.{braced_reading}
+use Rattle.weedle_parts.specs.ModifierTrees.{inheritance_tree}
 use Rattle.weedle_parts.specs.ValueTrees.{braced_tree, docstring_tree, identifier_tree}
 use Rattle.weedle_parts.specs.declared.common.brackets.Braced.{Braced}
 use Rattle.weedle_parts.specs.declared.common.docstring.Docstring.{Docstring}
 use Rattle.weedle_parts.specs.declared.common.identifier.Identifier.{Identifier}
+use Rattle.weedle_parts.specs.declared.inheritance.Inheritance.{Inheritance}
 use Rattle.weedle_types.proofs.SharedRules.{attributes_reading, attributes_rule, members_reading, members_rule, perhaps, word}
 use Rattle.weedle_types.specs.PartTrees.{Attributes, members_tree}
 use Rattle.weedle_types.specs.Steps.{members}

@@ -2,8 +2,6 @@
 use Rattle.std.proofs.Common.{inl, inr, refl}
 use Rattle.std.specs.Borrow.{Bor}
 use Rattle.std.specs.Prelude.{ℕ, List, ◌⊎◌}
-use Rattle.weedle_async_iterables.specs.declared.async_iterable.AsyncIterableInterfaceMember.{AsyncIterableInterfaceMember}
-use Rattle.weedle_async_iterables.specs.written.Trees.{async_iterable_interface_member_tree}
 use Rattle.weedle_base.proofs.ChoiceFacts.{IsFirst, choice_tree, first_last, first_more, first_rule}
 use Rattle.weedle_base.proofs.ChoiceSteps.{first_seen}
 use Rattle.weedle_base.proofs.RuleFacts.{fault_rule, got_rule, own_rule}
@@ -22,10 +20,11 @@ use Rattle.weedle_interfaces.specs.Pieces.{collection_member_rules, iterable_mem
 use Rattle.weedle_interfaces.specs.declared.member.InterfaceMember.TheVariants.{Const as IsConst, Attribute as IsAttribute, Constructor as IsConstructor, Operation as IsOperation, Iterable as IsIterable, AsyncIterable as IsAsyncIterable, Maplike as IsMaplike, Setlike as IsSetlike, Stringifier as IsStringifier}
 use Rattle.weedle_interfaces.specs.declared.member.InterfaceMember.{InterfaceMember}
 use Rattle.weedle_interfaces.specs.written.Trees.{interface_member_tree}
+use Rattle.weedle_iterables.specs.declared.async_iterable.AsyncIterableInterfaceMember.{AsyncIterableInterfaceMember}
 use Rattle.weedle_iterables.specs.declared.collection.MaplikeInterfaceMember.{MaplikeInterfaceMember}
 use Rattle.weedle_iterables.specs.declared.collection.SetlikeInterfaceMember.{SetlikeInterfaceMember}
 use Rattle.weedle_iterables.specs.declared.iterable.IterableInterfaceMember.{IterableInterfaceMember}
-use Rattle.weedle_iterables.specs.written.Trees.{iterable_interface_member_tree, maplike_interface_member_tree, setlike_interface_member_tree}
+use Rattle.weedle_iterables.specs.written.Trees.{async_iterable_interface_member_tree, iterable_interface_member_tree, maplike_interface_member_tree, setlike_interface_member_tree}
 use Rattle.weedle_members.specs.declared.attribute.AttributeInterfaceMember.{AttributeInterfaceMember}
 use Rattle.weedle_members.specs.declared.constant.ConstMember.{ConstMember}
 use Rattle.weedle_members.specs.declared.operation.ConstructorInterfaceMember.{ConstructorInterfaceMember}

@@ -1,6 +1,5 @@
 -- The trees of a member of an interface, of its members, and of interfaces.
 use Rattle.std.specs.Prelude.{[], ◌∷◌}
-use Rattle.weedle_async_iterables.specs.written.Trees.{async_iterable_interface_member_tree}
 use Rattle.weedle_base.specs.Rules.{option_tree}
 use Rattle.weedle_grammar.specs.Trees.{Alt, Mark, Node, Tree, trees}
 use Rattle.weedle_interfaces.specs.declared.definition.CallbackInterfaceDefinition.{CallbackInterfaceDefinition}
@@ -8,9 +7,9 @@ use Rattle.weedle_interfaces.specs.declared.definition.InterfaceDefinition.{Inte
 use Rattle.weedle_interfaces.specs.declared.definition.PartialInterfaceDefinition.{PartialInterfaceDefinition}
 use Rattle.weedle_interfaces.specs.declared.member.InterfaceMember.TheVariants.{Const as InterfaceMember-Const, Attribute as InterfaceMember-Attribute, Constructor as InterfaceMember-Constructor, Operation as InterfaceMember-Operation, Iterable as InterfaceMember-Iterable, AsyncIterable as InterfaceMember-AsyncIterable, Maplike as InterfaceMember-Maplike, Setlike as InterfaceMember-Setlike, Stringifier as InterfaceMember-Stringifier}
 use Rattle.weedle_interfaces.specs.declared.member.InterfaceMember.{InterfaceMember}
-use Rattle.weedle_iterables.specs.written.Trees.{iterable_interface_member_tree, maplike_interface_member_tree, setlike_interface_member_tree}
+use Rattle.weedle_iterables.specs.written.Trees.{async_iterable_interface_member_tree, iterable_interface_member_tree, maplike_interface_member_tree, setlike_interface_member_tree}
 use Rattle.weedle_members.specs.written.Trees.{attribute_interface_member_tree, const_member_tree, constructor_interface_member_tree, operation_interface_member_tree, stringifier_member_tree}
-use Rattle.weedle_modifier.specs.written.Trees.{inheritance_tree}
+use Rattle.weedle_parts.specs.ModifierTrees.{inheritance_tree}
 use Rattle.weedle_parts.specs.ValueTrees.{braced_tree, docstring_tree, identifier_tree}
 use Rattle.weedle_types.specs.PartTrees.{members_tree}
 use Rattle.weedle_types.specs.Trees.{attributes_tree}

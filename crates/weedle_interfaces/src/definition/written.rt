@@ -23,13 +23,13 @@ use crate::members::copy_interface_members;
 use std::alloc::{AllocError, Global};
 use weedle_base::term::{Callback, Interface, Partial, SemiColon};
 use weedle_base::{IResult, Parse, TryClone};
-use weedle_fields::{
-    attributes_and_five, docstring_attributes_and_five, docstring_attributes_and_six,
-};
-use weedle_modifier::Inheritance;
 use weedle_parts::common::{Braced, Docstring, Identifier};
+use weedle_parts::inheritance::Inheritance;
 use weedle_types::attribute::ExtendedAttributeList;
 use weedle_types::copies::{copy_attributes, copy_docstring};
+use weedle_types::fields::{
+    attributes_and_five, docstring_attributes_and_five, docstring_attributes_and_six,
+};
 
 #[tactic(auto, using(crate::proofs::written::DefinitionRules::callback_interface_definition_steps))]
 impl<'a> Parse<'a> for CallbackInterfaceDefinition<'a> {

@@ -8,9 +8,11 @@ ghost use Rattle.weedle_interfaces.specs.written.Trees.{interface_member_tree};
 
 use super::InterfaceMember;
 use std::alloc::{AllocError, Global};
-use weedle_async_iterables::AsyncIterableInterfaceMember;
 use weedle_base::TryClone;
-use weedle_iterables::{IterableInterfaceMember, MaplikeInterfaceMember, SetlikeInterfaceMember};
+use weedle_iterables::{
+    AsyncIterableInterfaceMember, IterableInterfaceMember, MaplikeInterfaceMember,
+    SetlikeInterfaceMember,
+};
 use weedle_members::{
     AttributeInterfaceMember, ConstMember, ConstructorInterfaceMember, OperationInterfaceMember,
     StringifierMember,

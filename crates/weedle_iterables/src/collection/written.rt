@@ -19,10 +19,10 @@ use super::{MaplikeInterfaceMember, SetlikeInterfaceMember};
 use std::alloc::{AllocError, Global};
 use weedle_base::term::{Comma, Maplike, ReadOnly, SemiColon, Setlike};
 use weedle_base::{IResult, Parse, TryClone};
-use weedle_fields::attributes_and_four;
 use weedle_parts::common::Generics;
 use weedle_types::attribute::ExtendedAttributeList;
 use weedle_types::copies::{copy_attributes, copy_one_type, copy_two_types};
+use weedle_types::fields::attributes_and_four;
 use weedle_types::types::AttributedType;
 
 #[tactic(auto, using(crate::proofs::written::CollectionRules::maplike_interface_member_steps))]

@@ -22,10 +22,10 @@ use std::alloc::{AllocError, Global};
 use weedle_base::Choice::{self, First, Second};
 use weedle_base::term::{Comma, Iterable, SemiColon};
 use weedle_base::{IResult, Parse, TryClone};
-use weedle_fields::attributes_and_three;
 use weedle_parts::common::Generics;
 use weedle_types::attribute::ExtendedAttributeList;
 use weedle_types::copies::{copy_attributes, copy_one_type, copy_two_types};
+use weedle_types::fields::attributes_and_three;
 use weedle_types::types::AttributedType;
 
 #[tactic(auto, using(crate::proofs::written::IterableRules::single_typed_iterable_steps))]

@@ -7,8 +7,8 @@ use Rattle.weedle_members.specs.declared.constant.ConstMember.{ConstMember}
 use Rattle.weedle_members.specs.declared.operation.ConstructorInterfaceMember.{ConstructorInterfaceMember}
 use Rattle.weedle_members.specs.declared.operation.OperationInterfaceMember.{OperationInterfaceMember}
 use Rattle.weedle_members.specs.declared.stringifier.StringifierMember.{StringifierMember}
-use Rattle.weedle_modifier.specs.written.Trees.{special_tree, stringifier_or_inherit_or_static_tree, stringifier_or_static_tree}
 use Rattle.weedle_parts.specs.LiteralTrees.{const_value_tree}
+use Rattle.weedle_parts.specs.ModifierTrees.{special_tree, stringifier_or_inherit_or_static_tree, stringifier_or_static_tree}
 use Rattle.weedle_parts.specs.ValueTrees.{const_type_tree, docstring_tree, identifier_tree}
 use Rattle.weedle_types.specs.Trees.{arguments_tree, attributed_type_tree, attributes_tree, return_type_tree}
 

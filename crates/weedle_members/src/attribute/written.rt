@@ -13,11 +13,11 @@ use super::AttributeInterfaceMember;
 use std::alloc::{AllocError, Global};
 use weedle_base::term::{Attribute, ReadOnly, SemiColon};
 use weedle_base::{IResult, Parse, TryClone};
-use weedle_fields::attributes_and_six;
-use weedle_modifier::StringifierOrInheritOrStatic;
 use weedle_parts::common::Identifier;
+use weedle_parts::modifier::StringifierOrInheritOrStatic;
 use weedle_types::attribute::ExtendedAttributeList;
 use weedle_types::copies::copy_attributes;
+use weedle_types::fields::attributes_and_six;
 use weedle_types::types::AttributedType;
 
 #[tactic(auto, using(crate::proofs::written::AttributeRules::attribute_interface_member_steps))]

@@ -13,12 +13,12 @@ use super::ConstMember;
 use std::alloc::{AllocError, Global};
 use weedle_base::term::{Assign, Const, SemiColon};
 use weedle_base::{IResult, Parse, TryClone};
-use weedle_fields::attributes_and_six;
 use weedle_parts::common::Identifier;
 use weedle_parts::literal::ConstValue;
 use weedle_parts::types::ConstType;
 use weedle_types::attribute::ExtendedAttributeList;
 use weedle_types::copies::copy_attributes;
+use weedle_types::fields::attributes_and_six;
 
 #[tactic(auto, using(crate::proofs::written::ConstantRules::const_member_steps))]
 impl<'a> Parse<'a> for ConstMember<'a> {

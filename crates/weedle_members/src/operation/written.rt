@@ -16,12 +16,12 @@ use super::{ConstructorInterfaceMember, OperationInterfaceMember};
 use std::alloc::{AllocError, Global};
 use weedle_base::term::{Constructor, SemiColon};
 use weedle_base::{IResult, Parse, TryClone};
-use weedle_fields::docstring_attributes_and_six;
-use weedle_modifier::{Special, StringifierOrStatic};
 use weedle_parts::common::{Docstring, Identifier};
+use weedle_parts::modifier::{Special, StringifierOrStatic};
 use weedle_types::argument::ParenthesizedArgumentList;
 use weedle_types::attribute::ExtendedAttributeList;
 use weedle_types::copies::{copy_attributes, copy_docstring};
+use weedle_types::fields::docstring_attributes_and_six;
 use weedle_types::types::ReturnType;
 
 impl TryClone for ConstructorInterfaceMember<'_> {

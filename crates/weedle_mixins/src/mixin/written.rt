@@ -22,12 +22,12 @@ use std::alloc::{AllocError, Global};
 use weedle_base::Choice::{self, First, Second};
 use weedle_base::term::{Attribute, ReadOnly, SemiColon, Stringifier};
 use weedle_base::{IResult, Parse, TryClone};
-use weedle_fields::{attributes_and_five, attributes_and_six};
 use weedle_members::{ConstMember, StringifierMember};
 use weedle_parts::common::Identifier;
 use weedle_types::argument::ParenthesizedArgumentList;
 use weedle_types::attribute::ExtendedAttributeList;
 use weedle_types::copies::copy_attributes;
+use weedle_types::fields::{attributes_and_five, attributes_and_six};
 use weedle_types::types::{AttributedType, ReturnType};
 
 #[tactic(auto, using(crate::proofs::written::MixinRules::operation_mixin_member_steps))]

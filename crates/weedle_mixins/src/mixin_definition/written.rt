@@ -21,10 +21,10 @@ use crate::mixin::MixinMembers;
 use std::alloc::{AllocError, Global};
 use weedle_base::term::{Interface, Mixin, Partial, SemiColon};
 use weedle_base::{IResult, Parse, TryClone};
-use weedle_fields::{attributes_and_five, attributes_and_six};
 use weedle_parts::common::{Braced, Identifier};
 use weedle_types::attribute::ExtendedAttributeList;
 use weedle_types::copies::copy_attributes;
+use weedle_types::fields::{attributes_and_five, attributes_and_six};
 
 #[tactic(auto, using(crate::proofs::written::MixinDefinitionRules::interface_mixin_definition_steps))]
 impl<'a> Parse<'a> for InterfaceMixinDefinition<'a> {

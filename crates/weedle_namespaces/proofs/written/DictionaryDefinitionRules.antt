@@ -20,18 +20,18 @@ use Rattle.weedle_grammar.specs.written.Table.Keywords.{DICTIONARY, PARTIAL}
 use Rattle.weedle_grammar.specs.written.Table.Leaves.{DOCSTRING, IDENTIFIER}
 use Rattle.weedle_grammar.specs.written.Table.OtherMembers.{BRACED_DICTIONARY_MEMBERS, DICTIONARY_MEMBER, DICTIONARY_MEMBERS}
 use Rattle.weedle_grammar.specs.written.Table.Symbols.{SEMI_COLON}
-use Rattle.weedle_modifier.specs.declared.inheritance.Inheritance.{Inheritance}
-use Rattle.weedle_modifier.specs.written.Trees.{inheritance_tree}
 use Rattle.weedle_namespaces.specs.declared.dictionary.DictionaryMember.{DictionaryMember}
 use Rattle.weedle_namespaces.specs.declared.dictionary_definition.DictionaryDefinition.{DictionaryDefinition}
 use Rattle.weedle_namespaces.specs.declared.dictionary_definition.PartialDictionaryDefinition.{PartialDictionaryDefinition}
 use Rattle.weedle_namespaces.specs.written.Trees.{dictionary_definition_tree, dictionary_member_tree, partial_dictionary_definition_tree}
 use Rattle.weedle_parts.proofs.PartRules.{braced_rule}
 use Rattle.weedle_parts.specs.Brackets.{braced_reading}
+use Rattle.weedle_parts.specs.ModifierTrees.{inheritance_tree}
 use Rattle.weedle_parts.specs.ValueTrees.{braced_tree, docstring_tree, identifier_tree}
 use Rattle.weedle_parts.specs.declared.common.brackets.Braced.{Braced}
 use Rattle.weedle_parts.specs.declared.common.docstring.Docstring.{Docstring}
 use Rattle.weedle_parts.specs.declared.common.identifier.Identifier.{Identifier}
+use Rattle.weedle_parts.specs.declared.inheritance.Inheritance.{Inheritance}
 use Rattle.weedle_types.proofs.SharedRules.{attributes_reading, attributes_rule, members_reading, members_rule, perhaps, word}
 use Rattle.weedle_types.specs.PartTrees.{Attributes, members_tree}
 use Rattle.weedle_types.specs.Steps.{members}

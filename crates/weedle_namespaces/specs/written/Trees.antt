@@ -2,7 +2,6 @@
 use Rattle.std.specs.Prelude.{[], ◌∷◌}
 use Rattle.weedle_base.specs.Rules.{mark_tree, option_tree}
 use Rattle.weedle_grammar.specs.Trees.{Alt, Mark, Node, Tree, trees}
-use Rattle.weedle_modifier.specs.written.Trees.{inheritance_tree}
 use Rattle.weedle_namespaces.specs.declared.dictionary.DictionaryMember.{DictionaryMember}
 use Rattle.weedle_namespaces.specs.declared.dictionary_definition.DictionaryDefinition.{DictionaryDefinition}
 use Rattle.weedle_namespaces.specs.declared.dictionary_definition.PartialDictionaryDefinition.{PartialDictionaryDefinition}
@@ -13,6 +12,7 @@ use Rattle.weedle_namespaces.specs.declared.namespace.OperationNamespaceMember.{
 use Rattle.weedle_namespaces.specs.declared.namespace_definition.NamespaceDefinition.{NamespaceDefinition}
 use Rattle.weedle_namespaces.specs.declared.namespace_definition.PartialNamespaceDefinition.{PartialNamespaceDefinition}
 use Rattle.weedle_parts.specs.LiteralTrees.{default_tree}
+use Rattle.weedle_parts.specs.ModifierTrees.{inheritance_tree}
 use Rattle.weedle_parts.specs.ValueTrees.{braced_tree, docstring_tree, identifier_tree}
 use Rattle.weedle_types.specs.PartTrees.{members_tree}
 use Rattle.weedle_types.specs.Trees.{arguments_tree, attributed_type_tree, attributes_tree, return_type_tree, type_tree}

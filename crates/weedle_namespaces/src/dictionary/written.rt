@@ -13,11 +13,11 @@ use super::DictionaryMember;
 use std::alloc::{AllocError, Global};
 use weedle_base::term::{Required, SemiColon};
 use weedle_base::{IResult, Parse, TryClone};
-use weedle_fields::docstring_attributes_and_five;
 use weedle_parts::common::{Docstring, Identifier};
 use weedle_parts::literal::Default;
 use weedle_types::attribute::ExtendedAttributeList;
 use weedle_types::copies::{copy_attributes, copy_docstring};
+use weedle_types::fields::docstring_attributes_and_five;
 use weedle_types::types::Type;
 
 #[tactic(auto, using(crate::proofs::written::DictionaryRules::dictionary_member_steps))]

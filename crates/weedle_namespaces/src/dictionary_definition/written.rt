@@ -21,11 +21,11 @@ use crate::dictionary::DictionaryMembers;
 use std::alloc::{AllocError, Global};
 use weedle_base::term::{Dictionary, Partial, SemiColon};
 use weedle_base::{IResult, Parse, TryClone};
-use weedle_fields::{attributes_and_five, docstring_attributes_and_five};
-use weedle_modifier::Inheritance;
 use weedle_parts::common::{Braced, Docstring, Identifier};
+use weedle_parts::inheritance::Inheritance;
 use weedle_types::attribute::ExtendedAttributeList;
 use weedle_types::copies::{copy_attributes, copy_docstring};
+use weedle_types::fields::{attributes_and_five, docstring_attributes_and_five};
 
 #[tactic(auto, using(crate::proofs::written::DictionaryDefinitionRules::dictionary_definition_steps))]
 impl<'a> Parse<'a> for DictionaryDefinition<'a> {

@@ -22,11 +22,11 @@ use std::alloc::{AllocError, Global};
 use weedle_base::Choice::{self, First, Second};
 use weedle_base::term::{Attribute, ReadOnly, SemiColon};
 use weedle_base::{IResult, Parse, TryClone};
-use weedle_fields::{docstring_attributes_and_five, docstring_attributes_and_four};
 use weedle_parts::common::{Docstring, Identifier};
 use weedle_types::argument::ParenthesizedArgumentList;
 use weedle_types::attribute::ExtendedAttributeList;
 use weedle_types::copies::{copy_attributes, copy_docstring};
+use weedle_types::fields::{docstring_attributes_and_five, docstring_attributes_and_four};
 use weedle_types::types::{AttributedType, ReturnType};
 
 #[tactic(auto, using(crate::proofs::written::NamespaceRules::operation_namespace_member_steps))]

@@ -21,10 +21,10 @@ use crate::namespace::NamespaceMembers;
 use std::alloc::{AllocError, Global};
 use weedle_base::term::{Namespace, Partial, SemiColon};
 use weedle_base::{IResult, Parse, TryClone};
-use weedle_fields::{attributes_and_five, docstring_attributes_and_four};
 use weedle_parts::common::{Braced, Docstring, Identifier};
 use weedle_types::attribute::ExtendedAttributeList;
 use weedle_types::copies::{copy_attributes, copy_docstring};
+use weedle_types::fields::{attributes_and_five, docstring_attributes_and_four};
 
 #[tactic(auto, using(crate::proofs::written::NamespaceDefinitionRules::namespace_definition_steps))]
 impl<'a> Parse<'a> for NamespaceDefinition<'a> {

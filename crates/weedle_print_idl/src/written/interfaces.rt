@@ -19,8 +19,8 @@ use weedle_interfaces::{
 };
 use weedle_mixins::mixin::MixinMember;
 use weedle_mixins::{InterfaceMixinDefinition, PartialInterfaceMixinDefinition};
-use weedle_modifier::Inheritance;
 use weedle_parts::common::{Braced, Docstring, Identifier};
+use weedle_parts::inheritance::Inheritance;
 use weedle_print::fields::{eight, seven, six};
 use weedle_print::{Layout, PrintError};
 

@@ -15,19 +15,72 @@ ghost use Rattle.weedle_spell_idl.specs.written.Iterables.{
 
 use crate::part::{Attributes, KeyAndValue};
 use crate::write::WriteIdl;
-use weedle_async_iterables::{
-    AsyncIterableInterfaceMember, DoubleTypedAsyncIterable, SingleTypedAsyncIterable,
-};
 use weedle_base::term::{Async, Iterable, Maplike, ReadOnly, SemiColon, Setlike};
 use weedle_iterables::{
-    DoubleTypedIterable, IterableInterfaceMember, MaplikeInterfaceMember, SetlikeInterfaceMember,
-    SingleTypedIterable,
+    AsyncIterableInterfaceMember, DoubleTypedAsyncIterable, DoubleTypedIterable,
+    IterableInterfaceMember, MaplikeInterfaceMember, SetlikeInterfaceMember,
+    SingleTypedAsyncIterable, SingleTypedIterable,
 };
 use weedle_parts::common::Generics;
 use weedle_print::fields::{five, four};
 use weedle_print::{Held, Layout, PrintError};
 use weedle_types::argument::ParenthesizedArgumentList;
 use weedle_types::types::AttributedType;
+
+impl<'a> WriteIdl for SingleTypedAsyncIterable<'a> {
+    ghost spelling = { single_typed_async_iterable_spelling };
+
+    fn write_part(&self, out: &mut String, layout: &mut Layout) -> Result<(), PrintError> {
+        five::<
+            Attributes<'a>,
+            (Async, Iterable),
+            Generics<Held<AttributedType<'a>>>,
+            Option<Held<ParenthesizedArgumentList<'a>>>,
+            SemiColon,
+        >(
+            out,
+            layout,
+            &self.attributes,
+            &self.async_iterable,
+            &self.generics,
+            &self.args,
+            &self.semi_colon,
+        )
+    }
+}
+
+impl<'a> WriteIdl for DoubleTypedAsyncIterable<'a> {
+    ghost spelling = { double_typed_async_iterable_spelling };
+
+    fn write_part(&self, out: &mut String, layout: &mut Layout) -> Result<(), PrintError> {
+        five::<
+            Attributes<'a>,
+            (Async, Iterable),
+            Generics<KeyAndValue<Held<AttributedType<'a>>>>,
+            Option<Held<ParenthesizedArgumentList<'a>>>,
+            SemiColon,
+        >(
+            out,
+            layout,
+            &self.attributes,
+            &self.async_iterable,
+            &self.generics,
+            &self.args,
+            &self.semi_colon,
+        )
+    }
+}
+
+impl<'a> WriteIdl for AsyncIterableInterfaceMember<'a> {
+    ghost spelling = { async_iterable_interface_member_spelling };
+
+    fn write_part(&self, out: &mut String, layout: &mut Layout) -> Result<(), PrintError> {
+        match self {
+            AsyncIterableInterfaceMember::Single(value) => value.write_part(out, layout),
+            AsyncIterableInterfaceMember::Double(value) => value.write_part(out, layout),
+        }
+    }
+}
 
 impl<'a> WriteIdl for MaplikeInterfaceMember<'a> {
     ghost spelling = { maplike_interface_member_spelling };
@@ -115,61 +168,6 @@ impl<'a> WriteIdl for IterableInterfaceMember<'a> {
         match self {
             IterableInterfaceMember::Single(value) => value.write_part(out, layout),
             IterableInterfaceMember::Double(value) => value.write_part(out, layout),
-        }
-    }
-}
-
-impl<'a> WriteIdl for SingleTypedAsyncIterable<'a> {
-    ghost spelling = { single_typed_async_iterable_spelling };
-
-    fn write_part(&self, out: &mut String, layout: &mut Layout) -> Result<(), PrintError> {
-        five::<
-            Attributes<'a>,
-            (Async, Iterable),
-            Generics<Held<AttributedType<'a>>>,
-            Option<Held<ParenthesizedArgumentList<'a>>>,
-            SemiColon,
-        >(
-            out,
-            layout,
-            &self.attributes,
-            &self.async_iterable,
-            &self.generics,
-            &self.args,
-            &self.semi_colon,
-        )
-    }
-}
-
-impl<'a> WriteIdl for DoubleTypedAsyncIterable<'a> {
-    ghost spelling = { double_typed_async_iterable_spelling };
-
-    fn write_part(&self, out: &mut String, layout: &mut Layout) -> Result<(), PrintError> {
-        five::<
-            Attributes<'a>,
-            (Async, Iterable),
-            Generics<KeyAndValue<Held<AttributedType<'a>>>>,
-            Option<Held<ParenthesizedArgumentList<'a>>>,
-            SemiColon,
-        >(
-            out,
-            layout,
-            &self.attributes,
-            &self.async_iterable,
-            &self.generics,
-            &self.args,
-            &self.semi_colon,
-        )
-    }
-}
-
-impl<'a> WriteIdl for AsyncIterableInterfaceMember<'a> {
-    ghost spelling = { async_iterable_interface_member_spelling };
-
-    fn write_part(&self, out: &mut String, layout: &mut Layout) -> Result<(), PrintError> {
-        match self {
-            AsyncIterableInterfaceMember::Single(value) => value.write_part(out, layout),
-            AsyncIterableInterfaceMember::Double(value) => value.write_part(out, layout),
         }
     }
 }

@@ -22,9 +22,9 @@ use weedle_members::{
     StringifierMember,
 };
 use weedle_mixins::mixin::{AttributeMixinMember, MixinMember, OperationMixinMember};
-use weedle_modifier::{Special, StringifierOrInheritOrStatic, StringifierOrStatic};
 use weedle_parts::common::{Docstring, Identifier};
 use weedle_parts::literal::ConstValue;
+use weedle_parts::modifier::{Special, StringifierOrInheritOrStatic, StringifierOrStatic};
 use weedle_parts::types::ConstType;
 use weedle_print::fields::{eight, five, seven, six, three};
 use weedle_print::{Held, Layout, PrintError};

@@ -13,8 +13,9 @@ use crate::write::WriteIdl;
 use weedle_base::term::{
     Colon, Deleter, Getter, Inherit, LegacyCaller, Setter, Static, Stringifier,
 };
-use weedle_modifier::{Inheritance, Special, StringifierOrInheritOrStatic, StringifierOrStatic};
 use weedle_parts::common::Identifier;
+use weedle_parts::inheritance::Inheritance;
+use weedle_parts::modifier::{Special, StringifierOrInheritOrStatic, StringifierOrStatic};
 use weedle_print::fields::two;
 use weedle_print::{Layout, Print, PrintError};
 

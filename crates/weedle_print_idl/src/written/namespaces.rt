@@ -16,7 +16,6 @@ ghost use Rattle.weedle_spell_idl.specs.written.Namespaces.{
 use crate::part::{Attributes, IdlPart};
 use crate::write::WriteIdl;
 use weedle_base::term::{Attribute, Dictionary, Namespace, Partial, ReadOnly, Required, SemiColon};
-use weedle_modifier::Inheritance;
 use weedle_namespaces::dictionary::DictionaryMember;
 use weedle_namespaces::namespace::{
     AttributeNamespaceMember, NamespaceMember, OperationNamespaceMember,
@@ -26,6 +25,7 @@ use weedle_namespaces::{
     PartialNamespaceDefinition,
 };
 use weedle_parts::common::{Braced, Docstring, Identifier};
+use weedle_parts::inheritance::Inheritance;
 use weedle_parts::literal::Default;
 use weedle_print::fields::{seven, six};
 use weedle_print::{Held, Layout, PrintError};

@@ -4,9 +4,9 @@ ghost use Rattle.std.specs.Prelude.{IfOk, IsTrue};
 ghost use Rattle.weedle_refusal.specs.Hint.{LeavesLess};
 ghost use Rattle.weedle_syntax.specs.Syntax.{IsWhole};
 
+use crate::diagnose::diagnose_within;
 use crate::hint::unread::Unread;
 use std::alloc::{AllocError, Global};
-use weedle_diagnose::diagnose_within;
 use weedle_grammar::Rule;
 use weedle_starts::source::Source;
 use weedle_syntax::{Limits, lay_by_descent};

@@ -2,10 +2,10 @@
 -- Written by tools/spellings.py, and not edited by hand.
 use Rattle.std.proofs.Common.{refl}
 use Rattle.weedle_grammar.specs.written.Table.InterfaceMembers.{INHERITANCE, SPECIAL, STRINGIFIER_OR_INHERIT_OR_STATIC, STRINGIFIER_OR_STATIC}
-use Rattle.weedle_modifier.specs.declared.modifier.Special.TheVariants.{Getter as Special-Getter, Setter as Special-Setter, Deleter as Special-Deleter, LegacyCaller as Special-LegacyCaller}
-use Rattle.weedle_modifier.specs.declared.modifier.StringifierOrInheritOrStatic.TheVariants.{Stringifier as StringifierOrInheritOrStatic-Stringifier, Inherit as StringifierOrInheritOrStatic-Inherit, Static as StringifierOrInheritOrStatic-Static}
-use Rattle.weedle_modifier.specs.declared.modifier.StringifierOrStatic.TheVariants.{Stringifier as StringifierOrStatic-Stringifier, Static as StringifierOrStatic-Static}
-use Rattle.weedle_modifier.specs.written.Trees.{inheritance_tree, special_tree, stringifier_or_inherit_or_static_tree, stringifier_or_static_tree}
+use Rattle.weedle_parts.specs.ModifierTrees.{inheritance_tree, special_tree, stringifier_or_inherit_or_static_tree, stringifier_or_static_tree}
+use Rattle.weedle_parts.specs.declared.modifier.Special.TheVariants.{Getter as Special-Getter, Setter as Special-Setter, Deleter as Special-Deleter, LegacyCaller as Special-LegacyCaller}
+use Rattle.weedle_parts.specs.declared.modifier.StringifierOrInheritOrStatic.TheVariants.{Stringifier as StringifierOrInheritOrStatic-Stringifier, Inherit as StringifierOrInheritOrStatic-Inherit, Static as StringifierOrInheritOrStatic-Static}
+use Rattle.weedle_parts.specs.declared.modifier.StringifierOrStatic.TheVariants.{Stringifier as StringifierOrStatic-Stringifier, Static as StringifierOrStatic-Static}
 use Rattle.weedle_spell.proofs.LawFacts.{loose}
 use Rattle.weedle_spell.proofs.LeafLaws.{identifier}
 use Rattle.weedle_spell.proofs.Spelt.{IsSpelt, alternative, last, node, part}

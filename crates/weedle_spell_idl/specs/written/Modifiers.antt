@@ -1,13 +1,13 @@
 -- How what is inherited from is spelt, and the words before a member.
 -- Written by tools/spellings.py, and not edited by hand.
 use Rattle.std.specs.Prelude.{codes}
-use Rattle.weedle_modifier.specs.declared.inheritance.Inheritance.{Inheritance}
-use Rattle.weedle_modifier.specs.declared.modifier.Special.TheVariants.{Getter as Special-Getter, Setter as Special-Setter, Deleter as Special-Deleter, LegacyCaller as Special-LegacyCaller}
-use Rattle.weedle_modifier.specs.declared.modifier.Special.{Special}
-use Rattle.weedle_modifier.specs.declared.modifier.StringifierOrInheritOrStatic.TheVariants.{Stringifier as StringifierOrInheritOrStatic-Stringifier, Inherit as StringifierOrInheritOrStatic-Inherit, Static as StringifierOrInheritOrStatic-Static}
-use Rattle.weedle_modifier.specs.declared.modifier.StringifierOrInheritOrStatic.{StringifierOrInheritOrStatic}
-use Rattle.weedle_modifier.specs.declared.modifier.StringifierOrStatic.TheVariants.{Stringifier as StringifierOrStatic-Stringifier, Static as StringifierOrStatic-Static}
-use Rattle.weedle_modifier.specs.declared.modifier.StringifierOrStatic.{StringifierOrStatic}
+use Rattle.weedle_parts.specs.declared.inheritance.Inheritance.{Inheritance}
+use Rattle.weedle_parts.specs.declared.modifier.Special.TheVariants.{Getter as Special-Getter, Setter as Special-Setter, Deleter as Special-Deleter, LegacyCaller as Special-LegacyCaller}
+use Rattle.weedle_parts.specs.declared.modifier.Special.{Special}
+use Rattle.weedle_parts.specs.declared.modifier.StringifierOrInheritOrStatic.TheVariants.{Stringifier as StringifierOrInheritOrStatic-Stringifier, Inherit as StringifierOrInheritOrStatic-Inherit, Static as StringifierOrInheritOrStatic-Static}
+use Rattle.weedle_parts.specs.declared.modifier.StringifierOrInheritOrStatic.{StringifierOrInheritOrStatic}
+use Rattle.weedle_parts.specs.declared.modifier.StringifierOrStatic.TheVariants.{Stringifier as StringifierOrStatic-Stringifier, Static as StringifierOrStatic-Static}
+use Rattle.weedle_parts.specs.declared.modifier.StringifierOrStatic.{StringifierOrStatic}
 use Rattle.weedle_spell.specs.Forms.{Form, ◌then◌}
 use Rattle.weedle_spell.specs.Leaves.{identifier_spelling, terminal}
 

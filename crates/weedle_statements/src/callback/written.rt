@@ -13,11 +13,11 @@ use super::CallbackDefinition;
 use std::alloc::{AllocError, Global};
 use weedle_base::term::{Assign, Callback, SemiColon};
 use weedle_base::{IResult, Parse, TryClone};
-use weedle_fields::attributes_and_six;
 use weedle_parts::common::Identifier;
 use weedle_types::argument::ParenthesizedArgumentList;
 use weedle_types::attribute::ExtendedAttributeList;
 use weedle_types::copies::copy_attributes;
+use weedle_types::fields::attributes_and_six;
 use weedle_types::types::ReturnType;
 
 #[tactic(auto, using(crate::proofs::written::CallbackRules::callback_definition_steps))]

@@ -16,10 +16,10 @@ use super::{ImplementsDefinition, IncludesStatementDefinition};
 use std::alloc::{AllocError, Global};
 use weedle_base::term::{Implements, Includes, SemiColon};
 use weedle_base::{IResult, Parse, TryClone};
-use weedle_fields::attributes_and_four;
 use weedle_parts::common::Identifier;
 use weedle_types::attribute::ExtendedAttributeList;
 use weedle_types::copies::copy_attributes;
+use weedle_types::fields::attributes_and_four;
 
 #[tactic(auto, using(crate::proofs::written::StatementRules::includes_statement_definition_steps))]
 impl<'a> Parse<'a> for IncludesStatementDefinition<'a> {

@@ -13,10 +13,10 @@ use super::TypedefDefinition;
 use std::alloc::{AllocError, Global};
 use weedle_base::term::{SemiColon, Typedef};
 use weedle_base::{IResult, Parse, TryClone};
-use weedle_fields::attributes_and_four;
 use weedle_parts::common::Identifier;
 use weedle_types::attribute::ExtendedAttributeList;
 use weedle_types::copies::copy_attributes;
+use weedle_types::fields::attributes_and_four;
 use weedle_types::types::AttributedType;
 
 #[tactic(auto, using(crate::proofs::written::TypedefRules::typedef_definition_steps))]

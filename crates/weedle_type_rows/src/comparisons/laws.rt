@@ -5,9 +5,9 @@ use std::cmp::Ordering;
 use std::test::Fail;
 use weedle_base::term::{Comma, Deleter, NaN};
 use weedle_comparisons::laws::{compare, compare_partially, copy, hash_alike, hash_of};
-use weedle_modifier::Special;
 use weedle_parts::common::Identifier;
 use weedle_parts::literal::{BooleanLit, ConstValue, FloatLit, HexLit, IntegerLit};
+use weedle_parts::modifier::Special;
 
 #[test]
 fn laws_hold_of_names(rt: HostRuntime) {

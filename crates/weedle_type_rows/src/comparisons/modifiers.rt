@@ -4,7 +4,7 @@ use super::{EQUAL, GREATER, LESS, inherited};
 use std::test::Fail;
 use weedle_base::term::{Deleter, Getter, LegacyCaller, Setter};
 use weedle_comparisons::modifiers::*;
-use weedle_modifier::Special;
+use weedle_parts::modifier::Special;
 
 #[test]
 fn inheritances_go_by_their_names(rt: HostRuntime) -> Result<(), Fail> {

@@ -7,19 +7,21 @@ ghost use Rattle.std.specs.Ordering.{ordering_then};
 ghost use Rattle.weedle_comparisons.specs.written.Places.{interface_member_place};
 
 use std::cmp::Ordering;
-use weedle_async_iterables::AsyncIterableInterfaceMember;
 use weedle_base::term::{Callback, Interface, Partial, SemiColon};
 use weedle_interfaces::{
     CallbackInterfaceDefinition, InterfaceDefinition, InterfaceMember, InterfaceMembers,
     PartialInterfaceDefinition,
 };
-use weedle_iterables::{IterableInterfaceMember, MaplikeInterfaceMember, SetlikeInterfaceMember};
+use weedle_iterables::{
+    AsyncIterableInterfaceMember, IterableInterfaceMember, MaplikeInterfaceMember,
+    SetlikeInterfaceMember,
+};
 use weedle_members::{
     AttributeInterfaceMember, ConstMember, ConstructorInterfaceMember, OperationInterfaceMember,
     StringifierMember,
 };
-use weedle_modifier::Inheritance;
 use weedle_parts::common::{Braced, Docstring, Identifier};
+use weedle_parts::inheritance::Inheritance;
 use weedle_types::attribute::ExtendedAttributeList;
 
 /// A law, which does nothing: `cmp` of `CallbackInterfaceDefinition` goes by its fields, in order.

@@ -10,9 +10,9 @@ use weedle_members::{
     AttributeInterfaceMember, ConstMember, ConstructorInterfaceMember, OperationInterfaceMember,
     StringifierMember,
 };
-use weedle_modifier::{Special, StringifierOrInheritOrStatic, StringifierOrStatic};
 use weedle_parts::common::{Docstring, Identifier};
 use weedle_parts::literal::ConstValue;
+use weedle_parts::modifier::{Special, StringifierOrInheritOrStatic, StringifierOrStatic};
 use weedle_parts::types::ConstType;
 use weedle_types::argument::ParenthesizedArgumentList;
 use weedle_types::attribute::ExtendedAttributeList;

@@ -14,8 +14,9 @@ use std::cmp::Ordering;
 use weedle_base::term::{
     Colon, Deleter, Getter, Inherit, LegacyCaller, Setter, Static, Stringifier,
 };
-use weedle_modifier::{Inheritance, Special, StringifierOrInheritOrStatic, StringifierOrStatic};
 use weedle_parts::common::Identifier;
+use weedle_parts::inheritance::Inheritance;
+use weedle_parts::modifier::{Special, StringifierOrInheritOrStatic, StringifierOrStatic};
 
 /// A law, which does nothing: `cmp` of `Inheritance` goes by its fields, in order.
 pub fn inheritance<'a>()

@@ -8,7 +8,6 @@ ghost use Rattle.weedle_comparisons.specs.written.Places.{namespace_member_place
 
 use std::cmp::Ordering;
 use weedle_base::term::{Attribute, Dictionary, Namespace, Partial, ReadOnly, Required, SemiColon};
-use weedle_modifier::Inheritance;
 use weedle_namespaces::dictionary::{DictionaryMember, DictionaryMembers};
 use weedle_namespaces::namespace::{
     AttributeNamespaceMember, NamespaceMember, NamespaceMembers, OperationNamespaceMember,
@@ -18,6 +17,7 @@ use weedle_namespaces::{
     PartialNamespaceDefinition,
 };
 use weedle_parts::common::{Braced, Docstring, Identifier};
+use weedle_parts::inheritance::Inheritance;
 use weedle_parts::literal::Default;
 use weedle_types::argument::ParenthesizedArgumentList;
 use weedle_types::attribute::ExtendedAttributeList;

@@ -7,7 +7,7 @@ ghost use Rattle.weedle_grammar.specs.written.Table.InterfaceMembers.{
   STRINGIFIER_OR_INHERIT_OR_STATIC,
   STRINGIFIER_OR_STATIC,
 };
-ghost use Rattle.weedle_modifier.specs.written.Trees.{
+ghost use Rattle.weedle_parts.specs.ModifierTrees.{
   inheritance_tree,
   special_tree,
   stringifier_or_inherit_or_static_tree,

@@ -1,3 +1,0 @@
-pub mod PartRules
-pub mod CopyFacts
-pub mod written

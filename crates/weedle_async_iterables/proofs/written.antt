@@ -1,2 +1,0 @@
--- What follows from the grammar and the declarations.
-pub mod AsyncIterableRules

@@ -1,5 +1,0 @@
-use Rattle.weedle_diagnose.proofs.BitFacts.{set_is}
-use Rattle.weedle_diagnose.proofs.marks.set.Goals as goal
-
-pub returns : goal.returns
-returns c = λ other. set_is c.args.marks.now c.args.cell other c.requires

@@ -1,6 +1,0 @@
-use Rattle.std.proofs.Common.{refl}
-use Rattle.weedle_diagnose.proofs.BitFacts.{clear_words}
-use Rattle.weedle_diagnose.proofs.noted.Furthest.new.Goals as goal
-
-pub returns-clause-none : goal.returns-clause-none
-returns-clause-none c = clear_words 7 _ refl

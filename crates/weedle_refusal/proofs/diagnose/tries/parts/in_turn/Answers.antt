@@ -1,0 +1,33 @@
+use Rattle.weedle_grammar.specs.View.{numbers_of}
+use Rattle.weedle_rules.proofs.ListFrom.{next_part, no_part}
+use Rattle.weedle_refusal.proofs.LaterFacts.{still_in, in_text}
+use Rattle.weedle_refusal.proofs.AddingFacts.{set_out, turn_on, turn_fails, turn_ends, turn_head}
+use Rattle.weedle_refusal.proofs.diagnose.tries.parts.in_turn.Goals as goal
+
+pub loop-i-init : goal.loop-i-init
+loop-i-init c = set_out _ _ _
+
+pub mark-requires-clause-here : goal.mark-requires-clause-here
+mark-requires-clause-here c =
+    let g = rw (next_part (numbers_of c.args.parts) c.len-i-end.ensures c.loop-i-test.true c.rule-part.ensures.value) at c.loop-i.invariant in
+    still_in g.many (c.requires.inside _ _ (turn_head c.args.ends.now.text _ _ _ g))
+
+pub end-requires : goal.end-requires
+end-requires c =
+    let g = rw (next_part (numbers_of c.args.parts) c.len-i-end.ensures c.loop-i-test.true c.rule-part.ensures.value) at c.loop-i.invariant in
+    in_text c.args.ends.now.text c.requires.last (c.requires.inside _ _ (turn_head c.args.ends.now.text _ _ _ g))
+
+pub returns-in-None : goal.returns-in-None
+returns-in-None c =
+    let g = rw (next_part (numbers_of c.args.parts) c.len-i-end.ensures c.loop-i-test.true c.rule-part.ensures.value) at c.loop-i.invariant in
+    turn_fails c.args.ends.now.text _ g c.mark.ensures c.in-None.ensures.right
+
+pub loop-i-preserved : goal.loop-i-preserved
+loop-i-preserved c =
+    let g = rw (next_part (numbers_of c.args.parts) c.len-i-end.ensures c.loop-i-test.true c.rule-part.ensures.value) at c.loop-i.invariant in
+    turn_on c.args.ends.now.text _ g c.mark.ensures c.in-Some.ensures.right
+
+pub returns : goal.returns
+returns c =
+    let g = rw (no_part (numbers_of c.args.parts) c.len-i-end.ensures c.loop-i-test.false) at c.loop-i.invariant in
+    turn_ends c.args.ends.now.text c.loop-i.end g
