@@ -5,17 +5,18 @@ use crate::piece::{Gap, Joint, Piece};
 use weedle_grammar::grammar::definitions::{
     CALLBACK_DEFINITION, IMPLEMENTS_DEFINITION, INCLUDES_STATEMENT_DEFINITION, TYPEDEF_DEFINITION,
 };
+use weedle_layout::Statement;
 
 /// Sets an empty line between definitions, except in front of those that may be right below the one
 /// before.
 pub(crate) fn set_apart(pieces: &mut [Piece]) {
     let mut first = 0;
-    let mut before = 0;
+    let mut before = Statement::Other;
     for i in 0..pieces.len() {
         let piece = pieces[i];
         if piece.joint == Joint::Definition && !piece.is_comment() {
             let kind = kind_at(pieces, i);
-            if first > 0 && !may_follow(kind, before) {
+            if first > 0 && !kind.may_follow(before) {
                 set_empty_line(pieces, first, i);
             }
             before = kind;
@@ -26,36 +27,26 @@ pub(crate) fn set_apart(pieces: &mut [Piece]) {
     }
 }
 
-/// Whether a definition of this kind may be right below one of the other. So may a statement of one
-/// line below another, and one for a mixin below any definition.
-fn may_follow(kind: u16, before: u16) -> bool {
-    match kind {
-        INCLUDES_STATEMENT_DEFINITION | IMPLEMENTS_DEFINITION => true,
-        _ => kind > 0 && before > 0,
-    }
-}
-
-/// The rule of the statement that begins with the piece of this number and takes one line; 0 of
-/// what is none.
-fn kind_at(pieces: &[Piece], i: usize) -> u16 {
-    let rule = match pieces.get(i) {
-        Some(piece) => piece.definition,
-        None => 0,
+/// What the definition is that begins with the piece of this number, where it takes one line.
+fn kind_at(pieces: &[Piece], i: usize) -> Statement {
+    let kind = match pieces.get(i) {
+        Some(piece) => statement_of(piece.definition),
+        None => Statement::Other,
     };
-    if is_statement(rule) && is_one_line(pieces, i) {
-        return rule;
+    if kind != Statement::Other && is_one_line(pieces, i) {
+        return kind;
     }
-    0
+    Statement::Other
 }
 
-/// Whether the rule is of a definition that has no braces, as `typedef long L;`.
-pub(crate) fn is_statement(rule: u16) -> bool {
+/// What a definition is by its rule: a statement has no braces, as `typedef long L;`.
+pub(crate) fn statement_of(rule: u16) -> Statement {
     match rule {
-        CALLBACK_DEFINITION
-        | TYPEDEF_DEFINITION
-        | INCLUDES_STATEMENT_DEFINITION
-        | IMPLEMENTS_DEFINITION => true,
-        _ => false,
+        CALLBACK_DEFINITION => Statement::Callback,
+        TYPEDEF_DEFINITION => Statement::Typedef,
+        INCLUDES_STATEMENT_DEFINITION => Statement::Includes,
+        IMPLEMENTS_DEFINITION => Statement::Implements,
+        _ => Statement::Other,
     }
 }
 

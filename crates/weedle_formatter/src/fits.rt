@@ -2,9 +2,7 @@
 
 use crate::piece::{Gap, Piece, Role};
 use weedle_grammar::grammar::symbols::{OPEN_PAREN, SEMI_COLON};
-
-/// How many columns a line has.
-const COLUMNS: usize = 80;
+use weedle_layout::COLUMNS;
 
 /// The column behind a piece that goes on a line from this column on; None where it doesn't fit, or
 /// a line ends.

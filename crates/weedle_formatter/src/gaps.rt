@@ -1,12 +1,9 @@
 //! What is written between pieces, where no list is broken.
 
-use crate::joint::{is_tight_behind, is_tight_in_front};
 use crate::piece::{Gap, Joint, Kind, Piece, Role};
+use crate::words::between;
 use weedle_grammar::grammar::symbols::OPEN_BRACE;
-
-/// How many characters extended attributes have at most in front of what they belong to, on its
-/// line.
-const MOST_IN_FRONT: usize = 40;
+use weedle_layout::{MOST_IN_FRONT, is_tight_behind, is_tight_in_front};
 
 /// A token, and the comments between it and the token before it.
 #[derive(Clone, Copy)]
@@ -22,14 +19,18 @@ struct Run {
     has_lines: bool,
     /// The token follows extended attributes that take a line of their own.
     is_behind_line: bool,
+    /// Nothing is in front of the token on its line, wherever it is.
+    is_tight: bool,
+    /// Nothing follows the token before on its line, whatever follows it.
+    is_behind_tight: bool,
 }
 
-/// Sets what is written in front of each piece.
-pub(crate) fn set_gaps(pieces: &mut [Piece]) {
+/// Sets what is written in front of each piece of a text.
+pub(crate) fn set_gaps(text: &[u8], pieces: &mut [Piece]) {
     let mut first = 0;
     for i in 0..pieces.len() {
         if !pieces[i].is_comment() {
-            set_run(pieces, first, i);
+            set_run(text, pieces, first, i);
             first = i + 1;
         }
     }
@@ -64,8 +65,8 @@ fn set_gap(pieces: &mut [Piece], i: usize, gap: Gap) {
 }
 
 /// Sets what is written in front of a token and of the comments before it.
-fn set_run(pieces: &mut [Piece], first: usize, last: usize) {
-    let Some(run) = run_of(pieces, first, last) else {
+fn set_run(text: &[u8], pieces: &mut [Piece], first: usize, last: usize) {
+    let Some(run) = run_of(text, pieces, first, last) else {
         return;
     };
     if first == last {
@@ -97,7 +98,7 @@ fn set_item(pieces: &mut [Piece], run: &Run) {
 }
 
 /// What is known of a token and of the comments before it.
-fn run_of(pieces: &[Piece], first: usize, last: usize) -> Option<Run> {
+fn run_of(text: &[u8], pieces: &[Piece], first: usize, last: usize) -> Option<Run> {
     let token = pieces.get(last)?;
     let mut has_lines = false;
     for i in first..last {
@@ -117,7 +118,17 @@ fn run_of(pieces: &[Piece], first: usize, last: usize) -> Option<Run> {
         token: *token,
         has_lines: has_lines || token.lines > 0,
         is_behind_line: token.joint == Joint::BehindAttributes && are_long(pieces, first),
+        is_tight: is_tight_in_front(bytes_of(text, token)),
+        is_behind_tight: match before {
+            Some(piece) => is_tight_behind(bytes_of(text, piece)),
+            None => false,
+        },
     })
+}
+
+/// The bytes of a piece of the text.
+fn bytes_of<'a>(text: &'a [u8], piece: &Piece) -> &'a [u8] {
+    between(text, piece.start, piece.end)
 }
 
 /// Whether the extended attributes that end before a piece take a line of their own.
@@ -257,12 +268,12 @@ fn opens_dictionary(token: &Piece) -> bool {
 fn gap_on_line(run: &Run, i: usize) -> Gap {
     if i == run.first {
         if let Some(before) = run.before {
-            if is_tight_behind(before.rule) || opens_dictionary(&before) {
+            if run.is_behind_tight || opens_dictionary(&before) {
                 return Gap::Nothing;
             }
         }
     }
-    if i == run.last && run.token.joint == Joint::Tight && is_tight_in_front(run.token.rule) {
+    if i == run.last && run.token.joint == Joint::Tight && run.is_tight {
         return Gap::Nothing;
     }
     Gap::Space

@@ -1,9 +1,9 @@
 //! Extended attributes in front of a member or a statement, on its line.
 
-use crate::apart::is_statement;
+use crate::apart::statement_of;
 use crate::fits::line_fits;
-use crate::page::LEVEL;
 use crate::piece::{Gap, Joint, Piece, Role};
+use weedle_layout::{Statement, indentation};
 
 /// Puts extended attributes on a line of their own, where the line of the member or the statement
 /// behind them wouldn't fit with them.
@@ -14,10 +14,10 @@ pub(crate) fn set_in_front(pieces: &mut [Piece]) {
     for i in 0..pieces.len() {
         let piece = pieces[i];
         if piece.definition > 0 {
-            is_statement_begun = is_statement(piece.definition);
+            is_statement_begun = statement_of(piece.definition) != Statement::Other;
         }
         match piece.role {
-            Role::OpensBody => blanks = LEVEL,
+            Role::OpensBody => blanks = indentation(1),
             Role::ClosesBody => blanks = 0,
             _ => {}
         }

@@ -10,20 +10,41 @@ use weedle_grammar::grammar::other_members::{
 };
 use weedle_grammar::grammar::simple_types::TAIL_IDENTIFIER_COMMA;
 use weedle_grammar::grammar::symbols::{
-    ASSIGN, CLOSE_BRACE, CLOSE_BRACKET, CLOSE_PAREN, COMMA, ELLIPSIS, GREATER_THAN, LESS_THAN,
-    OPEN_BRACE, OPEN_BRACKET, OPEN_PAREN, Q_MARK, SEMI_COLON,
+    ASSIGN, CLOSE_BRACE, COMMA, LESS_THAN, OPEN_BRACE, OPEN_BRACKET, OPEN_PAREN,
 };
 use weedle_grammar::grammar::types::{
     EXTENDED_ATTRIBUTE_IDENT, EXTENDED_ATTRIBUTE_IDENT_LIST, EXTENDED_ATTRIBUTE_LIST,
     EXTENDED_ATTRIBUTE_NAMED_ARG_LIST, PARENTHESIZED_ARGUMENT_LIST, TAIL_ARGUMENT_COMMA,
     TAIL_EXTENDED_ATTRIBUTE_COMMA, TAIL_UNION_MEMBER_TYPE_OR, UNION_TYPE,
 };
+use weedle_layout::{is_tight_behind, is_tight_in_front};
 
 /// A token: the numbers of its rule and of the rule that reads it.
 #[derive(Clone, Copy)]
 pub(crate) struct Token {
     pub(crate) rule: u16,
     pub(crate) parent: u16,
+    /// Nothing stands in front of it on its line, wherever it stands.
+    is_tight_in_front: bool,
+    /// Nothing stands behind it on its line, whatever follows.
+    is_tight_behind: bool,
+}
+
+impl Token {
+    /// The token of these bytes.
+    pub(crate) fn new(rule: u16, parent: u16, bytes: &[u8]) -> Token {
+        Token {
+            rule,
+            parent,
+            is_tight_in_front: is_tight_in_front(bytes),
+            is_tight_behind: is_tight_behind(bytes),
+        }
+    }
+
+    /// What stands for a token where there is none.
+    pub(crate) fn none() -> Token {
+        Token::new(0, 0, &[])
+    }
 }
 
 /// What a token does to the lines behind it.
@@ -75,29 +96,6 @@ pub(crate) fn ends_item(token: Token) -> bool {
     }
 }
 
-/// Whether a token has nothing in front of it on its line, wherever it is.
-pub(crate) fn is_tight_in_front(rule: u16) -> bool {
-    match rule {
-        SEMI_COLON
-        | COMMA
-        | CLOSE_PAREN
-        | CLOSE_BRACKET
-        | LESS_THAN
-        | GREATER_THAN
-        | Q_MARK
-        | ELLIPSIS => true,
-        _ => false,
-    }
-}
-
-/// Whether nothing follows a token on its line, whatever follows.
-pub(crate) fn is_tight_behind(rule: u16) -> bool {
-    match rule {
-        OPEN_PAREN | OPEN_BRACKET | LESS_THAN => true,
-        _ => false,
-    }
-}
-
 /// Whether a token is the `=` of an extended attribute, as in `Exposed=Window`.
 fn is_assign_of_attribute(token: Token) -> bool {
     match token.parent {
@@ -110,7 +108,7 @@ fn is_assign_of_attribute(token: Token) -> bool {
 
 /// Whether nothing is between two tokens. Arguments are apart from a type in front of them.
 fn is_tight(before: Token, token: Token, are_apart: bool) -> bool {
-    if is_tight_in_front(token.rule) || is_tight_behind(before.rule) {
+    if token.is_tight_in_front || before.is_tight_behind {
         return true;
     }
     if is_assign_of_attribute(before) || is_assign_of_attribute(token) {

@@ -8,17 +8,12 @@ use crate::fits::list_fits;
 use crate::gaps::set_gaps;
 use crate::in_front::set_in_front;
 use crate::line_end::ends_in_two;
-use crate::piece::{Gap, Kind, Piece, Role, characters};
+use crate::piece::{Gap, Kind, Piece, Role};
 use crate::pieces::pieces_of;
 use crate::words::between;
 use std::alloc::{AllocError, Global};
+use weedle_layout::{MOST_LEVELS, characters_of_last_line, indentation};
 use weedle_syntax::Node;
-
-/// How many spaces a level is.
-pub(crate) const LEVEL: usize = 2;
-
-/// How many levels a line is indented at most. Lists that are so deep aren't broken.
-const MOST_LEVELS: usize = 16;
 
 /// What was written.
 #[derive(Drop)]
@@ -72,7 +67,7 @@ pub(crate) fn short_layout(
 {
     let text = raw.as_bytes();
     let mut pieces = pieces_of(alloc, text, nodes)?;
-    set_gaps(&mut pieces);
+    set_gaps(text, &mut pieces);
     set_in_front(&mut pieces);
     set_apart(&mut pieces);
     let page = written(alloc, text, &pieces, ends_in_two(text, nodes))?;
@@ -165,8 +160,7 @@ impl Page {
     /// Begins a line, so many levels deeper than where a statement begins.
     fn begin_line(&mut self, deeper: usize) -> Result<(), AllocError> {
         self.end_line()?;
-        let levels = self.level.saturating_add(deeper).min(MOST_LEVELS);
-        self.push_blanks(levels.saturating_mul(LEVEL))
+        self.push_blanks(indentation(self.level.saturating_add(deeper)))
     }
 
     /// Ends the line, where it isn't ended.
@@ -203,7 +197,7 @@ impl Page {
         self.out.extend_from_slice(bytes)?;
         self.column = match piece.width {
             Some(width) => self.column.saturating_add(width),
-            None => characters_behind(bytes),
+            None => characters_of_last_line(bytes),
         };
         self.is_line_begun = piece.kind == Kind::DocLine;
         self.is_behind_comment = piece.kind == Kind::LineComment;
@@ -212,15 +206,4 @@ impl Page {
         }
         Ok(())
     }
-}
-
-/// How many characters follow the last LF.
-fn characters_behind(bytes: &[u8]) -> usize {
-    let mut last = bytes;
-    for (i, &byte) in bytes.iter().enumerate() {
-        if byte == b'\n' {
-            last = bytes.get(i + 1..).unwrap_or(&[]);
-        }
-    }
-    characters(last)
 }

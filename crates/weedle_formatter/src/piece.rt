@@ -1,5 +1,7 @@
 //! What a text has between its whitespace.
 
+use weedle_layout::{characters, line_feeds};
+
 /// How a piece is read.
 #[derive(Clone, Copy, Debug, PartialEq, Eq)]
 pub(crate) enum Kind {
@@ -124,29 +126,6 @@ impl Piece {
             Kind::Token | Kind::DocLine => false,
         }
     }
-}
-
-/// How many LFs the bytes have.
-pub(crate) fn line_feeds(bytes: &[u8]) -> usize {
-    let mut found: usize = 0;
-    for &byte in bytes {
-        if byte == b'\n' {
-            found = found.saturating_add(1);
-        }
-    }
-    found
-}
-
-/// How many characters the bytes of a text have: all of them except for those that go on with a
-/// character.
-pub(crate) fn characters(bytes: &[u8]) -> usize {
-    let mut found: usize = 0;
-    for &byte in bytes {
-        if byte < 0x80 || byte >= 0xC0 {
-            found = found.saturating_add(1);
-        }
-    }
-    found
 }
 
 /// How many characters the bytes have; None where a line ends in them.

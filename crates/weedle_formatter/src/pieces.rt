@@ -1,7 +1,7 @@
 //! The pieces of a text, from the nodes of its syntax tree.
 
 use crate::joint::{Token, ends_item, joint_of, role_of};
-use crate::piece::{Gap, Joint, Kind, Piece, Role, line_feeds, width_of};
+use crate::piece::{Gap, Joint, Kind, Piece, Role, width_of};
 use crate::words::between;
 use std::alloc::{AllocError, Global};
 use weedle_grammar::grammar::definitions::{CALLBACK_DEFINITION, DEFINITION};
@@ -16,6 +16,7 @@ use weedle_grammar::grammar::types::{
     ATTRIBUTED_NON_ANY_TYPE, ATTRIBUTED_TYPE, EXTENDED_ATTRIBUTE_LIST, PARENTHESIZED_ARGUMENT_LIST,
     SINGLE_ARGUMENT, VARIADIC_ARGUMENT,
 };
+use weedle_layout::line_feeds;
 use weedle_syntax::Node;
 
 /// A walk over the nodes of a text.
@@ -70,7 +71,7 @@ pub(crate) fn pieces_of(
         lines: 0,
         begins: None,
         definition: 0,
-        before: Token { rule: 0, parent: 0 },
+        before: Token::none(),
         is_apart: false,
     };
     for node in nodes {
@@ -135,10 +136,8 @@ impl<'a> Walk<'a> {
 
     /// Adds the token that ends there, of whose nodes the last one is the second.
     fn push_token(&mut self, end: usize) -> Result<(), AllocError> {
-        let token = Token {
-            rule: self.above(1),
-            parent: self.above(2),
-        };
+        let bytes = between(self.text, self.token, end);
+        let token = Token::new(self.above(1), self.above(2), bytes);
         let piece = self.token_piece(token, end);
         self.push(piece)?;
         self.before = token;
@@ -204,7 +203,7 @@ impl<'a> Walk<'a> {
         self.push(piece)?;
         self.lines = 1;
         self.begins = None;
-        self.before = Token { rule: 0, parent: 0 };
+        self.before = Token::none();
         Ok(())
     }
 

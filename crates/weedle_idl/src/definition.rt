@@ -89,27 +89,26 @@ impl Drop for Definition<'_> {
     }
 }
 
-/// Tries what reads some of the alternatives. Where one of them fits, the function that calls this
-/// returns what was read, and where it is a failure, the failure. Behind a mismatch it goes on with
-/// what follows.
-macro_rules! read_or_next {
-    ($read:expr) => {
-        match $read {
-            Ok((rest, read)) => return Ok((rest, read)),
-            Err(Err::Error(_)) => {}
-            Err(Err::Failure(fault)) => return Err(Err::Failure(fault)),
-        }
-    };
-}
-
 #[tactic(auto, using(crate::proofs::written::DefinitionRules::definition_steps))]
 impl<'a> Parse<'a> for Definition<'a> {
     ghost reading = { own DEFINITION definition_tree (Unit {0}) };
 
     fn parse(alloc: Global, input: &'a str) -> IResult<&'a str, Self> {
-        read_or_next!(callback_or_interface(alloc, input));
-        read_or_next!(main_definition(alloc, input));
-        read_or_next!(partial_definition(alloc, input));
+        match callback_or_interface(alloc, input) {
+            Ok((rest, read)) => return Ok((rest, read)),
+            Err(Err::Error(_)) => {}
+            Err(Err::Failure(fault)) => return Err(Err::Failure(fault)),
+        }
+        match main_definition(alloc, input) {
+            Ok((rest, read)) => return Ok((rest, read)),
+            Err(Err::Error(_)) => {}
+            Err(Err::Failure(fault)) => return Err(Err::Failure(fault)),
+        }
+        match partial_definition(alloc, input) {
+            Ok((rest, read)) => return Ok((rest, read)),
+            Err(Err::Error(_)) => {}
+            Err(Err::Failure(fault)) => return Err(Err::Failure(fault)),
+        }
         other_definition(alloc, input)
     }
 

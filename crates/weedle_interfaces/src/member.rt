@@ -71,26 +71,21 @@ impl Drop for InterfaceMember<'_> {
     }
 }
 
-/// Tries what reads some of the alternatives. Where one of them fits, the function that calls this
-/// returns what was read, and where it is a failure, the failure. Behind a mismatch it goes on with
-/// what follows.
-macro_rules! read_or_next {
-    ($read:expr) => {
-        match $read {
-            Ok((rest, read)) => return Ok((rest, read)),
-            Err(Err::Error(_)) => {}
-            Err(Err::Failure(fault)) => return Err(Err::Failure(fault)),
-        }
-    };
-}
-
 #[tactic(auto, using(crate::proofs::written::MemberRules::interface_member_steps))]
 impl<'a> Parse<'a> for InterfaceMember<'a> {
     ghost reading = { own INTERFACE_MEMBER interface_member_tree (Unit {0}) };
 
     fn parse(alloc: Global, input: &'a str) -> IResult<&'a str, Self> {
-        read_or_next!(main_member(alloc, input));
-        read_or_next!(iterable_member(alloc, input));
+        match main_member(alloc, input) {
+            Ok((rest, read)) => return Ok((rest, read)),
+            Err(Err::Error(_)) => {}
+            Err(Err::Failure(fault)) => return Err(Err::Failure(fault)),
+        }
+        match iterable_member(alloc, input) {
+            Ok((rest, read)) => return Ok((rest, read)),
+            Err(Err::Error(_)) => {}
+            Err(Err::Failure(fault)) => return Err(Err::Failure(fault)),
+        }
         collection_member(alloc, input)
     }
 

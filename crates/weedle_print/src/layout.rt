@@ -10,18 +10,11 @@ mod items;
 mod lists;
 
 use crate::name_bytes::{begins_as_name, ends_as_name};
-use crate::statement::Statement;
-use crate::widths::{characters, characters_behind, line_ends};
 use crate::written::reserved::is_read_behind;
-
-/// How many columns a line has.
-const COLUMNS: usize = 80;
-
-/// How many spaces a level is.
-const LEVEL: usize = 2;
-
-/// How many levels a line is indented at most. Lists that are so deep aren't broken.
-const MOST_LEVELS: usize = 16;
+use weedle_layout::{
+    COLUMNS, Statement, characters, characters_of_last_line, indentation, is_tight_behind,
+    is_tight_in_front, line_feeds,
+};
 
 /// What goes in front of the next word.
 #[derive(Clone, Copy, Debug, PartialEq, Eq)]
@@ -97,22 +90,6 @@ pub struct Layout {
     before: &'static str,
 }
 
-/// Whether nothing goes in front of a word, wherever it is.
-fn is_tight_in_front(text: &str) -> bool {
-    match text {
-        ";" | "," | ")" | "]" | "<" | ">" | "?" | "..." => true,
-        _ => false,
-    }
-}
-
-/// Whether nothing goes behind a word, whatever follows.
-fn is_tight_behind(text: &str) -> bool {
-    match text {
-        "(" | "[" | "<" => true,
-        _ => false,
-    }
-}
-
 impl Layout {
     /// The layout at the front of a line, of which nothing is written yet.
     pub fn new() -> Layout {
@@ -155,7 +132,7 @@ impl Layout {
     fn wanted_space(&self, text: &str) -> Space {
         match self.front {
             Front::Nothing => self.blanks(0),
-            Front::Blank if is_tight_in_front(text) => self.blanks(0),
+            Front::Blank if is_tight_in_front(text.as_bytes()) => self.blanks(0),
             Front::Blank => self.blanks(1),
             Front::Line => self.line(0),
             Front::EmptyLine => self.line(1),
@@ -180,7 +157,7 @@ impl Layout {
             } else {
                 empty.saturating_add(1)
             },
-            blanks: self.level.min(MOST_LEVELS).saturating_mul(LEVEL),
+            blanks: indentation(self.level),
         }
     }
 
@@ -214,15 +191,16 @@ impl Layout {
     pub(crate) fn wrote(&mut self, text: &str, before: &'static str)
         ensures ends { self.new.is_in_name ≡ the_ends_as_name text.now }
     {
-        let ended = line_ends(text);
+        let ended = line_feeds(text.as_bytes());
+        let width = characters(text.as_bytes());
         if ended > 0 {
             self.lines = self.lines.saturating_add(ended);
-            self.column = characters_behind(text);
+            self.column = characters_of_last_line(text.as_bytes());
             self.cut_line();
         } else {
-            self.column = self.column.saturating_add(characters(text));
+            self.column = self.column.saturating_add(width);
         }
-        self.count = self.count.saturating_add(characters(text));
+        self.count = self.count.saturating_add(width);
         self.is_line_begun = false;
         self.is_in_name = ends_as_name(text);
         self.is_behind_type = false;
@@ -235,7 +213,7 @@ impl Layout {
         ensures ends { self.new.is_in_name ≡ the_ends_as_name word.now }
     {
         self.wrote(word, word);
-        if is_tight_behind(word) {
+        if is_tight_behind(word.as_bytes()) {
             self.front = Front::Nothing;
         }
     }
@@ -309,9 +287,9 @@ impl Layout {
         }
     }
 
-    /// Whether a definition of this kind may be right below the one before.
-    pub(crate) fn may_follow(&self, kind: Statement) -> bool {
-        kind != Statement::Other && kind == self.statement
+    /// Whether a definition of this kind is written right below the one before.
+    pub(crate) fn is_right_below(&self, kind: Statement) -> bool {
+        kind.is_written_below(self.statement)
     }
 
     /// Whether one line was written since, and it fits.

@@ -59,7 +59,6 @@ mod statement;
 mod string;
 mod texts;
 mod type_words;
-mod widths;
 mod words;
 mod written;
 
@@ -70,6 +69,7 @@ pub use list::{close_list, separate};
 pub use name::Reserved;
 pub use null::Nullable;
 pub use print::{Print, printed};
-pub use statement::{Statement, print_statement};
+pub use statement::print_statement;
 pub use texts::{last_word, push, word};
+pub use weedle_layout::Statement;
 pub use words::Words;

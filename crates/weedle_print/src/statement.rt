@@ -6,22 +6,7 @@ ghost use Rattle.weedle_print.specs.Adds.{Adds};
 use crate::error::PrintError;
 use crate::layout::Layout;
 use crate::print::{Print, try_line};
-
-/// What a definition is for the layout: statements of one kind that take one line each are below
-/// one another, and an empty line is between all other definitions.
-#[derive(Clone, Copy, Debug, PartialEq, Eq)]
-pub enum Statement {
-    /// A callback.
-    Callback,
-    /// A name for a type.
-    Typedef,
-    /// The use of a mixin.
-    Includes,
-    /// The older form of it.
-    Implements,
-    /// Any other definition.
-    Other,
-}
+use weedle_layout::Statement;
 
 /// Writes a definition of this kind, behind an empty line where the layout has one. A statement is
 /// written into a text of its own first, to see whether it takes one line, and whether that fits
@@ -39,7 +24,7 @@ pub fn print_statement<P: Print>(
     if kind != Statement::Other {
         try_line::<P>(*out.allocator(), value, layout)?;
     }
-    if !layout.is_flat() || !layout.may_follow(kind) {
+    if !layout.is_flat() || !layout.is_right_below(kind) {
         layout.skip_line();
     }
     P::print(value, out, layout)?;

@@ -1,6 +1,7 @@
 //! What begins a line: an item of a broken list, a member, or a statement.
 
-use super::{COLUMNS, Front, Layout};
+use super::{Front, Layout};
+use weedle_layout::COLUMNS;
 
 impl Layout {
     /// Begins to write what begins a line on that line alone, to see how much is on it.

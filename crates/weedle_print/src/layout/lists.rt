@@ -1,10 +1,7 @@
 //! Lists, which stay on the line or have a line for each item.
 
-use super::{COLUMNS, Front, Layout, MOST_LEVELS};
-
-/// How many characters extended attributes have at most in front of what they belong to, on its
-/// line.
-const MOST_IN_FRONT: usize = 40;
+use super::{Front, Layout};
+use weedle_layout::{COLUMNS, MOST_IN_FRONT, MOST_LEVELS};
 
 impl Layout {
     /// Whether lists stay on the line, so that none is to be tried.
