@@ -335,7 +335,7 @@ uint32_t weedle_rules(void);
 
 /* The rules of the grammar. */
 enum weedle_rule {
-    /* Trivia: line comments, blanks and block comments. */
+    /* Trivia: line comments, whitespace and block comments. */
     WEEDLE_BYTES_LF = 0,
     WEEDLE_NOT_NEXT_ANY = 1,
     WEEDLE_LINE_END = 2,

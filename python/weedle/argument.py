@@ -64,17 +64,15 @@ class SingleArgument(Value):
     """An argument, as `optional long x = 5`."""
 
     attributes: Optional[ExtendedAttributeList] = part(
-        "The extended attributes in brackets, as `[Exposed=Window]`, where they stand."
+        "The extended attributes in brackets, as `[Exposed=Window]`, where present."
     )
-    optional: Optional[term.Optional] = part("The word `optional`, where it stands.")
+    optional: Optional[term.Optional] = part("The word `optional`, where present.")
     type_: AttributedType = part(
         "Its type, as `long`, with extended attributes of its own, as in `optional [Clamp] "
         "long x`."
     )
     identifier: Identifier = part("Its name.")
-    default: Optional[Default] = part(
-        "Its default, as `= 5`, where `optional` and a default stand."
-    )
+    default: Optional[Default] = part("Its default, as `= 5`, where present behind `optional`.")
     _is_whole = False
 
     def __init__(
@@ -90,7 +88,7 @@ class VariadicArgument(Value):
     """Any number of arguments, as `long... xs`."""
 
     attributes: Optional[ExtendedAttributeList] = part(
-        "The extended attributes in brackets, as `[Exposed=Window]`, where they stand."
+        "The extended attributes in brackets, as `[Exposed=Window]`, where present."
     )
     type_: Type.Variants = part(
         "Their type, as `long`, with no extended attributes of its own."

@@ -32,7 +32,7 @@ class Parenthesized(Value, Generic[T]):
     """A body in parentheses, as `(a, b)`."""
 
     open_paren: term.OpenParen = word("The `(`.")
-    body: T = part("What stands between the parentheses.")
+    body: T = part("What is between the parentheses.")
     close_paren: term.CloseParen = word("The `)`.")
 
     def __init__(self, *, body: T) -> None:
@@ -44,7 +44,7 @@ class Bracketed(Value, Generic[T]):
     """A body in square brackets, as `[Exposed]`."""
 
     open_bracket: term.OpenBracket = word("The `[`.")
-    body: T = part("What stands between the square brackets.")
+    body: T = part("What is between the square brackets.")
     close_bracket: term.CloseBracket = word("The `]`.")
 
     def __init__(self, *, body: T) -> None:
@@ -56,7 +56,7 @@ class Braced(Value, Generic[T]):
     """A body in braces, as `{ .. }`."""
 
     open_brace: term.OpenBrace = word("The `{`.")
-    body: T = part("What stands between the braces.")
+    body: T = part("What is between the braces.")
     close_brace: term.CloseBrace = word("The `}`.")
 
     def __init__(self, *, body: T) -> None:
@@ -68,7 +68,7 @@ class Generics(Value, Generic[T]):
     """A body in angle brackets, as `<long>`."""
 
     open_angle: term.LessThan = word("The `<`.")
-    body: T = part("What stands between the angle brackets.")
+    body: T = part("What is between the angle brackets.")
     close_angle: term.GreaterThan = word("The `>`.")
 
     def __init__(self, *, body: T) -> None:
@@ -80,7 +80,7 @@ class Docstring(Lines):
 
 
 class Identifier(Name):
-    """A name, as `Window`, kept without the underscore that may stand before it, as in
+    """A name, as `Window`, kept without the underscore that may be before it, as in
     `_interface`.
     """
 
@@ -92,8 +92,8 @@ class Punctuated(Listed[T, S]):
 
 
 class PunctuatedNonEmpty(Listed[T, S]):
-    """Items with a separator between each two, one item at least, and one separator more
-    where it stands, as `a, b,`.
+    """Items with a separator between each two, one item at least, and one further separator
+    where present, as `a, b,`.
     """
 
     _fronts = ("",)

@@ -53,9 +53,9 @@ __all__ = [
 class CallbackInterfaceDefinition(Value):
     """A callback interface, as `callback interface A {};`."""
 
-    docstring: Optional[Docstring] = part("The docstring in front, where one stands.")
+    docstring: Optional[Docstring] = part("The docstring in front, where present.")
     attributes: Optional[ExtendedAttributeList] = part(
-        "The extended attributes in brackets, as `[Exposed=Window]`, where they stand."
+        "The extended attributes in brackets, as `[Exposed=Window]`, where present."
     )
     callback: term.Callback = word("The word `callback`.")
     interface: term.Interface = word("The word `interface`.")
@@ -78,9 +78,9 @@ class CallbackInterfaceDefinition(Value):
 class InterfaceDefinition(Value):
     """An interface, as `interface A : B { attribute long x; };`."""
 
-    docstring: Optional[Docstring] = part("The docstring in front, where one stands.")
+    docstring: Optional[Docstring] = part("The docstring in front, where present.")
     attributes: Optional[ExtendedAttributeList] = part(
-        "The extended attributes in brackets, as `[Exposed=Window]`, where they stand."
+        "The extended attributes in brackets, as `[Exposed=Window]`, where present."
     )
     interface: term.Interface = word("The word `interface`.")
     identifier: Identifier = part("Its name.")
@@ -103,7 +103,7 @@ class PartialInterfaceDefinition(Value):
     """A part of an interface, as `partial interface A {};`."""
 
     attributes: Optional[ExtendedAttributeList] = part(
-        "The extended attributes in brackets, as `[Exposed=Window]`, where they stand."
+        "The extended attributes in brackets, as `[Exposed=Window]`, where present."
     )
     partial: term.Partial = word("The word `partial`.")
     interface: term.Interface = word("The word `interface`.")
@@ -123,7 +123,7 @@ class InterfaceMixinDefinition(Value):
     """A mixin, as `interface mixin A {};`."""
 
     attributes: Optional[ExtendedAttributeList] = part(
-        "The extended attributes in brackets, as `[Exposed=Window]`, where they stand."
+        "The extended attributes in brackets, as `[Exposed=Window]`, where present."
     )
     interface: term.Interface = word("The word `interface`.")
     mixin: term.Mixin = word("The word `mixin`.")
@@ -143,7 +143,7 @@ class PartialInterfaceMixinDefinition(Value):
     """A part of a mixin, as `partial interface mixin A {};`."""
 
     attributes: Optional[ExtendedAttributeList] = part(
-        "The extended attributes in brackets, as `[Exposed=Window]`, where they stand."
+        "The extended attributes in brackets, as `[Exposed=Window]`, where present."
     )
     partial: term.Partial = word("The word `partial`.")
     interface: term.Interface = word("The word `interface`.")
@@ -163,9 +163,9 @@ class PartialInterfaceMixinDefinition(Value):
 class DictionaryDefinition(Value):
     """A dictionary, as `dictionary A : B { long x = 5; };`."""
 
-    docstring: Optional[Docstring] = part("The docstring in front, where one stands.")
+    docstring: Optional[Docstring] = part("The docstring in front, where present.")
     attributes: Optional[ExtendedAttributeList] = part(
-        "The extended attributes in brackets, as `[Exposed=Window]`, where they stand."
+        "The extended attributes in brackets, as `[Exposed=Window]`, where present."
     )
     dictionary: term.Dictionary = word("The word `dictionary`.")
     identifier: Identifier = part("Its name.")
@@ -188,7 +188,7 @@ class PartialDictionaryDefinition(Value):
     """A part of a dictionary, as `partial dictionary A {};`."""
 
     attributes: Optional[ExtendedAttributeList] = part(
-        "The extended attributes in brackets, as `[Exposed=Window]`, where they stand."
+        "The extended attributes in brackets, as `[Exposed=Window]`, where present."
     )
     partial: term.Partial = word("The word `partial`.")
     dictionary: term.Dictionary = word("The word `dictionary`.")
@@ -207,9 +207,9 @@ class PartialDictionaryDefinition(Value):
 class NamespaceDefinition(Value):
     """A namespace, as `namespace A { long f(); };`."""
 
-    docstring: Optional[Docstring] = part("The docstring in front, where one stands.")
+    docstring: Optional[Docstring] = part("The docstring in front, where present.")
     attributes: Optional[ExtendedAttributeList] = part(
-        "The extended attributes in brackets, as `[Exposed=Window]`, where they stand."
+        "The extended attributes in brackets, as `[Exposed=Window]`, where present."
     )
     namespace: term.Namespace = word("The word `namespace`.")
     identifier: Identifier = part("Its name.")
@@ -229,7 +229,7 @@ class PartialNamespaceDefinition(Value):
     """A part of a namespace, as `partial namespace A {};`."""
 
     attributes: Optional[ExtendedAttributeList] = part(
-        "The extended attributes in brackets, as `[Exposed=Window]`, where they stand."
+        "The extended attributes in brackets, as `[Exposed=Window]`, where present."
     )
     partial: term.Partial = word("The word `partial`.")
     namespace: term.Namespace = word("The word `namespace`.")
@@ -249,7 +249,7 @@ class CallbackDefinition(Value):
     """A callback, as `callback F = undefined (long x);`."""
 
     attributes: Optional[ExtendedAttributeList] = part(
-        "The extended attributes in brackets, as `[Exposed=Window]`, where they stand."
+        "The extended attributes in brackets, as `[Exposed=Window]`, where present."
     )
     callback: term.Callback = word("The word `callback`.")
     identifier: Identifier = part("Its name.")
@@ -269,7 +269,7 @@ class CallbackDefinition(Value):
 class EnumVariant(Value):
     """A value of an enum, as `"blob"`."""
 
-    docstring: Optional[Docstring] = part("The docstring in front, where one stands.")
+    docstring: Optional[Docstring] = part("The docstring in front, where present.")
     value: StringLit = part("The value in quotes, as `\"blob\"`.")
 
     def __init__(self, *, docstring: Optional[Docstring] = None, value: StringLit) -> None:
@@ -280,9 +280,9 @@ class EnumVariant(Value):
 class EnumDefinition(Value):
     """An enum, as `enum A { "a", "b" };`."""
 
-    docstring: Optional[Docstring] = part("The docstring in front, where one stands.")
+    docstring: Optional[Docstring] = part("The docstring in front, where present.")
     attributes: Optional[ExtendedAttributeList] = part(
-        "The extended attributes in brackets, as `[Exposed=Window]`, where they stand."
+        "The extended attributes in brackets, as `[Exposed=Window]`, where present."
     )
     enum_: term.Enum = word("The word `enum`.")
     identifier: Identifier = part("Its name.")
@@ -302,7 +302,7 @@ class IncludesStatementDefinition(Value):
     """The use of a mixin by an interface, as `A includes B;`."""
 
     attributes: Optional[ExtendedAttributeList] = part(
-        "The extended attributes in brackets, as `[Exposed=Window]`, where they stand."
+        "The extended attributes in brackets, as `[Exposed=Window]`, where present."
     )
     lhs_identifier: Identifier = part("The name of the interface, before `includes`.")
     includes: term.Includes = word("The word `includes`.")
@@ -321,7 +321,7 @@ class ImplementsDefinition(Value):
     """The older form of a mixin's use, as `A implements B;`."""
 
     attributes: Optional[ExtendedAttributeList] = part(
-        "The extended attributes in brackets, as `[Exposed=Window]`, where they stand."
+        "The extended attributes in brackets, as `[Exposed=Window]`, where present."
     )
     lhs_identifier: Identifier = part("The name of the interface, before `implements`.")
     includes: term.Implements = word("The word `implements`.")
@@ -342,12 +342,11 @@ class TypedefDefinition(Value):
     """A name for a type, as `typedef long A;`."""
 
     attributes: Optional[ExtendedAttributeList] = part(
-        "The extended attributes in brackets, as `[Exposed=Window]`, where they stand."
+        "The extended attributes in brackets, as `[Exposed=Window]`, where present."
     )
     typedef: term.Typedef = word("The word `typedef`.")
     type_: AttributedType = part(
-        "The type that is named, as `long`, with the extended attributes that stand before "
-        "it."
+        "The type that is named, as `long`, with the extended attributes before it."
     )
     identifier: Identifier = part("The name that the type gets.")
     semi_colon: term.SemiColon = word("The `;` at the end.")
@@ -513,7 +512,7 @@ class Definition_Implements(Definition, variant="Implements"):
         self._hold(value)
 
 
-#: The values of an enum, one at least, and a comma behind the last where it stands, as `"a",
+#: The values of an enum, one at least, and a comma behind the last where present, as `"a",
 #: "b",`.
 EnumValueList = PunctuatedNonEmpty["EnumVariant", "term.Comma"]
 

@@ -25,14 +25,14 @@ __all__ = [
 class DictionaryMember(Value):
     """A member of a dictionary, as `required long x;` or `long x = 5;`."""
 
-    docstring: Optional[Docstring] = part("The docstring in front, where one stands.")
+    docstring: Optional[Docstring] = part("The docstring in front, where present.")
     attributes: Optional[ExtendedAttributeList] = part(
-        "The extended attributes in brackets, as `[Exposed=Window]`, where they stand."
+        "The extended attributes in brackets, as `[Exposed=Window]`, where present."
     )
-    required: Optional[term.Required] = part("The word `required`, where it stands.")
+    required: Optional[term.Required] = part("The word `required`, where present.")
     type_: Type.Variants = part("Its type, as `long`, with no extended attributes of its own.")
     identifier: Identifier = part("Its name.")
-    default: Optional[Default] = part("Its default, as `= 5`, where one stands.")
+    default: Optional[Default] = part("Its default, as `= 5`, where present.")
     semi_colon: term.SemiColon = word("The `;` at the end.")
 
     def __init__(

@@ -179,16 +179,14 @@ class AttributeInterfaceMember(Value):
     """An attribute of an interface, as `static readonly attribute long x;`."""
 
     attributes: Optional[ExtendedAttributeList] = part(
-        "The extended attributes in brackets, as `[Exposed=Window]`, where they stand."
+        "The extended attributes in brackets, as `[Exposed=Window]`, where present."
     )
     modifier: Optional[StringifierOrInheritOrStatic.Variants] = part(
-        "The word `stringifier`, `inherit` or `static`, where one of them stands."
+        "The word `stringifier`, `inherit` or `static`, where one of them is present."
     )
-    readonly: Optional[term.ReadOnly] = part("The word `readonly`, where it stands.")
+    readonly: Optional[term.ReadOnly] = part("The word `readonly`, where present.")
     attribute: term.Attribute = word("The word `attribute`.")
-    type_: AttributedType = part(
-        "Its type, as `long`, with the extended attributes that stand before it."
-    )
+    type_: AttributedType = part("Its type, as `long`, with the extended attributes before it.")
     identifier: Identifier = part("Its name.")
     semi_colon: term.SemiColon = word("The `;` at the end.")
 
@@ -205,7 +203,7 @@ class ConstMember(Value):
     """A constant, as `const long X = 5;`."""
 
     attributes: Optional[ExtendedAttributeList] = part(
-        "The extended attributes in brackets, as `[Exposed=Window]`, where they stand."
+        "The extended attributes in brackets, as `[Exposed=Window]`, where present."
     )
     const_: term.Const = word("The word `const`.")
     const_type: ConstType.Variants = part("Its type, as `long`.")
@@ -226,9 +224,9 @@ class ConstMember(Value):
 class ConstructorInterfaceMember(Value):
     """A constructor, as `constructor(long x);`."""
 
-    docstring: Optional[Docstring] = part("The docstring in front, where one stands.")
+    docstring: Optional[Docstring] = part("The docstring in front, where present.")
     attributes: Optional[ExtendedAttributeList] = part(
-        "The extended attributes in brackets, as `[Exposed=Window]`, where they stand."
+        "The extended attributes in brackets, as `[Exposed=Window]`, where present."
     )
     constructor: term.Constructor = word("The word `constructor`.")
     args: Parenthesized[ArgumentList] = part("Its arguments, between parentheses.")
@@ -245,15 +243,16 @@ class ConstructorInterfaceMember(Value):
 class OperationInterfaceMember(Value):
     """An operation of an interface, as `getter long item(long index);`."""
 
-    docstring: Optional[Docstring] = part("The docstring in front, where one stands.")
+    docstring: Optional[Docstring] = part("The docstring in front, where present.")
     attributes: Optional[ExtendedAttributeList] = part(
-        "The extended attributes in brackets, as `[Exposed=Window]`, where they stand."
+        "The extended attributes in brackets, as `[Exposed=Window]`, where present."
     )
     modifier: Optional[StringifierOrStatic.Variants] = part(
-        "The word `stringifier` or `static`, where one of them stands."
+        "The word `stringifier` or `static`, where one of them is present."
     )
     special: Optional[Special.Variants] = part(
-        "The word `getter`, `setter`, `deleter` or `legacycaller`, where one of them stands."
+        "The word `getter`, `setter`, `deleter` or `legacycaller`, where one of them is "
+        "present."
     )
     return_type: ReturnType.Variants = part("The type of its result, as `undefined` or `long`.")
     identifier: Optional[Identifier] = part("Its name, where it has one.")
@@ -275,7 +274,7 @@ class StringifierMember(Value):
     """A stringifier with no body, as `stringifier;`."""
 
     attributes: Optional[ExtendedAttributeList] = part(
-        "The extended attributes in brackets, as `[Exposed=Window]`, where they stand."
+        "The extended attributes in brackets, as `[Exposed=Window]`, where present."
     )
     stringifier: term.Stringifier = word("The word `stringifier`.")
     semi_colon: term.SemiColon = word("The `;` at the end.")
@@ -368,9 +367,9 @@ class MaplikeInterfaceMember(Value):
     """A map, as `readonly maplike<DOMString, long>;`."""
 
     attributes: Optional[ExtendedAttributeList] = part(
-        "The extended attributes in brackets, as `[Exposed=Window]`, where they stand."
+        "The extended attributes in brackets, as `[Exposed=Window]`, where present."
     )
-    readonly: Optional[term.ReadOnly] = part("The word `readonly`, where it stands.")
+    readonly: Optional[term.ReadOnly] = part("The word `readonly`, where present.")
     maplike: term.Maplike = word("The word `maplike`.")
     generics: Generics[Tuple[AttributedType, term.Comma, AttributedType]] = part(
         "The types of its keys and values in angle brackets, as `<DOMString, long>`."
@@ -390,9 +389,9 @@ class SetlikeInterfaceMember(Value):
     """A set, as `readonly setlike<long>;`."""
 
     attributes: Optional[ExtendedAttributeList] = part(
-        "The extended attributes in brackets, as `[Exposed=Window]`, where they stand."
+        "The extended attributes in brackets, as `[Exposed=Window]`, where present."
     )
-    readonly: Optional[term.ReadOnly] = part("The word `readonly`, where it stands.")
+    readonly: Optional[term.ReadOnly] = part("The word `readonly`, where present.")
     setlike: term.Setlike = word("The word `setlike`.")
     generics: Generics[AttributedType] = part(
         "The type of its values in angle brackets, as `<long>`."
@@ -411,7 +410,7 @@ class SingleTypedIterable(Value):
     """An iteration over values, as `iterable<long>;`."""
 
     attributes: Optional[ExtendedAttributeList] = part(
-        "The extended attributes in brackets, as `[Exposed=Window]`, where they stand."
+        "The extended attributes in brackets, as `[Exposed=Window]`, where present."
     )
     iterable: term.Iterable = word("The word `iterable`.")
     generics: Generics[AttributedType] = part(
@@ -431,7 +430,7 @@ class DoubleTypedIterable(Value):
     """An iteration over pairs, as `iterable<DOMString, long>;`."""
 
     attributes: Optional[ExtendedAttributeList] = part(
-        "The extended attributes in brackets, as `[Exposed=Window]`, where they stand."
+        "The extended attributes in brackets, as `[Exposed=Window]`, where present."
     )
     iterable: term.Iterable = word("The word `iterable`.")
     generics: Generics[Tuple[AttributedType, term.Comma, AttributedType]] = part(

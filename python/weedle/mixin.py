@@ -34,9 +34,9 @@ class OperationMixinMember(Value):
     """An operation of a mixin, as `stringifier long f(long x);`."""
 
     attributes: Optional[ExtendedAttributeList] = part(
-        "The extended attributes in brackets, as `[Exposed=Window]`, where they stand."
+        "The extended attributes in brackets, as `[Exposed=Window]`, where present."
     )
-    stringifier: Optional[term.Stringifier] = part("The word `stringifier`, where it stands.")
+    stringifier: Optional[term.Stringifier] = part("The word `stringifier`, where present.")
     return_type: ReturnType.Variants = part("The type of its result, as `undefined` or `long`.")
     identifier: Optional[Identifier] = part("Its name, where it has one.")
     args: Parenthesized[ArgumentList] = part("Its arguments, between parentheses.")
@@ -55,14 +55,12 @@ class AttributeMixinMember(Value):
     """An attribute of a mixin, as `readonly attribute long x;`."""
 
     attributes: Optional[ExtendedAttributeList] = part(
-        "The extended attributes in brackets, as `[Exposed=Window]`, where they stand."
+        "The extended attributes in brackets, as `[Exposed=Window]`, where present."
     )
-    stringifier: Optional[term.Stringifier] = part("The word `stringifier`, where it stands.")
-    readonly: Optional[term.ReadOnly] = part("The word `readonly`, where it stands.")
+    stringifier: Optional[term.Stringifier] = part("The word `stringifier`, where present.")
+    readonly: Optional[term.ReadOnly] = part("The word `readonly`, where present.")
     attribute: term.Attribute = word("The word `attribute`.")
-    type_: AttributedType = part(
-        "Its type, as `long`, with the extended attributes that stand before it."
-    )
+    type_: AttributedType = part("Its type, as `long`, with the extended attributes before it.")
     identifier: Identifier = part("Its name.")
     semi_colon: term.SemiColon = word("The `;` at the end.")
 

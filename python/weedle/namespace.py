@@ -32,9 +32,9 @@ __all__ = [
 class OperationNamespaceMember(Value):
     """An operation of a namespace, as `long f(long x);`."""
 
-    docstring: Optional[Docstring] = part("The docstring in front, where one stands.")
+    docstring: Optional[Docstring] = part("The docstring in front, where present.")
     attributes: Optional[ExtendedAttributeList] = part(
-        "The extended attributes in brackets, as `[Exposed=Window]`, where they stand."
+        "The extended attributes in brackets, as `[Exposed=Window]`, where present."
     )
     return_type: ReturnType.Variants = part("The type of its result, as `undefined` or `long`.")
     identifier: Optional[Identifier] = part("Its name, where it has one.")
@@ -53,15 +53,13 @@ class OperationNamespaceMember(Value):
 class AttributeNamespaceMember(Value):
     """An attribute of a namespace, as `readonly attribute long x;`, always `readonly`."""
 
-    docstring: Optional[Docstring] = part("The docstring in front, where one stands.")
+    docstring: Optional[Docstring] = part("The docstring in front, where present.")
     attributes: Optional[ExtendedAttributeList] = part(
-        "The extended attributes in brackets, as `[Exposed=Window]`, where they stand."
+        "The extended attributes in brackets, as `[Exposed=Window]`, where present."
     )
-    readonly: term.ReadOnly = word("The word `readonly`, which always stands here.")
+    readonly: term.ReadOnly = word("The word `readonly`, which always is here.")
     attribute: term.Attribute = word("The word `attribute`.")
-    type_: AttributedType = part(
-        "Its type, as `long`, with the extended attributes that stand before it."
-    )
+    type_: AttributedType = part("Its type, as `long`, with the extended attributes before it.")
     identifier: Identifier = part("Its name.")
     semi_colon: term.SemiColon = word("The `;` at the end.")
 

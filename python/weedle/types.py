@@ -119,9 +119,7 @@ class ConstType_Identifier(ConstType, variant="Identifier"):
 class FloatType(Value):
     """`float` or `unrestricted float`."""
 
-    unrestricted: Optional[term.Unrestricted] = part(
-        "The word `unrestricted`, where it stands."
-    )
+    unrestricted: Optional[term.Unrestricted] = part("The word `unrestricted`, where present.")
     float: term.Float = word("The word `float`.")
 
     def __init__(self, *, unrestricted: Optional[term.Unrestricted] = None) -> None:
@@ -132,9 +130,7 @@ class FloatType(Value):
 class DoubleType(Value):
     """`double` or `unrestricted double`."""
 
-    unrestricted: Optional[term.Unrestricted] = part(
-        "The word `unrestricted`, where it stands."
-    )
+    unrestricted: Optional[term.Unrestricted] = part("The word `unrestricted`, where present.")
     double: term.Double = word("The word `double`.")
 
     def __init__(self, *, unrestricted: Optional[term.Unrestricted] = None) -> None:
@@ -174,7 +170,7 @@ class FloatingPointType_Double(FloatingPointType, variant="Double"):
 class LongLongType(Value):
     """`long long` or `unsigned long long`."""
 
-    unsigned: Optional[term.Unsigned] = part("The word `unsigned`, where it stands.")
+    unsigned: Optional[term.Unsigned] = part("The word `unsigned`, where present.")
     long_long: Tuple[term.Long, term.Long] = word("The words `long long`.")
 
     def __init__(self, *, unsigned: Optional[term.Unsigned] = None) -> None:
@@ -185,7 +181,7 @@ class LongLongType(Value):
 class LongType(Value):
     """`long` or `unsigned long`."""
 
-    unsigned: Optional[term.Unsigned] = part("The word `unsigned`, where it stands.")
+    unsigned: Optional[term.Unsigned] = part("The word `unsigned`, where present.")
     long: term.Long = word("The word `long`.")
 
     def __init__(self, *, unsigned: Optional[term.Unsigned] = None) -> None:
@@ -196,7 +192,7 @@ class LongType(Value):
 class ShortType(Value):
     """`short` or `unsigned short`."""
 
-    unsigned: Optional[term.Unsigned] = part("The word `unsigned`, where it stands.")
+    unsigned: Optional[term.Unsigned] = part("The word `unsigned`, where present.")
     short: term.Short = word("The word `short`.")
 
     def __init__(self, *, unsigned: Optional[term.Unsigned] = None) -> None:
@@ -247,7 +243,7 @@ class MayBeNull(Value, Generic[T]):
     """A type, and `?` where it may be null, as `long?`."""
 
     type_: T = part("The type, as `long`.")
-    q_mark: Optional[term.QMark] = part("The `?`, where it stands.")
+    q_mark: Optional[term.QMark] = part("The `?`, where present.")
 
     def __init__(self, *, type_: T, q_mark: Optional[term.QMark] = None) -> None:
         self._hold(type_, q_mark)
@@ -622,10 +618,10 @@ class UnionMemberType_Union(UnionMemberType, variant="Union"):
 
 @value_class
 class AttributedType(Value):
-    """A type with the extended attributes that stand before it, as `[Clamp] octet`."""
+    """A type with the extended attributes before it, as `[Clamp] octet`."""
 
     attributes: Optional[ExtendedAttributeList] = part(
-        "The extended attributes in brackets, as `[Clamp]`, where they stand."
+        "The extended attributes in brackets, as `[Clamp]`, where present."
     )
     type_: Type.Variants = part("The type, as `octet`.")
 
@@ -637,12 +633,12 @@ class AttributedType(Value):
 
 @value_class
 class AttributedNonAnyType(Value):
-    """A type that is neither `any` nor a union, with the extended attributes that stand
-    before it, as `[Clamp] octet`.
+    """A type that is neither `any` nor a union, with the extended attributes before it, as
+    `[Clamp] octet`.
     """
 
     attributes: Optional[ExtendedAttributeList] = part(
-        "The extended attributes in brackets, as `[Clamp]`, where they stand."
+        "The extended attributes in brackets, as `[Clamp]`, where present."
     )
     type_: NonAnyType.Variants = part("The type, as `octet`.")
 

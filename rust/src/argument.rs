@@ -27,15 +27,15 @@ choice! {
 /// An argument, as `optional long x = 5`.
 #[derive(Clone, Debug, PartialEq, Eq, PartialOrd, Ord, Hash)]
 pub struct SingleArgument<'a> {
-    /// The extended attributes in brackets, as `[Exposed=Window]`, where they stand.
+    /// The extended attributes in brackets, as `[Exposed=Window]`, where present.
     pub attributes: Option<ExtendedAttributeList<'a>>,
-    /// The word `optional`, where it stands.
+    /// The word `optional`, where present.
     pub optional: Option<term::Optional>,
     /// Its type, as `long`, with extended attributes of its own, as in `optional [Clamp] long x`.
     pub type_: AttributedType<'a>,
     /// Its name.
     pub identifier: Identifier<'a>,
-    /// Its default, as `= 5`, where `optional` and a default stand.
+    /// Its default, as `= 5`, where present behind `optional`.
     pub default: Option<Default<'a>>,
 }
 
@@ -48,7 +48,7 @@ record! {
 /// Any number of arguments, as `long... xs`.
 #[derive(Clone, Debug, PartialEq, Eq, PartialOrd, Ord, Hash)]
 pub struct VariadicArgument<'a> {
-    /// The extended attributes in brackets, as `[Exposed=Window]`, where they stand.
+    /// The extended attributes in brackets, as `[Exposed=Window]`, where present.
     pub attributes: Option<ExtendedAttributeList<'a>>,
     /// Their type, as `long`, with no extended attributes of its own.
     pub type_: Type<'a>,

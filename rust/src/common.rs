@@ -10,7 +10,7 @@ use crate::term;
 pub struct Parenthesized<T> {
     /// The `(`.
     pub open_paren: term::OpenParen,
-    /// What stands between the parentheses.
+    /// What is between the parentheses.
     pub body: T,
     /// The `)`.
     pub close_paren: term::CloseParen,
@@ -23,7 +23,7 @@ generic! { Parenthesized = parenthesized { open_paren, body, close_paren } }
 pub struct Bracketed<T> {
     /// The `[`.
     pub open_bracket: term::OpenBracket,
-    /// What stands between the square brackets.
+    /// What is between the square brackets.
     pub body: T,
     /// The `]`.
     pub close_bracket: term::CloseBracket,
@@ -36,7 +36,7 @@ generic! { Bracketed = bracketed { open_bracket, body, close_bracket } }
 pub struct Braced<T> {
     /// The `{`.
     pub open_brace: term::OpenBrace,
-    /// What stands between the braces.
+    /// What is between the braces.
     pub body: T,
     /// The `}`.
     pub close_brace: term::CloseBrace,
@@ -49,7 +49,7 @@ generic! { Braced = braced { open_brace, body, close_brace } }
 pub struct Generics<T> {
     /// The `<`.
     pub open_angle: term::LessThan,
-    /// What stands between the angle brackets.
+    /// What is between the angle brackets.
     pub body: T,
     /// The `>`.
     pub close_angle: term::GreaterThan,
@@ -63,7 +63,7 @@ pub struct Docstring(pub String);
 
 lines!(Docstring = DOCSTRING);
 
-/// A name, as `Window`, kept without the underscore that may stand before it, as in `_interface`.
+/// A name, as `Window`, kept without the underscore that may be before it, as in `_interface`.
 #[derive(Clone, Copy, Debug, PartialEq, Eq, PartialOrd, Ord, Hash)]
 pub struct Identifier<'a>(pub &'a str);
 
@@ -80,8 +80,8 @@ pub struct Punctuated<T, S> {
 
 punctuated!(Punctuated);
 
-/// Items with a separator between each two, one item at least, and one separator more where it
-/// stands, as `a, b,`.
+/// Items with a separator between each two, one item at least, and one further separator where
+/// present, as `a, b,`.
 #[derive(Clone, Debug, PartialEq, Eq, PartialOrd, Ord, Hash)]
 pub struct PunctuatedNonEmpty<T, S> {
     /// The items, one after another; one at least.

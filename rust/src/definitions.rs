@@ -16,9 +16,9 @@ use crate::types::{AttributedType, ReturnType};
 /// A callback interface, as `callback interface A {};`.
 #[derive(Clone, Debug, PartialEq, Eq, PartialOrd, Ord, Hash)]
 pub struct CallbackInterfaceDefinition<'a> {
-    /// The docstring in front, where one stands.
+    /// The docstring in front, where present.
     pub docstring: Option<Docstring>,
-    /// The extended attributes in brackets, as `[Exposed=Window]`, where they stand.
+    /// The extended attributes in brackets, as `[Exposed=Window]`, where present.
     pub attributes: Option<ExtendedAttributeList<'a>>,
     /// The word `callback`.
     pub callback: term::Callback,
@@ -43,9 +43,9 @@ record! {
 /// An interface, as `interface A : B { attribute long x; };`.
 #[derive(Clone, Debug, PartialEq, Eq, PartialOrd, Ord, Hash)]
 pub struct InterfaceDefinition<'a> {
-    /// The docstring in front, where one stands.
+    /// The docstring in front, where present.
     pub docstring: Option<Docstring>,
-    /// The extended attributes in brackets, as `[Exposed=Window]`, where they stand.
+    /// The extended attributes in brackets, as `[Exposed=Window]`, where present.
     pub attributes: Option<ExtendedAttributeList<'a>>,
     /// The word `interface`.
     pub interface: term::Interface,
@@ -68,7 +68,7 @@ record! {
 /// A part of an interface, as `partial interface A {};`.
 #[derive(Clone, Debug, PartialEq, Eq, PartialOrd, Ord, Hash)]
 pub struct PartialInterfaceDefinition<'a> {
-    /// The extended attributes in brackets, as `[Exposed=Window]`, where they stand.
+    /// The extended attributes in brackets, as `[Exposed=Window]`, where present.
     pub attributes: Option<ExtendedAttributeList<'a>>,
     /// The word `partial`.
     pub partial: term::Partial,
@@ -91,7 +91,7 @@ record! {
 /// A mixin, as `interface mixin A {};`.
 #[derive(Clone, Debug, PartialEq, Eq, PartialOrd, Ord, Hash)]
 pub struct InterfaceMixinDefinition<'a> {
-    /// The extended attributes in brackets, as `[Exposed=Window]`, where they stand.
+    /// The extended attributes in brackets, as `[Exposed=Window]`, where present.
     pub attributes: Option<ExtendedAttributeList<'a>>,
     /// The word `interface`.
     pub interface: term::Interface,
@@ -114,7 +114,7 @@ record! {
 /// A part of a mixin, as `partial interface mixin A {};`.
 #[derive(Clone, Debug, PartialEq, Eq, PartialOrd, Ord, Hash)]
 pub struct PartialInterfaceMixinDefinition<'a> {
-    /// The extended attributes in brackets, as `[Exposed=Window]`, where they stand.
+    /// The extended attributes in brackets, as `[Exposed=Window]`, where present.
     pub attributes: Option<ExtendedAttributeList<'a>>,
     /// The word `partial`.
     pub partial: term::Partial,
@@ -139,9 +139,9 @@ record! {
 /// A dictionary, as `dictionary A : B { long x = 5; };`.
 #[derive(Clone, Debug, PartialEq, Eq, PartialOrd, Ord, Hash)]
 pub struct DictionaryDefinition<'a> {
-    /// The docstring in front, where one stands.
+    /// The docstring in front, where present.
     pub docstring: Option<Docstring>,
-    /// The extended attributes in brackets, as `[Exposed=Window]`, where they stand.
+    /// The extended attributes in brackets, as `[Exposed=Window]`, where present.
     pub attributes: Option<ExtendedAttributeList<'a>>,
     /// The word `dictionary`.
     pub dictionary: term::Dictionary,
@@ -164,7 +164,7 @@ record! {
 /// A part of a dictionary, as `partial dictionary A {};`.
 #[derive(Clone, Debug, PartialEq, Eq, PartialOrd, Ord, Hash)]
 pub struct PartialDictionaryDefinition<'a> {
-    /// The extended attributes in brackets, as `[Exposed=Window]`, where they stand.
+    /// The extended attributes in brackets, as `[Exposed=Window]`, where present.
     pub attributes: Option<ExtendedAttributeList<'a>>,
     /// The word `partial`.
     pub partial: term::Partial,
@@ -187,9 +187,9 @@ record! {
 /// A namespace, as `namespace A { long f(); };`.
 #[derive(Clone, Debug, PartialEq, Eq, PartialOrd, Ord, Hash)]
 pub struct NamespaceDefinition<'a> {
-    /// The docstring in front, where one stands.
+    /// The docstring in front, where present.
     pub docstring: Option<Docstring>,
-    /// The extended attributes in brackets, as `[Exposed=Window]`, where they stand.
+    /// The extended attributes in brackets, as `[Exposed=Window]`, where present.
     pub attributes: Option<ExtendedAttributeList<'a>>,
     /// The word `namespace`.
     pub namespace: term::Namespace,
@@ -210,7 +210,7 @@ record! {
 /// A part of a namespace, as `partial namespace A {};`.
 #[derive(Clone, Debug, PartialEq, Eq, PartialOrd, Ord, Hash)]
 pub struct PartialNamespaceDefinition<'a> {
-    /// The extended attributes in brackets, as `[Exposed=Window]`, where they stand.
+    /// The extended attributes in brackets, as `[Exposed=Window]`, where present.
     pub attributes: Option<ExtendedAttributeList<'a>>,
     /// The word `partial`.
     pub partial: term::Partial,
@@ -233,7 +233,7 @@ record! {
 /// A callback, as `callback F = undefined (long x);`.
 #[derive(Clone, Debug, PartialEq, Eq, PartialOrd, Ord, Hash)]
 pub struct CallbackDefinition<'a> {
-    /// The extended attributes in brackets, as `[Exposed=Window]`, where they stand.
+    /// The extended attributes in brackets, as `[Exposed=Window]`, where present.
     pub attributes: Option<ExtendedAttributeList<'a>>,
     /// The word `callback`.
     pub callback: term::Callback,
@@ -258,7 +258,7 @@ record! {
 /// A value of an enum, as `"blob"`.
 #[derive(Clone, Debug, PartialEq, Eq, PartialOrd, Ord, Hash)]
 pub struct EnumVariant<'a> {
-    /// The docstring in front, where one stands.
+    /// The docstring in front, where present.
     pub docstring: Option<Docstring>,
     /// The value in quotes, as `"blob"`.
     pub value: StringLit<'a>,
@@ -269,9 +269,9 @@ record! { EnumVariant<'a> = ENUM_VARIANT { docstring, value } }
 /// An enum, as `enum A { "a", "b" };`.
 #[derive(Clone, Debug, PartialEq, Eq, PartialOrd, Ord, Hash)]
 pub struct EnumDefinition<'a> {
-    /// The docstring in front, where one stands.
+    /// The docstring in front, where present.
     pub docstring: Option<Docstring>,
-    /// The extended attributes in brackets, as `[Exposed=Window]`, where they stand.
+    /// The extended attributes in brackets, as `[Exposed=Window]`, where present.
     pub attributes: Option<ExtendedAttributeList<'a>>,
     /// The word `enum`.
     pub enum_: term::Enum,
@@ -292,7 +292,7 @@ record! {
 /// The use of a mixin by an interface, as `A includes B;`.
 #[derive(Clone, Debug, PartialEq, Eq, PartialOrd, Ord, Hash)]
 pub struct IncludesStatementDefinition<'a> {
-    /// The extended attributes in brackets, as `[Exposed=Window]`, where they stand.
+    /// The extended attributes in brackets, as `[Exposed=Window]`, where present.
     pub attributes: Option<ExtendedAttributeList<'a>>,
     /// The name of the interface, before `includes`.
     pub lhs_identifier: Identifier<'a>,
@@ -313,7 +313,7 @@ record! {
 /// The older form of a mixin's use, as `A implements B;`.
 #[derive(Clone, Debug, PartialEq, Eq, PartialOrd, Ord, Hash)]
 pub struct ImplementsDefinition<'a> {
-    /// The extended attributes in brackets, as `[Exposed=Window]`, where they stand.
+    /// The extended attributes in brackets, as `[Exposed=Window]`, where present.
     pub attributes: Option<ExtendedAttributeList<'a>>,
     /// The name of the interface, before `implements`.
     pub lhs_identifier: Identifier<'a>,
@@ -334,11 +334,11 @@ record! {
 /// A name for a type, as `typedef long A;`.
 #[derive(Clone, Debug, PartialEq, Eq, PartialOrd, Ord, Hash)]
 pub struct TypedefDefinition<'a> {
-    /// The extended attributes in brackets, as `[Exposed=Window]`, where they stand.
+    /// The extended attributes in brackets, as `[Exposed=Window]`, where present.
     pub attributes: Option<ExtendedAttributeList<'a>>,
     /// The word `typedef`.
     pub typedef: term::Typedef,
-    /// The type that is named, as `long`, with the extended attributes that stand before it.
+    /// The type that is named, as `long`, with the extended attributes before it.
     pub type_: AttributedType<'a>,
     /// The name that the type gets.
     pub identifier: Identifier<'a>,
@@ -404,8 +404,7 @@ choice! {
     }
 }
 
-/// The values of an enum, one at least, and a comma behind the last where it stands, as `"a",
-/// "b",`.
+/// The values of an enum, one at least, and a comma behind the last where present, as `"a", "b",`.
 pub type EnumValueList<'a> = PunctuatedNonEmpty<EnumVariant<'a>, term::Comma>;
 
 /// Definitions one after another, as `interface A {}; interface B {};`.

@@ -80,15 +80,15 @@ choice! {
 /// An attribute of an interface, as `static readonly attribute long x;`.
 #[derive(Clone, Debug, PartialEq, Eq, PartialOrd, Ord, Hash)]
 pub struct AttributeInterfaceMember<'a> {
-    /// The extended attributes in brackets, as `[Exposed=Window]`, where they stand.
+    /// The extended attributes in brackets, as `[Exposed=Window]`, where present.
     pub attributes: Option<ExtendedAttributeList<'a>>,
-    /// The word `stringifier`, `inherit` or `static`, where one of them stands.
+    /// The word `stringifier`, `inherit` or `static`, where one of them is present.
     pub modifier: Option<StringifierOrInheritOrStatic>,
-    /// The word `readonly`, where it stands.
+    /// The word `readonly`, where present.
     pub readonly: Option<term::ReadOnly>,
     /// The word `attribute`.
     pub attribute: term::Attribute,
-    /// Its type, as `long`, with the extended attributes that stand before it.
+    /// Its type, as `long`, with the extended attributes before it.
     pub type_: AttributedType<'a>,
     /// Its name.
     pub identifier: Identifier<'a>,
@@ -105,7 +105,7 @@ record! {
 /// A constant, as `const long X = 5;`.
 #[derive(Clone, Debug, PartialEq, Eq, PartialOrd, Ord, Hash)]
 pub struct ConstMember<'a> {
-    /// The extended attributes in brackets, as `[Exposed=Window]`, where they stand.
+    /// The extended attributes in brackets, as `[Exposed=Window]`, where present.
     pub attributes: Option<ExtendedAttributeList<'a>>,
     /// The word `const`.
     pub const_: term::Const,
@@ -130,9 +130,9 @@ record! {
 /// A constructor, as `constructor(long x);`.
 #[derive(Clone, Debug, PartialEq, Eq, PartialOrd, Ord, Hash)]
 pub struct ConstructorInterfaceMember<'a> {
-    /// The docstring in front, where one stands.
+    /// The docstring in front, where present.
     pub docstring: Option<Docstring>,
-    /// The extended attributes in brackets, as `[Exposed=Window]`, where they stand.
+    /// The extended attributes in brackets, as `[Exposed=Window]`, where present.
     pub attributes: Option<ExtendedAttributeList<'a>>,
     /// The word `constructor`.
     pub constructor: term::Constructor,
@@ -151,13 +151,13 @@ record! {
 /// An operation of an interface, as `getter long item(long index);`.
 #[derive(Clone, Debug, PartialEq, Eq, PartialOrd, Ord, Hash)]
 pub struct OperationInterfaceMember<'a> {
-    /// The docstring in front, where one stands.
+    /// The docstring in front, where present.
     pub docstring: Option<Docstring>,
-    /// The extended attributes in brackets, as `[Exposed=Window]`, where they stand.
+    /// The extended attributes in brackets, as `[Exposed=Window]`, where present.
     pub attributes: Option<ExtendedAttributeList<'a>>,
-    /// The word `stringifier` or `static`, where one of them stands.
+    /// The word `stringifier` or `static`, where one of them is present.
     pub modifier: Option<StringifierOrStatic>,
-    /// The word `getter`, `setter`, `deleter` or `legacycaller`, where one of them stands.
+    /// The word `getter`, `setter`, `deleter` or `legacycaller`, where one of them is present.
     pub special: Option<Special>,
     /// The type of its result, as `undefined` or `long`.
     pub return_type: ReturnType<'a>,
@@ -178,7 +178,7 @@ record! {
 /// A stringifier with no body, as `stringifier;`.
 #[derive(Clone, Debug, Default, PartialEq, Eq, PartialOrd, Ord, Hash)]
 pub struct StringifierMember<'a> {
-    /// The extended attributes in brackets, as `[Exposed=Window]`, where they stand.
+    /// The extended attributes in brackets, as `[Exposed=Window]`, where present.
     pub attributes: Option<ExtendedAttributeList<'a>>,
     /// The word `stringifier`.
     pub stringifier: term::Stringifier,
@@ -249,9 +249,9 @@ choice! {
 /// A map, as `readonly maplike<DOMString, long>;`.
 #[derive(Clone, Debug, PartialEq, Eq, PartialOrd, Ord, Hash)]
 pub struct MaplikeInterfaceMember<'a> {
-    /// The extended attributes in brackets, as `[Exposed=Window]`, where they stand.
+    /// The extended attributes in brackets, as `[Exposed=Window]`, where present.
     pub attributes: Option<ExtendedAttributeList<'a>>,
-    /// The word `readonly`, where it stands.
+    /// The word `readonly`, where present.
     pub readonly: Option<term::ReadOnly>,
     /// The word `maplike`.
     pub maplike: term::Maplike,
@@ -270,9 +270,9 @@ record! {
 /// A set, as `readonly setlike<long>;`.
 #[derive(Clone, Debug, PartialEq, Eq, PartialOrd, Ord, Hash)]
 pub struct SetlikeInterfaceMember<'a> {
-    /// The extended attributes in brackets, as `[Exposed=Window]`, where they stand.
+    /// The extended attributes in brackets, as `[Exposed=Window]`, where present.
     pub attributes: Option<ExtendedAttributeList<'a>>,
-    /// The word `readonly`, where it stands.
+    /// The word `readonly`, where present.
     pub readonly: Option<term::ReadOnly>,
     /// The word `setlike`.
     pub setlike: term::Setlike,
@@ -291,7 +291,7 @@ record! {
 /// An iteration over values, as `iterable<long>;`.
 #[derive(Clone, Debug, PartialEq, Eq, PartialOrd, Ord, Hash)]
 pub struct SingleTypedIterable<'a> {
-    /// The extended attributes in brackets, as `[Exposed=Window]`, where they stand.
+    /// The extended attributes in brackets, as `[Exposed=Window]`, where present.
     pub attributes: Option<ExtendedAttributeList<'a>>,
     /// The word `iterable`.
     pub iterable: term::Iterable,
@@ -310,7 +310,7 @@ record! {
 /// An iteration over pairs, as `iterable<DOMString, long>;`.
 #[derive(Clone, Debug, PartialEq, Eq, PartialOrd, Ord, Hash)]
 pub struct DoubleTypedIterable<'a> {
-    /// The extended attributes in brackets, as `[Exposed=Window]`, where they stand.
+    /// The extended attributes in brackets, as `[Exposed=Window]`, where present.
     pub attributes: Option<ExtendedAttributeList<'a>>,
     /// The word `iterable`.
     pub iterable: term::Iterable,

@@ -12,9 +12,9 @@ use crate::types::{AttributedType, ReturnType};
 /// An operation of a mixin, as `stringifier long f(long x);`.
 #[derive(Clone, Debug, PartialEq, Eq, PartialOrd, Ord, Hash)]
 pub struct OperationMixinMember<'a> {
-    /// The extended attributes in brackets, as `[Exposed=Window]`, where they stand.
+    /// The extended attributes in brackets, as `[Exposed=Window]`, where present.
     pub attributes: Option<ExtendedAttributeList<'a>>,
-    /// The word `stringifier`, where it stands.
+    /// The word `stringifier`, where present.
     pub stringifier: Option<term::Stringifier>,
     /// The type of its result, as `undefined` or `long`.
     pub return_type: ReturnType<'a>,
@@ -35,15 +35,15 @@ record! {
 /// An attribute of a mixin, as `readonly attribute long x;`.
 #[derive(Clone, Debug, PartialEq, Eq, PartialOrd, Ord, Hash)]
 pub struct AttributeMixinMember<'a> {
-    /// The extended attributes in brackets, as `[Exposed=Window]`, where they stand.
+    /// The extended attributes in brackets, as `[Exposed=Window]`, where present.
     pub attributes: Option<ExtendedAttributeList<'a>>,
-    /// The word `stringifier`, where it stands.
+    /// The word `stringifier`, where present.
     pub stringifier: Option<term::Stringifier>,
-    /// The word `readonly`, where it stands.
+    /// The word `readonly`, where present.
     pub readonly: Option<term::ReadOnly>,
     /// The word `attribute`.
     pub attribute: term::Attribute,
-    /// Its type, as `long`, with the extended attributes that stand before it.
+    /// Its type, as `long`, with the extended attributes before it.
     pub type_: AttributedType<'a>,
     /// Its name.
     pub identifier: Identifier<'a>,

@@ -11,9 +11,9 @@ use crate::types::{AttributedType, ReturnType};
 /// An operation of a namespace, as `long f(long x);`.
 #[derive(Clone, Debug, PartialEq, Eq, PartialOrd, Ord, Hash)]
 pub struct OperationNamespaceMember<'a> {
-    /// The docstring in front, where one stands.
+    /// The docstring in front, where present.
     pub docstring: Option<Docstring>,
-    /// The extended attributes in brackets, as `[Exposed=Window]`, where they stand.
+    /// The extended attributes in brackets, as `[Exposed=Window]`, where present.
     pub attributes: Option<ExtendedAttributeList<'a>>,
     /// The type of its result, as `undefined` or `long`.
     pub return_type: ReturnType<'a>,
@@ -34,15 +34,15 @@ record! {
 /// An attribute of a namespace, as `readonly attribute long x;`, always `readonly`.
 #[derive(Clone, Debug, PartialEq, Eq, PartialOrd, Ord, Hash)]
 pub struct AttributeNamespaceMember<'a> {
-    /// The docstring in front, where one stands.
+    /// The docstring in front, where present.
     pub docstring: Option<Docstring>,
-    /// The extended attributes in brackets, as `[Exposed=Window]`, where they stand.
+    /// The extended attributes in brackets, as `[Exposed=Window]`, where present.
     pub attributes: Option<ExtendedAttributeList<'a>>,
-    /// The word `readonly`, which always stands here.
+    /// The word `readonly`, which always is here.
     pub readonly: term::ReadOnly,
     /// The word `attribute`.
     pub attribute: term::Attribute,
-    /// Its type, as `long`, with the extended attributes that stand before it.
+    /// Its type, as `long`, with the extended attributes before it.
     pub type_: AttributedType<'a>,
     /// Its name.
     pub identifier: Identifier<'a>,

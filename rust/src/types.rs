@@ -37,7 +37,7 @@ choice! {
 /// `float` or `unrestricted float`.
 #[derive(Clone, Copy, Debug, PartialEq, Eq, PartialOrd, Ord, Hash)]
 pub struct FloatType {
-    /// The word `unrestricted`, where it stands.
+    /// The word `unrestricted`, where present.
     pub unrestricted: Option<term::Unrestricted>,
     /// The word `float`.
     pub float: term::Float,
@@ -48,7 +48,7 @@ record! { FloatType = FLOAT_TYPE { unrestricted, float } }
 /// `double` or `unrestricted double`.
 #[derive(Clone, Copy, Debug, PartialEq, Eq, PartialOrd, Ord, Hash)]
 pub struct DoubleType {
-    /// The word `unrestricted`, where it stands.
+    /// The word `unrestricted`, where present.
     pub unrestricted: Option<term::Unrestricted>,
     /// The word `double`.
     pub double: term::Double,
@@ -75,7 +75,7 @@ choice! {
 /// `long long` or `unsigned long long`.
 #[derive(Clone, Copy, Debug, PartialEq, Eq, PartialOrd, Ord, Hash)]
 pub struct LongLongType {
-    /// The word `unsigned`, where it stands.
+    /// The word `unsigned`, where present.
     pub unsigned: Option<term::Unsigned>,
     /// The words `long long`.
     pub long_long: (term::Long, term::Long),
@@ -86,7 +86,7 @@ record! { LongLongType = LONG_LONG_TYPE { unsigned, long_long } }
 /// `long` or `unsigned long`.
 #[derive(Clone, Copy, Debug, PartialEq, Eq, PartialOrd, Ord, Hash)]
 pub struct LongType {
-    /// The word `unsigned`, where it stands.
+    /// The word `unsigned`, where present.
     pub unsigned: Option<term::Unsigned>,
     /// The word `long`.
     pub long: term::Long,
@@ -97,7 +97,7 @@ record! { LongType = LONG_TYPE { unsigned, long } }
 /// `short` or `unsigned short`.
 #[derive(Clone, Copy, Debug, PartialEq, Eq, PartialOrd, Ord, Hash)]
 pub struct ShortType {
-    /// The word `unsigned`, where it stands.
+    /// The word `unsigned`, where present.
     pub unsigned: Option<term::Unsigned>,
     /// The word `short`.
     pub short: term::Short,
@@ -129,7 +129,7 @@ choice! {
 pub struct MayBeNull<T> {
     /// The type, as `long`.
     pub type_: T,
-    /// The `?`, where it stands.
+    /// The `?`, where present.
     pub q_mark: Option<term::QMark>,
 }
 
@@ -265,10 +265,10 @@ choice! {
     }
 }
 
-/// A type with the extended attributes that stand before it, as `[Clamp] octet`.
+/// A type with the extended attributes before it, as `[Clamp] octet`.
 #[derive(Clone, Debug, PartialEq, Eq, PartialOrd, Ord, Hash)]
 pub struct AttributedType<'a> {
-    /// The extended attributes in brackets, as `[Clamp]`, where they stand.
+    /// The extended attributes in brackets, as `[Clamp]`, where present.
     pub attributes: Option<ExtendedAttributeList<'a>>,
     /// The type, as `octet`.
     pub type_: Type<'a>,
@@ -276,11 +276,11 @@ pub struct AttributedType<'a> {
 
 record! { AttributedType<'a> = ATTRIBUTED_TYPE { attributes, type_ } }
 
-/// A type that is neither `any` nor a union, with the extended attributes that stand before it, as
-/// `[Clamp] octet`.
+/// A type that is neither `any` nor a union, with the extended attributes before it, as `[Clamp]
+/// octet`.
 #[derive(Clone, Debug, PartialEq, Eq, PartialOrd, Ord, Hash)]
 pub struct AttributedNonAnyType<'a> {
-    /// The extended attributes in brackets, as `[Clamp]`, where they stand.
+    /// The extended attributes in brackets, as `[Clamp]`, where present.
     pub attributes: Option<ExtendedAttributeList<'a>>,
     /// The type, as `octet`.
     pub type_: NonAnyType<'a>,

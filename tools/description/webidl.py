@@ -14,14 +14,14 @@ from description.rules import (
 __all__ = "BY_CONTENT BY_NAME CAPITALIZED KEYWORDS NUMBER RULES SCANNED SECTIONS SYMBOLS parts_of".split()
 
 # Trivia.
-section("Trivia", "Trivia: line comments, blanks and block comments.")
+section("Trivia", "Trivia: line comments, whitespace and block comments.")
 first("LINE_END", text_bytes("\n"), not_next("Any"), shape="Silent", doc="An LF, or the end of the text.")
 seq("LINE_COMMENT", text_bytes("//"), not_next("Slash"), run("NotLineFeed"), "LINE_END", shape="Silent",
     doc="A line comment, as `// c`, with its LF where the text doesn't end before it.")
 seq("BLANKS", one_of("Blank"), run("Blank"), shape="Silent", doc="Spaces, tabs, CRs and LFs, one at least.")
 seq("BLOCK_COMMENT", text_bytes("/*"), past("*/"), shape="Silent", doc="A block comment, as `/* c */`.")
-first("PIECE", "LINE_COMMENT", "BLANKS", "BLOCK_COMMENT", shape="Silent", doc="A comment or blanks.")
-many("TRIVIA", "PIECE", shape="Silent", doc="Comments and blanks, none included.")
+first("PIECE", "LINE_COMMENT", "BLANKS", "BLOCK_COMMENT", shape="Silent", doc="A comment or whitespace.")
+many("TRIVIA", "PIECE", shape="Silent", doc="Comments and whitespace, none included.")
 
 # Terminals.
 def texts_of(names):

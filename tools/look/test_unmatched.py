@@ -75,8 +75,8 @@ class Fields(unittest.TestCase):
             ("The word `callback`.", "The word `interface`.", ".callback", "`interface` isn't what CALLBACK reads"),
             ("The `=`.", "The `=`, where it stands.", ".assign",
              "the doc says otherwise whether it may be absent: The `=`, where it stands."),
-            ("/// A callback,", "/// A docstring may stand before it. A callback,", "",
-             "the doc says otherwise whether it has OPT_DOCSTRING: a docstring may stand before it"),
+            ("/// A callback,", "/// A docstring may precede it. A callback,", "",
+             "the doc says otherwise whether it has OPT_DOCSTRING: a docstring may precede it"),
         ):
             self.assertIn(old, CALLBACK)
             self.assertEqual(found(CALLBACK.replace(old, new)), [f"{CALLBACK_AT}{place}: {why}"])

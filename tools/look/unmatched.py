@@ -44,7 +44,7 @@ EXCEPTIONS = {
 }
 TEXTS = ("String", "&")
 # What a struct's doc says of a part that may be absent.
-SAID = {"OPT_DOCSTRING": "a docstring may stand before it", "OPT_IDENTIFIER": "may lack a name"}
+SAID = {"OPT_DOCSTRING": "a docstring may precede it", "OPT_IDENTIFIER": "may lack a name"}
 # What an enum's doc says of how many variants it has.
 KINDS = re.compile(r"\bfirst of the (\w+) kinds\b")
 # The shapes of what is a part of a leaf: no type is read by such a rule.

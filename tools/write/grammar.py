@@ -285,8 +285,8 @@ def by_section(call):
 
 
 def code_grammar():
-    out = ["//! The rules of each section, by name: for the table of ends.", "//!",
-           "//! A constant is a rule's number. The rows of a section stand beside its constants.", "//!",
+    out = ["//! The rules of each section, by name: for the packrat table.", "//!",
+           "//! A constant is a rule's number. The rows of a section are beside its constants.", "//!",
            f"//! {HEAD}", "",
            "ghost use Rattle.std.specs.Prelude.{◌≡◌};",
            f"ghost use {NAMES}.{{name_of as the_name_of}};",

@@ -64,37 +64,37 @@ class File:
 
 
 FILES = [
-    File("PlainAttributes", "extended attributes without arguments are spelt",
+    File("PlainAttributes", "extended attributes without arguments are rendered",
          "extended attributes without arguments",
          types="IdentifierOrString IdentifierList ExtendedAttributeIdent ExtendedAttributeIdentList"
                " ExtendedAttributeNoArgs"),
-    File("Arguments", "extended attributes and arguments are spelt",
+    File("Arguments", "extended attributes and arguments are rendered",
          "arguments, and of extended attributes that may have arguments", law_module="attributes",
          types="Argument ArgumentList ParenthesizedArgumentList ExtendedAttribute ExtendedAttributeArgList"
                " ExtendedAttributeNamedArgList ExtendedAttributeList Option<ExtendedAttributeList>"
                " SingleArgument VariadicArgument"),
-    File("Types", "the types are spelt that are made of types, arguments and extended attributes",
+    File("Types", "the types are rendered that are made of types, arguments and extended attributes",
          "types",
          types="Type NonAnyType UnionMemberType SingleType ReturnType RecordKeyType RecordTypes Box<Type>"
                " Box<ReturnType> SequenceType FrozenArrayType PromiseType RecordType UnionType AttributedType"
                " AttributedNonAnyType", modules="weedle_types.types"),
-    File("Modifiers", "what is inherited from is spelt, and the words before a member",
+    File("Modifiers", "what is inherited from is rendered, and the words before a member",
          "what is inherited from, and of the words before a member", modules="weedle_parts.inheritance weedle_parts.modifier"),
     File("Members",
-         "constants, attributes, operations, constructors and stringifiers of interfaces are spelt, and the"
+         "constants, attributes, operations, constructors and stringifiers of interfaces are rendered, and the"
          " members of mixins",
          "constants, attributes, operations, constructors and stringifiers of interfaces, and of the members"
          " of mixins", modules="weedle_members weedle_mixins.mixin"),
-    File("Iterables", "iterations, maps and sets are spelt", "iterations, maps and sets",
+    File("Iterables", "iterations, maps and sets are rendered", "iterations, maps and sets",
          modules="weedle_iterables"),
-    File("Namespaces", "namespaces and dictionaries are spelt, and their members",
+    File("Namespaces", "namespaces and dictionaries are rendered, and their members",
          "namespaces and dictionaries, and of their members", modules="weedle_namespaces"),
-    File("Statements", "definitions without members are spelt", "definitions without members",
+    File("Statements", "definitions without members are rendered", "definitions without members",
          modules="weedle_statements"),
-    File("Interfaces", "the members of interfaces are spelt, interfaces and mixins",
+    File("Interfaces", "the members of interfaces are rendered, interfaces and mixins",
          "the members of interfaces, of interfaces and of mixins",
          modules="weedle_interfaces weedle_mixins.mixin_definition"),
-    File("Definitions", "definitions are spelt", "definitions", modules="weedle_idl",
+    File("Definitions", "definitions are rendered", "definitions", modules="weedle_idl",
          law_module="all_definitions"),
 ]
 
@@ -160,7 +160,7 @@ def law(item, stated):
 def law_function(item, stated, module):
     said = small(with_example(item.doc).removesuffix("."))
     comma = "," if ", as `" in said else ""
-    doc = law_doc(f"the text of {said}{comma} spells its value.")
+    doc = law_doc(f"the text of {said}{comma} is a rendering of its value.")
     return (f"{doc}\n#[tactic(auto, using({in_crate(module)}::{item.base}_law))]\npub fn {item.fact}()\n"
             f"    ensures {{ {contract(item, stated)} }}\n{{}}\n")
 

@@ -1,4 +1,4 @@
--- A list that is being read: the items so far stand at the start of the text.
+-- A list that is being read: the items so far are at the start of the text.
 use Rattle.std.proofs.Common.{refl, ap, subst, inl, inr, arith}
 use Rattle.std.proofs.lemmas.List.{length-drop}
 use Rattle.std.specs.Prelude.{◌≡◌, ℕ, ◌+◌, ◌≤◌, List, [], ◌∷◌, ◌++◌, drop, length}
@@ -84,7 +84,7 @@ module _ {V L : Type 0} (view : L → List V) (R : Reading V) {s rest : List ℕ
   run_stuck g n m =
       fault_mismatch (run_reading view (vec_step R)) m (reached_refuses (vec_step R) h (stuck_item R g n)) (reached_all (vec_step R) h)
 
-  -- the call may end for want of memory
+  -- the call may end because memory runs out
   pub run_full : {e : Fault (Error (Bor (List ℕ)))} → IsOutOfMemory rest e → Faults (run_reading view (vec_step R)) s e
   run_full m = fault_memory (run_reading view (vec_step R)) m (inl (refl, reached_all (vec_step R) h))
 

@@ -11,7 +11,7 @@ abbrev pub IsMismatch : List ℕ → Fault (Error (Bor (List ℕ))) → Type 0
 IsMismatch s (Recoverable e) = (e.code ≡ Mismatch) × (e.input.now ≡ s)
 IsMismatch s (Failure e) = ⊥
 
--- a failure for want of memory that has this text
+-- an 'out of memory' failure that has this text
 abbrev pub IsOutOfMemory : List ℕ → Fault (Error (Bor (List ℕ))) → Type 0
 IsOutOfMemory s (Recoverable e) = ⊥
 IsOutOfMemory s (Failure e) = (e.code ≡ Memory) × (e.input.now ≡ s)

@@ -36,7 +36,7 @@ module _ {V W : Type 0} (R : Reading V) (S : Reading W) where
 
 -- a value that holds another, for which memory was asked
 module _ {V B : Type 0} (inside : B → V) (R : Reading V) where
-  -- it gives and refuses what the type inside does, and may stop for want of memory
+  -- it gives and refuses what the type inside does, and may stop because memory runs out
   unfoldable pub boxed_reading : Reading B
   boxed_reading = record {
     gives = λ s b k. R.gives s (inside b) k;

@@ -7,9 +7,9 @@ use Rattle.weedle_grammar.specs.Trivia.{is_next}
 pub record IsTagged (tag text rest : List ℕ) : Type 0 where
   -- the text is the tag and the rest
   pub split : text ≡ tag ++ rest
-  -- the rest begins with no name character
+  -- the remaining input begins with no name character
   pub ends : is_next Name rest ≡ false
 
--- the tag doesn't stand at the front of the text, or a name character follows it
+-- the tag isn't at the front of the text, or a name character follows it
 abbrev pub LacksTag : List ℕ → List ℕ → Type 0
 LacksTag tag text = (rest : List ℕ) → IsTagged tag text rest → ⊥

@@ -12,7 +12,7 @@ pub record IsRule {V : Type 0} (R : Reading V) (r : ℕ) (tree : V → Tree) (gr
   pub gives : (s : List ℕ) (v : V) (k : ℕ) → R.gives s v k → Reads s r 0 (Gives (tree v ∷ []) k)
   -- where the reading refuses, the rule fails
   pub refuses : (s : List ℕ) → R.refuses s → Reads s r 0 Fails
-  -- the reading stops for want of memory alone, and only if it grows
+  -- the reading stops because memory runs out alone, and only if it grows
   pub stops : (s x : List ℕ) (code : ErrorKind) → R.stops s x code → stops_for_memory grows s x code
 
 -- the tree of a terminal

@@ -8,7 +8,7 @@ use Rattle.weedle_base.specs.Alike.{all_alike}
 
 -- Items of which `takes` says how many bytes one takes at the front of a text.
 module _ {V : Type 0} (takes : List ℕ → V → ℕ → Type 0) where
-  -- the values stand one after another, and take so many bytes in all
+  -- the values are one after another, and take so many bytes in all
   abbrev pub Items : List ℕ → List V → ℕ → Type 0
   Items s [] k = k ≡ 0
   Items s (v ∷ vs) k = (i : ℕ) × (j : ℕ) × takes s v i × Items (drop i s) vs j × (k ≡ i + j)

@@ -14,7 +14,7 @@ use std::alloc::{AllocError, Global};
 use weedle_grammar::scan::{after_run, after_word};
 use weedle_grammar::{Class, Rule};
 
-/// The text of the line at the front, and what follows it: blanks, `///`, the text and an LF.
+/// The text of the line at the front, and what follows it: whitespace, `///`, the text and an LF.
 fn doc_line(input: &str) -> Option<(&str, &str)>
     ensures { MatchOption result (Reads input.now DOC_LINE 0 Fails)
         (λ x. Took DOC_LINE input.now (Lines x.0.now ∷ []) x.1.now) }
@@ -35,9 +35,9 @@ pub fn push_line(text: &mut String, line: &str) -> Result<(), AllocError>
     text.push_str(line)
 }
 
-/// Reads a docstring: one line or more, each of blanks, `///` and a text up to the end of the line.
-/// It gives the texts with an LF between two, so `///a` and `/// b` on two lines give `a`, an LF
-/// and ` b`. A CR before an LF belongs to the text. What follows the last line stays unread.
+/// Reads a docstring: one line or more, each of whitespace, `///` and a text up to the end of the
+/// line. It gives the texts with an LF between two, so `///a` and `/// b` on two lines give `a`, an
+/// LF and ` b`. A CR before an LF belongs to the text. What follows the last line stays unread.
 ///
 /// Where the first line is no such line, or the text ends before its LF, it is a mismatch.
 pub fn docstring(alloc: Global, input: &str) -> IResult<&str, String>

@@ -13,7 +13,7 @@ pub enum ErrorKind {
     Memory,
 }
 
-/// A place of the input, by what stands from there on, and what happened.
+/// A place of the input, by the text from there on, and what happened.
 #[derive(Clone, Copy, Debug, PartialEq, Eq)]
 pub struct Error<I> {
     /// The text from that place on.

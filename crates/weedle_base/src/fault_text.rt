@@ -1,4 +1,4 @@
-//! What faults say to who reads them.
+//! The messages of faults.
 
 ghost use Rattle.std.specs.Prelude.{Some};
 ghost use Rattle.weedle_base.specs.FaultTexts.{kind_text, text_at_byte, end_text};
@@ -42,9 +42,9 @@ impl Display for Error<usize> {
 
 impl error::Error for Error<usize> {}
 
-/// Says what happened and what stands there, as ``unread from `interface A {` on``. It shows the
-/// first line, and of a long one sixty characters and `..`; where nothing stands there it says that
-/// the text ends. Where memory was refused it says no place.
+/// Says what happened and what is there, as ``unread from `interface A
+/// {` on``. It shows the first line, and of a long one sixty characters and `..`; where nothing is
+/// there it says that the text ends. Where memory was refused it says no place.
 impl Display for Error<&str> {
     fn fmt<W: Write>(&self, f: &mut Formatter<W>) -> fmt::Result {
         let (line, dots) = cut(first_line(self.input));
@@ -81,7 +81,7 @@ impl<E: Display> Display for Err<E> {
 
 impl<E: error::Error + Copy> error::Error for Err<E> {}
 
-/// The first line, without the blanks around it.
+/// The first line, without the whitespace around it.
 fn first_line(text: &str) -> &str {
     text.lines().next().unwrap_or("").trim()
 }

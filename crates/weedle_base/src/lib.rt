@@ -1,5 +1,5 @@
-//! The ground of the parser: faults, the trait [`Parse`] with its meaning and laws, names, words
-//! and the terminals.
+//! The base of the parser: faults, the trait [`Parse`] with its meaning and laws, names, words and
+//! the terminals.
 #![tactic(auto)]
 
 mod choice;

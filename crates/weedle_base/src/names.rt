@@ -17,7 +17,7 @@ use weedle_grammar::scan::{after_one, after_run, after_word, next_is, taken};
 use weedle_grammar::trivia::skip_trivia;
 use weedle_grammar::{Class, Rule};
 
-/// Whether the character may stand in a name: an ASCII letter or digit, `_` or `-`. It takes no
+/// Whether the character may be in a name: an ASCII letter or digit, `_` or `-`. It takes no
 /// memory.
 pub fn is_alphanum_underscore_dash(token: char) -> bool
     ensures { result ≡ is_in Name token }
@@ -25,7 +25,7 @@ pub fn is_alphanum_underscore_dash(token: char) -> bool
     matches!(token, '0'..='9' | 'A'..='Z' | 'a'..='z' | '_' | '-')
 }
 
-/// Reads the tag where no name character follows it. Answers what follows, then the tag.
+/// Reads the tag where no name character follows it. Returns what follows, then the tag.
 ///
 /// `ident_tag("or", "oré")` is `Some(("é", "or"))`; `ident_tag("long", "long-")` is None. It takes
 /// no memory.
@@ -41,7 +41,7 @@ pub fn ident_tag<'a>(tag: &'static str, input: &'a str) -> Option<(&'a str, &'a 
 }
 
 /// Reads an identifier: trivia, an underscore that is dropped, a letter and the name characters
-/// that follow it, trivia. Answers what follows, then the name.
+/// that follow it, trivia. Returns what follows, then the name.
 ///
 /// `identifier(" _interface x")` is `Some(("x", "interface"))`; `identifier("__x")` is None. It
 /// takes no memory.

@@ -5,7 +5,7 @@ ghost use Rattle.weedle_base.specs.Faults.{IsWithin, IsAtByte};
 
 use crate::fault::{Err, Error};
 
-/// The fault, with the byte of the text at which it is in place of what stands there: of the text
+/// The fault, with the byte of the text at which it is in place of what is there: of the text
 /// `interface A {}; ?` and a fault whose input is `?` one whose input is 16. It owns nothing of the
 /// text, and takes no memory.
 ///

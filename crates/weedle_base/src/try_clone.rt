@@ -1,4 +1,4 @@
-//! Copies that may want memory.
+//! Copies that may run out of memory.
 
 ghost use Rattle.std.specs.Prelude.{◌≡◌, IfOk, string_bytes};
 ghost use Rattle.weedle_base.specs.Alike.{IsEquivalence, option_alike, all_alike};
@@ -12,15 +12,15 @@ ghost use Rattle.weedle_base.specs.AlikeLaws.{
 
 use std::alloc::{AllocError, Global};
 
-/// A type whose values can be copied, where a copy may want memory.
+/// A type whose values can be copied, where a copy may run out of memory.
 ///
 /// `alike` says when two values are equal, capacities aside; `equivalence` is the proof that it is
 /// an equivalence.
 pub trait TryClone: Sized + Drop {
     ghost alike: { Self → Self → Type 0 };
 
-    /// A copy that equals the original. It fails only for want of memory, and the original stays
-    /// as it was.
+    /// A copy that equals the original. It fails only because memory runs out, and the original
+    /// stays as it was.
     fn try_clone(&self, alloc: Global) -> Result<Self, AllocError>
         ensures { IfOk result (λ copy. alike copy self.now) };
 

@@ -1,4 +1,4 @@
--- The first place of a byte or of a text, what stands before it, and what is read past it.
+-- The first place of a byte or of a text, what precedes it, and what is read past it.
 use Rattle.std.specs.Prelude.{◌≡◌, ℕ, suc, ◌+◌, ◌<◌, List, [], ◌∷◌, drop, ◌++◌, get_or, length, Some, None, Bool, true, false, not, ◌==◌}
 use Rattle.std.specs.Str.{IsCharBoundary, IsUtf8}
 use Rattle.std.proofs.Common.{refl, ap, ◌∙◌, drop-cons, arith}
@@ -15,11 +15,11 @@ use Rattle.weedle_grammar.proofs.LeafFacts.{reads_past, cut}
 use Rattle.weedle_grammar.proofs.FirstPlace.{found_byte, nowhere_byte, found_past, nowhere_past}
 use Rattle.weedle_grammar.proofs.TriviaFacts.{given, run_is}
 
--- the byte stands at the place where it was found
+-- the byte is at the place where it was found
 pub found_is : (byte : ℕ) (s : List ℕ) (i : ℕ) → IsFirstByte (is_byte byte) s (Some i) → get_or s i 0 ≡ byte
 found_is byte s i p = eqb-true (get_or s i 0) byte p.1
 
--- from the place where it was found on stand the byte and what follows it
+-- from the place where it was found on are the byte and what follows it
 pub found_front : (byte : ℕ) (s : List ℕ) (i : ℕ) → IsFirstByte (is_byte byte) s (Some i) → drop i s ≡ (byte ∷ []) ++ drop (suc i) s
 found_front byte s i p = drop-cons s i 0 p.0.high ∙ ap (λ (b : ℕ). b ∷ drop (suc i) s) (found_is byte s i p)
 
@@ -34,9 +34,9 @@ not_so false h = refl
 so : (b : Bool) → b ≡ true → not b ≡ false
 so b h = rw h refl
 
--- A class that has every byte but one.
+-- A class that has every byte except for one.
 module _ (class : Class) (byte : ℕ) (but : (b : ℕ) → is_in class b ≡ not (b == byte)) (s : List ℕ) where
-  -- what stands before the first such byte is the run at the front
+  -- what precedes the first such byte is the run at the front
   pub run_before : (i : ℕ) → IsFirstByte (is_byte byte) s (Some i) → i ≡ run_length class s
   run_before i p =
       run_is class s i (omega (arith, p.0.high))

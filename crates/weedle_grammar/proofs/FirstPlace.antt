@@ -1,4 +1,4 @@
--- Where bytes first stand in a text.
+-- Where bytes first occur in a text.
 use Rattle.std.proofs.Common.{refl, sym, ap, ◌∙◌, arith}
 use Rattle.std.proofs.lemmas.Bool.{eqb-true, eq-eqb}
 use Rattle.std.proofs.lemmas.List.{get_or-drop, length-drop}
@@ -27,7 +27,7 @@ pub not_true : (b : Bool) → (b ≡ true → ⊥) → b ≡ false
 not_true true h = absurd (h refl)
 not_true false h = refl
 
--- The first place where bytes stand.
+-- The first place where bytes are.
 past_at : (b s : List ℕ) (i : ℕ) → i ≤ length s → begins b (drop i s) ≡ true → ((j : ℕ) → j < i → begins b (drop j s) ≡ false)
     → take_past b s ≡ Some (i + length b)
 past_at b [] zero h y n = rw y (ap Some (omega arith))

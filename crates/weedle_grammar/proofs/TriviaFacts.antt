@@ -1,4 +1,4 @@
--- Runs and slices, and trivia: line comments, blanks and block comments, one after another.
+-- Runs and slices, and trivia: line comments, whitespace and block comments, one after another.
 use Rattle.std.proofs.Common.{refl, ap, ◌∙◌, subst, arith}
 use Rattle.std.proofs.lemmas.List.{drop-drop, length-drop}
 use Rattle.std.specs.Borrow.{Bor}
@@ -38,12 +38,12 @@ slice_front s n = grind arith
 pub piece_line : {s rest : List ℕ} → Took LINE_COMMENT s [] rest → Took PIECE s [] rest
 piece_line h = record { place = h.place; reads = of_row refl (by_first (first_here h.reads refl) refl) refl; rest_is = h.rest_is }
 
--- blanks are a piece, where no line comment stands
+-- whitespace is a piece, where no line comment is
 pub piece_blanks : {s rest : List ℕ} → Reads s LINE_COMMENT 0 Fails → Took BLANKS s [] rest → Took PIECE s [] rest
 piece_blanks a h =
     record { place = h.place; reads = of_row refl (by_first (first_next a (first_here h.reads refl)) refl) refl; rest_is = h.rest_is }
 
--- where neither a line comment nor blanks stand, a piece is a block comment
+-- where neither a line comment nor whitespace is, a piece is a block comment
 pub piece_block : (s : List ℕ) (o : Option (Bor (List ℕ))) → Reads s LINE_COMMENT 0 Fails → Reads s BLANKS 0 Fails
     → Trial BLOCK_COMMENT s o → Trial PIECE s o
 piece_block s None a b h = of_row refl (by_first (first_next a (first_next b (first_next h (first_none refl)))) refl) refl

@@ -8,7 +8,8 @@ use Rattle.weedle_grammar.specs.written.Table.{Reads}
 abbrev pub HasOneOutcome : List ℕ → ℕ → ℕ → Type 0
 HasOneOutcome text r p = (o : Outcome) × Reads text r p o × ((other : Outcome) → Reads text r p other → other ≡ o)
 
--- what a rule does at a boundary, it does at the front of the text from there, but for where its end lies
+-- what a rule does at a boundary, it does at the front of the text from there, except for where its
+-- end lies
 abbrev pub IsShifted : List ℕ → ℕ → ℕ → Type 0
 IsShifted text r p = (o : Outcome) → Reads (drop p text) r 0 o ↔ Reads text r p (moved p o)
 

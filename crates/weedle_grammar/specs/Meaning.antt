@@ -12,7 +12,7 @@ pub data Shape : Type 0 where
   Marked : Shape
   -- the text of the part of this number
   Kept : ℕ → Shape
-  -- the text of the third part but its last byte, as a line
+  -- the text of the third part except for its last byte, as a line
   Line : Shape
   -- the lines that the parts gave, joined by LF
   Joined : Shape
@@ -123,7 +123,7 @@ kept text p [] k = []
 kept text p (end ∷ ends) zero = between text p end
 kept text p (end ∷ ends) (suc k) = kept text end ends k
 
--- the bytes but the last
+-- the bytes except for the last
 abbrev pub but_last : List ℕ → List ℕ
 but_last bytes = take (length bytes - 1) bytes
 

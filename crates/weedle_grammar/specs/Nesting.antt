@@ -35,7 +35,7 @@ choice_parts (first_none e) = []
 choice_parts (first_here d e) = part d ∷ []
 choice_parts (first_next d m) = choice_parts m
 
--- the parts of what a row yields; a separator that is given back is none
+-- the parts of what a row yields; a separator that isn't taken is none
 abbrev pub row_parts : {G : Grammar} {text : List ℕ} {row : Row} {p : ℕ} {w : Raw} → ReadsRow G text row p w → List (Part G text)
 row_parts (by_seq d e) = sequence_parts d
 row_parts (by_first d e) = choice_parts d

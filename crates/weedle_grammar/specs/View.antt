@@ -9,7 +9,7 @@ use Rattle.weedle_grammar.specs.Rows.{Row, Bytes, OneOf, NotNext, Run, Past, Seq
 abbrev pub numbers_of : Parts → List ℕ
 numbers_of parts = parts.numbers.now
 
--- what the program calls a row, as the grammar spells it
+-- what the program calls a row, as the grammar has it
 abbrev pub row_view : rows.Row → Row
 row_view (code.Bytes bytes) = Bytes bytes.now
 row_view (code.OneOf class) = OneOf class

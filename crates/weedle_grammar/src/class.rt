@@ -28,11 +28,11 @@ pub enum Class {
     ELetter,
     /// `+` or `-`.
     Sign,
-    /// Every byte but `"`.
+    /// Every byte except for `"`.
     NotQuote,
     /// An ASCII letter.
     Letter,
-    /// Every byte but LF.
+    /// Every byte except for LF.
     NotLineFeed,
     /// Every byte.
     Any,

@@ -13,8 +13,8 @@ ghost use Rattle.weedle_grammar.specs.Rows.{
 
 use crate::{Class, holds};
 
-/// Where these bytes end that stand at a place: of `enum` at the front of `enum E {};` 4, and None
-/// where others stand there. It is what a row `Bytes` reads.
+/// Where these bytes end at a place: of `enum` at the front of `enum E {};` 4, and None where
+/// others are there. It is what a row `Bytes` reads.
 #[inline(always)]
 pub fn end_of_bytes(bytes: &[u8], text: &[u8], place: usize) -> Option<usize>
     requires { place ≤ length text.now }
@@ -27,8 +27,8 @@ pub fn end_of_bytes(bytes: &[u8], text: &[u8], place: usize) -> Option<usize>
     }
 }
 
-/// Where one byte of the class ends that stands at a place; None where another byte stands there,
-/// or the text ends. It is what a row `OneOf` reads.
+/// Where one byte of the class ends at a place; None where another byte is there, or the text ends.
+/// It is what a row `OneOf` reads.
 #[inline(always)]
 pub fn end_of_one(class: Class, text: &[u8], place: usize) -> Option<usize>
     requires { place ≤ length text.now }
@@ -40,8 +40,8 @@ pub fn end_of_one(class: Class, text: &[u8], place: usize) -> Option<usize>
     }
 }
 
-/// The place itself, where no byte of the class stands there, as at the end of the text; else None.
-/// It is what a row `NotNext` reads.
+/// The place itself, where no byte of the class is there, as at the end of the text; else None. It
+/// is what a row `NotNext` reads.
 #[inline(always)]
 pub fn end_of_not_next(class: Class, text: &[u8], place: usize) -> Option<usize>
     requires { place ≤ length text.now }
@@ -53,8 +53,8 @@ pub fn end_of_not_next(class: Class, text: &[u8], place: usize) -> Option<usize>
     }
 }
 
-/// Where the bytes of the class end that stand at a place: the place itself where there are none.
-/// It is what a row `Run` reads.
+/// Where the bytes of the class end at a place: the place itself where there are none. It is what a
+/// row `Run` reads.
 #[inline(always)]
 pub fn end_of_run(class: Class, text: &[u8], place: usize) -> usize
     requires { place ≤ length text.now }
@@ -63,8 +63,8 @@ pub fn end_of_run(class: Class, text: &[u8], place: usize) -> usize
     place + run_length(class, &text[place..])
 }
 
-/// Where the first of these bytes end that stand at a place or behind it, as `*/` of a comment;
-/// None where they don't stand there. It is what a row `Past` reads.
+/// Where the first of these bytes end at a place or behind it, as `*/` of a comment; None where
+/// they aren't there. It is what a row `Past` reads.
 #[inline(always)]
 pub fn end_past(bytes: &[u8], text: &[u8], place: usize) -> Option<usize>
     requires { place ≤ length text.now }

@@ -56,7 +56,7 @@ fn block_comment(input: &str) -> Option<&str>
     Some(&after[end + 2..])
 }
 
-/// What follows one comment, or blanks.
+/// What follows one comment, or whitespace.
 #[tactic(auto, using(crate::proofs::TriviaFacts::piece_line, crate::proofs::TriviaFacts::piece_blanks, crate::proofs::TriviaFacts::piece_block))]
 fn piece(input: &str) -> Option<&str>
     ensures { Trial PIECE input.now result }
@@ -82,7 +82,7 @@ pub fn skip_trivia(input: &str) -> &str
     rest
 }
 
-/// Reads trivia: comments and blanks, none included. Answers what follows, then the trivia.
+/// Reads trivia: comments and whitespace, none included. Returns what follows, then the trivia.
 ///
 /// `sp("// a\n/* b */ c")` is `("c", "// a\n/* b */ ")`. A line comment ends with its LF, or with
 /// the text. A block comment that isn't closed is no trivia, nor is a comment that begins with

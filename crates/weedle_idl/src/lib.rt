@@ -1,10 +1,10 @@
-//! Members and definitions: what stands in a file of WebIDL, from the members of interfaces,
-//! mixins, namespaces and dictionaries to the list of all definitions.
+//! Members and definitions: what is in a file of WebIDL, from the members of interfaces, mixins,
+//! namespaces and dictionaries to the list of all definitions.
 //!
 //! A definition is the first of the fourteen kinds that fits; where none does it is a mismatch.
 //! Memory is taken for extended attributes, types, arguments, docstrings and lists; where it is
-//! refused that is a failure, and no other alternative is tried. What each type reads stands in
-//! words in docs/GRAMMAR.md.
+//! refused that is a failure, and no other alternative is tried. What each type reads is in words
+//! in docs/GRAMMAR.md.
 //!
 //! ```rust
 //! use weedle_base::Parse;

@@ -8,12 +8,12 @@ use weedle_parts::common::{Braced, Docstring, Identifier};
 use weedle_parts::inheritance::Inheritance;
 use weedle_types::attribute::ExtendedAttributeList;
 
-/// A callback interface, as `callback interface A {};`. A docstring may stand before it.
+/// A callback interface, as `callback interface A {};`. A docstring may precede it.
 #[derive(Debug, PartialEq, Eq, PartialOrd, Ord, Hash)]
 pub struct CallbackInterfaceDefinition<'a> {
-    /// The docstring in front, where one stands.
+    /// The docstring in front, where present.
     pub docstring: Option<Docstring>,
-    /// The extended attributes in brackets, as `[Exposed=Window]`, where they stand.
+    /// The extended attributes in brackets, as `[Exposed=Window]`, where present.
     pub attributes: Option<ExtendedAttributeList<'a>>,
     /// The word `callback`.
     pub callback: Callback,
@@ -44,12 +44,12 @@ impl Drop for CallbackInterfaceDefinition<'_> {
     }
 }
 
-/// An interface, as `interface A : B { attribute long x; };`. A docstring may stand before it.
+/// An interface, as `interface A : B { attribute long x; };`. A docstring may precede it.
 #[derive(Debug, PartialEq, Eq, PartialOrd, Ord, Hash)]
 pub struct InterfaceDefinition<'a> {
-    /// The docstring in front, where one stands.
+    /// The docstring in front, where present.
     pub docstring: Option<Docstring>,
-    /// The extended attributes in brackets, as `[Exposed=Window]`, where they stand.
+    /// The extended attributes in brackets, as `[Exposed=Window]`, where present.
     pub attributes: Option<ExtendedAttributeList<'a>>,
     /// The word `interface`.
     pub interface: Interface,
@@ -77,10 +77,10 @@ impl Drop for InterfaceDefinition<'_> {
     }
 }
 
-/// A part of an interface, as `partial interface A {};`. No docstring may stand before it.
+/// A part of an interface, as `partial interface A {};`. No docstring may precede it.
 #[derive(Debug, PartialEq, Eq, PartialOrd, Ord, Hash)]
 pub struct PartialInterfaceDefinition<'a> {
-    /// The extended attributes in brackets, as `[Exposed=Window]`, where they stand.
+    /// The extended attributes in brackets, as `[Exposed=Window]`, where present.
     pub attributes: Option<ExtendedAttributeList<'a>>,
     /// The word `partial`.
     pub partial: Partial,

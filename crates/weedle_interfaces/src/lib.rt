@@ -1,10 +1,10 @@
 //! Interfaces, whole and in parts, callback interfaces, and the choice among the members of them
 //! all.
 //!
-//! Each struct reads its fields in order, with blanks and comments between them. Where one of them
-//! isn't there it is a mismatch. Memory is taken for extended attributes, types, arguments,
+//! Each struct reads its fields in order, with whitespace and comments between them. Where one of
+//! them isn't there it is a mismatch. Memory is taken for extended attributes, types, arguments,
 //! docstrings and lists; where it is refused that is a failure, and no other alternative is tried.
-//! What each type reads stands in words in docs/GRAMMAR.md.
+//! What each type reads is in words in docs/GRAMMAR.md.
 //!
 //! ```rust
 //! use weedle_base::Parse;

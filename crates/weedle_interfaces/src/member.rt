@@ -35,12 +35,12 @@ pub enum InterfaceMember<'a> {
     /// `[extended attributes] const type name = value;`.
     Const(ConstMember<'a>),
     /// `[extended attributes] readonly attribute type name;`, also without `readonly`. Before these
-    /// words may stand `stringifier`, `inherit` or `static`.
+    /// words may be `stringifier`, `inherit` or `static`.
     Attribute(AttributeInterfaceMember<'a>),
     /// `docstring [extended attributes] constructor(arguments);`.
     Constructor(ConstructorInterfaceMember<'a>),
     /// `docstring [extended attributes] type name(arguments);`, also without the name. Before the
-    /// type may stand `stringifier` or `static`, then `getter` or the like.
+    /// type may be `stringifier` or `static`, then `getter` or the like.
     Operation(OperationInterfaceMember<'a>),
     /// `[extended attributes] iterable<type>;` or `[extended attributes] iterable<type, type>;`.
     Iterable(IterableInterfaceMember<'a>),

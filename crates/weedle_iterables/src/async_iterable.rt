@@ -36,13 +36,13 @@ use weedle_types::types::AttributedType;
 /// types.
 #[derive(Debug, PartialEq, Eq, PartialOrd, Ord, Hash)]
 pub struct SingleTypedAsyncIterable<'a> {
-    /// The extended attributes in brackets, as `[Exposed=Window]`, where they stand.
+    /// The extended attributes in brackets, as `[Exposed=Window]`, where present.
     pub attributes: Option<ExtendedAttributeList<'a>>,
     /// The words `async` and `iterable`.
     pub async_iterable: (Async, Iterable),
     /// The type of its values in angle brackets, as `<long>`.
     pub generics: Generics<AttributedType<'a>>,
-    /// The arguments between parentheses, as `(long x)`, where they stand.
+    /// The arguments between parentheses, as `(long x)`, where present.
     pub args: Option<ParenthesizedArgumentList<'a>>,
     /// The `;` at the end.
     pub semi_colon: SemiColon,
@@ -90,14 +90,14 @@ impl<'a> Parse<'a> for SingleTypedAsyncIterable<'a> {
 /// may follow the types.
 #[derive(Debug, PartialEq, Eq, PartialOrd, Ord, Hash)]
 pub struct DoubleTypedAsyncIterable<'a> {
-    /// The extended attributes in brackets, as `[Exposed=Window]`, where they stand.
+    /// The extended attributes in brackets, as `[Exposed=Window]`, where present.
     pub attributes: Option<ExtendedAttributeList<'a>>,
     /// The words `async` and `iterable`.
     pub async_iterable: (Async, Iterable),
     /// The types of its keys and values in angle brackets, as `<DOMString, long>`: `body.0` is
     /// that of the keys, `body.2` that of the values.
     pub generics: Generics<(AttributedType<'a>, Comma, AttributedType<'a>)>,
-    /// The arguments between parentheses, as `(long x)`, where they stand.
+    /// The arguments between parentheses, as `(long x)`, where present.
     pub args: Option<ParenthesizedArgumentList<'a>>,
     /// The `;` at the end.
     pub semi_colon: SemiColon,

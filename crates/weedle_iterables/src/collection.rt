@@ -10,9 +10,9 @@ use weedle_types::types::AttributedType;
 /// A map, as `readonly maplike<DOMString, long>;`.
 #[derive(Debug, PartialEq, Eq, PartialOrd, Ord, Hash)]
 pub struct MaplikeInterfaceMember<'a> {
-    /// The extended attributes in brackets, as `[Exposed=Window]`, where they stand.
+    /// The extended attributes in brackets, as `[Exposed=Window]`, where present.
     pub attributes: Option<ExtendedAttributeList<'a>>,
-    /// The word `readonly`, where it stands.
+    /// The word `readonly`, where present.
     pub readonly: Option<ReadOnly>,
     /// The word `maplike`.
     pub maplike: Maplike,
@@ -38,9 +38,9 @@ impl Drop for MaplikeInterfaceMember<'_> {
 /// A set, as `readonly setlike<long>;`.
 #[derive(Debug, PartialEq, Eq, PartialOrd, Ord, Hash)]
 pub struct SetlikeInterfaceMember<'a> {
-    /// The extended attributes in brackets, as `[Exposed=Window]`, where they stand.
+    /// The extended attributes in brackets, as `[Exposed=Window]`, where present.
     pub attributes: Option<ExtendedAttributeList<'a>>,
-    /// The word `readonly`, where it stands.
+    /// The word `readonly`, where present.
     pub readonly: Option<ReadOnly>,
     /// The word `setlike`.
     pub setlike: Setlike,

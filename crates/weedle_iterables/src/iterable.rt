@@ -10,7 +10,7 @@ use weedle_types::types::AttributedType;
 /// An iteration over values, as `iterable<long>;`.
 #[derive(Debug, PartialEq, Eq, PartialOrd, Ord, Hash)]
 pub struct SingleTypedIterable<'a> {
-    /// The extended attributes in brackets, as `[Exposed=Window]`, where they stand.
+    /// The extended attributes in brackets, as `[Exposed=Window]`, where present.
     pub attributes: Option<ExtendedAttributeList<'a>>,
     /// The word `iterable`.
     pub iterable: Iterable,
@@ -34,7 +34,7 @@ impl Drop for SingleTypedIterable<'_> {
 /// An iteration over pairs, as `iterable<DOMString, long>;`.
 #[derive(Debug, PartialEq, Eq, PartialOrd, Ord, Hash)]
 pub struct DoubleTypedIterable<'a> {
-    /// The extended attributes in brackets, as `[Exposed=Window]`, where they stand.
+    /// The extended attributes in brackets, as `[Exposed=Window]`, where present.
     pub attributes: Option<ExtendedAttributeList<'a>>,
     /// The word `iterable`.
     pub iterable: Iterable,

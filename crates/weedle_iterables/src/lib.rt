@@ -1,8 +1,8 @@
 //! The members that make an interface a collection: iterations, also asynchronous ones, maps and
 //! sets.
 //!
-//! Each struct reads its fields in order, with blanks and comments between them. Where one of them
-//! isn't there it is a mismatch. Memory is taken for extended attributes, types and arguments;
+//! Each struct reads its fields in order, with whitespace and comments between them. Where one of
+//! them isn't there it is a mismatch. Memory is taken for extended attributes, types and arguments;
 //! where it is refused that is a failure, and no other alternative is tried.
 //!
 //! ```rust

@@ -16,7 +16,7 @@ use weedle_base::term::{Async, Iterable};
 use weedle_base::{IResult, Parse};
 use weedle_types::argument::ParenthesizedArgumentList;
 
-/// Reads arguments where they stand.
+/// Reads arguments where present.
 pub(crate) fn optional_arguments<'a>(
     alloc: Global,
     input: &'a str,

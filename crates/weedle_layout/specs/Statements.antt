@@ -1,4 +1,4 @@
--- Definitions that may stand right below one another.
+-- Definitions that may be right below one another.
 use Rattle.std.specs.Prelude.{◌≡◌, ◌≢◌, ◌⊎◌}
 use Rattle.weedle_layout.specs.declared.statement.Statement.{Statement}
 use Rattle.weedle_layout.specs.declared.statement.Statement.TheVariants.{Includes, Implements, Other}

@@ -21,7 +21,7 @@ pub enum Statement {
 impl Statement {
     ghost use Rattle.weedle_layout.specs.declared.statement.Statement.TheVariants.{Other};
 
-    /// Whether it may stand right below a definition: a statement of one line below another such,
+    /// Whether it may be right below a definition: a statement of one line below another such,
     /// and the use of a mixin below any. So a text keeps it there.
     pub fn may_follow(self, before: Statement) -> bool
         ensures { IsTrue result ↔ MayFollow self before }
@@ -33,7 +33,7 @@ impl Statement {
     }
 
     /// Whether it is written right below a definition: below a statement of its kind. Where it is,
-    /// it may stand there.
+    /// it may be there.
     pub fn is_written_below(self, before: Statement) -> bool
         ensures alike { IsTrue result ↔ ((self ≡ before) × (self ≢ Other)) }
         ensures kept { IsTrue result → MayFollow self before }

@@ -8,19 +8,19 @@ use weedle_parts::modifier::StringifierOrInheritOrStatic;
 use weedle_types::attribute::ExtendedAttributeList;
 use weedle_types::types::AttributedType;
 
-/// An attribute of an interface, as `static readonly attribute long x;`. No docstring may stand
-/// before it.
+/// An attribute of an interface, as `static readonly attribute long x;`. No docstring may precede
+/// it.
 #[derive(Debug, PartialEq, Eq, PartialOrd, Ord, Hash)]
 pub struct AttributeInterfaceMember<'a> {
-    /// The extended attributes in brackets, as `[Exposed=Window]`, where they stand.
+    /// The extended attributes in brackets, as `[Exposed=Window]`, where present.
     pub attributes: Option<ExtendedAttributeList<'a>>,
-    /// The word `stringifier`, `inherit` or `static`, where one of them stands.
+    /// The word `stringifier`, `inherit` or `static`, where one of them is present.
     pub modifier: Option<StringifierOrInheritOrStatic>,
-    /// The word `readonly`, where it stands.
+    /// The word `readonly`, where present.
     pub readonly: Option<ReadOnly>,
     /// The word `attribute`.
     pub attribute: Attribute,
-    /// Its type, as `long`, with the extended attributes that stand before it.
+    /// Its type, as `long`, with the extended attributes before it.
     pub type_: AttributedType<'a>,
     /// Its name.
     pub identifier: Identifier<'a>,

@@ -8,10 +8,10 @@ use weedle_parts::literal::ConstValue;
 use weedle_parts::types::ConstType;
 use weedle_types::attribute::ExtendedAttributeList;
 
-/// A constant, as `const long X = 5;`. No docstring may stand before it.
+/// A constant, as `const long X = 5;`. No docstring may precede it.
 #[derive(Debug, PartialEq, Eq, PartialOrd, Ord, Hash)]
 pub struct ConstMember<'a> {
-    /// The extended attributes in brackets, as `[Exposed=Window]`, where they stand.
+    /// The extended attributes in brackets, as `[Exposed=Window]`, where present.
     pub attributes: Option<ExtendedAttributeList<'a>>,
     /// The word `const`.
     pub const_: Const,

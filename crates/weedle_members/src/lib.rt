@@ -1,8 +1,8 @@
 //! The members that interfaces have: constants, attributes, operations, constructors and
 //! stringifiers.
 //!
-//! Each struct reads its fields in order, with blanks and comments between them. Where one of them
-//! isn't there it is a mismatch. Memory is taken for extended attributes, types, arguments and
+//! Each struct reads its fields in order, with whitespace and comments between them. Where one of
+//! them isn't there it is a mismatch. Memory is taken for extended attributes, types, arguments and
 //! docstrings; where it is refused that is a failure, and no other alternative is tried.
 //!
 //! ```rust

@@ -17,12 +17,12 @@ use weedle_types::attribute::ExtendedAttributeList;
 use weedle_types::parts::attributes;
 use weedle_types::types::ReturnType;
 
-/// A constructor, as `constructor(long x);`. A docstring may stand before it.
+/// A constructor, as `constructor(long x);`. A docstring may precede it.
 #[derive(Debug, PartialEq, Eq, PartialOrd, Ord, Hash)]
 pub struct ConstructorInterfaceMember<'a> {
-    /// The docstring in front, where one stands.
+    /// The docstring in front, where present.
     pub docstring: Option<Docstring>,
-    /// The extended attributes in brackets, as `[Exposed=Window]`, where they stand.
+    /// The extended attributes in brackets, as `[Exposed=Window]`, where present.
     pub attributes: Option<ExtendedAttributeList<'a>>,
     /// The word `constructor`.
     pub constructor: Constructor,
@@ -70,16 +70,16 @@ impl<'a> Parse<'a> for ConstructorInterfaceMember<'a> {
 }
 
 /// An operation of an interface, as `getter long item(long index);`. It may lack a name, and a
-/// docstring may stand before it.
+/// docstring may precede it.
 #[derive(Debug, PartialEq, Eq, PartialOrd, Ord, Hash)]
 pub struct OperationInterfaceMember<'a> {
-    /// The docstring in front, where one stands.
+    /// The docstring in front, where present.
     pub docstring: Option<Docstring>,
-    /// The extended attributes in brackets, as `[Exposed=Window]`, where they stand.
+    /// The extended attributes in brackets, as `[Exposed=Window]`, where present.
     pub attributes: Option<ExtendedAttributeList<'a>>,
-    /// The word `stringifier` or `static`, where one of them stands.
+    /// The word `stringifier` or `static`, where one of them is present.
     pub modifier: Option<StringifierOrStatic>,
-    /// The word `getter`, `setter`, `deleter` or `legacycaller`, where one of them stands.
+    /// The word `getter`, `setter`, `deleter` or `legacycaller`, where one of them is present.
     pub special: Option<Special>,
     /// The type of its result, as `undefined` or `long`.
     pub return_type: ReturnType<'a>,

@@ -16,7 +16,7 @@ use weedle_types::parts::attributes;
 /// A stringifier with no body, as `stringifier;`.
 #[derive(Debug, Default, PartialEq, Eq, PartialOrd, Ord, Hash)]
 pub struct StringifierMember<'a> {
-    /// The extended attributes in brackets, as `[Exposed=Window]`, where they stand.
+    /// The extended attributes in brackets, as `[Exposed=Window]`, where present.
     pub attributes: Option<ExtendedAttributeList<'a>>,
     /// The word `stringifier`.
     pub stringifier: Stringifier,

@@ -1,7 +1,7 @@
 //! Mixins, whole and in parts, with their members.
 //!
-//! Each struct reads its fields in order, with blanks and comments between them. Where one of them
-//! isn't there it is a mismatch. Memory is taken for extended attributes, types, arguments and
+//! Each struct reads its fields in order, with whitespace and comments between them. Where one of
+//! them isn't there it is a mismatch. Memory is taken for extended attributes, types, arguments and
 //! lists; where it is refused that is a failure, and no other alternative is tried.
 //!
 //! ```rust

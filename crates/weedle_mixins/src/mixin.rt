@@ -13,12 +13,12 @@ use weedle_types::types::{AttributedType, ReturnType};
 pub type MixinMembers<'a> = Vec<MixinMember<'a>>;
 
 /// An operation of a mixin, as `stringifier long f(long x);`. It may lack a name, and no docstring
-/// may stand before it.
+/// may precede it.
 #[derive(Debug, PartialEq, Eq, PartialOrd, Ord, Hash)]
 pub struct OperationMixinMember<'a> {
-    /// The extended attributes in brackets, as `[Exposed=Window]`, where they stand.
+    /// The extended attributes in brackets, as `[Exposed=Window]`, where present.
     pub attributes: Option<ExtendedAttributeList<'a>>,
-    /// The word `stringifier`, where it stands.
+    /// The word `stringifier`, where present.
     pub stringifier: Option<Stringifier>,
     /// The type of its result, as `undefined` or `long`.
     pub return_type: ReturnType<'a>,
@@ -46,15 +46,15 @@ impl Drop for OperationMixinMember<'_> {
 /// An attribute of a mixin, as `readonly attribute long x;`.
 #[derive(Debug, PartialEq, Eq, PartialOrd, Ord, Hash)]
 pub struct AttributeMixinMember<'a> {
-    /// The extended attributes in brackets, as `[Exposed=Window]`, where they stand.
+    /// The extended attributes in brackets, as `[Exposed=Window]`, where present.
     pub attributes: Option<ExtendedAttributeList<'a>>,
-    /// The word `stringifier`, where it stands.
+    /// The word `stringifier`, where present.
     pub stringifier: Option<Stringifier>,
-    /// The word `readonly`, where it stands.
+    /// The word `readonly`, where present.
     pub readonly: Option<ReadOnly>,
     /// The word `attribute`.
     pub attribute: Attribute,
-    /// Its type, as `long`, with the extended attributes that stand before it.
+    /// Its type, as `long`, with the extended attributes before it.
     pub type_: AttributedType<'a>,
     /// Its name.
     pub identifier: Identifier<'a>,

@@ -7,10 +7,10 @@ use weedle_base::term::{Interface, Mixin, Partial, SemiColon};
 use weedle_parts::common::{Braced, Identifier};
 use weedle_types::attribute::ExtendedAttributeList;
 
-/// A mixin, as `interface mixin A {};`. No docstring may stand before it.
+/// A mixin, as `interface mixin A {};`. No docstring may precede it.
 #[derive(Debug, PartialEq, Eq, PartialOrd, Ord, Hash)]
 pub struct InterfaceMixinDefinition<'a> {
-    /// The extended attributes in brackets, as `[Exposed=Window]`, where they stand.
+    /// The extended attributes in brackets, as `[Exposed=Window]`, where present.
     pub attributes: Option<ExtendedAttributeList<'a>>,
     /// The word `interface`.
     pub interface: Interface,
@@ -37,10 +37,10 @@ impl Drop for InterfaceMixinDefinition<'_> {
     }
 }
 
-/// A part of a mixin, as `partial interface mixin A {};`. No docstring may stand before it.
+/// A part of a mixin, as `partial interface mixin A {};`. No docstring may precede it.
 #[derive(Debug, PartialEq, Eq, PartialOrd, Ord, Hash)]
 pub struct PartialInterfaceMixinDefinition<'a> {
-    /// The extended attributes in brackets, as `[Exposed=Window]`, where they stand.
+    /// The extended attributes in brackets, as `[Exposed=Window]`, where present.
     pub attributes: Option<ExtendedAttributeList<'a>>,
     /// The word `partial`.
     pub partial: Partial,

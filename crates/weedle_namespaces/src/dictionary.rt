@@ -11,21 +11,20 @@ use weedle_types::types::Type;
 /// The members of a dictionary, one after another, as `long x; long y = 5;`; none included.
 pub type DictionaryMembers<'a> = Vec<DictionaryMember<'a>>;
 
-/// A member of a dictionary, as `required long x;` or `long x = 5;`. A docstring may stand before
-/// it.
+/// A member of a dictionary, as `required long x;` or `long x = 5;`. A docstring may precede it.
 #[derive(Debug, PartialEq, Eq, PartialOrd, Ord, Hash)]
 pub struct DictionaryMember<'a> {
-    /// The docstring in front, where one stands.
+    /// The docstring in front, where present.
     pub docstring: Option<Docstring>,
-    /// The extended attributes in brackets, as `[Exposed=Window]`, where they stand.
+    /// The extended attributes in brackets, as `[Exposed=Window]`, where present.
     pub attributes: Option<ExtendedAttributeList<'a>>,
-    /// The word `required`, where it stands.
+    /// The word `required`, where present.
     pub required: Option<Required>,
     /// Its type, as `long`, with no extended attributes of its own.
     pub type_: Type<'a>,
     /// Its name.
     pub identifier: Identifier<'a>,
-    /// Its default, as `= 5`, where one stands.
+    /// Its default, as `= 5`, where present.
     pub default: Option<Default<'a>>,
     /// The `;` at the end.
     pub semi_colon: SemiColon,

@@ -8,12 +8,12 @@ use weedle_parts::common::{Braced, Docstring, Identifier};
 use weedle_parts::inheritance::Inheritance;
 use weedle_types::attribute::ExtendedAttributeList;
 
-/// A dictionary, as `dictionary A : B { long x = 5; };`. A docstring may stand before it.
+/// A dictionary, as `dictionary A : B { long x = 5; };`. A docstring may precede it.
 #[derive(Debug, PartialEq, Eq, PartialOrd, Ord, Hash)]
 pub struct DictionaryDefinition<'a> {
-    /// The docstring in front, where one stands.
+    /// The docstring in front, where present.
     pub docstring: Option<Docstring>,
-    /// The extended attributes in brackets, as `[Exposed=Window]`, where they stand.
+    /// The extended attributes in brackets, as `[Exposed=Window]`, where present.
     pub attributes: Option<ExtendedAttributeList<'a>>,
     /// The word `dictionary`.
     pub dictionary: Dictionary,
@@ -41,10 +41,10 @@ impl Drop for DictionaryDefinition<'_> {
     }
 }
 
-/// A part of a dictionary, as `partial dictionary A {};`. No docstring may stand before it.
+/// A part of a dictionary, as `partial dictionary A {};`. No docstring may precede it.
 #[derive(Debug, PartialEq, Eq, PartialOrd, Ord, Hash)]
 pub struct PartialDictionaryDefinition<'a> {
-    /// The extended attributes in brackets, as `[Exposed=Window]`, where they stand.
+    /// The extended attributes in brackets, as `[Exposed=Window]`, where present.
     pub attributes: Option<ExtendedAttributeList<'a>>,
     /// The word `partial`.
     pub partial: Partial,

@@ -11,13 +11,13 @@ use weedle_types::types::{AttributedType, ReturnType};
 /// The members of a namespace, one after another, as `long f(); long g();`; none included.
 pub type NamespaceMembers<'a> = Vec<NamespaceMember<'a>>;
 
-/// An operation of a namespace, as `long f(long x);`. It may lack a name, and a docstring may stand
-/// before it.
+/// An operation of a namespace, as `long f(long x);`. It may lack a name, and a docstring may
+/// precede it.
 #[derive(Debug, PartialEq, Eq, PartialOrd, Ord, Hash)]
 pub struct OperationNamespaceMember<'a> {
-    /// The docstring in front, where one stands.
+    /// The docstring in front, where present.
     pub docstring: Option<Docstring>,
-    /// The extended attributes in brackets, as `[Exposed=Window]`, where they stand.
+    /// The extended attributes in brackets, as `[Exposed=Window]`, where present.
     pub attributes: Option<ExtendedAttributeList<'a>>,
     /// The type of its result, as `undefined` or `long`.
     pub return_type: ReturnType<'a>,
@@ -43,18 +43,18 @@ impl Drop for OperationNamespaceMember<'_> {
 }
 
 /// An attribute of a namespace, as `readonly attribute long x;`, always `readonly`. A docstring may
-/// stand before it.
+/// precede it.
 #[derive(Debug, PartialEq, Eq, PartialOrd, Ord, Hash)]
 pub struct AttributeNamespaceMember<'a> {
-    /// The docstring in front, where one stands.
+    /// The docstring in front, where present.
     pub docstring: Option<Docstring>,
-    /// The extended attributes in brackets, as `[Exposed=Window]`, where they stand.
+    /// The extended attributes in brackets, as `[Exposed=Window]`, where present.
     pub attributes: Option<ExtendedAttributeList<'a>>,
-    /// The word `readonly`, which always stands here.
+    /// The word `readonly`, which always is here.
     pub readonly: ReadOnly,
     /// The word `attribute`.
     pub attribute: Attribute,
-    /// Its type, as `long`, with the extended attributes that stand before it.
+    /// Its type, as `long`, with the extended attributes before it.
     pub type_: AttributedType<'a>,
     /// Its name.
     pub identifier: Identifier<'a>,

@@ -7,12 +7,12 @@ use weedle_base::term::{Namespace, Partial, SemiColon};
 use weedle_parts::common::{Braced, Docstring, Identifier};
 use weedle_types::attribute::ExtendedAttributeList;
 
-/// A namespace, as `namespace A { long f(); };`. A docstring may stand before it.
+/// A namespace, as `namespace A { long f(); };`. A docstring may precede it.
 #[derive(Debug, PartialEq, Eq, PartialOrd, Ord, Hash)]
 pub struct NamespaceDefinition<'a> {
-    /// The docstring in front, where one stands.
+    /// The docstring in front, where present.
     pub docstring: Option<Docstring>,
-    /// The extended attributes in brackets, as `[Exposed=Window]`, where they stand.
+    /// The extended attributes in brackets, as `[Exposed=Window]`, where present.
     pub attributes: Option<ExtendedAttributeList<'a>>,
     /// The word `namespace`.
     pub namespace: Namespace,
@@ -37,10 +37,10 @@ impl Drop for NamespaceDefinition<'_> {
     }
 }
 
-/// A part of a namespace, as `partial namespace A {};`. No docstring may stand before it.
+/// A part of a namespace, as `partial namespace A {};`. No docstring may precede it.
 #[derive(Debug, PartialEq, Eq, PartialOrd, Ord, Hash)]
 pub struct PartialNamespaceDefinition<'a> {
-    /// The extended attributes in brackets, as `[Exposed=Window]`, where they stand.
+    /// The extended attributes in brackets, as `[Exposed=Window]`, where present.
     pub attributes: Option<ExtendedAttributeList<'a>>,
     /// The word `partial`.
     pub partial: Partial,

@@ -96,7 +96,7 @@ module _ {V W : Type 0} {R : Reading V} {S : Reading W} {x z : ℕ} {tree : V �
       stops = head_stops more;
     }
 
-    -- a list with an item at least, and a separator that may stand behind it
+    -- a list with an item at least, and a separator that may be behind it
     pub punctuated_non_empty_rule : {L : Type 0} (view : L → List V) (known : L → Type 0) (r l1 o : ℕ)
         → row_of r ≡ Seq (l1 ∷ o ∷ []) → shape_of r ≡ Inner → row_of l1 ≡ List1 x t → shape_of l1 ≡ Plain → row_of o ≡ Opt z → shape_of o ≡ Plain → grows
         → IsRule (punctuated_non_empty_reading R S view known) r (λ l. items_tree tree (view l)) grows

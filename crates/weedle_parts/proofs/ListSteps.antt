@@ -55,7 +55,8 @@ module _ {V W : Type 0} (R : Reading V) (S : Reading W) where
           text = b.text;
         }
 
-    -- the whole of a list that isn't empty: the first item, those after it, and a separator that may stand there
+    -- the whole of a list that isn't empty: the first item, those after it, and a separator that
+    -- may be there
     pub got_non_empty : {s rest mid end : List ℕ} {v : V} {o : Option W} (l : L) (m : M) → Got R s v rest → Got (after_first R S inner v) rest m mid → Got (option_reading S) mid o end → view l ≡ inner m → known l
         → Got (punctuated_non_empty_reading R S view known) s l end
     unfolding pair_reading punctuated_non_empty_reading

@@ -42,7 +42,7 @@ module _ {V W L : Type 0} (R : Reading V) (S : Reading W) (view : L → List V) 
       → Faults (after_first R S view first) s e
   list_stuck g n m = fault_mismatch (after_first R S view first) m (reached_refuses (next_step R S) h (stuck_item S g n)) (reached_all (next_step R S) h)
 
-  -- the call may end for want of memory
+  -- the call may end because memory runs out
   pub list_full : {e : Fault (Error (Bor (List ℕ)))} → IsOutOfMemory rest e → Faults (after_first R S view first) s e
   list_full m = fault_memory (after_first R S view first) m (inl (refl, reached_all (next_step R S) h))
 

@@ -6,7 +6,8 @@ use Rattle.weedle_base.specs.Reading.{Reading}
 use Rattle.weedle_base.specs.Runs.{Step, run_reading}
 
 module _ {V W : Type 0} (R : Reading V) (S : Reading W) where
-  -- how a list goes on behind an item: a separator that takes a byte or more, and an item. Where no item follows it, the separator is given back; one that takes nothing refuses the list
+  -- how a list goes on behind an item: a separator that takes a byte or more, and an item. Where no
+  -- item follows it, the separator isn't taken; one that takes nothing refuses the list
   abbrev pub next_step : Step V
   next_step = record {
     takes = λ s v k. (w : W) × (h : ℕ) × (i : ℕ) × S.gives s w h × (0 < h) × R.gives (drop h s) v i × (k ≡ h + i);

@@ -15,7 +15,7 @@ module _ {T V : Type 0} (R : Reading T) (S : Reading V) (whole : (T → Tree) �
   BracketLaw left right = (x r : ℕ) (tree : T → Tree) → HasRule R x tree
       → row_of r ≡ Seq (left ∷ x ∷ right ∷ []) → shape_of r ≡ Plain → HasRule S r (whole tree)
 
-  -- a mark that may stand behind the body, and a rule `Seq` of two parts
+  -- a mark that may be behind the body, and a rule `Seq` of two parts
   abbrev pub MayBeNullLaw : Type 0
   MayBeNullLaw = (x r : ℕ) (tree : T → Tree) → HasRule R x tree
       → row_of r ≡ Seq (x ∷ OPT_Q_MARK ∷ []) → shape_of r ≡ Plain → HasRule S r (whole tree)
@@ -27,7 +27,7 @@ module _ {T V : Type 0} (R : Reading T) (S : Reading V) (whole : (T → Tree) �
     PunctuatedLaw = (x z t r : ℕ) (tree : T → Tree) (mark : W → Tree) → HasRule R x tree → HasRule Q z mark
         → row_of t ≡ Tail x z → shape_of t ≡ Plain → row_of r ≡ ListOf x t → shape_of r ≡ Plain → HasRule S r (whole tree)
 
-    -- a rule `Seq` of a rule `List1` and a separator that may stand behind it
+    -- a rule `Seq` of a rule `List1` and a separator that may be behind it
     abbrev pub PunctuatedNonEmptyLaw : Type 0
     PunctuatedNonEmptyLaw = (x z t l o r : ℕ) (tree : T → Tree) (mark : W → Tree) → HasRule R x tree → HasRule Q z mark
         → row_of t ≡ Tail x z → shape_of t ≡ Plain → row_of l ≡ List1 x t → shape_of l ≡ Plain → row_of o ≡ Opt z → shape_of o ≡ Plain

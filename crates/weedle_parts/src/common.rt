@@ -1,5 +1,5 @@
-//! Parts that stand anywhere in the grammar: brackets, lists with separators, names and
-//! docstrings. What each type reads stands in words in docs/GRAMMAR.md.
+//! Parts that are anywhere in the grammar: brackets, lists with separators, names and docstrings.
+//! What each type reads is in words in docs/GRAMMAR.md.
 
 mod brackets;
 mod docstring;

@@ -81,7 +81,7 @@ pub fn punctuated<'a, T: Parse<'a>, S: Parse<'a> + Default>()
 {}
 
 /// A law, which does nothing: `PunctuatedNonEmpty<T, S>` reads what a rule reads that lists T's,
-/// one at least, separated by S's, and then S's where it stands.
+/// one at least, separated by S's, and then S's where present.
 #[tactic(auto, using(crate::proofs::RuleLawFacts::punctuated_non_empty_law))]
 pub fn punctuated_non_empty<'a, T: Parse<'a>, S: Parse<'a> + Default>()
     ensures { PunctuatedNonEmptyLaw T.reading ⟦<PunctuatedNonEmpty<T, S> as Parse<'a>>⟧.reading

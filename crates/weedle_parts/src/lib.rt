@@ -1,6 +1,6 @@
 //! What the types and definitions of the grammar share: brackets, lists with separators, names,
 //! docstrings, literals, defaults, the types that hold no other type, what is inherited from, and
-//! the words before an attribute or an operation. What each type reads stands in words in
+//! the words before an attribute or an operation. What each type reads is in words in
 //! docs/GRAMMAR.md.
 //!
 //! ```rust

@@ -1,4 +1,4 @@
-//! The words that may stand before a member of an interface.
+//! The words that may be before a member of an interface.
 //!
 //! None of them takes memory, so none ever gives a failure.
 //!

@@ -1,4 +1,4 @@
-//! The types that hold no other types. What each type reads stands in words in docs/GRAMMAR.md.
+//! The types that hold no other types. What each type reads is in words in docs/GRAMMAR.md.
 
 mod const_type;
 mod floating_point;

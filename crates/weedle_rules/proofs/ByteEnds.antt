@@ -104,7 +104,7 @@ differ a b n = elim (eqb_tells a b) [ inl h ↦ absurd (n (sym h.1)) | inr h ↦
 pub same : (a b : ℕ) → b ≡ a → (a == b) ≡ true
 same a b e = elim (eqb_tells a b) [ inl h ↦ h.0 | inr h ↦ absurd (h.1 (sym e)) ]
 
--- bytes that stand at a place end within the text
+-- bytes at a place end within the text
 pub stand_within : (bytes text : List ℕ) (p : ℕ) → p ≤ length text → true ≡ begins bytes (drop p text) → p + length bytes ≤ length text
 stand_within bytes text p h e = let l = begins_le bytes (drop p text) (sym e) in omega (arith, length-drop p text)
 

@@ -75,7 +75,7 @@ module _ {C : Type 0} (stands : C → Option ℕ) where
   cell_right text rows even w r p row c e h laid low within l is cis es =
       subst (HasEnd text r p) (sym (cell_is text rows even w r p row c e laid low l is cis es)) (h r p low within l)
 
-  -- one more row is laid out, and the same cells are known
+  -- one more row is added, and the same cells are known
   pub lays_known : (rows : List (List C)) (row : List C) (w : ℕ) → w ≤ length (cells_of rows) → known_of stands w (rows ++ row ∷ []) ≡ known_of stands w rows
   lays_known rows row w h = ap (λ z. map stands (take w z)) (cells_push rows row) ∙ ap (map stands) (take-append-le w (cells_of rows) row h)
 

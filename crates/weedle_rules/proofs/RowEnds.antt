@@ -1,4 +1,5 @@
--- What a rule's end is, from the ends of its parts: one lemma for each case of each kind of row but sequences with a condition.
+-- What a rule's end is, from the ends of its parts: one lemma for each case of each kind of row
+-- except for sequences with a condition.
 use Rattle.std.proofs.Common.{◌≡◌, ◌≢◌, inl, inr, ℕ, ◌+◌, ◌<◌, ◌≤◌, List, [], length, drop, Option, Some, None, refl, ap, sym, subst, ◌∙◌, arith}
 use Rattle.std.specs.Prelude.{option_map}
 use Rattle.std.proofs.lemmas.Bool.{cases_lt}

@@ -1,4 +1,4 @@
--- The cells of a table of ends: when one is right, and in which order they are worked out.
+-- The cells of a packrat table: when one is right, and in which order they are worked out.
 use Rattle.std.specs.Prelude.{◌≡◌, ◌≤◌, ◌<◌, ◌+◌, ◌-◌, ◌*◌, ℕ, List, length, Option, Some, None}
 use Rattle.std.proofs.Common.{get_or}
 use Rattle.weedle_grammar.specs.written.Bound.{rule_count}

@@ -27,7 +27,7 @@ pub record IsReader {C : Type 0} (stands : C → Option ℕ) (greatest : ℕ) (t
   -- all cells of the rows before the last are known
   pub above : before ≡ (length rows - 1) * rule_count
   pub laid : workings ≤ length rows * rule_count
-  -- there is room for a row for each place, and no more are laid out
+  -- there is room for a row for each place, and no more are added
   pub room : length text + 1 ≤ capacity
   pub few : length rows ≤ length text + 1
   -- each known cell is its rule's end, or its failure, at its place
@@ -35,5 +35,5 @@ pub record IsReader {C : Type 0} (stands : C → Option ℕ) (greatest : ℕ) (t
   -- how many looks each closed working-out took
   pub counts : List ℕ
   pub counted : AreCounts most_reads counts workings reads most
-  -- while a working-out is open, its cell is laid out
+  -- while a working-out is open, its cell is there
   pub open_cell : is_open ≡ true → workings < length rows * rule_count

@@ -1,10 +1,10 @@
--- A table of ends.
+-- A packrat table.
 use Rattle.std.specs.Prelude.{◌≡◌, ◌≤◌, ◌+◌, ◌*◌, max, ℕ, Bool, List, length, sum, fold, All, Option}
 use Rattle.weedle_grammar.specs.written.Bound.{rule_count}
 use Rattle.weedle_rules.specs.written.Bound.{most_reads}
 use Rattle.weedle_rules.specs.Cells.{AllRight}
 
--- a table of ends as contracts see it
+-- a packrat table as contracts see it
 pub record TableOfEnds : Type 0 where
   -- its text, and what is known of each cell, in the order of the filling (`cell_of` finds one)
   pub text : List ℕ

@@ -1,4 +1,4 @@
-//! The table of ends: where each rule of the grammar ends at each place of one text.
+//! The packrat table: where each rule of the grammar ends at each place of one text.
 //!
 //! ```rust
 //! use weedle_rules::{Ends, Rule};
@@ -7,7 +7,7 @@
 //! assert_eq!(rt; ends.end(Rule::DEFINITIONS, 0), Some(22));
 //! ```
 //!
-//! The grammar stands in the crate `weedle_grammar`; its names have a path here too.
+//! The grammar is in the crate `weedle_grammar`; its names have a path here too.
 #![tactic(auto)]
 
 mod cell;

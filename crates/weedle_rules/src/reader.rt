@@ -120,8 +120,7 @@ impl<'a, C: Cell> Reader<'a, C> {
         })
     }
 
-    /// Lays the cells of one more place out, where all those before are known. None of them is
-    /// known.
+    /// Adds the cells of one more place, where all those before are known. None of them is known.
     #[inline(always)]
     pub(crate) fn lay(&mut self)
         requires room { self.old.laid + rule_count ≤ (length self.old.text + 1) * rule_count }

@@ -12,7 +12,8 @@ use Rattle.weedle_spell.proofs.Given.{gave, leaf_end, pieced, unpieced, pieces_o
 use Rattle.weedle_spell.proofs.RowBytes.{took_leaf, bytes_form, one_form, run_form, not_next_form, past_form}
 use Rattle.weedle_spell.proofs.Took.{Taken, taken_as, nothing_taken, taken_then}
 
--- whatever trees the rule gives, what it takes is of the form; but for an LF at the end of the text, where L allows it
+-- whatever trees the rule gives, what it takes is of the form; except for an LF at the end of the
+-- text, where L allows it
 pub record Always (L : Type 0) (r : ℕ) (A : Form) : Type 0 where
   pub of : (text : List ℕ) (p e : ℕ) (ts : List Tree) → Reads text r p (Gives ts e) → Taken L text p e A
 

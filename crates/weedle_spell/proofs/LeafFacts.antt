@@ -32,7 +32,7 @@ dec_spelt = number_spelt refl refl (seq_always refl (always_part minus_always (a
 pub oct_spelt : (text : List ℕ) → Spelt (Unit {0}) OCT_LIT (Text text) (number text octal)
 oct_spelt = number_spelt refl refl (seq_always refl (always_part minus_always (always_part (bytes_always refl) (always_last (run_always refl)))))
 
--- one byte of a class and all that follow: in a sequence the two stand one after the other
+-- one byte of a class and all that follow: in a sequence the two are one after the other
 pub hex_spelt : (text : List ℕ) → Spelt (Unit {0}) HEX_LIT (Text text) (number text hexadecimal)
 hex_spelt = number_spelt refl refl
     (seq_always refl (always_part minus_always (always_part (bytes_always refl) (always_part (one_always refl) (always_part (one_always refl) (always_last (run_always refl)))))))

@@ -1,4 +1,5 @@
--- The texts of what a rule gives stand in what it takes, in their order: one induction for every rule.
+-- The texts of what a rule gives are in what it takes, in their order: one induction for every
+-- rule.
 use Rattle.std.proofs.Common.{◌≡◌, ℕ, zero, suc, ◌-◌, ◌≤◌, List, [], ◌∷◌, ◌++◌, map, length, take, drop, Option, Some, None, refl, sym, ap, ◌∙◌, subst, arith, append_assoc, length-append, take_at, drop_at, append-nil}
 use Rattle.std.proofs.lemmas.List.{drop-drop, take-append-drop, take-append-le, drop-append-le, length-drop}
 use Rattle.weedle_grammar.proofs.Leaves.{taken_le}
@@ -11,7 +12,7 @@ use Rattle.weedle_spell.specs.Pieces.{texts, all_texts, stand_from, IsInPieces}
 use Rattle.weedle_spell.proofs.Took.{Took, took_as, took_none, took_between}
 use Rattle.weedle_spell.proofs.RowBytes.{took_leaf}
 
--- these texts stand in s in their order
+-- these texts are in s in their order
 abbrev pub InOrder : List (List ℕ) → List ℕ → Type 0
 InOrder [] s = Unit {0}
 InOrder (t ∷ ts) s = (a b : List ℕ) × (s ≡ a ++ (t ++ b)) × InOrder ts b
@@ -66,7 +67,7 @@ texts_present : (ts : List Tree) → texts_of (map Present ts) ≡ texts_of ts
 texts_present [] = refl
 texts_present (t ∷ ts) = ap (λ (x : List (List ℕ)). texts t ++ x) (texts_present ts)
 
--- the trees' texts stand in s
+-- the trees' texts are in s
 abbrev pub Holds : List Tree → Form
 Holds ts s = InOrder (texts_of ts) s
 
@@ -91,7 +92,7 @@ rising_far p [] q e h k = omega arith
 rising_far p (z ∷ ends) q e h k = (h.0, rising_far z ends q e h.1 k)
 
 module _ {text : List ℕ} {p q : ℕ} {A : Form} (t : Took text p q A) where
-  -- what stands between two places from p to q
+  -- what is between two places from p to q
   between_in : (d e : ℕ) → p ≤ d → d ≤ e → e ≤ q → InOrder (between text d e ∷ []) t.bytes
   between_in d e a b c =
       let s = t.bytes in
@@ -115,7 +116,7 @@ took_le : {text : List ℕ} {p q : ℕ} {A : Form} → Took text p q A → p ≤
 took_le t = omega (arith, t.size)
 
 module _ (text : List ℕ) where
-  -- the texts of what a rule gives stand in what it takes
+  -- the texts of what a rule gives are in what it takes
   abbrev OutHolds : ℕ → Outcome → Type 0
   OutHolds p Fails = Unit {0}
   OutHolds p (Gives ts q) = Took text p q (Holds ts)
@@ -205,7 +206,7 @@ module _ (text : List ℕ) where
   seq_holds ts (Some pieces) t h = (took_on ts (given_of pieces) t h.0, (took_le t, h.1))
 
   mutual
-    -- the texts of what a rule gives stand in what it takes
+    -- the texts of what a rule gives are in what it takes
     pub out_holds : {r p : ℕ} {o : Outcome} → ReadsBy webidl text r p o → OutHolds p o
     out_holds {r} {p} (by_row {w = w} d e) = subst (OutHolds p) (sym e) (shaped_holds (row_of r) (shape_of r) p w (row_holds d))
 
@@ -247,7 +248,7 @@ module _ (text : List ℕ) where
     first_holds {p = p} (first_here {i = i} {ts = ts} d e) = subst (OutHolds p) (sym e) (took_as (holds_as ts (map (Alt i) ts) (texts_alt i ts)) (out_holds d))
     first_holds (first_next d m) = first_holds m
 
--- the texts of a tree that a rule gives stand in what it takes
+-- the texts of a tree that a rule gives are in what it takes
 pub in_pieces : (text : List ℕ) (r p e : ℕ) (t : Tree) → Reads text r p (Gives (t ∷ []) e) → IsInPieces t (between text p e)
 in_pieces text r p e t d =
     let h = out_holds text d in

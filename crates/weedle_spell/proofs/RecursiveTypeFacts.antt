@@ -1,4 +1,5 @@
--- What types, arguments and extended attributes take, which hold one another: by cases on the value, as their trees and spellings are.
+-- What types, arguments and extended attributes take, which hold one another: by cases on the
+-- value, as their trees and renderings are.
 use Rattle.std.proofs.Common.{◌≡◌, ℕ, List, [], ◌∷◌, map, codes, Option, Some, None, true, false, refl, ap}
 use Rattle.weedle_base.specs.Rules.{mark_tree, option_tree}
 use Rattle.weedle_base.specs.declared.term.written.symbols.QMark.{QMark}
@@ -94,7 +95,7 @@ default_absent None None a e = refl
 default_absent None (Some d) a e = cc
 default_absent (Some o) d a e = cc
 
--- where it stands, a default may
+-- where it is, a default may
 pub default_present : (o : Option Optional) (d : Option Default) → present_at 1 (Mark ∷ option_tree mark_tree o ∷ []) ≡ true
     → Spelt (Unit {0}) OPT_DEFAULT (option_tree default_tree d) (default_where_optional o d)
 default_present None d a = cc

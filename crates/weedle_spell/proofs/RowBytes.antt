@@ -78,7 +78,7 @@ first_later bytes text u b j [] no_more f h =
     cc
 first_later bytes text u b j (x ∷ s) no_more f h = f s cc
 
--- everything past these bytes: they stand there once, at the end
+-- everything past these bytes: they occur there once, at the end
 pub past_form : (bytes text : List ℕ) (k : ℕ) → take_past bytes text ≡ Some k → up_to bytes (take k text)
 past_form bytes [] k h = let e : take k [] ≡ bytes = bytes_form bytes [] k h in rw e ((([], refl)), nothing_after bytes)
 past_form bytes (b ∷ text) k h = elim (chosen (begins bytes (b ∷ text)) (Some (length bytes)) (option_map suc (take_past bytes text)) k h) [

@@ -16,7 +16,8 @@ pub record Spelt (L : Type 0) (r : ℕ) (t : Tree) (A : Form) : Type 0 where
   pub single : is_single r ≡ true
   pub of : (text : List ℕ) (p e : ℕ) → Reads text r p (Gives (t ∷ []) e) → Taken L text p e A
 
--- where the rule gives the tree of a value, what it takes is the value's spelling, but for an LF at the end of the text
+-- where the rule gives the tree of a value, what it takes is the value's rendering, except for an
+-- LF at the end of the text
 abbrev pub IsSpelt : {V : Type 0} → ℕ → (V → Tree) → (V → Form) → Type 0
 IsSpelt {V} r tree spelling = (v : V) → Spelt (Unit {0}) r (tree v) (spelling v)
 

@@ -13,7 +13,7 @@ use Rattle.weedle_spell.proofs.Given.{gave, pieced, unpieced, pieces_of, after, 
 use Rattle.weedle_spell.proofs.Took.{Taken, nothing_taken, taken_then}
 use Rattle.weedle_spell.proofs.Spelt.{Spelt, front_of, same_items}
 
--- each of the values is spelt by the rule
+-- each of the values is rendered by the rule
 pub data AllSpelt (L : Type 0) (x : ℕ) {V : Type 0} (tree : V → Tree) (S : V → Form) : List V → Type 0 where
   all_none : AllSpelt L x tree S []
   all_more : {v : V} {vs : List V} → Spelt L x (tree v) (S v) → AllSpelt L x tree S vs → AllSpelt L x tree S (v ∷ vs)
@@ -98,7 +98,7 @@ module _ {L V : Type 0} {x t separator : ℕ} (tree : V → Tree) (S : V → For
   list1_of d [] all i z m = elim (of_list1 d) [ inl h ↦ cc | inr h ↦ (let f = followed_of h.2 h.3 h.4 h.5 in no_items f.1 single f.3 f.5 i) ]
   list1_of d (v ∷ vs) all i z m = elim (of_list1 d) [ inl h ↦ cc | inr h ↦ taken_then (items_of (followed_of h.2 h.3 h.4 h.5) v vs all i) m ]
 
-  -- a list that isn't empty, with separators, and with one more at its end where it stands
+  -- a list that isn't empty, with separators, and with one more at its end where it is
   pub list1_spelt : {r l o : ℕ} → row_of r ≡ Seq (l ∷ o ∷ []) → shape_of r ≡ Inner → row_of l ≡ List1 x t → shape_of l ≡ Plain → row_of o ≡ Opt separator
       → (vs : List V) → AllSpelt L x tree S vs → Spelt L r (items_tree tree vs) (separated_non_empty S B vs)
   list1_spelt {r} {l} {o} rowr shaper rowl shapel rowo vs all = record {

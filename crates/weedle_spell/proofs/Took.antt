@@ -13,7 +13,8 @@ pub record Took (text : List ℕ) (p e : ℕ) (A : Form) : Type 0 where
 abbrev pub Unfinished : Form → Form
 Unfinished A s = (s ≢ []) × A (s ++ 10 ∷ [])
 
--- the bytes from p to e are of the form; or, where L allows it, the text ends at e and an LF is wanted there
+-- the bytes from p to e are of the form; or, where L allows it, the text ends at e and an LF is
+-- required there
 abbrev pub Taken : Type 0 → List ℕ → ℕ → ℕ → Form → Type 0
 Taken L text p e A = Took text p e A ⊎ (L × (drop e text ≡ []) × Took text p e (Unfinished A))
 
@@ -21,7 +22,7 @@ Taken L text p e A = Took text p e A ⊎ (L × (drop e text ≡ []) × Took text
 pub took_as : {text : List ℕ} {p e : ℕ} {A B : Form} → ((s : List ℕ) → A s → B s) → Took text p e A → Took text p e B
 took_as f t = record { bytes = t.bytes; is = t.is; size = t.size; has = f t.bytes t.has }
 
--- bytes that are of a form, or want an LF, are or do so of each that follows from it
+-- bytes that are of a form, or require an LF, are or do so of each that follows from it
 pub taken_as : {L : Type 0} {text : List ℕ} {p e : ℕ} {A B : Form} → ((s : List ℕ) → A s → B s) → Taken L text p e A → Taken L text p e B
 taken_as f (inl t) = inl (took_as f t)
 taken_as f (inr t) = inr (t.0, t.1, took_as (λ s h. (h.0, f (s ++ 10 ∷ []) h.1)) t.2)
@@ -74,14 +75,14 @@ module _ {text : List ℕ} {p q e : ℕ} {A B : Form} where
         },
       )
 
-  -- the same, where an LF may be wanted at the end of the text
+  -- the same, where an LF may be required at the end of the text
   pub taken_then : {L : Type 0} → Taken L text p q A → Taken L text q e B → Taken L text p e (A then B)
   taken_then (inl a) (inl b) = inl (took_then a b)
   taken_then (inl a) (inr b) = inr (b.0, b.1, then_late a b.2)
   taken_then (inr a) (inl b) = let t = then_early a.1 a.2 b in inr (a.0, t.0, t.1)
   taken_then (inr a) (inr b) = then_never B a.1 b.2
 
--- what is taken is what stands between the places
+-- what is taken is what is between the places
 pub took_between : {text : List ℕ} {p e : ℕ} {A : Form} → (t : Took text p e A) → take (e - p) (drop p text) ≡ t.bytes
 took_between {text} {p} {e} t = ap (λ (s : List ℕ). take (e - p) s) t.is ∙ take_at t.bytes (drop e text) (e - p) (omega (arith, t.size))
 
@@ -89,7 +90,7 @@ took_between {text} {p} {e} t = ap (λ (s : List ℕ). take (e - p) s) t.is ∙ 
 pub nothing_taken : {L : Type 0} {text : List ℕ} {p e : ℕ} {A : Form} → A [] → p ≡ e → Taken L text p e A
 nothing_taken {L} {text} {p} {A = A} h z = subst (λ (k : ℕ). Taken L text p k A) z (inl (took_none h))
 
--- what never wants an LF
+-- what never requires an LF
 pub exact : {text : List ℕ} {p e : ℕ} {A : Form} → Taken ⊥ text p e A → Took text p e A
 exact (inl t) = t
 exact (inr t) = absurd t.0

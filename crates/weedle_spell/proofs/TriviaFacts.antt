@@ -24,7 +24,7 @@ no_slash (b ∷ s) t k zero h e = cc
 no_slash (b ∷ s) t k (suc n) h e = let f : b ≡ 47 = cc in let g : take_not_next Slash (47 ∷ s) ≡ Some k = subst (λ (x : ℕ). take_not_next Slash (x ∷ s) ≡ Some k) f h in cc
 
 module _ {text : List ℕ} {p q e : ℕ} {ts us : List Tree} where
-  -- what stands behind the slashes
+  -- what follows the slashes
   comment_took : Reads text NOT_NEXT_SLASH p (Gives ts q) → Reads text RUN_NOT_LINE_FEED q (Gives us e) → Took text p e comment_text
   comment_took d m =
       let g = gave {r = NOT_NEXT_SLASH} refl d in
@@ -105,7 +105,7 @@ line_comment_always = record {
       (comment_of (exact (slashes.of text p a.1 a.0 a.3)) (comment_took b.3 c.3) (line_end f.3));
 }
 
--- blanks
+-- whitespace
 blanks_always : {L : Type 0} → Always L BLANKS blanks
 blanks_always = seq_always refl (always_part (one_always refl) (always_last (run_always refl)))
 

@@ -1,4 +1,4 @@
--- Each variant of the types that hold one another is spelt as its member is.
+-- Each variant of the types that hold one another is rendered as its member is.
 use Rattle.std.proofs.Common.{◌≡◌, refl, ap, sym, ◌∙◌, subst, Option, None, Some, Vec, Global, codes}
 use Rattle.weedle_base.specs.declared.term.written.symbols.Comma.{Comma}
 use Rattle.weedle_base.specs.declared.term.written.type_keywords.Or.{Or}

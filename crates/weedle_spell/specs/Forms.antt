@@ -59,7 +59,7 @@ any c (b ∷ s) = (is_in c b ≡ true) × any c s
 abbrev pub some : Class → Form
 some c = one c then any c
 
--- a text in which the bytes stand once, at its end
+-- a text in which the bytes occur once, at its end
 abbrev pub up_to : List ℕ → Form
 up_to bytes s = ((t : List ℕ) × (s ≡ t ++ bytes)) × ((t u : List ℕ) → s ≡ t ++ (bytes ++ u) → u ≡ [])
 

@@ -1,4 +1,4 @@
--- How the generic parts are spelt: brackets, a type that may be null, lists with separators.
+-- How the generic parts are rendered: brackets, a type that may be null, lists with separators.
 use Rattle.std.specs.Prelude.{codes}
 use Rattle.weedle_parts.specs.declared.common.brackets.Braced.{Braced}
 use Rattle.weedle_parts.specs.declared.common.brackets.Bracketed.{Bracketed}
@@ -36,6 +36,6 @@ module _ {T : Type 0} (spelling : T → Form) where
     abbrev pub punctuated_spelling : Punctuated T S → Form
     punctuated_spelling v = separated_by spelling separator v.list.items
 
-    -- a list that isn't empty, with one separator more allowed at its end
+    -- a list that isn't empty, with one further separator allowed at its end
     abbrev pub punctuated_non_empty_spelling : PunctuatedNonEmpty T S → Form
     punctuated_non_empty_spelling v = separated_non_empty spelling separator v.list.items

@@ -1,4 +1,4 @@
--- How terminals, names, numbers, strings and docstrings are spelt.
+-- How terminals, names, numbers, strings and docstrings are rendered.
 use Rattle.std.specs.Prelude.{ℕ, List, string_bytes}
 use Rattle.weedle_parts.specs.declared.common.docstring.Docstring.{Docstring}
 use Rattle.weedle_parts.specs.declared.common.identifier.Identifier.{Identifier}

@@ -1,4 +1,4 @@
--- How literals are spelt, and defaults.
+-- How literals are rendered, and defaults.
 use Rattle.std.specs.Prelude.{codes, if◌then◌else◌}
 use Rattle.weedle_parts.specs.declared.literal.default.Default.{Default}
 use Rattle.weedle_parts.specs.declared.literal.boolean.BooleanLit.{BooleanLit}

@@ -1,4 +1,5 @@
--- How types, arguments and extended attributes are spelt, which hold one another: by cases on the value, as the logic holds it, in which each value stands flat with the parts of what it holds.
+-- How types, arguments and extended attributes are rendered, which hold one another: by cases on
+-- the value, as the logic holds it, in which each value is flat with the parts of what it holds.
 use Rattle.std.specs.Prelude.{Option, Some, None, codes}
 use Rattle.weedle_base.specs.declared.term.written.type_keywords.Optional.{Optional}
 use Rattle.weedle_parts.specs.declared.literal.default.Default.{Default}
@@ -21,7 +22,7 @@ use Rattle.weedle_spell.specs.written.PlainAttributes.{extended_attribute_ident_
 use Rattle.weedle_spell.specs.SimpleTypes.{integer_type_spelling, floating_point_type_spelling}
 use Rattle.weedle_spell.specs.Tokens.{word}
 
--- a default, which stands only where `optional` does
+-- a default, which is only where `optional` does
 abbrev pub default_where_optional : Option Optional → Option Default → Form
 default_where_optional None None = empty
 default_where_optional None (Some d) = never

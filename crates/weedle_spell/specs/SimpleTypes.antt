@@ -1,4 +1,4 @@
--- How the types that hold no other type are spelt.
+-- How the types that hold no other type are rendered.
 use Rattle.std.specs.Prelude.{codes}
 use Rattle.weedle_parts.specs.declared.types.const_type.ConstType.{ConstType}
 use Rattle.weedle_parts.specs.declared.types.const_type.ConstType.TheVariants.{Integer, FloatingPoint, Boolean, Byte, Octet, Identifier as Named}

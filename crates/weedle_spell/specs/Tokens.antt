@@ -3,7 +3,7 @@ use Rattle.std.specs.Prelude.{◌≢◌, ℕ, List, [], ◌∷◌, codes, if◌t
 use Rattle.weedle_grammar.specs.declared.class.Class.TheVariants.{Blank, Digit, OneToNine, Octal, Hex, Name, XLetter, ELetter, Sign, NotQuote, Letter, NotLineFeed}
 use Rattle.weedle_spell.specs.Forms.{Form, Chain, ◌then◌, ◌or◌, exactly, perhaps, that, one, any, some, up_to, each}
 
--- blanks, one at least
+-- whitespace, one byte at least
 abbrev pub blanks : Form
 blanks = some Blank
 
@@ -15,11 +15,11 @@ comment_text s = any NotLineFeed s × ((t : List ℕ) → s ≢ 47 ∷ t)
 abbrev pub line_comment : Form
 line_comment = exactly (codes "//") then comment_text then exactly (10 ∷ [])
 
--- a block comment: `/*`, then a text in which `*/` stands once, at its end
+-- a block comment: `/*`, then a text in which `*/` occurs once, at its end
 abbrev pub block_comment : Form
 block_comment = exactly (codes "/*") then up_to (codes "*/")
 
--- comments and blanks, none included
+-- comments and whitespace, none included
 abbrev pub IsTrivia : Form
 IsTrivia = Chain (line_comment or blanks or block_comment)
 
@@ -39,7 +39,7 @@ name = one Letter then any Name
 abbrev pub named : List ℕ → Form
 named text = IsTrivia then perhaps (exactly (codes "_")) then that text name then IsTrivia
 
--- a text that is kept, in which no quote stands, in quotes and trivia
+-- a text that is kept, in which no quote is, in quotes and trivia
 abbrev pub quoted : List ℕ → Form
 quoted text = IsTrivia then exactly (34 ∷ []) then that text (any NotQuote) then exactly (34 ∷ []) then IsTrivia
 
@@ -75,7 +75,7 @@ with_point = (some Digit then exactly (codes ".") then any Digit) or (any Digit 
 abbrev pub floating : Form
 floating = minus then ((with_point then perhaps exponent) or (some Digit then exponent))
 
--- a line of a docstring: blanks, `///`, the line, LF
+-- a line of a docstring: whitespace, `///`, the line, LF
 abbrev pub doc_line : List ℕ → Form
 doc_line line = any Blank then exactly (codes "///") then that line (any NotLineFeed) then exactly (10 ∷ [])
 

@@ -1,4 +1,4 @@
--- A variant of the types that hold one another is spelt as its member is.
+-- A variant of the types that hold one another is rendered as its member is.
 use Rattle.std.specs.Prelude.{◌↔◌, ℕ, List}
 use Rattle.weedle_base.specs.declared.term.written.type_keywords.Or.{Or}
 use Rattle.weedle_parts.specs.declared.common.brackets.Parenthesized.{Parenthesized}
@@ -34,7 +34,7 @@ use Rattle.weedle_spell.specs.written.Types.{single_type_spelling, union_type_sp
 abbrev pub IsSame : Form → Form → Type 0
 IsSame A B = (s : List ℕ) → A s ↔ B s
 
--- each variant that holds a type, an argument or an extended attribute is spelt as that is
+-- each variant that holds a type, an argument or an extended attribute is rendered as that is
 pub record VariantsAreSpelt : Type 0 where
   pub type_single : (v : SingleType NonAnyType) → IsSame (type_spelling (Type-Single v)) (single_type_spelling v)
   pub type_union : (v : MayBeNull (Parenthesized (Punctuated UnionMemberType Or))) → IsSame (type_spelling (Type-Union v)) (may_be_null_spelling union_type_spelling v)

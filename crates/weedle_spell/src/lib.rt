@@ -1,18 +1,19 @@
-//! What is read spells its value: a formatter, a validator or a diff can stand on the value alone.
+//! What is read is a rendering of its value: a formatter, a validator or a diff can be on the value
+//! alone.
 //!
-//! The crate has laws and no call; those of members and definitions stand in `weedle_spell_idl`. A
+//! The crate has laws and no call; those of members and definitions are in `weedle_spell_idl`. A
 //! law is a function of [`laws`] that does nothing when it runs. It says of one type: where the
-//! type's rule gives the tree of a value, the text that the rule took spells the value, and the
-//! texts that the value keeps stand in it in their order.
+//! type's rule gives the tree of a value, the text that the rule took is a rendering of the value,
+//! and the texts that the value keeps are in it in their order.
 //!
-//! - A spelling is a set of texts, by cases on the value (`specs/`). It knows of no places, rules
+//! - A rendering is a set of texts, by cases on the value (`specs/`). It knows of no places, rules
 //!   or order of choices; only the classes of bytes are the grammar's.
 //! - `Spells` holds of a text also where it would hold with an LF behind it: a line comment at the
 //!   end of a text needs no LF. Inside a value nothing is so widened, and a docstring never is.
-//! - A value has many spellings: nothing is said of which of them are read.
+//! - A value has many renderings: nothing is said of which of them are read.
 //! - Types, extended attributes and arguments hold one another. The logic holds a value of such a
-//!   type flat, with the parts of what stands in it, and its spelling is written so.
-//!   [`laws::variants`] says that it is the spelling of what stands in it all the same, and
+//!   type flat, with the parts of what is in it, and its rendering is written so.
+//!   [`laws::variants`] says that it is the rendering of what is in it all the same, and
 //!   [`laws::variant_trees`] that its tree is.
 //!
 //! ```rust

@@ -1,5 +1,6 @@
-//! What a rule takes spells the value that it gives, and holds the texts of the value in their
-//! order. Each of these functions does nothing when it runs: its contract is the law of one type.
+//! What a rule takes is a rendering of the value that it gives, and holds the texts of the value in
+//! their order. Each of these functions does nothing when it runs: its contract is the law of one
+//! type.
 
 mod written;
 

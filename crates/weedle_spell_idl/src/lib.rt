@@ -1,4 +1,4 @@
-//! The laws of spelling of members and definitions, as `weedle_spell` has them of what these are
+//! The laws of renderings of members and definitions, as `weedle_spell` has them of what these are
 //! made of.
 //!
 //! ```rust

@@ -1,4 +1,4 @@
--- A rule whose word lacks the bit of the byte that stands at a place fails there, and tries all there.
+-- A rule whose word lacks the bit of the byte at a place fails there, and tries all there.
 use Rattle.std.proofs.Common.{◌≡◌, ℕ, ◌+◌, ◌/◌, ◌^◌, ◌<◌, List, length, drop, get_or, Some, None, refl, sym, subst, ◌∙◌, arith}
 use Rattle.std.specs.Prelude.{bit_and}
 use Rattle.std.specs.Int.{bit_at}

@@ -1,4 +1,4 @@
--- Where the word of a rule lacks the byte that stands at a place, all that it tries is tried there.
+-- Where the word of a rule lacks the byte at a place, all that it tries is tried there.
 use Rattle.std.proofs.Common.{◌≡◌, inl, inr, ℕ, suc, ◌-◌, ◌<◌, ◌≤◌, List, [], ◌∷◌, length, drop, true, sym, subst, ◌∙◌, ap, arith}
 use Rattle.std.specs.Prelude.{◌&&◌, ◌||◌, nat_lt, slice_index}
 use Rattle.std.specs.Int.{bit_at}
@@ -19,7 +19,7 @@ use Rattle.weedle_starts.proofs.ReadFacts.{ends_after}
 use Rattle.weedle_starts.proofs.LaterFacts.{tries_later}
 use Rattle.weedle_starts.proofs.BeginFacts.{IsWithin, CoversParts, AllWithin, Begins, AreTaken, not_true, leads}
 
--- a place where a byte stands is in the text
+-- a place with a byte is in the text
 pub stands_in : (text : List ℕ) (p b : ℕ) (rest : List ℕ) → drop p text ≡ b ∷ rest → p ≤ length text
 stands_in text p b rest is =
     let l : length text - p ≡ suc (length rest) = sym (length-drop p text) ∙ ap length is in

@@ -40,7 +40,7 @@ row_by (way.List1 x t) = List1 x t
 row_by (way.Tail x t) = Tail x t
 row_by (way.If s k y) = If (slice_range NUMBERS s.0 s.1) k y
 
--- what it names stands among what all name
+-- what it names is among what all name
 abbrev is_span : ℕ → Span → Bool
 is_span most s = nat_le s.0 s.1 && nat_le s.1 most
 

@@ -15,7 +15,7 @@ use Rattle.weedle_starts.specs.declared.way.Way.TheVariants as way
 use Rattle.weedle_starts.specs.declared.written.bytes.TheConstants.{BYTES}
 use Rattle.weedle_starts.specs.declared.written.numbers.TheConstants.{NUMBERS}
 
--- bytes of the table stand there, and numbers of rules
+-- bytes of the table are there, and numbers of rules
 abbrev pub AreBytes : Span → Type 0
 AreBytes s = (s.0 ≤ s.1) × (s.1 ≤ length BYTES)
 
@@ -38,7 +38,8 @@ IsWay (way.List1 x t) row = (x < rule_count) × (t < rule_count) × (row ≡ Lis
 IsWay (way.Tail x t) row = (x < rule_count) × (t < rule_count) × (row ≡ Tail x t)
 IsWay (way.If s k y) row = AreNumbers s × (y < rule_count) × (row ≡ If (slice_range NUMBERS s.0 s.1) k y)
 
--- the rule that a row may go without, and then takes nothing: what it repeats, what a list begins with, what stands between items
+-- the rule that a row may go without, and then takes nothing: what it repeats, what a list begins
+-- with, what is between items
 abbrev pub option_of : Row → Option ℕ
 option_of (Opt y) = Some y
 option_of (Many y) = Some y

@@ -1,6 +1,6 @@
-//! What the byte that stands at a place says of a rule.
+//! What the byte at a place says of a rule.
 
-/// What the byte that stands at a place says of a rule.
+/// What the byte at a place says of a rule.
 #[derive(Clone, Copy, Debug, PartialEq, Eq)]
 pub enum Ahead {
     /// The rule fails.

@@ -11,7 +11,7 @@
 //! ```
 //!
 //! Where a rule is refused it fails, and so does all that it tries, at the place itself. Rows and
-//! first sets stand in tables of the program, so nothing is worked out before a text is read.
+//! first sets are in tables of the program, so nothing is worked out before a text is read.
 #![tactic(auto)]
 
 pub mod ahead;

@@ -47,7 +47,7 @@ pub enum Row {
     If(Parts, usize, Rule),
 }
 
-/// The bytes that stand there.
+/// The bytes there.
 #[inline(always)]
 fn bytes_at(span: Span) -> &'static [u8]
     requires { AreBytes span }
@@ -56,7 +56,7 @@ fn bytes_at(span: Span) -> &'static [u8]
     &BYTES[span.0 as usize..span.1 as usize]
 }
 
-/// The parts whose numbers stand there.
+/// The parts whose numbers are there.
 #[inline(always)]
 fn parts_at(span: Span) -> Parts
     requires { AreNumbers span }

@@ -51,8 +51,7 @@ impl<'t> Source<'t> {
         self.text.len()
     }
 
-    /// Whether a rule can't be read at a place, by the byte that stands there. It may fail where
-    /// this says no.
+    /// Whether a rule can't be read at a place, by the byte there. It may fail where this says no.
     #[inline(always)]
     pub fn refuses(&self, rule: Rule, place: usize) -> bool
         requires within { place ≤ length self.now }
@@ -72,7 +71,7 @@ impl<'t> Source<'t> {
         false
     }
 
-    /// What the byte that stands at a place says of a rule.
+    /// What the byte at a place says of a rule.
     #[inline(always)]
     pub fn ahead(&self, rule: Rule, place: usize) -> Ahead
         requires { place ≤ length self.now }
@@ -105,7 +104,7 @@ impl<'t> Source<'t> {
         row_of(rule)
     }
 
-    /// Where these bytes end, which stand at a place.
+    /// Where these bytes end, which are at a place.
     #[inline(always)]
     pub fn end_of_bytes(&self, bytes: &[u8], place: usize) -> Option<usize>
         requires { place ≤ length self.now }
@@ -115,7 +114,7 @@ impl<'t> Source<'t> {
         leaf_ends::end_of_bytes(bytes, self.text, place)
     }
 
-    /// Where one byte of the class ends, which stands at a place.
+    /// Where one byte of the class ends, which is at a place.
     #[inline(always)]
     pub fn end_of_one(&self, class: Class, place: usize) -> Option<usize>
         requires { place ≤ length self.now }
@@ -125,7 +124,7 @@ impl<'t> Source<'t> {
         leaf_ends::end_of_one(class, self.text, place)
     }
 
-    /// The place itself, where no byte of the class stands there.
+    /// The place itself, where no byte of the class is there.
     #[inline(always)]
     pub fn end_of_not_next(&self, class: Class, place: usize) -> Option<usize>
         requires { place ≤ length self.now }
@@ -135,7 +134,7 @@ impl<'t> Source<'t> {
         leaf_ends::end_of_not_next(class, self.text, place)
     }
 
-    /// Where the bytes of the class end that stand at a place.
+    /// Where the bytes of the class end at a place.
     #[inline(always)]
     pub fn end_of_run(&self, class: Class, place: usize) -> usize
         requires { place ≤ length self.now }
@@ -157,7 +156,7 @@ impl<'t> Source<'t> {
 
 /// How many bytes at the front are in the class.
 ///
-/// It is `leaf_ends::run_length` as it stands there, but inlined: where the class is known, a byte
+/// It is `leaf_ends::run_length` as it is there, but inlined: where the class is known, a byte
 /// takes a few instructions, and no choice among classes.
 #[inline(always)]
 fn run_length(class: Class, left: &[u8]) -> usize

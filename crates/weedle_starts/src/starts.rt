@@ -10,7 +10,7 @@ use weedle_grammar::Rule;
 /// The ASCII bytes that a rule can begin with, as the bits of a word: all of them, where the rule
 /// may take nothing.
 ///
-/// Of `Rule::ENUM` it has the bits of `e`, of blanks and of `/`. It takes no memory.
+/// For `Rule::ENUM` it has the bits of `e`, of whitespace and of `/`. It takes no memory.
 #[inline(always)]
 pub fn first_set(rule: Rule) -> u128
     ensures { CoversStarts result rule }

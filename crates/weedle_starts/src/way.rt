@@ -7,11 +7,11 @@ ghost use Rattle.weedle_starts.specs.Ways.{IsWay};
 use crate::written::ways::WAYS;
 use weedle_grammar::{Class, Rule};
 
-/// Where the bytes or the numbers of a row stand among those of all: from one place up to another.
+/// Where the bytes or the numbers of a row are among those of all: from one place up to another.
 #[derive(Clone, Copy)]
 pub(crate) struct Span(pub(crate) u16, pub(crate) u16);
 
-/// A row, with rules as numbers. It holds no reference, as a static wants it.
+/// A row, with rules as numbers. It holds no reference, as a static requires it.
 #[derive(Clone, Copy)]
 pub(crate) enum Way {
     Bytes(Span),

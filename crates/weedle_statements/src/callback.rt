@@ -8,10 +8,10 @@ use weedle_types::argument::ParenthesizedArgumentList;
 use weedle_types::attribute::ExtendedAttributeList;
 use weedle_types::types::ReturnType;
 
-/// A callback, as `callback F = undefined (long x);`. No docstring may stand before it.
+/// A callback, as `callback F = undefined (long x);`. No docstring may precede it.
 #[derive(Debug, PartialEq, Eq, PartialOrd, Ord, Hash)]
 pub struct CallbackDefinition<'a> {
-    /// The extended attributes in brackets, as `[Exposed=Window]`, where they stand.
+    /// The extended attributes in brackets, as `[Exposed=Window]`, where present.
     pub attributes: Option<ExtendedAttributeList<'a>>,
     /// The word `callback`.
     pub callback: Callback,

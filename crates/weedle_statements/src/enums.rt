@@ -17,16 +17,15 @@ use weedle_parts::literal::StringLit;
 use weedle_types::attribute::ExtendedAttributeList;
 use weedle_types::parts::attributes;
 
-/// The values of an enum, one at least, and a comma behind the last where it stands, as
-/// `"a", "b",`.
+/// The values of an enum, one at least, and a comma behind the last where present, as `"a", "b",`.
 pub type EnumValueList<'a> = PunctuatedNonEmpty<EnumVariant<'a>, Comma>;
 
-/// A value of an enum, as `"blob"`. A docstring may stand before it.
+/// A value of an enum, as `"blob"`. A docstring may precede it.
 #[derive(Debug, PartialEq, Eq, PartialOrd, Ord, Hash)]
 pub struct EnumVariant<'a> {
-    /// The docstring in front, where one stands.
+    /// The docstring in front, where present.
     pub docstring: Option<Docstring>,
-    /// The value in quotes, as `"blob"`: `value.0` is what stands between them.
+    /// The value in quotes, as `"blob"`: `value.0` is what is between them.
     pub value: StringLit<'a>,
 }
 
@@ -39,12 +38,12 @@ impl Drop for EnumVariant<'_> {
     }
 }
 
-/// An enum, as `enum A { "a", "b" };`: one value at least. A docstring may stand before it.
+/// An enum, as `enum A { "a", "b" };`: one value at least. A docstring may precede it.
 #[derive(Debug, PartialEq, Eq, PartialOrd, Ord, Hash)]
 pub struct EnumDefinition<'a> {
-    /// The docstring in front, where one stands.
+    /// The docstring in front, where present.
     pub docstring: Option<Docstring>,
-    /// The extended attributes in brackets, as `[Exposed=Window]`, where they stand.
+    /// The extended attributes in brackets, as `[Exposed=Window]`, where present.
     pub attributes: Option<ExtendedAttributeList<'a>>,
     /// The word `enum`.
     pub enum_: Enum,

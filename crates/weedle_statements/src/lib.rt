@@ -1,8 +1,8 @@
 //! The definitions that have no members: callbacks, enums, names for types, and the statements that
 //! an interface includes a mixin or implements another.
 //!
-//! Each struct reads its fields in order, with blanks and comments between them. Where one of them
-//! isn't there it is a mismatch. Memory is taken for extended attributes, types, arguments,
+//! Each struct reads its fields in order, with whitespace and comments between them. Where one of
+//! them isn't there it is a mismatch. Memory is taken for extended attributes, types, arguments,
 //! docstrings and lists; where it is refused that is a failure, and no other alternative is tried.
 //!
 //! ```rust

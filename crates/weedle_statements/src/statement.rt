@@ -14,10 +14,10 @@ use weedle_parts::common::Identifier;
 use weedle_types::attribute::ExtendedAttributeList;
 use weedle_types::fields::attributes_and_four;
 
-/// The use of a mixin by an interface, as `A includes B;`. No docstring may stand before it.
+/// The use of a mixin by an interface, as `A includes B;`. No docstring may precede it.
 #[derive(Debug, PartialEq, Eq, PartialOrd, Ord, Hash)]
 pub struct IncludesStatementDefinition<'a> {
-    /// The extended attributes in brackets, as `[Exposed=Window]`, where they stand.
+    /// The extended attributes in brackets, as `[Exposed=Window]`, where present.
     pub attributes: Option<ExtendedAttributeList<'a>>,
     /// The name of the interface, before `includes`.
     pub lhs_identifier: Identifier<'a>,
@@ -41,10 +41,10 @@ impl Drop for IncludesStatementDefinition<'_> {
     }
 }
 
-/// The older form of a mixin's use, as `A implements B;`. No docstring may stand before it.
+/// The older form of a mixin's use, as `A implements B;`. No docstring may precede it.
 #[derive(Debug, PartialEq, Eq, PartialOrd, Ord, Hash)]
 pub struct ImplementsDefinition<'a> {
-    /// The extended attributes in brackets, as `[Exposed=Window]`, where they stand.
+    /// The extended attributes in brackets, as `[Exposed=Window]`, where present.
     pub attributes: Option<ExtendedAttributeList<'a>>,
     /// The name of the interface, before `implements`.
     pub lhs_identifier: Identifier<'a>,

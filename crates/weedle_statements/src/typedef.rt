@@ -7,14 +7,14 @@ use weedle_parts::common::Identifier;
 use weedle_types::attribute::ExtendedAttributeList;
 use weedle_types::types::AttributedType;
 
-/// A name for a type, as `typedef long A;`. No docstring may stand before it.
+/// A name for a type, as `typedef long A;`. No docstring may precede it.
 #[derive(Debug, PartialEq, Eq, PartialOrd, Ord, Hash)]
 pub struct TypedefDefinition<'a> {
-    /// The extended attributes in brackets, as `[Exposed=Window]`, where they stand.
+    /// The extended attributes in brackets, as `[Exposed=Window]`, where present.
     pub attributes: Option<ExtendedAttributeList<'a>>,
     /// The word `typedef`.
     pub typedef: Typedef,
-    /// The type that is named, as `long`, with the extended attributes that stand before it.
+    /// The type that is named, as `long`, with the extended attributes before it.
     pub type_: AttributedType<'a>,
     /// The name that the type gets.
     pub identifier: Identifier<'a>,

@@ -20,7 +20,7 @@ use Rattle.weedle_grammar.specs.Trees.{Tree}
 use Rattle.weedle_types.specs.PartTrees.{Attributes, members_tree}
 use Rattle.weedle_types.specs.Trees.{attributes_tree}
 
--- a terminal, among parts that may want memory
+-- a terminal, among parts that may run out of memory
 pub word : {V : Type 0} (r : ℕ) → IsRule (mark {V = V} r) r mark_tree (Unit {0})
 word r = still_rule (mark_rule r)
 

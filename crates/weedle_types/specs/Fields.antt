@@ -13,11 +13,11 @@ use Rattle.weedle_parts.specs.declared.common.docstring.Docstring.{Docstring}
 use Rattle.weedle_types.specs.PartTrees.{Attributes}
 use Rattle.weedle_types.specs.Trees.{attributes_tree}
 
--- extended attributes where they stand, and then what R reads
+-- extended attributes where present, and then what R reads
 abbrev pub attributes_then : {V : Type 0} → Reading V → Reading (Attributes × V)
 attributes_then R = pair_reading (own OPT_EXTENDED_ATTRIBUTE_LIST attributes_tree (Unit {0})) R
 
--- a docstring where one stands, and then what R reads
+-- a docstring where present, and then what R reads
 abbrev pub docstring_then : {V : Type 0} → Reading V → Reading (Option Docstring × V)
 docstring_then R = pair_reading (option_reading (own DOCSTRING docstring_tree (Unit {0}))) R
 

@@ -1,4 +1,4 @@
--- What stands between the items of a list.
+-- What is between the items of a list.
 use Rattle.weedle_base.specs.Own.{own}
 use Rattle.weedle_base.specs.Reading.{Reading}
 use Rattle.weedle_base.specs.Rules.{mark_tree}

@@ -1,10 +1,11 @@
 -- The tree of each value of the recursive group: the alternatives of a choice count from 0, a struct has the trees of its
 -- fields in their order.
 --
--- The logic holds a value that leads back to itself in types of its own: `Held-..` what one holds of another, `Row_of-..`
--- the items of a list, each named by where it stands, and the variants of a struct or enum with all their fields laid
--- out (`Single'`). The first definition goes over these. Those behind it say the same of the types as they are written, and
--- are what contracts name.
+-- The logic holds a value that leads back to itself in types of its own: `Held-..` what one holds
+-- of another, `Row_of-..` the items of a list, each named by where it is, and the variants of a
+-- struct or enum with all their fields one by one (`Single'`). The first definition goes over
+-- these. Those behind it say the same of the types as they are written, and are what contracts
+-- name.
 use Rattle.std.specs.Global.{Box}
 use Rattle.std.specs.Prelude.{[], ◌∷◌, Option}
 use Rattle.weedle_base.specs.Rules.{option_tree, mark_tree}

@@ -1,8 +1,8 @@
 //! Arguments, as `optional long x = 5`.
 //!
-//! A list of arguments ends behind its last argument: of `long x, long` the rest is `, long`.
-//! Extended attributes and types ask for memory: where it is refused, the call ends at once with a
-//! failure of code `Memory`. What each type reads stands in words in docs/GRAMMAR.md.
+//! A list of arguments ends behind its last argument: of `long x, long` the remaining input is
+//! `, long`. Extended attributes and types ask for memory: where it is refused, the call ends at
+//! once with a failure of code `Memory`. What each type reads is in words in docs/GRAMMAR.md.
 
 mod written;
 
@@ -60,20 +60,20 @@ impl Drop for Argument<'_> {
 }
 
 /// An argument, as `optional long x = 5`. A default is read only behind `optional`: of `long x = 5`
-/// the rest is `= 5`. The extended attributes that stand first are the argument's, and those behind
-/// them its type's.
+/// the remaining input is `= 5`. The extended attributes that come first are the argument's, and
+/// those behind them its type's.
 #[cycle(types)]
 #[derive(Debug, PartialEq, Eq, PartialOrd, Ord, Hash)]
 pub struct SingleArgument<'a> {
-    /// The extended attributes in brackets, as `[Exposed=Window]`, where they stand.
+    /// The extended attributes in brackets, as `[Exposed=Window]`, where present.
     pub attributes: Option<ExtendedAttributeList<'a>>,
-    /// The word `optional`, where it stands.
+    /// The word `optional`, where present.
     pub optional: Option<Optional>,
     /// Its type, as `long`, with extended attributes of its own, as in `optional [Clamp] long x`.
     pub type_: AttributedType<'a>,
     /// Its name.
     pub identifier: Identifier<'a>,
-    /// Its default, as `= 5`, where `optional` and a default stand.
+    /// Its default, as `= 5`, where present behind `optional`.
     pub default: Option<Default<'a>>,
 }
 
@@ -94,7 +94,7 @@ impl Drop for SingleArgument<'_> {
 #[cycle(types)]
 #[derive(Debug, PartialEq, Eq, PartialOrd, Ord, Hash)]
 pub struct VariadicArgument<'a> {
-    /// The extended attributes in brackets, as `[Exposed=Window]`, where they stand.
+    /// The extended attributes in brackets, as `[Exposed=Window]`, where present.
     pub attributes: Option<ExtendedAttributeList<'a>>,
     /// Their type, as `long`, with no extended attributes of its own.
     pub type_: Type<'a>,

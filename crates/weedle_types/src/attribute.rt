@@ -2,7 +2,7 @@
 //!
 //! A list without its closing bracket, or with a comma at its end, is a mismatch. Lists ask for
 //! memory: where it is refused, the call ends at once with a failure of code `Memory`. What each
-//! type reads stands in words in docs/GRAMMAR.md.
+//! type reads is in words in docs/GRAMMAR.md.
 
 ghost use Rattle.weedle_base.specs.Own.{own};
 ghost use Rattle.weedle_base.specs.OwnLaws.{own_lawful};

@@ -13,7 +13,7 @@ use weedle_base::TryClone;
 use weedle_base::term::Comma;
 use weedle_parts::common::{Docstring, Generics};
 
-/// Copies extended attributes, where they stand. It fails where memory is refused.
+/// Copies extended attributes, where present. It fails where memory is refused.
 #[tactic(auto, using(crate::proofs::CopyFacts::attributes_alike))]
 pub fn copy_attributes<'a>(
     attributes: &Option<ExtendedAttributeList<'a>>,

@@ -1,11 +1,11 @@
 //! The fields of members and definitions, read by one call: extended attributes, or a docstring and
 //! extended attributes, and then three to six others, all side by side in one tuple.
 //!
-//! The type arguments say how the fields behind the extended attributes are read, in order. Blanks
-//! and comments may stand between two of them. Where a field isn't there it is a mismatch. Memory
-//! is taken for a docstring, for extended attributes and for what the other fields hold; where it
-//! is refused that is a failure. A call costs what the calls for its fields cost, and looks at no
-//! byte besides.
+//! The type arguments say how the fields behind the extended attributes are read, in order.
+//! Whitespace and comments may be between two of them. Where a field isn't there it is a mismatch.
+//! Memory is taken for a docstring, for extended attributes and for what the other fields hold;
+//! where it is refused that is a failure. A call costs what the calls for its fields cost, and
+//! looks at no byte besides.
 //!
 //! ```rust
 //! use weedle_types::fields::attributes_and_four;

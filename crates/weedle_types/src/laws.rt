@@ -1,7 +1,7 @@
 //! What the names of lists and brackets have to do with the grammar's rules. Each of these
 //! functions does nothing when it runs: its contract is the law.
 //!
-//! With these laws the types made of generic parts stand in further parts, as options, lists and
+//! With these laws the types made of generic parts are in further parts, as options, lists and
 //! brackets.
 
 ghost use Rattle.weedle_base.specs.Rules.{HasRule};

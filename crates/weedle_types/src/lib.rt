@@ -1,6 +1,6 @@
-//! Types, extended attributes and arguments: types stand in extended attributes, extended
-//! attributes in arguments, and both in types, with no limit on how deep. What each type reads
-//! stands in words in docs/GRAMMAR.md.
+//! Types, extended attributes and arguments: types are in extended attributes, extended attributes
+//! in arguments, and both in types, with no limit on how deep. What each type reads is in words in
+//! docs/GRAMMAR.md.
 #![tactic(auto)]
 
 pub mod argument;

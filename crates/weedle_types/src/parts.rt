@@ -9,8 +9,8 @@ use crate::attribute::ExtendedAttributeList;
 use std::alloc::Global;
 use weedle_base::{IResult, Parse};
 
-/// Reads extended attributes where they stand, as `[Exposed=Window]`. Where they don't it gives
-/// None and is no mismatch; where memory is refused that is a failure.
+/// Reads extended attributes where present, as `[Exposed=Window]`. Where they don't it gives None
+/// and is no mismatch; where memory is refused that is a failure.
 pub fn attributes<'a>(
     alloc: Global,
     input: &'a str,

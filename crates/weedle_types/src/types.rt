@@ -1,10 +1,10 @@
 //! Types, as `sequence<(long or DOMString)>?`.
 //!
-//! A type is read whole, with no limit on how deep types stand in one another. What follows it is
-//! the rest: `Promise<long>?` is a promise and `?`, since a promise is never null. A text that
-//! begins with no type is a mismatch. Boxes, unions and extended attributes ask for memory: where
-//! it is refused, the call ends at once with a failure of code `Memory`. What each type reads
-//! stands in words in docs/GRAMMAR.md.
+//! A type is read whole, with no limit on how deep types nest. What follows it is the rest:
+//! `Promise<long>?` is a promise and `?`, since a promise is never null. A text that begins with no
+//! type is a mismatch. Boxes, unions and extended attributes ask for memory: where it is refused,
+//! the call ends at once with a failure of code `Memory`. What each type reads is in words in
+//! docs/GRAMMAR.md.
 
 mod written;
 
@@ -33,8 +33,8 @@ pub type PromiseType<'a> = formers::PromiseType<ReturnType<'a>>;
 /// A record, as `record<DOMString, long>`. Its types are a tuple struct, [`RecordTypes`].
 pub type RecordType<'a> = formers::RecordType<RecordTypes<'a>>;
 
-/// The type of a record's keys: `ByteString`, `DOMString`, `USVString` or any type but `any` and
-/// unions.
+/// The type of a record's keys: `ByteString`, `DOMString`, `USVString` or any type except for `any`
+/// and unions.
 pub type RecordKeyType<'a> = formers::RecordKeyType<NonAnyType<'a>>;
 
 /// The type of a result: `undefined`, or a type.
@@ -197,11 +197,11 @@ impl Drop for UnionMemberType<'_> {
     }
 }
 
-/// A type with the extended attributes that stand before it, as `[Clamp] octet`.
+/// A type with the extended attributes before it, as `[Clamp] octet`.
 #[cycle(types)]
 #[derive(Debug, PartialEq, Eq, PartialOrd, Ord, Hash)]
 pub struct AttributedType<'a> {
-    /// The extended attributes in brackets, as `[Clamp]`, where they stand.
+    /// The extended attributes in brackets, as `[Clamp]`, where present.
     pub attributes: Option<ExtendedAttributeList<'a>>,
     /// The type, as `octet`.
     pub type_: Type<'a>,
@@ -217,12 +217,12 @@ impl Drop for AttributedType<'_> {
     }
 }
 
-/// A type that is neither `any` nor a union, with the extended attributes that stand before it, as
+/// A type that is neither `any` nor a union, with the extended attributes before it, as
 /// `[Clamp] octet`.
 #[cycle(types)]
 #[derive(Debug, PartialEq, Eq, PartialOrd, Ord, Hash)]
 pub struct AttributedNonAnyType<'a> {
-    /// The extended attributes in brackets, as `[Clamp]`, where they stand.
+    /// The extended attributes in brackets, as `[Clamp]`, where present.
     pub attributes: Option<ExtendedAttributeList<'a>>,
     /// The type, as `octet`.
     pub type_: NonAnyType<'a>,

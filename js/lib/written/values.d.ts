@@ -13,7 +13,7 @@ export abstract class Parenthesized<T> extends Value {
   readonly kind: "Parenthesized";
   /** The `(`. */
   readonly openParen: term.OpenParen;
-  /** What stands between the parentheses. */
+  /** What is between the parentheses. */
   readonly body: T;
   /** The `)`. */
   readonly closeParen: term.CloseParen;
@@ -24,7 +24,7 @@ export abstract class Bracketed<T> extends Value {
   readonly kind: "Bracketed";
   /** The `[`. */
   readonly openBracket: term.OpenBracket;
-  /** What stands between the square brackets. */
+  /** What is between the square brackets. */
   readonly body: T;
   /** The `]`. */
   readonly closeBracket: term.CloseBracket;
@@ -35,7 +35,7 @@ export abstract class Braced<T> extends Value {
   readonly kind: "Braced";
   /** The `{`. */
   readonly openBrace: term.OpenBrace;
-  /** What stands between the braces. */
+  /** What is between the braces. */
   readonly body: T;
   /** The `}`. */
   readonly closeBrace: term.CloseBrace;
@@ -46,7 +46,7 @@ export abstract class Generics<T> extends Value {
   readonly kind: "Generics";
   /** The `<`. */
   readonly openAngle: term.LessThan;
-  /** What stands between the angle brackets. */
+  /** What is between the angle brackets. */
   readonly body: T;
   /** The `>`. */
   readonly closeAngle: term.GreaterThan;
@@ -58,7 +58,7 @@ export abstract class Docstring extends Value {
   readonly value: string;
 }
 
-/** A name, as `Window`, kept without the underscore that may stand before it, as in `_interface`. */
+/** A name, as `Window`, kept without the underscore that may be before it, as in `_interface`. */
 export abstract class Identifier extends Value {
   readonly kind: "Identifier";
   readonly value: string;
@@ -70,7 +70,7 @@ export abstract class Punctuated<T, S> extends Listed<T, S> {
 }
 
 /**
- * Items with a separator between each two, one item at least, and one separator more where it stands, as `a,
+ * Items with a separator between each two, one item at least, and one further separator where present, as `a,
  * b,`.
  */
 export abstract class PunctuatedNonEmpty<T, S> extends Listed<T, S> {
@@ -285,7 +285,7 @@ export declare const ConstType: Kind<ConstType> & {
 /** `float` or `unrestricted float`. */
 export abstract class FloatType extends Value {
   readonly kind: "FloatType";
-  /** The word `unrestricted`, where it stands. */
+  /** The word `unrestricted`, where present. */
   readonly unrestricted: term.Unrestricted | null;
   /** The word `float`. */
   readonly float: term.Float;
@@ -294,7 +294,7 @@ export abstract class FloatType extends Value {
 /** `double` or `unrestricted double`. */
 export abstract class DoubleType extends Value {
   readonly kind: "DoubleType";
-  /** The word `unrestricted`, where it stands. */
+  /** The word `unrestricted`, where present. */
   readonly unrestricted: term.Unrestricted | null;
   /** The word `double`. */
   readonly double: term.Double;
@@ -319,7 +319,7 @@ export declare const FloatingPointType: Kind<FloatingPointType> & {
 /** `long long` or `unsigned long long`. */
 export abstract class LongLongType extends Value {
   readonly kind: "LongLongType";
-  /** The word `unsigned`, where it stands. */
+  /** The word `unsigned`, where present. */
   readonly unsigned: term.Unsigned | null;
   /** The words `long long`. */
   readonly longLong: readonly [term.Long, term.Long];
@@ -328,7 +328,7 @@ export abstract class LongLongType extends Value {
 /** `long` or `unsigned long`. */
 export abstract class LongType extends Value {
   readonly kind: "LongType";
-  /** The word `unsigned`, where it stands. */
+  /** The word `unsigned`, where present. */
   readonly unsigned: term.Unsigned | null;
   /** The word `long`. */
   readonly long: term.Long;
@@ -337,7 +337,7 @@ export abstract class LongType extends Value {
 /** `short` or `unsigned short`. */
 export abstract class ShortType extends Value {
   readonly kind: "ShortType";
-  /** The word `unsigned`, where it stands. */
+  /** The word `unsigned`, where present. */
   readonly unsigned: term.Unsigned | null;
   /** The word `short`. */
   readonly short: term.Short;
@@ -368,7 +368,7 @@ export abstract class MayBeNull<T> extends Value {
   readonly kind: "MayBeNull";
   /** The type, as `long`. */
   readonly type: T;
-  /** The `?`, where it stands. */
+  /** The `?`, where present. */
   readonly qMark: term.QMark | null;
 }
 
@@ -540,22 +540,19 @@ export declare const UnionMemberType: Kind<UnionMemberType> & {
   readonly Union: Kind<UnionMemberType.Union>;
 };
 
-/** A type with the extended attributes that stand before it, as `[Clamp] octet`. */
+/** A type with the extended attributes before it, as `[Clamp] octet`. */
 export abstract class AttributedType extends Value {
   readonly kind: "AttributedType";
-  /** The extended attributes in brackets, as `[Clamp]`, where they stand. */
+  /** The extended attributes in brackets, as `[Clamp]`, where present. */
   readonly attributes: ExtendedAttributeList | null;
   /** The type, as `octet`. */
   readonly type: Type;
 }
 
-/**
- * A type that is neither `any` nor a union, with the extended attributes that stand before it, as `[Clamp]
- * octet`.
- */
+/** A type that is neither `any` nor a union, with the extended attributes before it, as `[Clamp] octet`. */
 export abstract class AttributedNonAnyType extends Value {
   readonly kind: "AttributedNonAnyType";
-  /** The extended attributes in brackets, as `[Clamp]`, where they stand. */
+  /** The extended attributes in brackets, as `[Clamp]`, where present. */
   readonly attributes: ExtendedAttributeList | null;
   /** The type, as `octet`. */
   readonly type: NonAnyType;
@@ -681,22 +678,22 @@ export declare const Argument: Kind<Argument> & {
 /** An argument, as `optional long x = 5`. */
 export abstract class SingleArgument extends Value {
   readonly kind: "SingleArgument";
-  /** The extended attributes in brackets, as `[Exposed=Window]`, where they stand. */
+  /** The extended attributes in brackets, as `[Exposed=Window]`, where present. */
   readonly attributes: ExtendedAttributeList | null;
-  /** The word `optional`, where it stands. */
+  /** The word `optional`, where present. */
   readonly optional: term.Optional | null;
   /** Its type, as `long`, with extended attributes of its own, as in `optional [Clamp] long x`. */
   readonly type: AttributedType;
   /** Its name. */
   readonly identifier: Identifier;
-  /** Its default, as `= 5`, where `optional` and a default stand. */
+  /** Its default, as `= 5`, where present behind `optional`. */
   readonly default: Default | null;
 }
 
 /** Any number of arguments, as `long... xs`. */
 export abstract class VariadicArgument extends Value {
   readonly kind: "VariadicArgument";
-  /** The extended attributes in brackets, as `[Exposed=Window]`, where they stand. */
+  /** The extended attributes in brackets, as `[Exposed=Window]`, where present. */
   readonly attributes: ExtendedAttributeList | null;
   /** Their type, as `long`, with no extended attributes of its own. */
   readonly type: Type;
@@ -883,15 +880,15 @@ export declare const StringifierOrStatic: Kind<StringifierOrStatic> & {
 /** An attribute of an interface, as `static readonly attribute long x;`. */
 export abstract class AttributeInterfaceMember extends Value {
   readonly kind: "AttributeInterfaceMember";
-  /** The extended attributes in brackets, as `[Exposed=Window]`, where they stand. */
+  /** The extended attributes in brackets, as `[Exposed=Window]`, where present. */
   readonly attributes: ExtendedAttributeList | null;
-  /** The word `stringifier`, `inherit` or `static`, where one of them stands. */
+  /** The word `stringifier`, `inherit` or `static`, where one of them is present. */
   readonly modifier: StringifierOrInheritOrStatic | null;
-  /** The word `readonly`, where it stands. */
+  /** The word `readonly`, where present. */
   readonly readonly: term.ReadOnly | null;
   /** The word `attribute`. */
   readonly attribute: term.Attribute;
-  /** Its type, as `long`, with the extended attributes that stand before it. */
+  /** Its type, as `long`, with the extended attributes before it. */
   readonly type: AttributedType;
   /** Its name. */
   readonly identifier: Identifier;
@@ -902,7 +899,7 @@ export abstract class AttributeInterfaceMember extends Value {
 /** A constant, as `const long X = 5;`. */
 export abstract class ConstMember extends Value {
   readonly kind: "ConstMember";
-  /** The extended attributes in brackets, as `[Exposed=Window]`, where they stand. */
+  /** The extended attributes in brackets, as `[Exposed=Window]`, where present. */
   readonly attributes: ExtendedAttributeList | null;
   /** The word `const`. */
   readonly const: term.Const;
@@ -921,9 +918,9 @@ export abstract class ConstMember extends Value {
 /** A constructor, as `constructor(long x);`. */
 export abstract class ConstructorInterfaceMember extends Value {
   readonly kind: "ConstructorInterfaceMember";
-  /** The docstring in front, where one stands. */
+  /** The docstring in front, where present. */
   readonly docstring: Docstring | null;
-  /** The extended attributes in brackets, as `[Exposed=Window]`, where they stand. */
+  /** The extended attributes in brackets, as `[Exposed=Window]`, where present. */
   readonly attributes: ExtendedAttributeList | null;
   /** The word `constructor`. */
   readonly constructor_: term.Constructor;
@@ -936,13 +933,13 @@ export abstract class ConstructorInterfaceMember extends Value {
 /** An operation of an interface, as `getter long item(long index);`. */
 export abstract class OperationInterfaceMember extends Value {
   readonly kind: "OperationInterfaceMember";
-  /** The docstring in front, where one stands. */
+  /** The docstring in front, where present. */
   readonly docstring: Docstring | null;
-  /** The extended attributes in brackets, as `[Exposed=Window]`, where they stand. */
+  /** The extended attributes in brackets, as `[Exposed=Window]`, where present. */
   readonly attributes: ExtendedAttributeList | null;
-  /** The word `stringifier` or `static`, where one of them stands. */
+  /** The word `stringifier` or `static`, where one of them is present. */
   readonly modifier: StringifierOrStatic | null;
-  /** The word `getter`, `setter`, `deleter` or `legacycaller`, where one of them stands. */
+  /** The word `getter`, `setter`, `deleter` or `legacycaller`, where one of them is present. */
   readonly special: Special | null;
   /** The type of its result, as `undefined` or `long`. */
   readonly returnType: ReturnType;
@@ -957,7 +954,7 @@ export abstract class OperationInterfaceMember extends Value {
 /** A stringifier with no body, as `stringifier;`. */
 export abstract class StringifierMember extends Value {
   readonly kind: "StringifierMember";
-  /** The extended attributes in brackets, as `[Exposed=Window]`, where they stand. */
+  /** The extended attributes in brackets, as `[Exposed=Window]`, where present. */
   readonly attributes: ExtendedAttributeList | null;
   /** The word `stringifier`. */
   readonly stringifier: term.Stringifier;
@@ -1014,9 +1011,9 @@ export declare const AsyncIterableInterfaceMember: Kind<AsyncIterableInterfaceMe
 /** A map, as `readonly maplike<DOMString, long>;`. */
 export abstract class MaplikeInterfaceMember extends Value {
   readonly kind: "MaplikeInterfaceMember";
-  /** The extended attributes in brackets, as `[Exposed=Window]`, where they stand. */
+  /** The extended attributes in brackets, as `[Exposed=Window]`, where present. */
   readonly attributes: ExtendedAttributeList | null;
-  /** The word `readonly`, where it stands. */
+  /** The word `readonly`, where present. */
   readonly readonly: term.ReadOnly | null;
   /** The word `maplike`. */
   readonly maplike: term.Maplike;
@@ -1029,9 +1026,9 @@ export abstract class MaplikeInterfaceMember extends Value {
 /** A set, as `readonly setlike<long>;`. */
 export abstract class SetlikeInterfaceMember extends Value {
   readonly kind: "SetlikeInterfaceMember";
-  /** The extended attributes in brackets, as `[Exposed=Window]`, where they stand. */
+  /** The extended attributes in brackets, as `[Exposed=Window]`, where present. */
   readonly attributes: ExtendedAttributeList | null;
-  /** The word `readonly`, where it stands. */
+  /** The word `readonly`, where present. */
   readonly readonly: term.ReadOnly | null;
   /** The word `setlike`. */
   readonly setlike: term.Setlike;
@@ -1044,7 +1041,7 @@ export abstract class SetlikeInterfaceMember extends Value {
 /** An iteration over values, as `iterable<long>;`. */
 export abstract class SingleTypedIterable extends Value {
   readonly kind: "SingleTypedIterable";
-  /** The extended attributes in brackets, as `[Exposed=Window]`, where they stand. */
+  /** The extended attributes in brackets, as `[Exposed=Window]`, where present. */
   readonly attributes: ExtendedAttributeList | null;
   /** The word `iterable`. */
   readonly iterable: term.Iterable;
@@ -1057,7 +1054,7 @@ export abstract class SingleTypedIterable extends Value {
 /** An iteration over pairs, as `iterable<DOMString, long>;`. */
 export abstract class DoubleTypedIterable extends Value {
   readonly kind: "DoubleTypedIterable";
-  /** The extended attributes in brackets, as `[Exposed=Window]`, where they stand. */
+  /** The extended attributes in brackets, as `[Exposed=Window]`, where present. */
   readonly attributes: ExtendedAttributeList | null;
   /** The word `iterable`. */
   readonly iterable: term.Iterable;
@@ -1139,9 +1136,9 @@ export type InterfaceMembers = readonly InterfaceMember[];
 /** An operation of a mixin, as `stringifier long f(long x);`. */
 export abstract class OperationMixinMember extends Value {
   readonly kind: "OperationMixinMember";
-  /** The extended attributes in brackets, as `[Exposed=Window]`, where they stand. */
+  /** The extended attributes in brackets, as `[Exposed=Window]`, where present. */
   readonly attributes: ExtendedAttributeList | null;
-  /** The word `stringifier`, where it stands. */
+  /** The word `stringifier`, where present. */
   readonly stringifier: term.Stringifier | null;
   /** The type of its result, as `undefined` or `long`. */
   readonly returnType: ReturnType;
@@ -1156,15 +1153,15 @@ export abstract class OperationMixinMember extends Value {
 /** An attribute of a mixin, as `readonly attribute long x;`. */
 export abstract class AttributeMixinMember extends Value {
   readonly kind: "AttributeMixinMember";
-  /** The extended attributes in brackets, as `[Exposed=Window]`, where they stand. */
+  /** The extended attributes in brackets, as `[Exposed=Window]`, where present. */
   readonly attributes: ExtendedAttributeList | null;
-  /** The word `stringifier`, where it stands. */
+  /** The word `stringifier`, where present. */
   readonly stringifier: term.Stringifier | null;
-  /** The word `readonly`, where it stands. */
+  /** The word `readonly`, where present. */
   readonly readonly: term.ReadOnly | null;
   /** The word `attribute`. */
   readonly attribute: term.Attribute;
-  /** Its type, as `long`, with the extended attributes that stand before it. */
+  /** Its type, as `long`, with the extended attributes before it. */
   readonly type: AttributedType;
   /** Its name. */
   readonly identifier: Identifier;
@@ -1208,9 +1205,9 @@ export type MixinMembers = readonly MixinMember[];
 /** An operation of a namespace, as `long f(long x);`. */
 export abstract class OperationNamespaceMember extends Value {
   readonly kind: "OperationNamespaceMember";
-  /** The docstring in front, where one stands. */
+  /** The docstring in front, where present. */
   readonly docstring: Docstring | null;
-  /** The extended attributes in brackets, as `[Exposed=Window]`, where they stand. */
+  /** The extended attributes in brackets, as `[Exposed=Window]`, where present. */
   readonly attributes: ExtendedAttributeList | null;
   /** The type of its result, as `undefined` or `long`. */
   readonly returnType: ReturnType;
@@ -1225,15 +1222,15 @@ export abstract class OperationNamespaceMember extends Value {
 /** An attribute of a namespace, as `readonly attribute long x;`, always `readonly`. */
 export abstract class AttributeNamespaceMember extends Value {
   readonly kind: "AttributeNamespaceMember";
-  /** The docstring in front, where one stands. */
+  /** The docstring in front, where present. */
   readonly docstring: Docstring | null;
-  /** The extended attributes in brackets, as `[Exposed=Window]`, where they stand. */
+  /** The extended attributes in brackets, as `[Exposed=Window]`, where present. */
   readonly attributes: ExtendedAttributeList | null;
-  /** The word `readonly`, which always stands here. */
+  /** The word `readonly`, which always is here. */
   readonly readonly: term.ReadOnly;
   /** The word `attribute`. */
   readonly attribute: term.Attribute;
-  /** Its type, as `long`, with the extended attributes that stand before it. */
+  /** Its type, as `long`, with the extended attributes before it. */
   readonly type: AttributedType;
   /** Its name. */
   readonly identifier: Identifier;
@@ -1263,17 +1260,17 @@ export type NamespaceMembers = readonly NamespaceMember[];
 /** A member of a dictionary, as `required long x;` or `long x = 5;`. */
 export abstract class DictionaryMember extends Value {
   readonly kind: "DictionaryMember";
-  /** The docstring in front, where one stands. */
+  /** The docstring in front, where present. */
   readonly docstring: Docstring | null;
-  /** The extended attributes in brackets, as `[Exposed=Window]`, where they stand. */
+  /** The extended attributes in brackets, as `[Exposed=Window]`, where present. */
   readonly attributes: ExtendedAttributeList | null;
-  /** The word `required`, where it stands. */
+  /** The word `required`, where present. */
   readonly required: term.Required | null;
   /** Its type, as `long`, with no extended attributes of its own. */
   readonly type: Type;
   /** Its name. */
   readonly identifier: Identifier;
-  /** Its default, as `= 5`, where one stands. */
+  /** Its default, as `= 5`, where present. */
   readonly default: Default | null;
   /** The `;` at the end. */
   readonly semiColon: term.SemiColon;
@@ -1285,9 +1282,9 @@ export type DictionaryMembers = readonly DictionaryMember[];
 /** A callback interface, as `callback interface A {};`. */
 export abstract class CallbackInterfaceDefinition extends Value {
   readonly kind: "CallbackInterfaceDefinition";
-  /** The docstring in front, where one stands. */
+  /** The docstring in front, where present. */
   readonly docstring: Docstring | null;
-  /** The extended attributes in brackets, as `[Exposed=Window]`, where they stand. */
+  /** The extended attributes in brackets, as `[Exposed=Window]`, where present. */
   readonly attributes: ExtendedAttributeList | null;
   /** The word `callback`. */
   readonly callback: term.Callback;
@@ -1306,9 +1303,9 @@ export abstract class CallbackInterfaceDefinition extends Value {
 /** An interface, as `interface A : B { attribute long x; };`. */
 export abstract class InterfaceDefinition extends Value {
   readonly kind: "InterfaceDefinition";
-  /** The docstring in front, where one stands. */
+  /** The docstring in front, where present. */
   readonly docstring: Docstring | null;
-  /** The extended attributes in brackets, as `[Exposed=Window]`, where they stand. */
+  /** The extended attributes in brackets, as `[Exposed=Window]`, where present. */
   readonly attributes: ExtendedAttributeList | null;
   /** The word `interface`. */
   readonly interface: term.Interface;
@@ -1325,7 +1322,7 @@ export abstract class InterfaceDefinition extends Value {
 /** A part of an interface, as `partial interface A {};`. */
 export abstract class PartialInterfaceDefinition extends Value {
   readonly kind: "PartialInterfaceDefinition";
-  /** The extended attributes in brackets, as `[Exposed=Window]`, where they stand. */
+  /** The extended attributes in brackets, as `[Exposed=Window]`, where present. */
   readonly attributes: ExtendedAttributeList | null;
   /** The word `partial`. */
   readonly partial: term.Partial;
@@ -1342,7 +1339,7 @@ export abstract class PartialInterfaceDefinition extends Value {
 /** A mixin, as `interface mixin A {};`. */
 export abstract class InterfaceMixinDefinition extends Value {
   readonly kind: "InterfaceMixinDefinition";
-  /** The extended attributes in brackets, as `[Exposed=Window]`, where they stand. */
+  /** The extended attributes in brackets, as `[Exposed=Window]`, where present. */
   readonly attributes: ExtendedAttributeList | null;
   /** The word `interface`. */
   readonly interface: term.Interface;
@@ -1359,7 +1356,7 @@ export abstract class InterfaceMixinDefinition extends Value {
 /** A part of a mixin, as `partial interface mixin A {};`. */
 export abstract class PartialInterfaceMixinDefinition extends Value {
   readonly kind: "PartialInterfaceMixinDefinition";
-  /** The extended attributes in brackets, as `[Exposed=Window]`, where they stand. */
+  /** The extended attributes in brackets, as `[Exposed=Window]`, where present. */
   readonly attributes: ExtendedAttributeList | null;
   /** The word `partial`. */
   readonly partial: term.Partial;
@@ -1378,9 +1375,9 @@ export abstract class PartialInterfaceMixinDefinition extends Value {
 /** A dictionary, as `dictionary A : B { long x = 5; };`. */
 export abstract class DictionaryDefinition extends Value {
   readonly kind: "DictionaryDefinition";
-  /** The docstring in front, where one stands. */
+  /** The docstring in front, where present. */
   readonly docstring: Docstring | null;
-  /** The extended attributes in brackets, as `[Exposed=Window]`, where they stand. */
+  /** The extended attributes in brackets, as `[Exposed=Window]`, where present. */
   readonly attributes: ExtendedAttributeList | null;
   /** The word `dictionary`. */
   readonly dictionary: term.Dictionary;
@@ -1397,7 +1394,7 @@ export abstract class DictionaryDefinition extends Value {
 /** A part of a dictionary, as `partial dictionary A {};`. */
 export abstract class PartialDictionaryDefinition extends Value {
   readonly kind: "PartialDictionaryDefinition";
-  /** The extended attributes in brackets, as `[Exposed=Window]`, where they stand. */
+  /** The extended attributes in brackets, as `[Exposed=Window]`, where present. */
   readonly attributes: ExtendedAttributeList | null;
   /** The word `partial`. */
   readonly partial: term.Partial;
@@ -1414,9 +1411,9 @@ export abstract class PartialDictionaryDefinition extends Value {
 /** A namespace, as `namespace A { long f(); };`. */
 export abstract class NamespaceDefinition extends Value {
   readonly kind: "NamespaceDefinition";
-  /** The docstring in front, where one stands. */
+  /** The docstring in front, where present. */
   readonly docstring: Docstring | null;
-  /** The extended attributes in brackets, as `[Exposed=Window]`, where they stand. */
+  /** The extended attributes in brackets, as `[Exposed=Window]`, where present. */
   readonly attributes: ExtendedAttributeList | null;
   /** The word `namespace`. */
   readonly namespace: term.Namespace;
@@ -1431,7 +1428,7 @@ export abstract class NamespaceDefinition extends Value {
 /** A part of a namespace, as `partial namespace A {};`. */
 export abstract class PartialNamespaceDefinition extends Value {
   readonly kind: "PartialNamespaceDefinition";
-  /** The extended attributes in brackets, as `[Exposed=Window]`, where they stand. */
+  /** The extended attributes in brackets, as `[Exposed=Window]`, where present. */
   readonly attributes: ExtendedAttributeList | null;
   /** The word `partial`. */
   readonly partial: term.Partial;
@@ -1448,7 +1445,7 @@ export abstract class PartialNamespaceDefinition extends Value {
 /** A callback, as `callback F = undefined (long x);`. */
 export abstract class CallbackDefinition extends Value {
   readonly kind: "CallbackDefinition";
-  /** The extended attributes in brackets, as `[Exposed=Window]`, where they stand. */
+  /** The extended attributes in brackets, as `[Exposed=Window]`, where present. */
   readonly attributes: ExtendedAttributeList | null;
   /** The word `callback`. */
   readonly callback: term.Callback;
@@ -1467,7 +1464,7 @@ export abstract class CallbackDefinition extends Value {
 /** A value of an enum, as `"blob"`. */
 export abstract class EnumVariant extends Value {
   readonly kind: "EnumVariant";
-  /** The docstring in front, where one stands. */
+  /** The docstring in front, where present. */
   readonly docstring: Docstring | null;
   /** The value in quotes, as `"blob"`. */
   readonly value: StringLit;
@@ -1476,9 +1473,9 @@ export abstract class EnumVariant extends Value {
 /** An enum, as `enum A { "a", "b" };`. */
 export abstract class EnumDefinition extends Value {
   readonly kind: "EnumDefinition";
-  /** The docstring in front, where one stands. */
+  /** The docstring in front, where present. */
   readonly docstring: Docstring | null;
-  /** The extended attributes in brackets, as `[Exposed=Window]`, where they stand. */
+  /** The extended attributes in brackets, as `[Exposed=Window]`, where present. */
   readonly attributes: ExtendedAttributeList | null;
   /** The word `enum`. */
   readonly enum: term.Enum;
@@ -1493,7 +1490,7 @@ export abstract class EnumDefinition extends Value {
 /** The use of a mixin by an interface, as `A includes B;`. */
 export abstract class IncludesStatementDefinition extends Value {
   readonly kind: "IncludesStatementDefinition";
-  /** The extended attributes in brackets, as `[Exposed=Window]`, where they stand. */
+  /** The extended attributes in brackets, as `[Exposed=Window]`, where present. */
   readonly attributes: ExtendedAttributeList | null;
   /** The name of the interface, before `includes`. */
   readonly lhsIdentifier: Identifier;
@@ -1508,7 +1505,7 @@ export abstract class IncludesStatementDefinition extends Value {
 /** The older form of a mixin's use, as `A implements B;`. */
 export abstract class ImplementsDefinition extends Value {
   readonly kind: "ImplementsDefinition";
-  /** The extended attributes in brackets, as `[Exposed=Window]`, where they stand. */
+  /** The extended attributes in brackets, as `[Exposed=Window]`, where present. */
   readonly attributes: ExtendedAttributeList | null;
   /** The name of the interface, before `implements`. */
   readonly lhsIdentifier: Identifier;
@@ -1523,11 +1520,11 @@ export abstract class ImplementsDefinition extends Value {
 /** A name for a type, as `typedef long A;`. */
 export abstract class TypedefDefinition extends Value {
   readonly kind: "TypedefDefinition";
-  /** The extended attributes in brackets, as `[Exposed=Window]`, where they stand. */
+  /** The extended attributes in brackets, as `[Exposed=Window]`, where present. */
   readonly attributes: ExtendedAttributeList | null;
   /** The word `typedef`. */
   readonly typedef: term.Typedef;
-  /** The type that is named, as `long`, with the extended attributes that stand before it. */
+  /** The type that is named, as `long`, with the extended attributes before it. */
   readonly type: AttributedType;
   /** The name that the type gets. */
   readonly identifier: Identifier;
@@ -1602,7 +1599,7 @@ export declare const Definition: Kind<Definition> & {
   readonly Implements: Kind<Definition.Implements>;
 };
 
-/** The values of an enum, one at least, and a comma behind the last where it stands, as `"a", "b",`. */
+/** The values of an enum, one at least, and a comma behind the last where present, as `"a", "b",`. */
 export type EnumValueList = PunctuatedNonEmpty<EnumVariant, term.Comma>;
 
 /** Definitions one after another, as `interface A {}; interface B {};`. */

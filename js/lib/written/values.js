@@ -98,7 +98,7 @@ class Generics extends Value {
 /** The text of a docstring. */
 class Docstring extends Lines {}
 
-/** A name, as `Window`, kept without the underscore that may stand before it, as in `_interface`. */
+/** A name, as `Window`, kept without the underscore that may be before it, as in `_interface`. */
 class Identifier extends Name {
   static kept = 2;
 }
@@ -107,7 +107,7 @@ class Identifier extends Name {
 class Punctuated extends Listed {}
 
 /**
- * Items with a separator between each two, one item at least, and one separator more where it stands, as `a,
+ * Items with a separator between each two, one item at least, and one further separator where present, as `a,
  * b,`.
  */
 class PunctuatedNonEmpty extends FilledList {}
@@ -387,7 +387,7 @@ class UnionMemberType extends Choice {
   static Union = this.variant("Union");
 }
 
-/** A type with the extended attributes that stand before it, as `[Clamp] octet`. */
+/** A type with the extended attributes before it, as `[Clamp] octet`. */
 class AttributedType extends Value {
   static fields = {
     attributes: "attributes",
@@ -403,10 +403,7 @@ class AttributedType extends Value {
   }
 }
 
-/**
- * A type that is neither `any` nor a union, with the extended attributes that stand before it, as `[Clamp]
- * octet`.
- */
+/** A type that is neither `any` nor a union, with the extended attributes before it, as `[Clamp] octet`. */
 class AttributedNonAnyType extends Value {
   static fields = {
     attributes: "attributes",

@@ -53,7 +53,7 @@ class Item:
         said = about(self.doc)
         if self.row[0] == "If":
             names = [name for name, _ in self.parts]
-            return f"{said}; its {names[-1]} stands only where `{names[self.row[2]]}` does"
+            return f"{said}; its {names[-1]} is there only where `{names[self.row[2]]}` is"
         if self.whole.name in LISTS:
             return f"{said.split(',')[0]}, with `{terminal(self.whole.arguments[1])[1]}` between them"
         return said

@@ -1,4 +1,4 @@
-//! Copies of the terminals that stand between the items of a list, so that a list can be copied.
+//! Copies of the terminals that are between the items of a list, so that a list can be copied.
 
 ghost use Rattle.std.specs.Prelude.{◌≡◌};
 ghost use Rattle.weedle_base.specs.AlikeLaws.{equal_equivalence};

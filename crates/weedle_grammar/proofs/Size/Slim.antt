@@ -1,4 +1,4 @@
--- A test of a rule's row and shape, on which the bound of sizes stands.
+-- A test of a rule's row and shape, on which the bound of sizes holds.
 use Rattle.std.proofs.Common.{ℕ, List, [], ◌∷◌, length, Bool, true, false, ◌&&◌, ◌||◌}
 use Rattle.std.specs.Prelude.{nat_le}
 use Rattle.weedle_grammar.specs.Rows.{Row, Seq, First, Opt, Many, ListOf, Tail, If}
@@ -23,7 +23,7 @@ is_short row_of (First parts) = all_flat row_of parts
 is_short row_of (Opt x) = is_flat (row_of x)
 is_short row_of _ = true
 
--- where it takes nothing, it gives no item and no tree but an absent part's
+-- where it takes nothing, it gives no item and no tree except for an absent part's
 abbrev pub is_thin : (ℕ → Bool) → Row → Bool
 is_thin takes (Opt x) = takes x
 is_thin takes (Many x) = true

@@ -12,12 +12,14 @@ use Rattle.weedle_grammar.proofs.Exists.{le}
 use Rattle.weedle_grammar.proofs.Size.Lists.{size_append, size_present, formed_size}
 use Rattle.weedle_grammar.proofs.Size.Single.{OutSingle}
 
--- where a rule takes text, it gives at most so many nodes more than 10,000 for each byte but the first
+-- where a rule takes text, it gives at most so many nodes more than 10,000 for each byte except for
+-- the first
 abbrev pub OutWeighs : ℕ → ℕ → Outcome → Type 0
 OutWeighs extra p Fails = Unit {0}
 OutWeighs extra p (Gives ts e) = p < e → total_size ts + (10000 * p + 10000) ≤ 10000 * e + extra
 
--- where a row takes text, it yields at most so many nodes more than 10,000 for each byte but the first
+-- where a row takes text, it yields at most so many nodes more than 10,000 for each byte except for
+-- the first
 abbrev pub RawWeighs : ℕ → ℕ → Raw → Type 0
 RawWeighs extra p Breaks = Unit {0}
 RawWeighs extra p (Yields ts ends e) = p < e → total_size ts + (10000 * p + 10000) ≤ 10000 * e + extra

@@ -1,7 +1,7 @@
 -- The names of the rules, as a syntax tree has them. Written by tools/grammar.py, and not edited by hand.
 use Rattle.std.specs.Prelude.{ℕ, zero, suc, List, [], ◌∷◌, ◌++◌, codes}
 
--- Trivia: line comments, blanks and block comments.
+-- Trivia: line comments, whitespace and block comments.
 abbrev pub trivia : List (List ℕ)
 trivia =
     codes "bytes_lf" ∷

@@ -1,6 +1,6 @@
-//! The rules of each section, by name: for the table of ends.
+//! The rules of each section, by name: for the packrat table.
 //!
-//! A constant is a rule's number. The rows of a section stand beside its constants.
+//! A constant is a rule's number. The rows of a section are beside its constants.
 //!
 //! Written by tools/grammar.py, and not edited by hand.
 

@@ -27,17 +27,18 @@ interface_member_tree (InterfaceMember-Maplike v) = Alt 6 (maplike_interface_mem
 interface_member_tree (InterfaceMember-Setlike v) = Alt 7 (setlike_interface_member_tree v)
 interface_member_tree (InterfaceMember-Stringifier v) = Alt 8 (stringifier_member_tree v)
 
--- a callback interface: its docstring where one stands, its extended attributes where they stand, `callback`,
--- `interface`, its name, the interface that it inherits from where one is named, its members, `;`
+-- a callback interface: its docstring where present, its extended attributes where present,
+-- `callback`, `interface`, its name, the interface that it inherits from where one is named, its
+-- members, `;`
 abbrev pub callback_interface_definition_tree : CallbackInterfaceDefinition → Tree
 callback_interface_definition_tree v = Node (trees (option_tree docstring_tree v.docstring ∷ attributes_tree v.attributes ∷ Mark ∷ Mark ∷ identifier_tree v.identifier ∷ option_tree inheritance_tree v.inheritance ∷ braced_tree (members_tree interface_member_tree) v.members ∷ Mark ∷ []))
 
--- an interface: its docstring where one stands, its extended attributes where they stand, `interface`, its
--- name, the interface that it inherits from where one is named, its members, `;`
+-- an interface: its docstring where present, its extended attributes where present, `interface`,
+-- its name, the interface that it inherits from where one is named, its members, `;`
 abbrev pub interface_definition_tree : InterfaceDefinition → Tree
 interface_definition_tree v = Node (trees (option_tree docstring_tree v.docstring ∷ attributes_tree v.attributes ∷ Mark ∷ identifier_tree v.identifier ∷ option_tree inheritance_tree v.inheritance ∷ braced_tree (members_tree interface_member_tree) v.members ∷ Mark ∷ []))
 
--- a part of an interface: its extended attributes where they stand, `partial`, `interface`, the name of the
--- interface that it is a part of, its members, `;`
+-- a part of an interface: its extended attributes where present, `partial`, `interface`, the name
+-- of the interface that it is a part of, its members, `;`
 abbrev pub partial_interface_definition_tree : PartialInterfaceDefinition → Tree
 partial_interface_definition_tree v = Node (trees (attributes_tree v.attributes ∷ Mark ∷ Mark ∷ identifier_tree v.identifier ∷ braced_tree (members_tree interface_member_tree) v.members ∷ Mark ∷ []))

@@ -17,27 +17,27 @@ use Rattle.weedle_parts.specs.ValueTrees.{braced_tree, docstring_tree, identifie
 use Rattle.weedle_types.specs.PartTrees.{members_tree}
 use Rattle.weedle_types.specs.Trees.{arguments_tree, attributed_type_tree, attributes_tree, return_type_tree, type_tree}
 
--- a member of a dictionary: its docstring where one stands, its extended attributes where they stand,
--- `required` where it stands, its type, its name, its default where one stands, `;`
+-- a member of a dictionary: its docstring where present, its extended attributes where present,
+-- `required` where present, its type, its name, its default where present, `;`
 abbrev pub dictionary_member_tree : DictionaryMember → Tree
 dictionary_member_tree v = Node (trees (option_tree docstring_tree v.docstring ∷ attributes_tree v.attributes ∷ option_tree mark_tree v.required ∷ type_tree v.type_ ∷ identifier_tree v.identifier ∷ option_tree default_tree v.default ∷ Mark ∷ []))
 
--- a dictionary: its docstring where one stands, its extended attributes where they stand, `dictionary`, its
--- name, the dictionary that it inherits from where one is named, its members, `;`
+-- a dictionary: its docstring where present, its extended attributes where present, `dictionary`,
+-- its name, the dictionary that it inherits from where one is named, its members, `;`
 abbrev pub dictionary_definition_tree : DictionaryDefinition → Tree
 dictionary_definition_tree v = Node (trees (option_tree docstring_tree v.docstring ∷ attributes_tree v.attributes ∷ Mark ∷ identifier_tree v.identifier ∷ option_tree inheritance_tree v.inheritance ∷ braced_tree (members_tree dictionary_member_tree) v.members ∷ Mark ∷ []))
 
--- a part of a dictionary: its extended attributes where they stand, `partial`, `dictionary`, the name of the
--- dictionary that it is a part of, its members, `;`
+-- a part of a dictionary: its extended attributes where present, `partial`, `dictionary`, the name
+-- of the dictionary that it is a part of, its members, `;`
 abbrev pub partial_dictionary_definition_tree : PartialDictionaryDefinition → Tree
 partial_dictionary_definition_tree v = Node (trees (attributes_tree v.attributes ∷ Mark ∷ Mark ∷ identifier_tree v.identifier ∷ braced_tree (members_tree dictionary_member_tree) v.members ∷ Mark ∷ []))
 
--- an operation of a namespace: its docstring where one stands, its extended attributes where they stand, the
--- type of its result, its name where it has one, its arguments, `;`
+-- an operation of a namespace: its docstring where present, its extended attributes where present,
+-- the type of its result, its name where it has one, its arguments, `;`
 abbrev pub operation_namespace_member_tree : OperationNamespaceMember → Tree
 operation_namespace_member_tree v = Node (trees (option_tree docstring_tree v.docstring ∷ attributes_tree v.attributes ∷ return_type_tree v.return_type ∷ option_tree identifier_tree v.identifier ∷ arguments_tree v.args ∷ Mark ∷ []))
 
--- an attribute of a namespace: its docstring where one stands, its extended attributes where they stand,
+-- an attribute of a namespace: its docstring where present, its extended attributes where present,
 -- `readonly`, `attribute`, its type, its name, `;`
 abbrev pub attribute_namespace_member_tree : AttributeNamespaceMember → Tree
 attribute_namespace_member_tree v = Node (trees (option_tree docstring_tree v.docstring ∷ attributes_tree v.attributes ∷ Mark ∷ Mark ∷ attributed_type_tree v.type_ ∷ identifier_tree v.identifier ∷ Mark ∷ []))
@@ -47,12 +47,12 @@ abbrev pub namespace_member_tree : NamespaceMember → Tree
 namespace_member_tree (NamespaceMember-Operation v) = Alt 0 (operation_namespace_member_tree v)
 namespace_member_tree (NamespaceMember-Attribute v) = Alt 1 (attribute_namespace_member_tree v)
 
--- a namespace: its docstring where one stands, its extended attributes where they stand, `namespace`, its
+-- a namespace: its docstring where present, its extended attributes where present, `namespace`, its
 -- name, its members, `;`
 abbrev pub namespace_definition_tree : NamespaceDefinition → Tree
 namespace_definition_tree v = Node (trees (option_tree docstring_tree v.docstring ∷ attributes_tree v.attributes ∷ Mark ∷ identifier_tree v.identifier ∷ braced_tree (members_tree namespace_member_tree) v.members ∷ Mark ∷ []))
 
--- a part of a namespace: its extended attributes where they stand, `partial`, `namespace`, the name of the
--- namespace that it is a part of, its members, `;`
+-- a part of a namespace: its extended attributes where present, `partial`, `namespace`, the name of
+-- the namespace that it is a part of, its members, `;`
 abbrev pub partial_namespace_definition_tree : PartialNamespaceDefinition → Tree
 partial_namespace_definition_tree v = Node (trees (attributes_tree v.attributes ∷ Mark ∷ Mark ∷ identifier_tree v.identifier ∷ braced_tree (members_tree namespace_member_tree) v.members ∷ Mark ∷ []))

@@ -35,7 +35,7 @@ use weedle_base::{IResult, Parse, TryClone};
 pub struct Parenthesized<T> {
     /// The `(`.
     pub open_paren: OpenParen,
-    /// What stands between the parentheses.
+    /// What is between the parentheses.
     pub body: T,
     /// The `)`.
     pub close_paren: CloseParen,
@@ -82,7 +82,7 @@ impl<T: TryClone> TryClone for Parenthesized<T> {
 pub struct Bracketed<T> {
     /// The `[`.
     pub open_bracket: OpenBracket,
-    /// What stands between the square brackets.
+    /// What is between the square brackets.
     pub body: T,
     /// The `]`.
     pub close_bracket: CloseBracket,
@@ -129,7 +129,7 @@ impl<T: TryClone> TryClone for Bracketed<T> {
 pub struct Braced<T> {
     /// The `{`.
     pub open_brace: OpenBrace,
-    /// What stands between the braces.
+    /// What is between the braces.
     pub body: T,
     /// The `}`.
     pub close_brace: CloseBrace,
@@ -176,7 +176,7 @@ impl<T: TryClone> TryClone for Braced<T> {
 pub struct Generics<T> {
     /// The `<`.
     pub open_angle: LessThan,
-    /// What stands between the angle brackets.
+    /// What is between the angle brackets.
     pub body: T,
     /// The `>`.
     pub close_angle: GreaterThan,

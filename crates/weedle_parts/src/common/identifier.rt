@@ -10,8 +10,8 @@ ghost use Rattle.weedle_base.specs.OwnLaws.{own_lawful};
 use std::alloc::{AllocError, Global};
 use weedle_base::{IResult, Parse, TryClone, identifier, mismatch};
 
-/// A name, as `Window`, kept without the underscore that may stand before it, as in `_interface`.
-/// Any other text, as `__x` or `9a`, is a mismatch. It takes no memory and never gives a failure.
+/// A name, as `Window`, kept without the underscore that may be before it, as in `_interface`. Any
+/// other text, as `__x` or `9a`, is a mismatch. It takes no memory and never gives a failure.
 #[derive(Clone, Copy, Debug, PartialEq, Eq, PartialOrd, Ord, Hash)]
 pub struct Identifier<'a>(pub &'a str);
 

@@ -1,4 +1,4 @@
-//! Lists whose items stand between separators.
+//! Lists whose items are between separators.
 
 ghost use Rattle.weedle_base.specs.Alike.{all_alike};
 ghost use Rattle.weedle_base.specs.AlikeLaws.{all_equivalence, pair_equivalence, seen_equivalence};
@@ -63,8 +63,8 @@ impl<T: TryClone, S: TryClone> TryClone for Punctuated<T, S> {
         (pair_equivalence (all_equivalence T.equivalence) S.equivalence) };
 }
 
-/// Items with a separator between each two, one item at least, and one separator more where it
-/// stands, as `a, b,`. `separator` is the default, not what was read.
+/// Items with a separator between each two, one item at least, and one further separator where
+/// present, as `a, b,`. `separator` is the default, not what was read.
 #[derive(Debug, Drop, PartialEq, Eq, PartialOrd, Ord, Hash)]
 pub struct PunctuatedNonEmpty<T, S> {
     /// The items, one after another; one at least.

@@ -12,8 +12,8 @@ use weedle_grammar::Rule;
 use weedle_grammar::scan::after_word;
 use weedle_grammar::trivia::skip_trivia;
 
-/// A text in quotes, as `"blob"`. It holds what stands between them, in which nothing is an escape
-/// and a line may end. Without both quotes it is a mismatch.
+/// A text in quotes, as `"blob"`. It holds what is between them, in which nothing is an escape and
+/// a line may end. Without both quotes it is a mismatch.
 #[derive(Clone, Copy, Debug, PartialEq, Eq, PartialOrd, Ord, Hash)]
 pub struct StringLit<'a>(pub &'a str);
 

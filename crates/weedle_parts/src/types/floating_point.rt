@@ -22,7 +22,7 @@ use weedle_base::{IResult, Parse};
 /// `float` or `unrestricted float`.
 #[derive(Clone, Copy, Debug, PartialEq, Eq, PartialOrd, Ord, Hash)]
 pub struct FloatType {
-    /// The word `unrestricted`, where it stands.
+    /// The word `unrestricted`, where present.
     pub unrestricted: Option<Unrestricted>,
     /// The word `float`.
     pub float: Float,
@@ -50,7 +50,7 @@ impl<'a> Parse<'a> for FloatType {
 /// `double` or `unrestricted double`.
 #[derive(Clone, Copy, Debug, PartialEq, Eq, PartialOrd, Ord, Hash)]
 pub struct DoubleType {
-    /// The word `unrestricted`, where it stands.
+    /// The word `unrestricted`, where present.
     pub unrestricted: Option<Unrestricted>,
     /// The word `double`.
     pub double: Double,

@@ -24,7 +24,7 @@ use weedle_base::{IResult, Parse};
 /// `long long` or `unsigned long long`.
 #[derive(Clone, Copy, Debug, PartialEq, Eq, PartialOrd, Ord, Hash)]
 pub struct LongLongType {
-    /// The word `unsigned`, where it stands.
+    /// The word `unsigned`, where present.
     pub unsigned: Option<Unsigned>,
     /// The words `long long`.
     pub long_long: (Long, Long),
@@ -52,7 +52,7 @@ impl<'a> Parse<'a> for LongLongType {
 /// `long` or `unsigned long`.
 #[derive(Clone, Copy, Debug, PartialEq, Eq, PartialOrd, Ord, Hash)]
 pub struct LongType {
-    /// The word `unsigned`, where it stands.
+    /// The word `unsigned`, where present.
     pub unsigned: Option<Unsigned>,
     /// The word `long`.
     pub long: Long,
@@ -74,7 +74,7 @@ impl<'a> Parse<'a> for LongType {
 /// `short` or `unsigned short`.
 #[derive(Clone, Copy, Debug, PartialEq, Eq, PartialOrd, Ord, Hash)]
 pub struct ShortType {
-    /// The word `unsigned`, where it stands.
+    /// The word `unsigned`, where present.
     pub unsigned: Option<Unsigned>,
     /// The word `short`.
     pub short: Short,

@@ -18,7 +18,7 @@ use weedle_base::{IResult, Parse, TryClone};
 pub struct MayBeNull<T> {
     /// The type, as `long`.
     pub type_: T,
-    /// The `?`, where it stands.
+    /// The `?`, where present.
     pub q_mark: Option<QMark>,
 }
 

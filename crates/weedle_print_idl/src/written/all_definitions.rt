@@ -1,4 +1,4 @@
-//! How definitions are written.
+//! How definitions are rendered.
 //!
 //! Written by tools/prints.py, and not edited by hand.
 

@@ -1,4 +1,4 @@
-//! How the members of interfaces are written, interfaces and mixins.
+//! How the members of interfaces are rendered, interfaces and mixins.
 //!
 //! Written by tools/prints.py, and not edited by hand.
 

@@ -1,4 +1,4 @@
-//! How iterations, maps and sets are written.
+//! How iterations, maps and sets are rendered.
 //!
 //! Written by tools/prints.py, and not edited by hand.
 

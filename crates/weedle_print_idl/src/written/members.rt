@@ -1,4 +1,4 @@
-//! How constants, attributes, operations, constructors and stringifiers of interfaces are written,
+//! How constants, attributes, operations, constructors and stringifiers of interfaces are rendered,
 //! and the members of mixins.
 //!
 //! Written by tools/prints.py, and not edited by hand.

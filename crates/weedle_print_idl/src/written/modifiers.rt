@@ -1,4 +1,4 @@
-//! How what is inherited from is written, and the words before a member.
+//! How what is inherited from is rendered, and the words before a member.
 //!
 //! Written by tools/prints.py, and not edited by hand.
 

@@ -1,4 +1,4 @@
-//! How namespaces and dictionaries are written, and their members.
+//! How namespaces and dictionaries are rendered, and their members.
 //!
 //! Written by tools/prints.py, and not edited by hand.
 

@@ -1,4 +1,4 @@
-//! How definitions without members are written.
+//! How definitions without members are rendered.
 //!
 //! Written by tools/prints.py, and not edited by hand.
 

@@ -17,7 +17,7 @@ use crate::cell::Cell;
 use crate::reader::{Reader, Working};
 use weedle_grammar::{Class, Rule, holds};
 
-/// Whether the bytes stand at the place.
+/// Whether the bytes are at the place.
 #[inline(always)]
 fn stand_at<C: Cell>(
     reader: &Reader<'_, C>,
@@ -145,8 +145,8 @@ pub(crate) fn run<C: Cell>(
     }
 }
 
-/// Works out a row `Past`: everything up to the bytes, and these. They stand here, or else it is
-/// what the rule itself takes behind this place.
+/// Works out a row `Past`: everything up to the bytes, and these. They are here, or else it is what
+/// the rule itself takes behind this place.
 #[inline(always)]
 pub(crate) fn past<C: Cell>(
     reader: &Reader<'_, C>,

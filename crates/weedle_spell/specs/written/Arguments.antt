@@ -1,4 +1,4 @@
--- How extended attributes and arguments are spelt.
+-- How extended attributes and arguments are rendered.
 -- Written by tools/spellings.py, and not edited by hand.
 use Rattle.std.specs.Prelude.{Option, codes}
 use Rattle.weedle_base.specs.declared.term.written.symbols.Comma.{Comma}
@@ -46,7 +46,7 @@ extended_attribute_list_spelling =
 abbrev pub attributes_spelling : Option (Bracketed (Punctuated ExtendedAttribute Comma)) → Form
 attributes_spelling = optional extended_attribute_list_spelling
 
--- an argument; its default stands only where `optional` does
+-- an argument; its default is there only where `optional` is
 abbrev pub single_argument_spelling : SingleArgument → Form
 single_argument_spelling v =
     (attributes_spelling v.attributes then optional (terminal (codes "optional")) v.optional

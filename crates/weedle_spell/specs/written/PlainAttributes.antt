@@ -1,4 +1,4 @@
--- How extended attributes without arguments are spelt.
+-- How extended attributes without arguments are rendered.
 -- Written by tools/spellings.py, and not edited by hand.
 use Rattle.std.specs.Prelude.{codes}
 use Rattle.weedle_base.specs.declared.term.written.symbols.Comma.{Comma}

@@ -1,4 +1,4 @@
--- How the types are spelt that are made of types, arguments and extended attributes.
+-- How the types are rendered that are made of types, arguments and extended attributes.
 -- Written by tools/spellings.py, and not edited by hand.
 use Rattle.std.specs.Global.{Box}
 use Rattle.std.specs.Prelude.{codes}
@@ -83,10 +83,10 @@ abbrev pub union_type_spelling : Parenthesized (Punctuated UnionMemberType Or) �
 union_type_spelling =
     parenthesized_spelling (punctuated_spelling union_member_type_spelling (word (codes "or")))
 
--- a type with the extended attributes that stand before it
+-- a type with the extended attributes before it
 abbrev pub attributed_type_spelling : AttributedType → Form
 attributed_type_spelling v = attributes_spelling v.attributes then type_spelling v.type_
 
--- a type that is neither `any` nor a union, with the extended attributes that stand before it
+-- a type that is neither `any` nor a union, with the extended attributes before it
 abbrev pub attributed_non_any_type_spelling : AttributedNonAnyType → Form
 attributed_non_any_type_spelling v = attributes_spelling v.attributes then non_any_type_spelling v.type_

@@ -4,7 +4,7 @@ ghost use Rattle.weedle_spell.specs.Variants.{VariantsAreSpelt};
 ghost use Rattle.weedle_spell.specs.VariantTrees.{VariantsHaveTrees};
 
 /// A law, which does nothing: a variant of a type, an argument or an extended attribute that holds
-/// such a value is spelt as that value.
+/// such a value is rendered as that value.
 #[tactic(auto, using(crate::proofs::VariantFacts::variants_law))]
 pub fn variants()
     ensures { VariantsAreSpelt }

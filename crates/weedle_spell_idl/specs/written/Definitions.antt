@@ -1,4 +1,4 @@
--- How definitions are spelt. Written by tools/spellings.py, and not edited by hand.
+-- How definitions are rendered. Written by tools/spellings.py, and not edited by hand.
 use Rattle.std.specs.Prelude.{List}
 use Rattle.weedle_idl.specs.declared.definition.Definition.TheVariants.{Callback as Definition-Callback, CallbackInterface as Definition-CallbackInterface, Interface as Definition-Interface, InterfaceMixin as Definition-InterfaceMixin, Namespace as Definition-Namespace, Dictionary as Definition-Dictionary, PartialInterface as Definition-PartialInterface, PartialInterfaceMixin as Definition-PartialInterfaceMixin, PartialDictionary as Definition-PartialDictionary, PartialNamespace as Definition-PartialNamespace, Enum as Definition-Enum, Typedef as Definition-Typedef, IncludesStatement as Definition-IncludesStatement, Implements as Definition-Implements}
 use Rattle.weedle_idl.specs.declared.definition.Definition.{Definition}

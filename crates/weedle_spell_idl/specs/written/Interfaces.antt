@@ -1,4 +1,4 @@
--- How the members of interfaces are spelt, interfaces and mixins.
+-- How the members of interfaces are rendered, interfaces and mixins.
 -- Written by tools/spellings.py, and not edited by hand.
 use Rattle.std.specs.Global.{Vec}
 use Rattle.std.specs.Prelude.{codes}

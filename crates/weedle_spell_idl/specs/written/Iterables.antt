@@ -1,4 +1,5 @@
--- How iterations, maps and sets are spelt. Written by tools/spellings.py, and not edited by hand.
+-- How iterations, maps and sets are rendered.
+-- Written by tools/spellings.py, and not edited by hand.
 use Rattle.std.specs.Prelude.{codes}
 use Rattle.weedle_base.specs.declared.term.written.definition_keywords.Async.{Async}
 use Rattle.weedle_base.specs.declared.term.written.definition_keywords.Iterable.{Iterable}

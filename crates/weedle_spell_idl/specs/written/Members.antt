@@ -1,5 +1,5 @@
--- How constants, attributes, operations, constructors and stringifiers of interfaces are spelt, and
--- the members of mixins. Written by tools/spellings.py, and not edited by hand.
+-- How constants, attributes, operations, constructors and stringifiers of interfaces are rendered,
+-- and the members of mixins. Written by tools/spellings.py, and not edited by hand.
 use Rattle.std.specs.Global.{Vec}
 use Rattle.std.specs.Prelude.{codes}
 use Rattle.weedle_members.specs.declared.attribute.AttributeInterfaceMember.{AttributeInterfaceMember}

@@ -1,4 +1,4 @@
--- How what is inherited from is spelt, and the words before a member.
+-- How what is inherited from is rendered, and the words before a member.
 -- Written by tools/spellings.py, and not edited by hand.
 use Rattle.std.specs.Prelude.{codes}
 use Rattle.weedle_parts.specs.declared.inheritance.Inheritance.{Inheritance}

@@ -1,4 +1,4 @@
--- How namespaces and dictionaries are spelt, and their members.
+-- How namespaces and dictionaries are rendered, and their members.
 -- Written by tools/spellings.py, and not edited by hand.
 use Rattle.std.specs.Global.{Vec}
 use Rattle.std.specs.Prelude.{codes}

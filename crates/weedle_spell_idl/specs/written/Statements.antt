@@ -1,4 +1,5 @@
--- How definitions without members are spelt. Written by tools/spellings.py, and not edited by hand.
+-- How definitions without members are rendered.
+-- Written by tools/spellings.py, and not edited by hand.
 use Rattle.std.specs.Prelude.{codes}
 use Rattle.weedle_base.specs.declared.term.written.symbols.Comma.{Comma}
 use Rattle.weedle_parts.specs.declared.common.punctuated.PunctuatedNonEmpty.{PunctuatedNonEmpty}

@@ -15,12 +15,12 @@ use Rattle.weedle_statements.specs.declared.statement.IncludesStatementDefinitio
 use Rattle.weedle_statements.specs.declared.typedef.TypedefDefinition.{TypedefDefinition}
 use Rattle.weedle_types.specs.Trees.{arguments_tree, attributed_type_tree, attributes_tree, return_type_tree}
 
--- a callback: its extended attributes where they stand, `callback`, its name, `=`, the type of its result,
--- its arguments, `;`
+-- a callback: its extended attributes where present, `callback`, its name, `=`, the type of its
+-- result, its arguments, `;`
 abbrev pub callback_definition_tree : CallbackDefinition → Tree
 callback_definition_tree v = Node (trees (attributes_tree v.attributes ∷ Mark ∷ identifier_tree v.identifier ∷ Mark ∷ return_type_tree v.return_type ∷ arguments_tree v.arguments ∷ Mark ∷ []))
 
--- a value of an enum: its docstring where one stands, its value
+-- a value of an enum: its docstring where present, its value
 abbrev pub enum_variant_tree : EnumVariant → Tree
 enum_variant_tree v = Node (trees (option_tree docstring_tree v.docstring ∷ string_tree v.value ∷ []))
 
@@ -32,22 +32,22 @@ EnumValues = Braced (PunctuatedNonEmpty EnumVariant Comma)
 abbrev pub enum_values_tree : EnumValues → Tree
 enum_values_tree = braced_tree (punctuated_non_empty_tree enum_variant_tree)
 
--- an enum: its docstring where one stands, its extended attributes where they stand, `enum`, its name, its
--- values, `;`
+-- an enum: its docstring where present, its extended attributes where present, `enum`, its name,
+-- its values, `;`
 abbrev pub enum_definition_tree : EnumDefinition → Tree
 enum_definition_tree v = Node (trees (option_tree docstring_tree v.docstring ∷ attributes_tree v.attributes ∷ Mark ∷ identifier_tree v.identifier ∷ enum_values_tree v.values ∷ Mark ∷ []))
 
--- the use of a mixin by an interface: its extended attributes where they stand, the name of the interface,
--- `includes`, the name of the mixin that it uses, `;`
+-- the use of a mixin by an interface: its extended attributes where present, the name of the
+-- interface, `includes`, the name of the mixin that it uses, `;`
 abbrev pub includes_statement_definition_tree : IncludesStatementDefinition → Tree
 includes_statement_definition_tree v = Node (trees (attributes_tree v.attributes ∷ identifier_tree v.lhs_identifier ∷ Mark ∷ identifier_tree v.rhs_identifier ∷ Mark ∷ []))
 
--- the older form of a mixin's use: its extended attributes where they stand, the name of the interface,
--- `implements`, the name of the interface that it implements, `;`
+-- the older form of a mixin's use: its extended attributes where present, the name of the
+-- interface, `implements`, the name of the interface that it implements, `;`
 abbrev pub implements_definition_tree : ImplementsDefinition → Tree
 implements_definition_tree v = Node (trees (attributes_tree v.attributes ∷ identifier_tree v.lhs_identifier ∷ Mark ∷ identifier_tree v.rhs_identifier ∷ Mark ∷ []))
 
--- a name for a type: its extended attributes where they stand, `typedef`, the type that is named, the name
--- that the type gets, `;`
+-- a name for a type: its extended attributes where present, `typedef`, the type that is named, the
+-- name that the type gets, `;`
 abbrev pub typedef_definition_tree : TypedefDefinition → Tree
 typedef_definition_tree v = Node (trees (attributes_tree v.attributes ∷ Mark ∷ attributed_type_tree v.type_ ∷ identifier_tree v.identifier ∷ Mark ∷ []))

@@ -1,4 +1,4 @@
-//! Extended attributes and what stands behind them.
+//! Extended attributes and what follows them.
 #![tactic(auto, using(weedle_base::proofs::Steps::part_steps))]
 
 ghost use Rattle.weedle_base.specs.Generic.{pair_reading};
@@ -10,7 +10,7 @@ use crate::parts::attributes;
 use std::alloc::Global;
 use weedle_base::{IResult, Parse};
 
-/// Reads extended attributes where they stand, and then others as pairs within pairs.
+/// Reads extended attributes where present, and then others as pairs within pairs.
 fn attributes_and<'a, R: Parse<'a>>(
     alloc: Global,
     input: &'a str,
@@ -22,8 +22,8 @@ fn attributes_and<'a, R: Parse<'a>>(
     Ok((rest, (attributes, others)))
 }
 
-/// Reads extended attributes where they stand, and then three others, as the word, the types and
-/// the `;` of `[A] iterable<long>;`. Where one of the three isn't there it is a mismatch.
+/// Reads extended attributes where present, and then three others, as the word, the types and the
+/// `;` of `[A] iterable<long>;`. Where one of the three isn't there it is a mismatch.
 pub fn attributes_and_three<'a, A: Parse<'a>, B: Parse<'a>, C: Parse<'a>>(
     alloc: Global,
     input: &'a str,
@@ -36,9 +36,8 @@ pub fn attributes_and_three<'a, A: Parse<'a>, B: Parse<'a>, C: Parse<'a>>(
     Ok((rest, (attributes, first, second, third)))
 }
 
-/// Reads extended attributes where they stand, and then four others, as the name, the word, the
-/// name and the `;` of `[A] Request includes Body;`. Where one of the four isn't there it is a
-/// mismatch.
+/// Reads extended attributes where present, and then four others, as the name, the word, the name
+/// and the `;` of `[A] Request includes Body;`. Where one of the four isn't there it is a mismatch.
 pub fn attributes_and_four<'a, A: Parse<'a>, B: Parse<'a>, C: Parse<'a>, D: Parse<'a>>(
     alloc: Global,
     input: &'a str,
@@ -51,9 +50,9 @@ pub fn attributes_and_four<'a, A: Parse<'a>, B: Parse<'a>, C: Parse<'a>, D: Pars
     Ok((rest, (attributes, first, second, third, fourth)))
 }
 
-/// Reads extended attributes where they stand, and then five others, as the two words, the name,
-/// the members and the `;` of `[A] partial interface B {};`. Where one of the five isn't there it
-/// is a mismatch.
+/// Reads extended attributes where present, and then five others, as the two words, the name, the
+/// members and the `;` of `[A] partial interface B {};`. Where one of the five isn't there it is a
+/// mismatch.
 pub fn attributes_and_five<
     'a,
     A: Parse<'a>,
@@ -75,7 +74,7 @@ pub fn attributes_and_five<
     Ok((rest, (attributes, first, second, third, fourth, fifth)))
 }
 
-/// Reads extended attributes where they stand, and then six others, as the word, the name, the `=`,
+/// Reads extended attributes where present, and then six others, as the word, the name, the `=`,
 /// the type, the arguments and the `;` of `[A] callback F = undefined (long x);`. Where one of the
 /// six isn't there it is a mismatch.
 pub fn attributes_and_six<

@@ -1,4 +1,4 @@
-//! A docstring, extended attributes and what stands behind them.
+//! A docstring, extended attributes and what follows them.
 #![tactic(auto, using(weedle_base::proofs::Steps::part_steps))]
 
 ghost use Rattle.weedle_base.specs.Generic.{pair_reading};
@@ -10,9 +10,9 @@ use std::alloc::Global;
 use weedle_base::{IResult, Parse};
 use weedle_parts::common::Docstring;
 
-/// Reads a docstring and extended attributes, each where it stands, and then four others, as the
-/// type, the name, the arguments and the `;` of `long f();`. Where one of the four isn't there it
-/// is a mismatch.
+/// Reads a docstring and extended attributes, each where it is, and then four others, as the type,
+/// the name, the arguments and the `;` of `long f();`. Where one of the four isn't there it is a
+/// mismatch.
 pub fn docstring_attributes_and_four<'a, A: Parse<'a>, B: Parse<'a>, C: Parse<'a>, D: Parse<'a>>(
     alloc: Global,
     input: &'a str,
@@ -36,9 +36,9 @@ pub fn docstring_attributes_and_four<'a, A: Parse<'a>, B: Parse<'a>, C: Parse<'a
     Ok((rest, (docstring, attributes, first, second, third, fourth)))
 }
 
-/// Reads a docstring and extended attributes, each where it stands, and then five others, as the
-/// word, the name, the name that it inherits from, the members and the `;` of
-/// `interface A : B {};`. Where one of the five isn't there it is a mismatch.
+/// Reads a docstring and extended attributes, each where it is, and then five others, as the word,
+/// the name, the name that it inherits from, the members and the `;` of `interface A : B {};`.
+/// Where one of the five isn't there it is a mismatch.
 pub fn docstring_attributes_and_five<
     'a,
     A: Parse<'a>,
@@ -75,7 +75,7 @@ pub fn docstring_attributes_and_five<
     ))
 }
 
-/// Reads a docstring and extended attributes, each where it stands, and then six others, as the two
+/// Reads a docstring and extended attributes, each where it is, and then six others, as the two
 /// words, the name, the name that it inherits from, the members and the `;` of
 /// `callback interface A : B {};`. Where one of the six isn't there it is a mismatch.
 pub fn docstring_attributes_and_six<

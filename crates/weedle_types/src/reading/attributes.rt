@@ -33,7 +33,7 @@ use weedle_base::term::Comma;
 use weedle_base::{Err, IResult, out_of_memory};
 use weedle_parts::common::{Bracketed, Punctuated};
 
-/// Reads extended attributes in brackets, where they stand.
+/// Reads extended attributes in brackets, where present.
 #[cycle(group)]
 #[tactic(auto, using(crate::proofs::written::AttributeRules::attributes_steps))]
 pub(crate) fn attributes<'a>(

@@ -1,4 +1,4 @@
--- Trivia: line comments, blanks and block comments.
+-- Trivia: line comments, whitespace and block comments.
 -- The number of each rule, and its row and shape, in the order of the numbers.
 -- Written by tools/grammar.py, and not edited by hand.
 use Rattle.std.specs.Prelude.{ℕ, List, [], ◌∷◌, codes}

@@ -1,4 +1,4 @@
-//! Trivia: line comments, blanks and block comments.
+//! Trivia: line comments, whitespace and block comments.
 //!
 //! Written by tools/grammar.py, and not edited by hand.
 
@@ -58,9 +58,9 @@ impl Rule {
     pub const BYTES_SLASH_STAR: Rule = Rule(BYTES_SLASH_STAR);
     /// A block comment, as `/* c */`.
     pub const BLOCK_COMMENT: Rule = Rule(BLOCK_COMMENT);
-    /// A comment or blanks.
+    /// A comment or whitespace.
     pub const PIECE: Rule = Rule(PIECE);
-    /// Comments and blanks, none included.
+    /// Comments and whitespace, none included.
     pub const TRIVIA: Rule = Rule(TRIVIA);
 }
 

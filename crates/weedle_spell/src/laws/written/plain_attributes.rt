@@ -24,15 +24,15 @@ ghost use Rattle.weedle_types.specs.Trees.{
   identifier_or_string_tree,
 };
 
-/// A law, which does nothing: the text of a name or a string, as `name` or `"name"`, spells its
-/// value.
+/// A law, which does nothing: the text of a name or a string, as `name` or `"name"`, is a rendering
+/// of its value.
 #[tactic(auto, using(crate::proofs::written::PlainAttributeLaws::identifier_or_string_law))]
 pub fn identifier_or_string()
     ensures { SpellsValues IDENTIFIER_OR_STRING identifier_or_string_tree
         identifier_or_string_spelling }
 {}
 
-/// A law, which does nothing: the text of names, as `Window, Worker`, spells its value.
+/// A law, which does nothing: the text of names, as `Window, Worker`, is a rendering of its value.
 #[tactic(auto, using(crate::proofs::written::PlainAttributeLaws::identifier_list_law))]
 pub fn identifier_list()
     ensures { SpellsValues IDENTIFIER_LIST (punctuated_tree identifier_tree)
@@ -40,7 +40,7 @@ pub fn identifier_list()
 {}
 
 /// A law, which does nothing: the text of an extended attribute with a name or a string, as
-/// `PutForwards=name`, spells its value.
+/// `PutForwards=name`, is a rendering of its value.
 #[tactic(auto, using(crate::proofs::written::PlainAttributeLaws::extended_attribute_ident_law))]
 pub fn extended_attribute_ident()
     ensures { SpellsValues EXTENDED_ATTRIBUTE_IDENT extended_attribute_ident_tree
@@ -48,7 +48,7 @@ pub fn extended_attribute_ident()
 {}
 
 /// A law, which does nothing: the text of an extended attribute with names, as
-/// `Exposed=(Window, Worker)`, spells its value.
+/// `Exposed=(Window, Worker)`, is a rendering of its value.
 #[tactic(auto, using(crate::proofs::written::PlainAttributeLaws::extended_attribute_ident_list_law))]
 pub fn extended_attribute_ident_list()
     ensures { SpellsValues EXTENDED_ATTRIBUTE_IDENT_LIST extended_attribute_ident_list_tree
@@ -56,7 +56,7 @@ pub fn extended_attribute_ident_list()
 {}
 
 /// A law, which does nothing: the text of an extended attribute that is a name alone, as
-/// `Replaceable`, spells its value.
+/// `Replaceable`, is a rendering of its value.
 #[tactic(auto, using(crate::proofs::written::PlainAttributeLaws::extended_attribute_no_args_law))]
 pub fn extended_attribute_no_args()
     ensures { SpellsValues EXTENDED_ATTRIBUTE_NO_ARGS extended_attribute_no_args_tree

@@ -8,14 +8,15 @@ ghost use Rattle.weedle_spell_idl.specs.written.Definitions.{
   definitions_spelling,
 };
 
-/// A law, which does nothing: the text of a definition, as `interface A {};`, spells its value.
+/// A law, which does nothing: the text of a definition, as `interface A {};`, is a rendering of its
+/// value.
 #[tactic(auto, using(crate::proofs::written::DefinitionLaws::definition_law))]
 pub fn definition()
     ensures { SpellsValues DEFINITION definition_tree definition_spelling }
 {}
 
 /// A law, which does nothing: the text of definitions one after another, as
-/// `interface A {}; interface B {};`, spells its value.
+/// `interface A {}; interface B {};`, is a rendering of its value.
 #[tactic(auto, using(crate::proofs::written::DefinitionLaws::definitions_law))]
 pub fn definitions()
     ensures { SpellsValues DEFINITIONS definitions_tree definitions_spelling }

@@ -64,15 +64,16 @@ pub fn maplike_interface_member()
         maplike_interface_member_spelling }
 {}
 
-/// A law, which does nothing: the text of a set, as `readonly setlike<long>;`, spells its value.
+/// A law, which does nothing: the text of a set, as `readonly setlike<long>;`, is a rendering of
+/// its value.
 #[tactic(auto, using(crate::proofs::written::IterableLaws::setlike_interface_member_law))]
 pub fn setlike_interface_member()
     ensures { SpellsValues SETLIKE_INTERFACE_MEMBER setlike_interface_member_tree
         setlike_interface_member_spelling }
 {}
 
-/// A law, which does nothing: the text of an iteration over values, as `iterable<long>;`, spells
-/// its value.
+/// A law, which does nothing: the text of an iteration over values, as `iterable<long>;`, is a
+/// rendering of its value.
 #[tactic(auto, using(crate::proofs::written::IterableLaws::single_typed_iterable_law))]
 pub fn single_typed_iterable()
     ensures { SpellsValues SINGLE_TYPED_ITERABLE single_typed_iterable_tree
@@ -80,7 +81,7 @@ pub fn single_typed_iterable()
 {}
 
 /// A law, which does nothing: the text of an iteration over pairs, as `iterable<DOMString, long>;`,
-/// spells its value.
+/// is a rendering of its value.
 #[tactic(auto, using(crate::proofs::written::IterableLaws::double_typed_iterable_law))]
 pub fn double_typed_iterable()
     ensures { SpellsValues DOUBLE_TYPED_ITERABLE double_typed_iterable_tree
@@ -88,7 +89,7 @@ pub fn double_typed_iterable()
 {}
 
 /// A law, which does nothing: the text of an iteration over values or pairs, as `iterable<long>;`,
-/// spells its value.
+/// is a rendering of its value.
 #[tactic(auto, using(crate::proofs::written::IterableLaws::iterable_interface_member_law))]
 pub fn iterable_interface_member()
     ensures { SpellsValues ITERABLE_INTERFACE_MEMBER iterable_interface_member_tree

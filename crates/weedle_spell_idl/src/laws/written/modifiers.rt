@@ -22,21 +22,21 @@ ghost use Rattle.weedle_spell_idl.specs.written.Modifiers.{
 };
 
 /// A law, which does nothing: the text of what an interface or a dictionary inherits from, as
-/// `: Node`, spells its value.
+/// `: Node`, is a rendering of its value.
 #[tactic(auto, using(crate::proofs::written::ModifierLaws::inheritance_law))]
 pub fn inheritance()
     ensures { SpellsValues INHERITANCE inheritance_tree inheritance_spelling }
 {}
 
-/// A law, which does nothing: the text of the word of a special operation, as `getter`, spells its
-/// value.
+/// A law, which does nothing: the text of the word of a special operation, as `getter`, is a
+/// rendering of its value.
 #[tactic(auto, using(crate::proofs::written::ModifierLaws::special_law))]
 pub fn special()
     ensures { SpellsValues SPECIAL special_tree special_spelling }
 {}
 
-/// A law, which does nothing: the text of the word before an attribute, as `static`, spells its
-/// value.
+/// A law, which does nothing: the text of the word before an attribute, as `static`, is a rendering
+/// of its value.
 #[tactic(auto, using(crate::proofs::written::ModifierLaws::stringifier_or_inherit_or_static_law))]
 pub fn stringifier_or_inherit_or_static()
     ensures { SpellsValues STRINGIFIER_OR_INHERIT_OR_STATIC stringifier_or_inherit_or_static_tree
@@ -44,7 +44,7 @@ pub fn stringifier_or_inherit_or_static()
 {}
 
 /// A law, which does nothing: the text of the word before an operation, as `stringifier` or
-/// `static`, spells its value.
+/// `static`, is a rendering of its value.
 #[tactic(auto, using(crate::proofs::written::ModifierLaws::stringifier_or_static_law))]
 pub fn stringifier_or_static()
     ensures { SpellsValues STRINGIFIER_OR_STATIC stringifier_or_static_tree

@@ -28,52 +28,54 @@ ghost use Rattle.weedle_statements.specs.written.Trees.{
   typedef_definition_tree,
 };
 
-/// A law, which does nothing: the text of a callback, as `callback F = undefined (long x);`, spells
-/// its value.
+/// A law, which does nothing: the text of a callback, as `callback F = undefined (long x);`, is a
+/// rendering of its value.
 #[tactic(auto, using(crate::proofs::written::StatementLaws::callback_definition_law))]
 pub fn callback_definition()
     ensures { SpellsValues CALLBACK_DEFINITION callback_definition_tree
         callback_definition_spelling }
 {}
 
-/// A law, which does nothing: the text of a value of an enum, as `"blob"`, spells its value.
+/// A law, which does nothing: the text of a value of an enum, as `"blob"`, is a rendering of its
+/// value.
 #[tactic(auto, using(crate::proofs::written::StatementLaws::enum_variant_law))]
 pub fn enum_variant()
     ensures { SpellsValues ENUM_VARIANT enum_variant_tree enum_variant_spelling }
 {}
 
 /// A law, which does nothing: the text of the values of an enum, one at least, and a comma behind
-/// the last where it stands, as `"a", "b",`, spells its value.
+/// the last where present, as `"a", "b",`, is a rendering of its value.
 #[tactic(auto, using(crate::proofs::written::StatementLaws::enum_value_list_law))]
 pub fn enum_value_list()
     ensures { SpellsValues ENUM_VALUE_LIST (punctuated_non_empty_tree enum_variant_tree)
         enum_value_list_spelling }
 {}
 
-/// A law, which does nothing: the text of an enum, as `enum A { "a", "b" };`, spells its value.
+/// A law, which does nothing: the text of an enum, as `enum A { "a", "b" };`, is a rendering of its
+/// value.
 #[tactic(auto, using(crate::proofs::written::StatementLaws::enum_definition_law))]
 pub fn enum_definition()
     ensures { SpellsValues ENUM_DEFINITION enum_definition_tree enum_definition_spelling }
 {}
 
 /// A law, which does nothing: the text of the use of a mixin by an interface, as `A includes B;`,
-/// spells its value.
+/// is a rendering of its value.
 #[tactic(auto, using(crate::proofs::written::StatementLaws::includes_statement_definition_law))]
 pub fn includes_statement_definition()
     ensures { SpellsValues INCLUDES_STATEMENT_DEFINITION includes_statement_definition_tree
         includes_statement_definition_spelling }
 {}
 
-/// A law, which does nothing: the text of the older form of a mixin's use, as `A implements B;`,
-/// spells its value.
+/// A law, which does nothing: the text of the older form of a mixin's use, as `A implements B;`, is
+/// a rendering of its value.
 #[tactic(auto, using(crate::proofs::written::StatementLaws::implements_definition_law))]
 pub fn implements_definition()
     ensures { SpellsValues IMPLEMENTS_DEFINITION implements_definition_tree
         implements_definition_spelling }
 {}
 
-/// A law, which does nothing: the text of a name for a type, as `typedef long A;`, spells its
-/// value.
+/// A law, which does nothing: the text of a name for a type, as `typedef long A;`, is a rendering
+/// of its value.
 #[tactic(auto, using(crate::proofs::written::StatementLaws::typedef_definition_law))]
 pub fn typedef_definition()
     ensures { SpellsValues TYPEDEF_DEFINITION typedef_definition_tree typedef_definition_spelling }

@@ -19,7 +19,7 @@ use crate::attribute::{
 use std::alloc::{AllocError, Global};
 use weedle_parts::common::{Bracketed, Identifier, Parenthesized, Punctuated};
 
-/// Clones extended attributes in brackets, where they stand.
+/// Clones extended attributes in brackets, where present.
 #[cycle(clones)]
 pub(crate) fn clone_attributes<'a>(
     original: &Option<ExtendedAttributeList<'a>>,

@@ -130,7 +130,7 @@ pub(crate) fn clone_return_type<'a>(
     }
 }
 
-/// Clones a type with the extended attributes that stand before it, as `[Clamp] octet`.
+/// Clones a type with the extended attributes before it, as `[Clamp] octet`.
 #[cycle(clones)]
 pub(crate) fn clone_attributed_type<'a>(
     original: &AttributedType<'a>,
@@ -144,8 +144,8 @@ pub(crate) fn clone_attributed_type<'a>(
     })
 }
 
-/// Clones a type that is neither `any` nor a union, with the extended attributes that stand before
-/// it, as `[Clamp] octet`.
+/// Clones a type that is neither `any` nor a union, with the extended attributes before it, as
+/// `[Clamp] octet`.
 #[cycle(clones)]
 pub(crate) fn clone_attributed_non_any_type<'a>(
     original: &AttributedNonAnyType<'a>,

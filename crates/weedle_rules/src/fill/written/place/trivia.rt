@@ -1,4 +1,4 @@
-//! Works out the cells of a place, section: Trivia: line comments, blanks and block comments.
+//! Works out the cells of a place, section: Trivia: line comments, whitespace and block comments.
 //!
 //! Written by tools/grammar.py, and not edited by hand.
 
