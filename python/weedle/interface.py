@@ -288,14 +288,14 @@ class SingleTypedAsyncIterable(Value):
     """An asynchronous iteration over values, as `async iterable<long>;`."""
 
     attributes: Optional[ExtendedAttributeList] = part(
-        "The extended attributes in brackets, as `[Exposed=Window]`, where they stand."
+        "The extended attributes in brackets, as `[Exposed=Window]`, where present."
     )
     async_iterable: Tuple[term.Async, term.Iterable] = word("The words `async` and `iterable`.")
     generics: Generics[AttributedType] = part(
         "The type of its values in angle brackets, as `<long>`."
     )
     args: Optional[Parenthesized[ArgumentList]] = part(
-        "The arguments between parentheses, as `(long x)`, where they stand."
+        "The arguments between parentheses, as `(long x)`, where present."
     )
     semi_colon: term.SemiColon = word("The `;` at the end.")
 
@@ -311,14 +311,14 @@ class DoubleTypedAsyncIterable(Value):
     """An asynchronous iteration over pairs, as `async iterable<DOMString, long>(long x);`."""
 
     attributes: Optional[ExtendedAttributeList] = part(
-        "The extended attributes in brackets, as `[Exposed=Window]`, where they stand."
+        "The extended attributes in brackets, as `[Exposed=Window]`, where present."
     )
     async_iterable: Tuple[term.Async, term.Iterable] = word("The words `async` and `iterable`.")
     generics: Generics[Tuple[AttributedType, term.Comma, AttributedType]] = part(
         "The types of its keys and values in angle brackets, as `<DOMString, long>`."
     )
     args: Optional[Parenthesized[ArgumentList]] = part(
-        "The arguments between parentheses, as `(long x)`, where they stand."
+        "The arguments between parentheses, as `(long x)`, where present."
     )
     semi_colon: term.SemiColon = word("The `;` at the end.")
 

@@ -191,13 +191,13 @@ record! { StringifierMember<'a> = STRINGIFIER_MEMBER { attributes, stringifier, 
 /// An asynchronous iteration over values, as `async iterable<long>;`.
 #[derive(Clone, Debug, PartialEq, Eq, PartialOrd, Ord, Hash)]
 pub struct SingleTypedAsyncIterable<'a> {
-    /// The extended attributes in brackets, as `[Exposed=Window]`, where they stand.
+    /// The extended attributes in brackets, as `[Exposed=Window]`, where present.
     pub attributes: Option<ExtendedAttributeList<'a>>,
     /// The words `async` and `iterable`.
     pub async_iterable: (term::Async, term::Iterable),
     /// The type of its values in angle brackets, as `<long>`.
     pub generics: Generics<AttributedType<'a>>,
-    /// The arguments between parentheses, as `(long x)`, where they stand.
+    /// The arguments between parentheses, as `(long x)`, where present.
     pub args: Option<Parenthesized<ArgumentList<'a>>>,
     /// The `;` at the end.
     pub semi_colon: term::SemiColon,
@@ -212,13 +212,13 @@ record! {
 /// An asynchronous iteration over pairs, as `async iterable<DOMString, long>(long x);`.
 #[derive(Clone, Debug, PartialEq, Eq, PartialOrd, Ord, Hash)]
 pub struct DoubleTypedAsyncIterable<'a> {
-    /// The extended attributes in brackets, as `[Exposed=Window]`, where they stand.
+    /// The extended attributes in brackets, as `[Exposed=Window]`, where present.
     pub attributes: Option<ExtendedAttributeList<'a>>,
     /// The words `async` and `iterable`.
     pub async_iterable: (term::Async, term::Iterable),
     /// The types of its keys and values in angle brackets, as `<DOMString, long>`.
     pub generics: Generics<(AttributedType<'a>, term::Comma, AttributedType<'a>)>,
-    /// The arguments between parentheses, as `(long x)`, where they stand.
+    /// The arguments between parentheses, as `(long x)`, where present.
     pub args: Option<Parenthesized<ArgumentList<'a>>>,
     /// The `;` at the end.
     pub semi_colon: term::SemiColon,

@@ -965,13 +965,13 @@ export abstract class StringifierMember extends Value {
 /** An asynchronous iteration over values, as `async iterable<long>;`. */
 export abstract class SingleTypedAsyncIterable extends Value {
   readonly kind: "SingleTypedAsyncIterable";
-  /** The extended attributes in brackets, as `[Exposed=Window]`, where they stand. */
+  /** The extended attributes in brackets, as `[Exposed=Window]`, where present. */
   readonly attributes: ExtendedAttributeList | null;
   /** The words `async` and `iterable`. */
   readonly asyncIterable: readonly [term.Async, term.Iterable];
   /** The type of its values in angle brackets, as `<long>`. */
   readonly generics: Generics<AttributedType>;
-  /** The arguments between parentheses, as `(long x)`, where they stand. */
+  /** The arguments between parentheses, as `(long x)`, where present. */
   readonly args: Parenthesized<ArgumentList> | null;
   /** The `;` at the end. */
   readonly semiColon: term.SemiColon;
@@ -980,13 +980,13 @@ export abstract class SingleTypedAsyncIterable extends Value {
 /** An asynchronous iteration over pairs, as `async iterable<DOMString, long>(long x);`. */
 export abstract class DoubleTypedAsyncIterable extends Value {
   readonly kind: "DoubleTypedAsyncIterable";
-  /** The extended attributes in brackets, as `[Exposed=Window]`, where they stand. */
+  /** The extended attributes in brackets, as `[Exposed=Window]`, where present. */
   readonly attributes: ExtendedAttributeList | null;
   /** The words `async` and `iterable`. */
   readonly asyncIterable: readonly [term.Async, term.Iterable];
   /** The types of its keys and values in angle brackets, as `<DOMString, long>`. */
   readonly generics: Generics<readonly [AttributedType, term.Comma, AttributedType]>;
-  /** The arguments between parentheses, as `(long x)`, where they stand. */
+  /** The arguments between parentheses, as `(long x)`, where present. */
   readonly args: Parenthesized<ArgumentList> | null;
   /** The `;` at the end. */
   readonly semiColon: term.SemiColon;

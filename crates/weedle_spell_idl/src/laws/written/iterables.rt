@@ -33,7 +33,7 @@ ghost use Rattle.weedle_spell_idl.specs.written.Iterables.{
 };
 
 /// A law, which does nothing: the text of an asynchronous iteration over values, as
-/// `async iterable<long>;`, spells its value.
+/// `async iterable<long>;`, is a rendering of its value.
 #[tactic(auto, using(crate::proofs::written::IterableLaws::single_typed_async_iterable_law))]
 pub fn single_typed_async_iterable()
     ensures { SpellsValues SINGLE_TYPED_ASYNC_ITERABLE single_typed_async_iterable_tree
@@ -41,7 +41,7 @@ pub fn single_typed_async_iterable()
 {}
 
 /// A law, which does nothing: the text of an asynchronous iteration over pairs, as
-/// `async iterable<DOMString, long>(long x);`, spells its value.
+/// `async iterable<DOMString, long>(long x);`, is a rendering of its value.
 #[tactic(auto, using(crate::proofs::written::IterableLaws::double_typed_async_iterable_law))]
 pub fn double_typed_async_iterable()
     ensures { SpellsValues DOUBLE_TYPED_ASYNC_ITERABLE double_typed_async_iterable_tree
@@ -49,15 +49,15 @@ pub fn double_typed_async_iterable()
 {}
 
 /// A law, which does nothing: the text of an asynchronous iteration over values or pairs, as
-/// `async iterable<long>;`, spells its value.
+/// `async iterable<long>;`, is a rendering of its value.
 #[tactic(auto, using(crate::proofs::written::IterableLaws::async_iterable_interface_member_law))]
 pub fn async_iterable_interface_member()
     ensures { SpellsValues ASYNC_ITERABLE_INTERFACE_MEMBER async_iterable_interface_member_tree
         async_iterable_interface_member_spelling }
 {}
 
-/// A law, which does nothing: the text of a map, as `readonly maplike<DOMString, long>;`, spells
-/// its value.
+/// A law, which does nothing: the text of a map, as `readonly maplike<DOMString, long>;`, is a
+/// rendering of its value.
 #[tactic(auto, using(crate::proofs::written::IterableLaws::maplike_interface_member_law))]
 pub fn maplike_interface_member()
     ensures { SpellsValues MAPLIKE_INTERFACE_MEMBER maplike_interface_member_tree
