@@ -54,7 +54,7 @@ class BuildsTest(Room):
     def test_a_crate_without_a_part_is_refused(self):
         self.put({"crates/build_high/src/part.rt": ""})
         with self.assertRaisesRegex(Unfit, "build_high has no part for what high declares"):
-            builds.run(self.root)
+            builds.main(self.root)
 
     def test_a_type_without_a_tree_is_refused(self):
         self.put({"crates/high/specs/Trees.antt": ""})
