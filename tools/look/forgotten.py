@@ -12,6 +12,8 @@ reads otherwise than its rule. This looks at the rest.
 - Each such type is given by the crate `weedle`, under some path.
 - Of definitions kind, parts and mixins are told by the keywords of their rows, and no variant that has a
   docstring, extended attributes, a parent or members is said to have none.
+- What a module passes on of its module in a folder `written` has each public function of that.
+- Each public function of the crate `weedle` is named in docs/PROVED.md, `type_names_of_return` as `_of_return` too.
 - Each public function and method of the crate `weedle` has an `ensures`, or its doc says "It has no contract"
   and why.
 - `reserved.rt` has the words of the grammar that may be read behind a word.
@@ -38,6 +40,8 @@ from shared.crates import TOP, read_lines
 from write.calling import Crate, Entry, code_of, methods_of
 
 MOD = re.compile(r"^(?:pub(?:\(crate\))? )?mod (\w+)", re.M)
+PASSED_ON = re.compile(r"^pub use written::(\w+)::([^;]+);", re.M)
+FUNCTION = re.compile(r"^pub fn (\w+)", re.M)
 IMPL = re.compile(r"^impl(?:<[^{;]*?>)? (?:\w+::)*(\w+)(?:<[^{}]*?>)? for (?:\w+::)*(\w+)", re.M)
 # Where it is said what a definition has: the function, the field, and the arm of those that lack it.
 HAVING = (
@@ -99,9 +103,19 @@ def of_types(root, declared):
             yield f"{it.crate}: {name} has no path below `weedle`"
 
 
+def of_laws(root):
+    """The public functions of written modules that the module above leaves out of those that it passes on."""
+    for path in (root / "crates").glob("*/src/**/*.rt"):
+        for module, names in PASSED_ON.findall(path.read_text(encoding="utf-8")):
+            below = path.with_suffix("") / f"written/{module}.rt"
+            functions = FUNCTION.findall(below.read_text(encoding="utf-8")) if below.is_file() else []
+            for name in sorted({*functions} - {*re.findall(r"\w+", names)}):
+                yield f"{path.relative_to(root).as_posix()}: its `pub use written::{module}` lacks {name}"
+
+
 def of_contracts(root):
-    """The functions and methods below `weedle` whose contracts say nothing of what they answer."""
-    crates = {}
+    """The functions and methods below `weedle` whose contracts say nothing of what they answer, or PROVED doesn't."""
+    crates, page = {}, (root / "docs/PROVED.md").read_text(encoding="utf-8")
     for path, items in public_items(root, "weedle").items():
         for name, item in items.items():
             crate, entry = item.module.crate, Entry(f"{path}::{name}", item)
@@ -109,6 +123,8 @@ def of_contracts(root):
             own = [(entry.path, entry.text, entry.begin)] if item.kind == "fn" else [
                 (f"{entry.path}::{method}", *place) for method, *place in methods_of(entry, crates[crate])
             ]
+            if item.kind == "fn" and not re.search(rf"`(\w+::)*({name}|{name[max(name.find('_of'), 0):]})\b", page):
+                yield f"{crate}: docs/PROVED.md doesn't name {entry.path}"
             for called, text, begin in own:
                 said = " ".join(head_of(text, text.rindex("\n", 0, begin) + 1).replace("///", "").split())
                 if "ensures" not in code_of(text, begin) and WITHOUT not in said:
@@ -180,6 +196,7 @@ def found(root):
     declared = Declared.of(root)
     yield from of_files(root)
     yield from of_types(root, declared)
+    yield from of_laws(root)
     yield from of_contracts(root)
     yield from of_definitions(root, declared)
     yield from of_reserved(root)

@@ -1,4 +1,4 @@
-"""Finds what still has the old name of a field, a variant, a type or a public function.
+"""Finds what still has the old name of a field, a variant, a type or a public function, or the old number of rules.
 
     python3 tools/look/renamed.py
 
@@ -28,6 +28,8 @@ from shared.crates import TOP
 from write.write_all import writer_in
 
 FUNCTION = re.compile(r"^ *pub fn (\w+)", re.M)
+# How many rules there are, which proofs, tests and pages say too.
+GRAMMAR, COUNT = "crates/weedle_grammar/src/lib.rt", re.compile(r"pub const RULES: usize = (\d+);")
 # What may name a field or a function by hand, and what is left alone.
 SUFFIXES = {".rt", ".antt", ".edit", ".md", ".py", ".pyi", ".rs", ".js", ".ts", ".c", ".h", ".in", ".cpp", ".sh"}
 ASIDE = ("tests/", "CHANGELOG.md", "python/tests/", "docs/CALLING.md")
@@ -41,6 +43,7 @@ def git(root, *words):
 
 def names_in(path, text):
     """What a file declares: (type, field or variant), (type, nothing) and (nothing, function)."""
+    yield from (("", count) for count in COUNT.findall(text) if path == GRAMMAR)
     is_read = path.split("/")[1] in (it.partition("::")[0] for it in CRATES)
     for it in declared_in(text) if is_read else ():
         yield it.name, ""
@@ -61,7 +64,8 @@ def old_names(root):
 
 def lines_with(texts, type_, name):
     """The lines of files that have an old name, each with its file and number."""
-    word = re.compile(rf"\b{name or type_}\b")
+    # A module of the same name is another thing.
+    word = re.compile(rf"(?<!mod )(?<!\.declared\.)\b{name}\b(?!::)" if name and type_ else rf"\b{name or type_}\b")
     is_about = re.compile(rf"\b(?:{type_}|{snake(type_)}\w*|{type_.removesuffix('Definition')}|{type_}-\w+)\b")
     for path, text in texts.items():
         if word.search(text) and (not name or not type_ or is_about.search(text)):

@@ -66,6 +66,15 @@ class Types(unittest.TestCase):
         ])
 
 
+class Laws(Room):
+    def test_what_is_not_passed_on(self):
+        above = "pub use written::members::{\n    member,\n};\npub use written::types::type_;\n"
+        below = "pub fn member() {}\npub fn other() {}\n"
+        files = {"laws.rt": above, "laws/written/members.rt": below, "laws/written/types.rt": "pub fn type_() {}\n"}
+        self.put({f"crates/a/src/{path}": text for path, text in files.items()})
+        self.assertEqual(list(forgotten.of_laws(self.root)), ["crates/a/src/laws.rt: its `pub use written::members` lacks other"])
+
+
 class Files(Room):
     FILES = {"crates.txt": "a:\n", "crates/a/src/lib.rt": "mod b;\n"}
 

@@ -46,5 +46,18 @@ class Renames(Room):
         found = self.found(DECLARED.replace("Callback", "Call"))
         self.assertEqual(found, [])
 
+    def test_a_module_of_the_name_is_another_thing(self):
+        lines = "mod result;\npub use result::Callback;\nuse x.declared.result.Callback.{Callback}\n"
+        self.put({"crates/weedle_view/src/lib.rt": lines})
+        self.assertEqual(len(self.found(DECLARED.replace("result", "answer"))), 2)
+
+    def test_how_many_rules_there_are(self):
+        self.put({renamed.GRAMMAR: "pub const RULES: usize = 71;\n", "README.md": "At most 71.\n"})
+        self.found(DECLARED)
+        self.put({renamed.GRAMMAR: "pub const RULES: usize = 74;\n"})
+        self.assertEqual(list(renamed.renamed(self.root)), [
+            "71 is declared no more, and 1 lines have the word:", "  README.md:1: At most 71.",
+        ])
+
     def test_no_checkout(self):
         self.assertEqual(self.found(DECLARED.replace("result", "answer"), is_checkout=False), [])

@@ -135,7 +135,7 @@ def unlike(cases):
             wanted, shown = by_text[text], compact(by_text[text].get("value"))
             wrong = [key for key, it in known.items() if key != "value" and wanted.get(key, "") != it]
             wrong += [piece for piece in known.get("value", ()) if piece not in shown]
-            yield from (f"by hand {it} of {text[:100]!r} is otherwise" for it in wrong)
+            yield from (f"{it} of {text[:100]!r} isn't as tests/worked.toml has it, but {wanted.get(it)!r}" for it in wrong)
 
 
 # Real files, of which only sums are kept.
@@ -200,9 +200,9 @@ def make(real):
     """All cases anew, by their folders' names."""
     kept = {*folders()} - {ADDED, REAL} | ({ADDED} if added_texts() else set())
     made = {folder: cases_anew(folder) for folder in sorted(kept)}
-    for cases in made.values():
-        for why in unlike(cases):
-            raise Disagree(why)
+    wrong = [why for cases in made.values() for why in unlike(cases)]
+    if wrong:
+        raise Disagree("\n".join(wrong))
     return made | ({REAL: list(real_cases(real))} if real else {})
 
 

@@ -161,7 +161,7 @@ def look(top: Path, is_check: bool) -> Iterator[str]:
     for path, text in pages(top):
         place = top / path
         if text is None:
-            yield f"{path}: left as it is, since the Python package can't be loaded"
+            yield f"{path}: left as it is, since the Python package can't be loaded: build the library anew"
         elif not place.exists() or place.read_text(encoding="utf-8") != text:
             yield f"{path}: stale, tools/write/write_all.py writes it" if is_check else f"changed {path}"
             if not is_check:

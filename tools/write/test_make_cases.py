@@ -93,7 +93,7 @@ class ByHand(unittest.TestCase):
     def test_what_is_otherwise(self):
         text, known = next((text, known) for text, known in worked() if "says" in known)
         wanted = wanted_of(text) | {"says": "expected foo"}
-        self.assertEqual([*unlike([Case("", text, wanted)])], [f"by hand says of {text!r} is otherwise"])
+        self.assertEqual([*unlike([Case("", text, wanted)])], [f"says of {text!r} isn't as tests/worked.toml has it, but 'expected foo'"])
         text, known = next((text, known) for text, known in worked() if "value" in known)
         wanted = wanted_of(text) | {"value": []}
         self.assertEqual(len([*unlike([Case("", text, wanted)])]), len(known["value"]))
@@ -131,7 +131,7 @@ class Archives(Room):
     def test_what_is_stale(self):
         text = next(text for text, known in worked() if known == {"rest": 0})
         make_cases.write(self.root, {"worked": numbered([(text, {"by": "weedle2", "rest": 99})])})
-        self.assertEqual(list(stale(self.root)), [f"tests/worked.tar.xz: by hand rest of {text!r} is otherwise"])
+        self.assertEqual(list(stale(self.root)), [f"tests/worked.tar.xz: rest of {text!r} isn't as tests/worked.toml has it, but 99"])
         make_cases.write(self.root, {"a": self.CASES, "b": self.CASES})
         self.put({archive_of("a"): packed(self.CASES[:1]), archive_of("c"): b""})
         (self.root / archive_of("b")).unlink()

@@ -87,7 +87,7 @@ class Pages(unittest.TestCase):
 class Written(Room):
     def test_what_is_stale_is_written(self):
         self.patch(man_pages, pages=lambda _: iter([("man/a.1", "x\n"), ("man/b.1", None)]))
-        left = "man/b.1: left as it is, since the Python package can't be loaded"
+        left = "man/b.1: left as it is, since the Python package can't be loaded: build the library anew"
         self.assertEqual([*man_pages.look(self.root, True)], ["man/a.1: stale, tools/write/write_all.py writes it", left])
         self.assertFalse((self.root / FOLDER).exists())
         self.assertEqual([*man_pages.look(self.root, False)], ["changed man/a.1", left])
