@@ -35,6 +35,13 @@ pub record IsExact (raw : List ℕ) (counted : Counted) : Type 0 where
   pub given : Reads raw DEFINITIONS 0 (Gives (tree ∷ []) end)
   pub visits : counted.visits ≡ size tree
 
+-- as many nodes were visited as the tree has that the rule of definitions gives
+pub record IsVisited (raw : List ℕ) (visits : ℕ) : Type 0 where
+  pub tree : Tree
+  pub end : ℕ
+  pub given : Reads raw DEFINITIONS 0 (Gives (tree ∷ []) end)
+  pub each : visits ≡ size tree
+
 -- no rule was worked out, or each was at each place; and no node was visited
 pub record IsCutShort (raw : List ℕ) (counted : Counted) : Type 0 where
   pub workings : (counted.workings ≡ 0) ⊎ (counted.workings ≡ rule_count * (length raw + 1))

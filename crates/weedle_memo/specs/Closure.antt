@@ -3,10 +3,11 @@ use Rattle.std.specs.Prelude.{◌≡◌, ◌≤◌, ◌<◌, ◌⊎◌, ℕ, fal
 use Rattle.std.proofs.Common.{get_or}
 use Rattle.weedle_grammar.specs.Rows.{Row, Bytes, OneOf, NotNext, Run, Past, Seq, First, Opt, Many, ListOf, List1, Tail, If}
 use Rattle.weedle_grammar.specs.written.Table.{row_of}
+use Rattle.weedle_grammar.specs.written.Table.Definitions.{DEFINITIONS}
 use Rattle.weedle_rules.specs.Outcomes.{EndsAt}
 use Rattle.weedle_rules.specs.Cells.{HasEnd, cell_number}
 use Rattle.weedle_starts.specs.Tries.{TriesInTurn, TriesByChoice, Tries, has_no_parts}
-use Rattle.weedle_memo.specs.Entries.{MemoEntry, Reading, Start, Absent}
+use Rattle.weedle_memo.specs.Entries.{MemoEntry, Reading, Start, start_at, Absent}
 use Rattle.weedle_memo.specs.Tables.{Stays}
 use Rattle.weedle_memo.specs.declared.frame.Look.{Look}
 use Rattle.weedle_memo.specs.declared.frame.Look.TheVariants.{Known, Unknown}
@@ -88,6 +89,11 @@ pub record IsMemo (r : Reading) (end : Option ℕ) : Type 0 where
   pub ends : HasEnd r.text r.start.rule r.start.place end
   pub first : MetIf (memory_of r) r.start.rule r.start.place end
   pub closed : AreClosed r.text (memory_of r)
+
+-- the definitions at the front of a text were read
+pub record IsDefinitions (r : Reading) (end : Option ℕ) : Type 0 where
+  pub is_memo : IsMemo r end
+  pub start_is : r.start ≡ start_at DEFINITIONS 0
 
 -- the same text, the same words, and the same start
 abbrev pub SameText : Reading → Reading → Type 0

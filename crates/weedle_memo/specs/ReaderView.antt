@@ -4,6 +4,7 @@ use Rattle.std.proofs.Common.{get_or}
 use Rattle.weedle_rules.specs.written.Bound.{most_reads}
 use Rattle.weedle_rules.specs.TableOfEnds.{AreCounts}
 use Rattle.weedle_memo.specs.Entries.{MemoEntry, AreRight, AreDistinct}
+use Rattle.weedle_memo.specs.Tables.{AreWords}
 use Rattle.weedle_memo.specs.declared.entries.Entry.{Entry}
 
 -- what an entry says
@@ -24,3 +25,8 @@ pub record IsReader (text heads : List ℕ) (entries : List Entry) (reads most :
   pub apart : AreDistinct (map entry_of entries)
   pub counts : List ℕ
   pub counted : AreCounts most_reads counts (length entries) reads most
+
+-- what is known of a text that was read, and the words of the rules
+pub record IsMemoTable (text words heads : List ℕ) (entries : List Entry) (reads most : ℕ) : Type 0 where
+  pub reader : IsReader text heads entries reads most
+  pub covered : AreWords words

@@ -20,6 +20,7 @@ mod frame;
 mod leaves;
 mod machine;
 mod memo;
+mod memo_table;
 mod read;
 mod reader;
 mod rule_memo;

@@ -7,6 +7,7 @@ ghost use Rattle.std.specs.Prelude.{◌^◌, ◌≡◌, ◌≤◌, ◌<◌, ◌+
 ghost use Rattle.weedle_grammar.specs.Rows.{take_bytes, take_one, take_not_next, run_length, take_past};
 ghost use Rattle.weedle_grammar.specs.written.Bound.{rule_count};
 ghost use Rattle.weedle_grammar.specs.written.Table.{row_of as the_row_of};
+ghost use Rattle.weedle_grammar.specs.written.Table.Definitions.{DEFINITIONS};
 ghost use Rattle.weedle_rules.specs.Cells.{HasEnd};
 ghost use Rattle.weedle_memo.specs.Tables.{IsWay};
 ghost use Rattle.weedle_memo.specs.Entries.{IsUnread, AreRight, AreDistinct, Absent, IsLook, IsAsked, entry_at, start_at};
@@ -15,6 +16,7 @@ ghost use Rattle.weedle_memo.specs.Closure.{MetLook, memory_of, SameText};
 use crate::READS;
 use crate::entries::{Entries, Entry};
 use crate::frame::{Frame, Look};
+use crate::memo_table::MemoTable;
 use crate::tables::{Tables, Way, Word};
 use std::alloc::{AllocError, Global};
 use std::marker::Model;
@@ -278,5 +280,21 @@ impl<'a> Reader<'a> {
         self.reads += looks as u128;
         self.most = self.most.max(looks);
         Ok(())
+    }
+
+    /// What is known once definitions are read at the front of the text, without the rows.
+    pub(crate) fn into_table(self) -> MemoTable<'a>
+        requires { self.start ≡ start_at DEFINITIONS 0 }
+        ensures { result ≡ self.entry }
+    {
+        let words = self.tables.words();
+        MemoTable {
+            text: self.text,
+            words,
+            heads: self.heads,
+            entries: self.entries,
+            reads: self.reads,
+            most: self.most,
+        }
     }
 }
