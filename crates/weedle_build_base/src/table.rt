@@ -57,7 +57,7 @@ impl<'t, 'a> Table<'t, 'a> {
         ensures right { HasEnd self.now.text.now rule place result }
     {
         match self.known {
-            Known::Filled(ends) => ends.end(rule, place),
+            Known::Filled(ends) => ends.cell(rule, place),
             Known::OnDemand(memo) => memo.end(rule, place),
         }
     }

@@ -28,7 +28,7 @@ pub use bounded::parse_bounded;
 pub use descent::{parse_by_descent, parse_quick};
 pub use program::{RunFault, Status, run, run_outline};
 pub use reader::{Counted, parse, parse_counted};
-pub use refusal::explain;
+pub use refusal::{explain, explain_in};
 pub use weedle_idl::{Definition, Definitions};
 pub use weedle_nesting::{Depths, nesting};
 pub use weedle_view::{Entry, kind_of, lend, name_of, outline};

@@ -5,7 +5,7 @@ use Rattle.weedle_grammar.specs.Rows.{Row, Bytes, OneOf, NotNext, Run, Past, Seq
 use Rattle.weedle_grammar.specs.written.Table.{row_of}
 use Rattle.weedle_grammar.specs.written.Table.Definitions.{DEFINITIONS}
 use Rattle.weedle_rules.specs.Outcomes.{EndsAt}
-use Rattle.weedle_rules.specs.Cells.{HasEnd, cell_number}
+use Rattle.weedle_rules.specs.Cells.{HasEnd, turn_number}
 use Rattle.weedle_starts.specs.Tries.{TriesInTurn, TriesByChoice, Tries, has_no_parts}
 use Rattle.weedle_memo.specs.Entries.{MemoEntry, Reading, Start, start_at, Absent}
 use Rattle.weedle_memo.specs.Tables.{Stays}
@@ -105,14 +105,14 @@ pub record Extends (m n : Memory) (c : ℕ) : Type 0 where
   pub start_is : n.start ≡ m.start
   pub longer : length m.entries ≤ length n.entries
   pub keeps : (x q : ℕ) → Met m x q → Met n x q
-  pub leaves : (x q : ℕ) → c < cell_number (length m.text) x q → Absent m.entries x q → Absent n.entries x q
+  pub leaves : (x q : ℕ) → c < turn_number (length m.text) x q → Absent m.entries x q → Absent n.entries x q
   pub closes : AreClosed m.text m → AreClosed m.text n
 
 -- rule r, which has no parts, was worked out at p
 pub record IsWorked (m n : Memory) (r p : ℕ) (o : Option ℕ) : Type 0 where
   pub right : HasEnd m.text r p o
   pub met : MetIf n r p o
-  pub extends : Extends m n (cell_number (length m.text) r p)
+  pub extends : Extends m n (turn_number (length m.text) r p)
 
 -- rule r was worked out at p, or it has parts, and nothing was done
 abbrev pub IsLeaf : Memory → Memory → ℕ → ℕ → Look → Type 0

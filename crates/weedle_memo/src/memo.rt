@@ -1,11 +1,11 @@
 //! The memo of the definitions at the front of a text.
 
 ghost use Rattle.std.specs.Prelude.{◌≡◌, ◌≤◌, ◌+◌, ◌*◌, length, IfOk};
-ghost use Rattle.weedle_grammar.specs.written.Bound.{rule_count};
+ghost use Rattle.weedle_grammar.specs.written.Bound.{table_count};
 ghost use Rattle.weedle_grammar.specs.written.Table.Definitions.{DEFINITIONS};
 ghost use Rattle.weedle_rules.specs.Cells.{HasEnd};
 ghost use Rattle.weedle_memo.specs.Wanted.{Wanted};
-ghost use Rattle.weedle_memo.specs.Entries.{AreRight, AreDistinct};
+ghost use Rattle.weedle_memo.specs.Entries.{AreRight, AreOwn, AreDistinct};
 
 use crate::READS;
 use crate::memo_table::MemoTable;
@@ -74,8 +74,9 @@ impl<'a> Memo<'a> {
     /// two for each byte of the text. It takes no memory.
     pub fn workings(&self) -> usize
         ensures value { result ≡ length self.now.known }
-        ensures few { result ≤ (length self.now.text + 1) * rule_count }
+        ensures few { result ≤ (length self.now.text + 1) * table_count }
         ensures right { AreRight self.now.text self.now.known }
+        ensures own { AreOwn DEFINITIONS self.now.known }
         ensures distinct { AreDistinct self.now.known }
     {
         self.table.workings()

@@ -45,7 +45,7 @@ pub(crate) type Words = [u128; RULES];
 /// What the reading of any text asks of the rules, in the order of their numbers.
 ///
 /// `row_of` compares numbers until it finds a row, which takes longer than what is done with it. So
-/// each rule is asked for once. The tables take some 20 kB where they are, and no other memory.
+/// each rule is asked for once. The tables take some 27 kB where they are, and no other memory.
 #[derive(Drop)]
 pub struct Tables {
     ways: Ways,

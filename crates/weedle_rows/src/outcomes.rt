@@ -7,7 +7,7 @@ use std::process::Abort;
 use weedle::{Counted, Err, Error, ErrorKind, parse_bounded, parse_counted};
 use weedle_build::{Built, build_by_memo, build_definitions};
 use weedle_memo::Memo;
-use weedle_rules::{Ends, READS, RULES};
+use weedle_rules::{Ends, READS, TABLE_RULES};
 
 /// What a reader answers of a text.
 #[derive(Clone, Copy, Debug, PartialEq, Eq)]
@@ -104,7 +104,7 @@ pub fn built_by_memo<'a>(
 
 /// How many workings-out there are for a text.
 fn all_workings(text: &str) -> u128 {
-    (RULES as u128).saturating_mul(text.len() as u128 + 1)
+    (TABLE_RULES as u128).saturating_mul(text.len() as u128 + 1)
 }
 
 /// Asserts the bounds of an answer over a table that didn't run out of memory: each rule is worked

@@ -9,7 +9,7 @@ use std::alloc::{AllocError, Global};
 use std::process::Abort;
 use std::test::Fail;
 use weedle_memo::{Memo, Tables};
-use weedle_rules::{Ends, RULES};
+use weedle_rules::{Ends, TABLE_RULES};
 use weedle_testing::examples::{TEXTS, WINDOW};
 use weedle_testing::{nested_attributes, repeated};
 
@@ -137,7 +137,7 @@ fn long_texts_are_read_in_bounded_steps(rt: HostRuntime) -> Result<(), Fail> {
     assert_eq!(rt; text.len(), 495);
     assert_read(&rt, alloc, &text, read)?;
     let (_, counts) = counted(alloc, &text);
-    assert_eq!(rt; counts.workings, RULES as u128 * 496);
+    assert_eq!(rt; counts.workings, TABLE_RULES as u128 * 496);
     assert!(rt; counts.workings <= 198_400 && counts.visits <= 4_960_000);
     let text = nested_attributes(alloc, 199)?;
     assert_eq!(rt; text.len(), 2_415);
@@ -147,7 +147,7 @@ fn long_texts_are_read_in_bounded_steps(rt: HostRuntime) -> Result<(), Fail> {
     let text = repeated(alloc, "", "/* ", 100, "")?;
     assert_read(&rt, alloc, &text, Outcome::Left(&text))?;
     let (_, counts) = counted(alloc, &text);
-    assert_eq!(rt; counts.workings, RULES as u128 * 301);
+    assert_eq!(rt; counts.workings, TABLE_RULES as u128 * 301);
     assert!(rt; counts.workings <= 120_400);
     let text = repeated(alloc, "enum E {", "\"a\",", 300, "};")?;
     assert_eq!(rt; text.len(), 1_210);

@@ -10,8 +10,8 @@ mark-requires-clause-here c = row_in c.args.ends.now.text c.requires.last c.requ
 pub mark-requires-then-behind-place-clause-here : goal.mark-requires-then-behind-place-clause-here
 mark-requires-then-behind-place-clause-here c = still_in c.mark.ensures.many (row_in c.args.ends.now.text c.requires.last c.requires.row c.requires.here (inr (c.in-Some.behind, it_ends c.in-Some.ensures.right, c.if-behind-place.true, inl (refl, refl))))
 
-pub end-requires-then-behind-place : goal.end-requires-then-behind-place
-end-requires-then-behind-place c = in_text c.args.ends.now.text c.requires.last (row_in c.args.ends.now.text {x = c.args.item} c.requires.last c.requires.row c.requires.here (inr (c.in-Some.behind, it_ends c.in-Some.ensures.right, c.if-behind-place.true, inl (refl, refl))))
+pub cell-requires-then-behind-place-clause-within : goal.cell-requires-then-behind-place-clause-within
+cell-requires-then-behind-place-clause-within c = in_text c.args.ends.now.text c.requires.last (row_in c.args.ends.now.text {x = c.args.item} c.requires.last c.requires.row c.requires.here (inr (c.in-Some.behind, it_ends c.in-Some.ensures.right, c.if-behind-place.true, inl (refl, refl))))
 
 pub mark-requires-in-Some-end-clause-here : goal.mark-requires-in-Some-end-clause-here
 mark-requires-in-Some-end-clause-here c = still_in c.mark-then-behind-place.ensures.many (still_in c.mark.ensures.many (row_in c.args.ends.now.text c.requires.last c.requires.row c.requires.here (inr (c.in-Some.behind, it_ends c.in-Some.ensures.right, c.if-behind-place.true, inr (c.in-Some-end.end, it_ends c.in-Some-end.ensures.right, (refl, refl))))))
@@ -27,3 +27,9 @@ returns-else-behind-place c = tail_stuck c.args.ends.now.text c.args.rule c.requ
 
 pub returns-in-None : goal.returns-in-None
 returns-in-None c = tail_ended c.args.ends.now.text c.args.rule c.requires.row c.mark.ensures c.in-None.ensures.right
+
+pub cell-requires-clause-low : goal.cell-requires-clause-low
+cell-requires-clause-low c = (row_in c.args.ends.now.text {x = c.args.separator} c.requires.last c.requires.row c.requires.here (inl (refl, refl))).low
+
+pub cell-requires-then-behind-place-clause-low : goal.cell-requires-then-behind-place-clause-low
+cell-requires-then-behind-place-clause-low c = (row_in c.args.ends.now.text {x = c.args.item} c.requires.last c.requires.row c.requires.here (inr (c.in-Some.behind, it_ends c.in-Some.ensures.right, c.if-behind-place.true, inl (refl, refl)))).low
