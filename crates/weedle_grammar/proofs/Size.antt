@@ -55,12 +55,12 @@ nothing : (text : List ℕ) (ts : List Tree) (row : Row) (shape : Shape) (p e : 
 nothing text ts row shape p e Fails h g = cc
 nothing text ts row shape p e (Gives us q) h g = cc
 
-table_length : length table ≤ 400
+table_length : length table ≤ 526
 table_length = omega arith
 
 -- what gives something is one of the table's rules
-few : (text : List ℕ) (r p e : ℕ) (ts : List Tree) → ReadsBy webidl text r p (Gives ts e) → r < 400
-few text r p e ts d = elim (cases_lt r 400) [
+few : (text : List ℕ) (r p e : ℕ) (ts : List Tree) → ReadsBy webidl text r p (Gives ts e) → r < 526
+few text r p e ts d = elim (cases_lt r 526) [
   | inl l ↦ l
   | inr l ↦ absurd (let c = choice_of (past_end table r (let m = table_length in omega arith)) d in nothing text ts (First []) (webidl.shape r) p e c.0 (no_choice c.1) c.2)
 ]

@@ -11,6 +11,10 @@ use Rattle.weedle_grammar.proofs.Takes.Types.{types}
 use Rattle.weedle_grammar.proofs.Takes.InterfaceMembers.{interface_members}
 use Rattle.weedle_grammar.proofs.Takes.OtherMembers.{other_members}
 use Rattle.weedle_grammar.proofs.Takes.Definitions.{definitions}
+use Rattle.weedle_grammar.proofs.Takes.TodayWords.{today_words}
+use Rattle.weedle_grammar.proofs.Takes.TodayTypes.{today_types}
+use Rattle.weedle_grammar.proofs.Takes.TodayMembers.{today_members}
+use Rattle.weedle_grammar.proofs.Takes.TodayDefinitions.{today_definitions}
 pub mod Trivia
 pub mod Symbols
 pub mod Keywords
@@ -22,10 +26,14 @@ pub mod Types
 pub mod InterfaceMembers
 pub mod OtherMembers
 pub mod Definitions
+pub mod TodayWords
+pub mod TodayTypes
+pub mod TodayMembers
+pub mod TodayDefinitions
 
 -- whether each rule does, in the order of their numbers
 abbrev pub flags : List Bool
-flags = trivia ++ (symbols ++ (keywords ++ (capitalized_keywords ++ (leaves ++ (literals ++ (simple_types ++ (types ++ (interface_members ++ (other_members ++ definitions)))))))))
+flags = trivia ++ (symbols ++ (keywords ++ (capitalized_keywords ++ (leaves ++ (literals ++ (simple_types ++ (types ++ (interface_members ++ (other_members ++ (definitions ++ (today_words ++ (today_types ++ (today_members ++ today_definitions)))))))))))))
 
 -- the flag at a place; past the end none is set
 abbrev pub flag_at : List Bool → ℕ → Bool

@@ -31,4 +31,7 @@ pub use written::grammar;
 pub use written::grammar::row_of;
 
 /// How many rules there are.
-pub const RULES: usize = 386;
+pub const RULES: usize = 520;
+
+/// How many of them are weedle2's: the rules of smaller numbers, of which tables of ends are made.
+pub const TABLE_RULES: usize = 386;

@@ -1,10 +1,10 @@
 //! The rules of the grammar, by number.
 
-ghost use Rattle.std.specs.Prelude.{◌≡◌, ℕ, ◌<◌, ◌↔◌, IfSome, IsSome};
-ghost use Rattle.weedle_grammar.specs.written.Bound.{rule_count};
+ghost use Rattle.std.specs.Prelude.{◌≡◌, ℕ, ◌<◌, ◌↔◌, IfSome, IsSome, IsTrue};
+ghost use Rattle.weedle_grammar.specs.written.Bound.{rule_count, table_count};
 ghost use Rattle.weedle_grammar.specs.written.Names.{name_of};
 
-use crate::{RULES, grammar};
+use crate::{RULES, TABLE_RULES, grammar};
 use std::marker::Model;
 
 /// A rule of the grammar.
@@ -50,6 +50,15 @@ impl Rule {
         ensures { (result ≡ self) × (result < RULES) }
     {
         self.0
+    }
+
+    /// Whether a packrat table has the rule, as it has each of weedle2's: false of one of today's. It
+    /// takes no memory.
+    #[inline(always)]
+    pub fn is_of_table(self) -> bool
+        ensures { IsTrue result ↔ (self < table_count) }
+    {
+        (self.number() as usize) < TABLE_RULES
     }
 
     /// The rule's name, that of its constant in small letters: `interface_definition` of

@@ -2,17 +2,17 @@
 use Rattle.std.proofs.Common.{◌≡◌, ◌≢◌, ◌⊎◌, inl, inr, ℕ, zero, suc, ◌+◌, ◌++◌, ◌-◌, ◌<◌, ◌≤◌, List, [], ◌∷◌, length, map, Bool, true, false, Option, Some, None, refl, ap, sym, subst, ◌∙◌, arith}
 use Rattle.std.specs.Prelude.{◌==◌, nat_le, not, if◌then◌else◌}
 use Rattle.std.proofs.lemmas.Bool.{cases_lt}
-use Rattle.weedle_grammar.specs.written.Bound.{rule_count}
+use Rattle.weedle_grammar.specs.written.Bound.{table_count, rule_count}
 use Rattle.weedle_grammar.specs.Rows.{Opt, If}
 use Rattle.weedle_grammar.specs.Trees.{Tree, Mark, Absent, Present, Outcome, Fails, Gives}
 use Rattle.weedle_grammar.specs.Meaning.{Grammar, Marked, Plain, Piece, piece, Breaks, Yields, ReadsBy, ReadsSeq, by_row, if_fails, if_absent, if_present, seq_end, seq_fails, seq_more, shaped, raw_of, opted, before, with_piece, gave_some, is_present, given_of, last_end}
-use Rattle.weedle_rules.specs.Cells.{EndsBy, cell_number}
+use Rattle.weedle_rules.specs.Cells.{EndsBy, cell_number, turn_number}
 use Rattle.weedle_grammar.proofs.Ranked.{is_ranked, low_parts}
 use Rattle.weedle_grammar.proofs.Leaves.{both, one_of}
 use Rattle.weedle_grammar.proofs.Inversion.{at_row, of_opt}
 use Rattle.weedle_grammar.proofs.Exists.{grows, stays_inside, advances, seq_advances}
 use Rattle.std.proofs.lemmas.Bool.Decides.{leb_tells}
-use Rattle.weedle_rules.proofs.RowEnds.{is_before, pieces_end, piece_end, before_end, raw_of_end, RowEnds, gave, failed}
+use Rattle.weedle_rules.proofs.RowEnds.{is_before, turn_before, pieces_end, piece_end, before_end, raw_of_end, RowEnds, gave, failed}
 use Rattle.weedle_rules.proofs.PartEnds.{below, low_row}
 use Rattle.weedle_rules.proofs.ByteEnds.{differ, same}
 
@@ -115,8 +115,11 @@ module _ (G : Grammar) (text : List ℕ) where
     pub if_start : (r k y p : ℕ) (parts : List ℕ) → G.row r ≡ If parts k y → p ≤ length text → AlongIf takes r k p parts parts (inl k) p
     if_start r k y p parts e l = record { onward = λ e b h. h; after = omega arith; within = l; low = λ h. (both _ _ (low_row G text takes ranked e)).0 }
 
-    pub if_known : (r k p x q : ℕ) (parts rest : List ℕ) (n : Note) → AlongIf takes r k p parts (x ∷ rest) n q → x < rule_count → cell_number (length text) x q < cell_number (length text) r p
+    pub if_known : (r k p x q : ℕ) (parts rest : List ℕ) (n : Note) → AlongIf takes r k p parts (x ∷ rest) n q → x < table_count → cell_number (length text) x q < cell_number (length text) r p
     if_known r k p x q parts rest n a l = is_before p q x r (length text) a.after a.within l (λ h. below x r (both _ _ (a.low h)).0)
+
+    pub if_before : (r k p x q : ℕ) (parts rest : List ℕ) (n : Note) → AlongIf takes r k p parts (x ∷ rest) n q → x < rule_count → turn_number (length text) x q < turn_number (length text) r p
+    if_before r k p x q parts rest n a l = turn_before p q x r (length text) a.after a.within l (λ h. below x r (both _ _ (a.low h)).0)
 
     pub if_step : (r k p x q e : ℕ) (parts rest : List ℕ) (n n' : Note) → AlongIf takes r k p parts (x ∷ rest) n q → EndsBy G text x q (Some e)
         → ((ts : List Tree) → ReadsBy G text x q (Gives ts e) → note_after n (is_present ts) ≡ n') → AlongIf takes r k p parts rest n' e

@@ -1,6 +1,6 @@
 -- The looks of a working-out, its outcome, and the cells that it may look at.
 use Rattle.std.proofs.Common.{◌≡◌, ◌≢◌, ℕ, ◌+◌, ◌<◌, ◌≤◌, length, Option, Some, ap, sym, subst, ◌∙◌, arith}
-use Rattle.weedle_grammar.specs.written.Bound.{rule_count}
+use Rattle.weedle_grammar.specs.written.Bound.{table_count}
 use Rattle.weedle_grammar.specs.Rows.{Row}
 use Rattle.weedle_rules.specs.Cells.{cell_number, HasEnd}
 use Rattle.weedle_rules.specs.Filling.{Filling, Open, IsBegun, IsWorked}
@@ -42,21 +42,21 @@ module _ {f : Filling} {w : Open} {r p : ℕ} (b : IsBegun f w r p) where
   pub known_if : (x q : ℕ) → cell_number (length f.text) x q < cell_number (length f.text) r p → cell_number (length f.text) x q < length f.known
   known_if x q m = omega (arith, b.next)
 
-  pub known_from : {x q : ℕ} → p ≤ q → q ≤ length f.text → x < rule_count → (q ≡ p → x < r) → cell_number (length f.text) x q < length f.known
+  pub known_from : {x q : ℕ} → p ≤ q → q ≤ length f.text → x < table_count → (q ≡ p → x < r) → cell_number (length f.text) x q < length f.known
   known_from {x} {q} a i n h =
       let m : cell_number (length f.text) x q < cell_number (length f.text) r p = is_before p q x r (length f.text) a i n h in
       omega (arith, b.next)
 
-  pub known_here : {x : ℕ} → x < rule_count → x < r → cell_number (length f.text) x p < length f.known
+  pub known_here : {x : ℕ} → x < table_count → x < r → cell_number (length f.text) x p < length f.known
   known_here n h = known_from (omega arith) b.within n (λ e. h)
 
-  pub known_after : {q x : ℕ} → p < q → q ≤ length f.text → x < rule_count → cell_number (length f.text) x q < length f.known
+  pub known_after : {q x : ℕ} → p < q → q ≤ length f.text → x < table_count → cell_number (length f.text) x q < length f.known
   known_after h n l = known_from (omega arith) n l (λ e. absurd (omega arith))
 
   -- an end within the text, and cells behind it
   pub end_inside : {x q : ℕ} → HasEnd f.text x p (Some q) → q ≤ length f.text
   end_inside {x} {q} h = ends_inside webidl f.text x p q h b.within
 
-  pub known_behind : {x y q : ℕ} → HasEnd f.text x p (Some q) → q ≢ p → y < rule_count → cell_number (length f.text) y q < length f.known
+  pub known_behind : {x y q : ℕ} → HasEnd f.text x p (Some q) → q ≢ p → y < table_count → cell_number (length f.text) y q < length f.known
   known_behind {x} {y} {q} h n l =
       known_from (ends_after webidl f.text x p q h) (ends_inside webidl f.text x p q h b.within) l (λ e. absurd (n e))

@@ -2,15 +2,15 @@
 use Rattle.std.proofs.Common.{◌≡◌, inl, inr, ℕ, ◌+◌, ◌-◌, ◌<◌, ◌≤◌, List, [], ◌∷◌, length, map, Bool, true, ◌&&◌, ◌||◌, Option, Some, None, refl, sym, subst, ◌∙◌, add-one, arith}
 use Rattle.std.specs.Prelude.{nat_lt}
 use borrow.Author.Tests.{ltb-true}
-use Rattle.weedle_grammar.specs.written.Bound.{rule_count}
+use Rattle.weedle_grammar.specs.written.Bound.{table_count, rule_count}
 use Rattle.weedle_grammar.specs.Rows.{Row, Seq, First, Opt, Many, ListOf, List1, Tail}
 use Rattle.weedle_grammar.specs.Trees.{Tree, Fails, Gives}
 use Rattle.weedle_grammar.specs.Meaning.{Grammar, piece, seq_end, seq_fails, seq_more, first_none, first_here, first_next, with_piece}
-use Rattle.weedle_rules.specs.Cells.{EndsBy, cell_number}
+use Rattle.weedle_rules.specs.Cells.{EndsBy, cell_number, turn_number}
 use Rattle.weedle_grammar.proofs.Ranked.{is_ranked, is_low, low_parts, all_low}
 use Rattle.weedle_grammar.proofs.Leaves.{both, one_of}
 use Rattle.weedle_grammar.proofs.Exists.{grows, stays_inside, advances}
-use Rattle.weedle_rules.proofs.RowEnds.{is_before, piece_end, SeqEnds, FirstEnds, gave, failed}
+use Rattle.weedle_rules.proofs.RowEnds.{is_before, turn_before, piece_end, SeqEnds, FirstEnds, gave, failed}
 
 pub below : (a b : ℕ) → nat_lt a b ≡ true → a < b
 below a b h = omega (arith, ltb-true)
@@ -56,12 +56,20 @@ module _ (G : Grammar) (text : List ℕ) where
     along_start r p parts e l = record { onward = λ e h. h; after = omega arith; within = l; low = λ h. low_row e }
 
     -- the cell of its next part is known
-    pub along_known : (r p x q : ℕ) (parts rest : List ℕ) → Along takes r p parts (x ∷ rest) q → x < rule_count → cell_number (length text) x q < cell_number (length text) r p
+    pub along_known : (r p x q : ℕ) (parts rest : List ℕ) → Along takes r p parts (x ∷ rest) q → x < table_count → cell_number (length text) x q < cell_number (length text) r p
     along_known r p x q parts rest a l =
         let after = a.after in
         let within = a.within in
         let low : q ≡ p → x < r = λ h. below x r (both _ _ (a.low h)).0 in
         is_before p q x r (length text) after within l low
+
+    -- the turn of its next part comes before
+    pub along_before : (r p x q : ℕ) (parts rest : List ℕ) → Along takes r p parts (x ∷ rest) q → x < rule_count → turn_number (length text) x q < turn_number (length text) r p
+    along_before r p x q parts rest a l =
+        let after = a.after in
+        let within = a.within in
+        let low : q ≡ p → x < r = λ h. below x r (both _ _ (a.low h)).0 in
+        turn_before p q x r (length text) after within l low
 
     pub along_step : (r p x q e : ℕ) (parts rest : List ℕ) → Along takes r p parts (x ∷ rest) q → EndsBy G text x q (Some e) → Along takes r p parts rest e
     along_step r p x q e parts rest a h =
@@ -87,6 +95,9 @@ module _ (G : Grammar) (text : List ℕ) where
 
     pub trying_known : (r i p x : ℕ) (parts rest : List ℕ) → Trying takes r parts (x ∷ rest) i p → cell_number (length text) x p < cell_number (length text) r p
     trying_known r i p x parts rest t = let l = below x r (both _ _ t.low).0 in omega arith
+
+    pub trying_before : (r i p x : ℕ) (parts rest : List ℕ) → Trying takes r parts (x ∷ rest) i p → turn_number (length text) x p < turn_number (length text) r p
+    trying_before r i p x parts rest t = let l = below x r (both _ _ t.low).0 in omega arith
 
     -- the rule that an option, a repetition or a tail reads first is known at its place
     pub opt_low : (r x : ℕ) → G.row r ≡ Opt x → x < r

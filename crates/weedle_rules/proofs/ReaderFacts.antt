@@ -5,7 +5,7 @@ use Rattle.std.proofs.lemmas.List.{get_or-map, get_or-take, map-append, length-a
 use Rattle.std.proofs.Math.Seq.{get_or-append_seam}
 use Rattle.std.proofs.Math.ListN.{get_or-append}
 use Rattle.std.proofs.lemmas.Bool.{cases_lt}
-use Rattle.weedle_grammar.specs.written.Bound.{rule_count}
+use Rattle.weedle_grammar.specs.written.Bound.{table_count}
 use Rattle.weedle_rules.specs.written.Bound.{most_reads}
 use Rattle.weedle_grammar.specs.Trees.{Outcome, Fails, Gives}
 use Rattle.weedle_grammar.specs.written.Table.{webidl, Reads}
@@ -25,7 +25,7 @@ pub end_within : {text : List ℕ} {r p : ℕ} {e : Option ℕ} → HasEnd text 
 end_within {text} {r} {p} h l g k = subst (λ e. IfSome e (λ q. q ≤ g)) (sym h.is) (outcome_within text r p h.outcome h.reads l g k)
 
 -- one cell more that is right
-pub all_right_more : (text : List ℕ) (known : List (Option ℕ)) (r p : ℕ) (e : Option ℕ) → AllRight text known → r < rule_count → p ≤ length text
+pub all_right_more : (text : List ℕ) (known : List (Option ℕ)) (r p : ℕ) (e : Option ℕ) → AllRight text known → r < table_count → p ≤ length text
     → length known ≡ cell_number (length text) r p → HasEnd text r p e → AllRight text (known ++ e ∷ [])
 all_right_more text known r p e h low within next right r' p' low' within' l =
     elim (cases_lt (cell_number (length text) r' p') (length known)) [
@@ -40,20 +40,20 @@ all_right_more text known r p e h low within next right r' p' low' within' l =
 
 module _ {C : Type 0} (stands : C → Option ℕ) where
   -- the cells that are known where one more is written
-  pub known_more : (rows : List (List C)) → AreRows rows → (i j w : ℕ) (e : List C) (c : C) → i < length rows → j < rule_count → w ≡ i * rule_count + j
+  pub known_more : (rows : List (List C)) → AreRows rows → (i j w : ℕ) (e : List C) (c : C) → i < length rows → j < table_count → w ≡ i * table_count + j
       → known_of stands (w + 1) (set rows i (set (get_or rows i e) j c)) ≡ known_of stands w rows ++ stands c ∷ []
   known_more rows even i j w e c h l n =
       ap (λ k. map stands (take (w + 1) k)) (cells_set rows even i j w e c h l n)
       ∙ ap (map stands) (take_more_set (cells_of rows) w c (omega (arith, cells_length rows even)))
       ∙ map-append stands (take w (cells_of rows)) (c ∷ [])
 
-  pub known_length : (rows : List (List C)) → AreRows rows → (w : ℕ) → w ≤ length rows * rule_count → length (known_of stands w rows) ≡ w
+  pub known_length : (rows : List (List C)) → AreRows rows → (w : ℕ) → w ≤ length rows * table_count → length (known_of stands w rows) ≡ w
   known_length rows even w h =
       length-map (take w (cells_of rows)) stands ∙ length-take-le w (cells_of rows) (omega (arith, cells_length rows even))
 
   -- what a cell that is known stands for
-  pub known_stands : (rows : List (List C)) → AreRows rows → (i j k w : ℕ) (row : List C) (c : C) → w ≤ length rows * rule_count → k < w → k ≡ i * rule_count + j
-      → j < rule_count → row ≡ get_or rows i row → c ≡ get_or row j c → get_or (known_of stands w rows) k None ≡ stands c
+  pub known_stands : (rows : List (List C)) → AreRows rows → (i j k w : ℕ) (row : List C) (c : C) → w ≤ length rows * table_count → k < w → k ≡ i * table_count + j
+      → j < table_count → row ≡ get_or rows i row → c ≡ get_or row j c → get_or (known_of stands w rows) k None ≡ stands c
   known_stands rows even i j k w row c l h n low is cis =
       let len = cells_length rows even in
       let ll = length-take-le w (cells_of rows) (omega arith) in
@@ -63,14 +63,14 @@ module _ {C : Type 0} (stands : C → Option ℕ) where
 
   -- what a look at a cell answers
   pub cell_is : (text : List ℕ) (rows : List (List C)) → AreRows rows → (w r p : ℕ) (row : List C) (c : C) (e : Option ℕ)
-      → w ≤ length rows * rule_count → r < rule_count → cell_number (length text) r p < length (known_of stands w rows)
+      → w ≤ length rows * table_count → r < table_count → cell_number (length text) r p < length (known_of stands w rows)
       → row ≡ get_or rows (length text - p) row → c ≡ get_or row r c → e ≡ stands c → e ≡ cell_of text (known_of stands w rows) r p
   cell_is text rows even w r p row c e laid low l is cis es =
       es ∙ sym (known_stands rows even (length text - p) r (cell_number (length text) r p) w row c laid (omega (arith, known_length rows even w laid)) refl low is cis)
 
   -- it is right
   pub cell_right : (text : List ℕ) (rows : List (List C)) → AreRows rows → (w r p : ℕ) (row : List C) (c : C) (e : Option ℕ) → AllRight text (known_of stands w rows)
-      → w ≤ length rows * rule_count → r < rule_count → p ≤ length text → cell_number (length text) r p < length (known_of stands w rows)
+      → w ≤ length rows * table_count → r < table_count → p ≤ length text → cell_number (length text) r p < length (known_of stands w rows)
       → row ≡ get_or rows (length text - p) row → c ≡ get_or row r c → e ≡ stands c → HasEnd text r p e
   cell_right text rows even w r p row c e h laid low within l is cis es =
       subst (HasEnd text r p) (sym (cell_is text rows even w r p row c e laid low l is cis es)) (h r p low within l)
@@ -81,13 +81,13 @@ module _ {C : Type 0} (stands : C → Option ℕ) where
 
   -- laying a row out, where all cells of those before are known
   pub reader_lays : (greatest : ℕ) (text : List ℕ) (rows : List (List C)) (capacity before w v reads most : ℕ) (is_open : Bool) (row : List C)
-      → IsReader stands greatest text rows capacity before w reads most is_open → length rows < length text + 1 → length row ≡ rule_count
-      → length (known_of stands w rows) ≡ length rows * rule_count → v ≡ w
+      → IsReader stands greatest text rows capacity before w reads most is_open → length rows < length text + 1 → length row ≡ table_count
+      → length (known_of stands w rows) ≡ length rows * table_count → v ≡ w
       → IsReader stands greatest text (rows ++ row ∷ []) capacity w v reads most is_open
   reader_lays greatest text rows capacity before w v reads most is_open row h room l full e =
       let len = cells_length rows h.even in
       let more = length-append rows (row ∷ []) in
-      let all : w ≡ length rows * rule_count = sym (known_length rows h.even w h.laid) ∙ full in
+      let all : w ≡ length rows * table_count = sym (known_length rows h.even w h.laid) ∙ full in
       subst (λ z. IsReader stands greatest text (rows ++ row ∷ []) capacity w z reads most is_open) (sym e) record {
         fits = h.fits;
         even = push_even rows h.even row l;
@@ -103,7 +103,7 @@ module _ {C : Type 0} (stands : C → Option ℕ) where
 
   -- opening a working-out
   pub reader_opens : (greatest : ℕ) (text : List ℕ) (rows : List (List C)) (capacity before w reads most : ℕ) (is_open : Bool)
-      → IsReader stands greatest text rows capacity before w reads most is_open → length (known_of stands w rows) < length rows * rule_count
+      → IsReader stands greatest text rows capacity before w reads most is_open → length (known_of stands w rows) < length rows * table_count
       → IsReader stands greatest text rows capacity before w reads most true
   reader_opens greatest text rows capacity before w reads most is_open h room =
       record {
@@ -126,7 +126,7 @@ module _ {C : Type 0} (stands : C → Option ℕ) where
 
   -- the cell that is worked out is the next of the last row
   pub closes_at : (greatest : ℕ) (text : List ℕ) (rows : List (List C)) (capacity before w reads most rule place filled : ℕ)
-      → IsReader stands greatest text rows capacity before w reads most true → rule < rule_count → w ≡ before + filled
+      → IsReader stands greatest text rows capacity before w reads most true → rule < table_count → w ≡ before + filled
       → length (known_of stands w rows) ≡ cell_number (length text) rule place → (length text - place ≡ length rows - 1) × (filled ≡ rule)
   closes_at greatest text rows capacity before w reads most rule place filled h low wn n =
       let o = h.open_cell refl in
@@ -149,7 +149,7 @@ module _ {C : Type 0} (stands : C → Option ℕ) where
 
   -- closing a working-out
   pub reader_closes : (greatest : ℕ) (text : List ℕ) (rows : List (List C)) (capacity before w v reads most rule place count i j : ℕ) (row : List C) (c : C) (e : Option ℕ)
-      → IsReader stands greatest text rows capacity before w reads most true → rule < rule_count → i ≡ length rows - 1 → w ≡ before + j → row ≡ get_or rows i row → place ≤ length text
+      → IsReader stands greatest text rows capacity before w reads most true → rule < table_count → i ≡ length rows - 1 → w ≡ before + j → row ≡ get_or rows i row → place ≤ length text
       → length (known_of stands w rows) ≡ cell_number (length text) rule place → stands c ≡ e → HasEnd text rule place e → 0 < count → count ≤ most_reads → v ≡ w + 1
       → IsReader stands greatest text (set rows i (set row j c)) capacity before v (reads + count) (max most count) false
   reader_closes greatest text rows capacity before w v reads most rule place count i j row c e h low last wn at within n is right looked few ve =
@@ -159,7 +159,7 @@ module _ {C : Type 0} (stands : C → Option ℕ) where
       record {
         fits = h.fits;
         even = set_even rows h.even i (set row j c) (length-set row j c ∙ ap length at ∙ h.even i row (omega arith));
-        above = h.above ∙ ap (λ z. (z - 1) * rule_count) (sym ls);
+        above = h.above ∙ ap (λ z. (z - 1) * table_count) (sym ls);
         laid = omega arith;
         room = h.room;
         few = omega (arith, h.few);

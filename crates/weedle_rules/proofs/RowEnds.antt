@@ -3,18 +3,22 @@
 use Rattle.std.proofs.Common.{◌≡◌, ◌≢◌, inl, inr, ℕ, ◌+◌, ◌<◌, ◌≤◌, List, [], length, drop, Option, Some, None, refl, ap, sym, subst, ◌∙◌, arith}
 use Rattle.std.specs.Prelude.{option_map}
 use Rattle.std.proofs.lemmas.Bool.{cases_lt}
-use Rattle.weedle_grammar.specs.written.Bound.{rule_count}
+use Rattle.weedle_grammar.specs.written.Bound.{table_count, rule_count}
 use Rattle.weedle_grammar.specs.Rows.{Row, Bytes, OneOf, NotNext, Run, Past, Seq, First, Opt, Many, ListOf, List1, Tail, take_bytes, take_one, take_not_next, take_past, run_length}
 use Rattle.weedle_grammar.specs.declared.class.Class.{Class}
 use Rattle.weedle_grammar.specs.Trees.{Tree, Outcome, Fails, Gives}
 use Rattle.weedle_grammar.specs.Meaning.{Grammar, Shape, Piece, piece, Raw, Breaks, Yields, ReadsBy, ReadsRow, ReadsSeq, ReadsFirst, by_row, by_bytes, by_one, by_not_next, by_run, by_past, by_seq, by_first, by_opt, many_end, many_stuck, many_more, list_none, list_more, list1_fails, list1_more, tail_end, tail_stuck, tail_back, tail_more, leaf, shaped, raw_of, opted, before, together, with_piece, last_end}
-use Rattle.weedle_rules.specs.Cells.{end_of, EndsBy, cell_number}
+use Rattle.weedle_rules.specs.Cells.{end_of, EndsBy, cell_number, turn_number}
 use Rattle.weedle_grammar.proofs.Inversion.{at_row, of_run, of_past}
 use Rattle.weedle_grammar.proofs.Exists.{grows, stays_inside}
 
 -- a cell behind the place, or of a smaller rule at it, is before the rule's
-pub is_before : (p q x r n : ℕ) → p ≤ q → q ≤ n → x < rule_count → (q ≡ p → x < r) → cell_number n x q < cell_number n r p
+pub is_before : (p q x r n : ℕ) → p ≤ q → q ≤ n → x < table_count → (q ≡ p → x < r) → cell_number n x q < cell_number n r p
 is_before p q x r n after within l low = elim (cases_lt p q) [ inl h ↦ omega arith | inr h ↦ (let e : q ≡ p = omega arith in let k : x < r = low e in omega arith) ]
+
+-- the same over all rules
+pub turn_before : (p q x r n : ℕ) → p ≤ q → q ≤ n → x < rule_count → (q ≡ p → x < r) → turn_number n x q < turn_number n r p
+turn_before p q x r n after within l low = elim (cases_lt p q) [ inl h ↦ omega arith | inr h ↦ (let e : q ≡ p = omega arith in let k : x < r = low e in omega arith) ]
 
 -- the end of what a row yields
 abbrev pub raw_end : Raw → Option ℕ

@@ -1,7 +1,7 @@
 -- The cells of a packrat table: when one is right, and in which order they are worked out.
 use Rattle.std.specs.Prelude.{◌≡◌, ◌≤◌, ◌<◌, ◌+◌, ◌-◌, ◌*◌, ℕ, List, length, Option, Some, None}
 use Rattle.std.proofs.Common.{get_or}
-use Rattle.weedle_grammar.specs.written.Bound.{rule_count}
+use Rattle.weedle_grammar.specs.written.Bound.{table_count, rule_count}
 use Rattle.weedle_grammar.specs.Trees.{Outcome, Fails, Gives}
 use Rattle.weedle_grammar.specs.Meaning.{Grammar, ReadsBy}
 use Rattle.weedle_grammar.specs.written.Table.{webidl}
@@ -24,7 +24,11 @@ HasEnd text r p e = EndsBy webidl text r p e
 -- the number of a cell in the order of the filling: from the last place of a text of n bytes to the first, at each
 -- place in the order of the rules
 abbrev pub cell_number : ℕ → ℕ → ℕ → ℕ
-cell_number n r p = (n - p) * rule_count + r
+cell_number n r p = (n - p) * table_count + r
+
+-- the same order over all rules, tables or not: what a descent goes down by
+abbrev pub turn_number : ℕ → ℕ → ℕ → ℕ
+turn_number n r p = (n - p) * rule_count + r
 
 -- what the cell of rule r at place p says
 abbrev pub cell_of : List ℕ → List (Option ℕ) → ℕ → ℕ → Option ℕ
@@ -32,5 +36,5 @@ cell_of text known r p = get_or known (cell_number (length text) r p) None
 
 -- each cell that is known is its rule's end, or its failure, at its place
 abbrev pub AllRight : List ℕ → List (Option ℕ) → Type 0
-AllRight text known = (r p : ℕ) → r < rule_count → p ≤ length text → cell_number (length text) r p < length known
+AllRight text known = (r p : ℕ) → r < table_count → p ≤ length text → cell_number (length text) r p < length known
     → HasEnd text r p (cell_of text known r p)

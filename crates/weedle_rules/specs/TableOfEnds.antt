@@ -1,6 +1,6 @@
 -- A packrat table.
 use Rattle.std.specs.Prelude.{◌≡◌, ◌≤◌, ◌+◌, ◌*◌, max, ℕ, Bool, List, length, sum, fold, All, Option}
-use Rattle.weedle_grammar.specs.written.Bound.{rule_count}
+use Rattle.weedle_grammar.specs.written.Bound.{table_count}
 use Rattle.weedle_rules.specs.written.Bound.{most_reads}
 use Rattle.weedle_rules.specs.Cells.{AllRight}
 
@@ -43,6 +43,6 @@ pub record IsCounted (k : ℕ) (known : List (Option ℕ)) (workings reads most 
 pub record IsTableOf (t : TableOfEnds) (text : List ℕ) : Type 0 where
   pub text_is : t.text ≡ text
   -- a cell for each rule at each place
-  pub full : length t.known ≡ (length text + 1) * rule_count
+  pub full : length t.known ≡ (length text + 1) * table_count
   pub right : AllRight text t.known
   pub counted : IsCounted most_reads t.known t.workings t.reads t.most

@@ -4,7 +4,7 @@
 //! each rule, and keeps the counting view's fields in registers.
 
 ghost use Rattle.std.specs.Prelude.{◌≡◌, ◌<◌, ◌≤◌, ◌+◌, ◌-◌, ◌*◌, length};
-ghost use Rattle.weedle_grammar.specs.written.Bound.{rule_count};
+ghost use Rattle.weedle_grammar.specs.written.Bound.{table_count};
 ghost use Rattle.weedle_rules.specs.Filling.{IsUnfilled, IsFilled, IsFilling};
 
 use crate::cell::Cell;
@@ -19,7 +19,7 @@ use written::place::fill_place;
 /// Works out the next cell, of the rule of this number at this place.
 #[inline(always)]
 fn fill_cell<C: Cell>(reader: &mut Reader<'_, C>, number: u16, place: usize)
-    requires low { number < rule_count }
+    requires low { number < table_count }
     requires within { place ≤ length reader.old.text }
     requires next { IsFilling reader.old reader.old.text place number }
     ensures { IsFilling reader.new reader.old.text place (number + 1) }
@@ -34,7 +34,7 @@ fn fill_cell<C: Cell>(reader: &mut Reader<'_, C>, number: u16, place: usize)
 #[inline(always)]
 pub(crate) fn fill<C: Cell>(reader: &mut Reader<'_, C>)
     requires { IsUnfilled reader.old reader.old.text }
-    ensures { IsFilled reader.new reader.old.text ((length reader.old.text + 1) * rule_count) }
+    ensures { IsFilled reader.new reader.old.text ((length reader.old.text + 1) * table_count) }
 {
     let mut place = reader.places();
     while place > 0 {

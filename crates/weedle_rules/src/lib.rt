@@ -18,7 +18,7 @@ mod work;
 
 pub use cell::{Cell, Narrow, Wide};
 pub use ends::Ends;
-pub use weedle_grammar::{Class, Parts, RULES, Row, Rule, holds, laws, row_of};
+pub use weedle_grammar::{Class, Parts, Row, Rule, TABLE_RULES, holds, laws, row_of};
 
 /// How often a byte or a cell is looked at, at most, where one cell is worked out.
 pub const READS: usize = 29;

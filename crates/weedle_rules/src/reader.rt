@@ -26,7 +26,7 @@ ghost use Rattle.std.specs.Prelude.{
   IfSome,
   IfOk,
 };
-ghost use Rattle.weedle_grammar.specs.written.Bound.{rule_count};
+ghost use Rattle.weedle_grammar.specs.written.Bound.{table_count};
 ghost use Rattle.weedle_rules.specs.Cells.{HasEnd, cell_number, cell_of, AllRight};
 ghost use Rattle.weedle_rules.specs.Filling.{Filling, IsUnfilled, IsFilled};
 ghost use Rattle.weedle_rules.specs.TableOfEnds.{IsCounted};
@@ -35,14 +35,14 @@ use crate::READS;
 use crate::cell::Cell;
 use std::alloc::{AllocError, Global};
 use std::marker::Model;
-use weedle_grammar::{RULES, Rule};
+use weedle_grammar::{Rule, TABLE_RULES};
 
 /// A table that is being filled, from the last place to the first.
 #[derive(Drop)]
 pub(crate) struct Reader<'a, C: Cell> {
     text: &'a [u8],
     // the cells of each place, from the last place on
-    rows: Vec<[C; RULES]>,
+    rows: Vec<[C; TABLE_RULES]>,
     // how many are known in the rows before the last, and how many in the last
     before: u128,
     filled: usize,
@@ -53,7 +53,7 @@ pub(crate) struct Reader<'a, C: Cell> {
 
 impl<'a, C: Cell> Model for Reader<'a, C> {
     ghost use Rattle.std.specs.Prelude.{◌+◌, ◌*◌, length, vec_capacity};
-    ghost use Rattle.weedle_grammar.specs.written.Bound.{rule_count};
+    ghost use Rattle.weedle_grammar.specs.written.Bound.{table_count};
     ghost use Rattle.weedle_rules.specs.Filling.{Filling};
 
     ghost Value = { Filling };
@@ -63,7 +63,7 @@ impl<'a, C: Cell> Model for Reader<'a, C> {
     ghost view = { λ r. record {
       text = r.text.now;
       known = known_of C.stands_for (r.before + r.filled) r.rows.items;
-      laid = length r.rows.items * rule_count;
+      laid = length r.rows.items * table_count;
       workings = r.before + r.filled;
       reads = r.reads;
       most = r.most;
@@ -96,7 +96,8 @@ impl Model for Working {
 
 /// The cell of the rule in a row.
 #[inline(always)]
-fn in_row<C: Cell>(row: &[C; RULES], rule: Rule) -> C
+fn in_row<C: Cell>(row: &[C; TABLE_RULES], rule: Rule) -> C
+    requires { rule < table_count }
     ensures { result ≡ slice_index_or row.now rule result }
 {
     row[rule.number() as usize]
@@ -123,13 +124,13 @@ impl<'a, C: Cell> Reader<'a, C> {
     /// Adds the cells of one more place, where all those before are known. None of them is known.
     #[inline(always)]
     pub(crate) fn lay(&mut self)
-        requires room { self.old.laid + rule_count ≤ (length self.old.text + 1) * rule_count }
+        requires room { self.old.laid + table_count ≤ (length self.old.text + 1) * table_count }
         requires full { length self.old.known ≡ self.old.laid }
-        ensures { self.new ≡ record self.old { laid = self.old.laid + rule_count } }
+        ensures { self.new ≡ record self.old { laid = self.old.laid + table_count } }
     {
         self.before += self.filled as u128;
         self.filled = 0;
-        self.rows.push_reserved([C::pack(None); RULES]);
+        self.rows.push_reserved([C::pack(None); TABLE_RULES]);
     }
 
     /// How many cells were worked out.
@@ -193,6 +194,7 @@ impl<'a, C: Cell> Reader<'a, C> {
     /// What the cell of the rule at the place says.
     #[inline(always)]
     fn known(&self, rule: Rule, place: usize) -> Option<usize>
+        requires low { rule < table_count }
         requires within { place ≤ length self.now.text }
         requires known { cell_number (length self.now.text) rule place < length self.now.known }
         ensures value { result ≡ cell_of self.now.text self.now.known rule place }
@@ -204,6 +206,7 @@ impl<'a, C: Cell> Reader<'a, C> {
     /// A look at the cell of the rule at the place: where the rule ends, or None where it fails.
     #[inline(always)]
     pub(crate) fn cell(&self, working: &mut Working, rule: Rule, place: usize) -> Option<usize>
+        requires low { rule < table_count }
         requires opened { self.now.is_open ≡ true }
         requires room { working.old.count < READS }
         requires within { place ≤ length self.now.text }
@@ -219,6 +222,7 @@ impl<'a, C: Cell> Reader<'a, C> {
     /// nothing.
     #[inline(always)]
     pub(crate) fn asked(&self, rule: Rule, place: usize) -> Option<usize>
+        requires low { rule < table_count }
         requires closed { self.now.is_open ≡ false }
         requires within { place ≤ length self.now.text }
         requires known { cell_number (length self.now.text) rule place < length self.now.known }
@@ -231,6 +235,7 @@ impl<'a, C: Cell> Reader<'a, C> {
     /// Begins the working-out of the next cell.
     #[inline(always)]
     pub(crate) fn begin(&mut self, rule: Rule, place: usize) -> Working
+        requires low { rule < table_count }
         requires closed { self.old.is_open ≡ false }
         requires room { length self.old.known < self.old.laid }
         requires next { length self.old.known ≡ cell_number (length self.old.text) rule place }
@@ -249,6 +254,7 @@ impl<'a, C: Cell> Reader<'a, C> {
     /// Closes the working-out with its outcome. It took a read at least.
     #[inline(always)]
     pub(crate) fn close(&mut self, working: Working, outcome: Option<usize>)
+        requires low { working.rule < table_count }
         requires opened { self.old.is_open ≡ true }
         requires within { working.place ≤ length self.old.text }
         requires next { length self.old.known

@@ -6,5 +6,6 @@ pub mod TriedFacts
 pub mod WordTests
 pub mod StartedFacts
 pub mod StartFacts
+pub mod TableFacts
 pub mod WayFacts
 pub mod Words

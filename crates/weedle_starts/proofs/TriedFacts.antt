@@ -4,6 +4,7 @@ use Rattle.std.specs.Prelude.{◌&&◌, ◌||◌, nat_lt, slice_index}
 use Rattle.std.specs.Int.{bit_at}
 use Rattle.std.proofs.lemmas.Bool.{cases_lt}
 use Rattle.std.proofs.lemmas.List.{length-drop}
+use Rattle.weedle_grammar.specs.written.Bound.{rule_count}
 use Rattle.weedle_grammar.specs.Rows.{Row, Bytes, OneOf, NotNext, Run, Past, Seq, First, Opt, Many, ListOf, List1, Tail, If}
 use Rattle.weedle_grammar.specs.Meaning.{last_end}
 use Rattle.weedle_grammar.specs.written.Table.{webidl, row_of}
@@ -100,7 +101,7 @@ CoversTried word r = (text : List ℕ) (p b : ℕ) (rest : List ℕ) → drop p 
 abbrev pub AreTriedHere : List ℕ → ℕ → Type 0
 AreTriedHere words n = (x : ℕ) → x < n → CoversTried (slice_index words x) x
 
-pub word_tried : (words : List ℕ) (n word : ℕ) → AreTaken words n → AreTriedHere words n → n < 386 → Begins words (row_of n) word → CoversTried word n
+pub word_tried : (words : List ℕ) (n word : ℕ) → AreTaken words n → AreTriedHere words n → n < rule_count → Begins words (row_of n) word → CoversTried word n
 word_tried words n word known tried low w text p b rest is ascii lacks x q (itself s) = s.1
 word_tried words n word known tried low w text p b rest is ascii lacks x q (on {y = y} {z = z} t l) =
     let at = row_stays text n p b rest words known is ascii (row_of n) word (both _ _ (ranked n)).0 w lacks y z t in

@@ -81,7 +81,7 @@ behind_none p q ts Breaks l h = tt
 behind_none p q ts (Yields us ends e) l h = λ z. absurd (omega arith)
 
 -- items from some place on: none, or no more than 10,000 nodes for each byte
-pub run_costs : (k p : ℕ) (w : Raw) → k < 400 → RawLands le p w → RawNone p w → RawWeighs (25 * k + 18) p w → RawCosts 0 p w
+pub run_costs : (k p : ℕ) (w : Raw) → k < 526 → RawLands le p w → RawNone p w → RawWeighs (19 * k + 18) p w → RawCosts 0 p w
 run_costs k p Breaks b l n h = tt
 run_costs k p (Yields ts ends e) b l n h = elim (cases_lt p e) [ inl m ↦ (let c = h m in omega arith) | inr m ↦ (let c = n (omega arith) in omega arith) ]
 

@@ -442,9 +442,163 @@ definitions =
     codes "definitions" ∷
     []
 
+-- Words, a symbol, literals and docstrings of today's WebIDL.
+abbrev pub today_words : List (List ℕ)
+today_words =
+    codes "bytes_asterisk" ∷
+    codes "asterisk" ∷
+    codes "bytes_big_int" ∷
+    codes "big_int" ∷
+    codes "bytes_async_iterable_word" ∷
+    codes "async_iterable_word" ∷
+    codes "bytes_async_sequence" ∷
+    codes "async_sequence" ∷
+    codes "bytes_observable_array" ∷
+    codes "observable_array" ∷
+    codes "bytes_float16_array" ∷
+    codes "float16_array" ∷
+    codes "bytes_big_int64_array" ∷
+    codes "big_int64_array" ∷
+    codes "bytes_big_uint64_array" ∷
+    codes "big_uint64_array" ∷
+    codes "bytes_shared_array_buffer" ∷
+    codes "shared_array_buffer" ∷
+    codes "today_doc" ∷
+    codes "today_docs" ∷
+    codes "today_last_doc" ∷
+    codes "today_trivia" ∷
+    codes "today_default_value" ∷
+    codes "today_default" ∷
+    codes "opt_today_default" ∷
+    codes "may_be_null_big_int" ∷
+    codes "today_const_type" ∷
+    codes "tail_string_lit_comma" ∷
+    codes "today_string_list" ∷
+    codes "parenthesized_today_strings" ∷
+    codes "today_number" ∷
+    codes "tail_today_number_comma" ∷
+    codes "today_number_list" ∷
+    codes "parenthesized_today_numbers" ∷
+    []
+
+-- Today's types, extended attributes and arguments, which read one another.
+abbrev pub today_types : List (List ℕ)
+today_types =
+    codes "generics_today_attributed_type" ∷
+    codes "today_sequence_type" ∷
+    codes "today_async_sequence_type" ∷
+    codes "today_frozen_array_type" ∷
+    codes "today_observable_array_type" ∷
+    codes "generics_today_type" ∷
+    codes "today_promise_type" ∷
+    codes "generics_today_record_types" ∷
+    codes "today_record_type" ∷
+    codes "today_union_type" ∷
+    codes "may_be_null_today_union_type" ∷
+    codes "today_word_type" ∷
+    codes "today_generic_type" ∷
+    codes "may_be_null_today_word_type" ∷
+    codes "may_be_null_today_generic_type" ∷
+    codes "today_non_any_type" ∷
+    codes "today_key_type" ∷
+    codes "today_record_types" ∷
+    codes "today_type" ∷
+    codes "today_attributes" ∷
+    codes "today_attribute_lists" ∷
+    codes "today_attributed_type" ∷
+    codes "today_attributed_non_any_type" ∷
+    codes "today_union_member_type" ∷
+    codes "tail_today_union_member_type_or" ∷
+    codes "list1_today_union_member_type_or" ∷
+    codes "today_optional_argument" ∷
+    codes "opt_ellipsis" ∷
+    codes "today_required_argument" ∷
+    codes "today_argument_kind" ∷
+    codes "today_argument" ∷
+    codes "tail_today_argument_comma" ∷
+    codes "today_argument_list" ∷
+    codes "today_arguments" ∷
+    codes "today_attribute_arg_list" ∷
+    codes "today_attribute_named_arg_list" ∷
+    codes "today_attribute_wildcard" ∷
+    codes "today_attribute_number" ∷
+    codes "today_attribute_strings" ∷
+    codes "today_attribute_numbers" ∷
+    codes "today_attribute" ∷
+    codes "tail_today_attribute_comma" ∷
+    codes "list_today_attribute_comma" ∷
+    []
+
+-- Today's members: docstrings and extended attributes, and then of which kind it is.
+abbrev pub today_members : List (List ℕ)
+today_members =
+    codes "today_key_and_value_types" ∷
+    codes "generics_today_key_and_value_types" ∷
+    codes "today_second_type" ∷
+    codes "opt_today_second_type" ∷
+    codes "today_iterated" ∷
+    codes "today_const" ∷
+    codes "today_attribute_member" ∷
+    codes "today_constructor" ∷
+    codes "today_operation" ∷
+    codes "today_iterable" ∷
+    codes "today_async_words" ∷
+    codes "opt_today_arguments" ∷
+    codes "today_async_iterable" ∷
+    codes "today_maplike" ∷
+    codes "today_setlike" ∷
+    codes "today_stringifier" ∷
+    codes "today_interface_member_kind" ∷
+    codes "today_interface_member" ∷
+    codes "today_mixin_operation" ∷
+    codes "today_mixin_attribute" ∷
+    codes "today_mixin_member_kind" ∷
+    codes "today_mixin_member" ∷
+    codes "today_namespace_operation" ∷
+    codes "today_namespace_attribute" ∷
+    codes "today_namespace_member_kind" ∷
+    codes "today_namespace_member" ∷
+    codes "today_dictionary_member" ∷
+    codes "today_enum_value" ∷
+    codes "tail_today_enum_value_comma" ∷
+    codes "list1_today_enum_value_comma" ∷
+    codes "today_interface_members" ∷
+    codes "braced_today_interface_members" ∷
+    codes "today_mixin_members" ∷
+    codes "braced_today_mixin_members" ∷
+    codes "today_namespace_members" ∷
+    codes "braced_today_namespace_members" ∷
+    codes "today_dictionary_members" ∷
+    codes "braced_today_dictionary_members" ∷
+    codes "braced_today_enum_values" ∷
+    []
+
+-- Today's definitions.
+abbrev pub today_definitions : List (List ℕ)
+today_definitions =
+    codes "today_callback" ∷
+    codes "today_callback_interface" ∷
+    codes "today_interface" ∷
+    codes "today_mixin" ∷
+    codes "today_namespace" ∷
+    codes "today_dictionary" ∷
+    codes "today_partial_interface" ∷
+    codes "today_partial_mixin" ∷
+    codes "today_partial_dictionary" ∷
+    codes "today_partial_namespace" ∷
+    codes "today_enum" ∷
+    codes "today_typedef" ∷
+    codes "today_includes" ∷
+    codes "today_implements" ∷
+    codes "today_definition_kind" ∷
+    codes "today_definition" ∷
+    codes "today_piece" ∷
+    codes "today_definitions" ∷
+    []
+
 -- all names, in the order of the rules' numbers
 abbrev pub names : List (List ℕ)
-names = trivia ++ (symbols ++ (keywords ++ (capitalized_keywords ++ (leaves ++ (literals ++ (simple_types ++ (types ++ (interface_members ++ (other_members ++ definitions)))))))))
+names = trivia ++ (symbols ++ (keywords ++ (capitalized_keywords ++ (leaves ++ (literals ++ (simple_types ++ (types ++ (interface_members ++ (other_members ++ (definitions ++ (today_words ++ (today_types ++ (today_members ++ today_definitions)))))))))))))
 
 -- the name at a place of a list; past its end an empty one
 abbrev pub name_at : List (List ℕ) → ℕ → List ℕ

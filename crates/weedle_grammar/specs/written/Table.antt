@@ -15,6 +15,10 @@ use Rattle.weedle_grammar.specs.written.Table.Types.{types}
 use Rattle.weedle_grammar.specs.written.Table.InterfaceMembers.{interface_members}
 use Rattle.weedle_grammar.specs.written.Table.OtherMembers.{other_members}
 use Rattle.weedle_grammar.specs.written.Table.Definitions.{definitions}
+use Rattle.weedle_grammar.specs.written.Table.TodayWords.{today_words}
+use Rattle.weedle_grammar.specs.written.Table.TodayTypes.{today_types}
+use Rattle.weedle_grammar.specs.written.Table.TodayMembers.{today_members}
+use Rattle.weedle_grammar.specs.written.Table.TodayDefinitions.{today_definitions}
 pub mod Trivia
 pub mod Symbols
 pub mod Keywords
@@ -26,10 +30,14 @@ pub mod Types
 pub mod InterfaceMembers
 pub mod OtherMembers
 pub mod Definitions
+pub mod TodayWords
+pub mod TodayTypes
+pub mod TodayMembers
+pub mod TodayDefinitions
 
 -- all rules, in the order of their numbers
 abbrev pub table : List Entry
-table = trivia ++ (symbols ++ (keywords ++ (capitalized_keywords ++ (leaves ++ (literals ++ (simple_types ++ (types ++ (interface_members ++ (other_members ++ definitions)))))))))
+table = trivia ++ (symbols ++ (keywords ++ (capitalized_keywords ++ (leaves ++ (literals ++ (simple_types ++ (types ++ (interface_members ++ (other_members ++ (definitions ++ (today_words ++ (today_types ++ (today_members ++ today_definitions)))))))))))))
 
 -- the row of a rule
 abbrev pub row_of : ℕ → Row

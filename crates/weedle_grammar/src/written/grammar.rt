@@ -21,6 +21,10 @@ pub mod literals;
 pub mod other_members;
 pub mod simple_types;
 pub mod symbols;
+pub mod today_definitions;
+pub mod today_members;
+pub mod today_types;
+pub mod today_words;
 pub mod trivia;
 pub mod types;
 
@@ -50,8 +54,16 @@ pub fn row_of(rule: Rule) -> Row
         interface_members::row(number)
     } else if number < 370 {
         other_members::row(number)
-    } else {
+    } else if number < 386 {
         definitions::row(number)
+    } else if number < 420 {
+        today_words::row(number)
+    } else if number < 463 {
+        today_types::row(number)
+    } else if number < 502 {
+        today_members::row(number)
+    } else {
+        today_definitions::row(number)
     }
 }
 
@@ -80,7 +92,15 @@ pub(crate) fn name_of(rule: Rule) -> &'static str
         interface_members::name(number)
     } else if number < 370 {
         other_members::name(number)
-    } else {
+    } else if number < 386 {
         definitions::name(number)
+    } else if number < 420 {
+        today_words::name(number)
+    } else if number < 463 {
+        today_types::name(number)
+    } else if number < 502 {
+        today_members::name(number)
+    } else {
+        today_definitions::name(number)
     }
 }

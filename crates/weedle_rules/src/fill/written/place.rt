@@ -3,7 +3,7 @@
 //! Written by tools/grammar.py, and not edited by hand.
 
 ghost use Rattle.std.specs.Prelude.{◌≤◌, ◌+◌, ◌-◌, ◌*◌, length};
-ghost use Rattle.weedle_grammar.specs.written.Bound.{rule_count};
+ghost use Rattle.weedle_grammar.specs.written.Bound.{table_count};
 ghost use Rattle.weedle_rules.specs.Filling.{IsFilled};
 
 use crate::cell::Cell;
@@ -21,14 +21,14 @@ mod symbols;
 mod trivia;
 mod types;
 
-/// Works out the cells of all rules at a place, where all behind it are known.
+/// Works out the cells of weedle2's rules at a place, where all behind it are known.
 #[inline(always)]
 pub(crate) fn fill_place<C: Cell>(reader: &mut Reader<'_, C>, place: usize)
     requires within { place ≤ length reader.old.text }
     requires next { IsFilled reader.old reader.old.text
-        ((length reader.old.text - place) * rule_count) }
+        ((length reader.old.text - place) * table_count) }
     ensures { IsFilled reader.new reader.old.text
-        ((length reader.old.text - place) * rule_count + rule_count) }
+        ((length reader.old.text - place) * table_count + table_count) }
 {
     reader.lay();
     trivia::fill(reader, place);

@@ -5,16 +5,17 @@ use Rattle.weedle_grammar.proofs.Checked.{ranked}
 use Rattle.weedle_rules.proofs.RowEnds.{row_ends, ends_after, ends_inside, tail_ends, tail_fails, tail_gives_back, tail_goes}
 use Rattle.weedle_rules.proofs.PartEnds.{tail_low}
 use Rattle.weedle_rules.proofs.Looks.{known_after, looked, on, worked, known_here, known_behind, end_inside}
+use Rattle.weedle_rules.proofs.TableRows.{tail_part, tail_mark}
 use Rattle.weedle_rules.proofs.work.items.tail.Goals as goal
 
 pub cell-requires-clause-known : goal.cell-requires-clause-known
-cell-requires-clause-known g c = known_here c.requires.begun (search rules) (tail_low webidl c.args.reader.now.text takes ranked _ _ _ c.requires.row)
+cell-requires-clause-known g c = known_here c.requires.begun (tail_mark c.requires.begun.low c.requires.row) (tail_low webidl c.args.reader.now.text takes ranked _ _ _ c.requires.row)
 
 pub cell-requires-else-behind-place-clause-within : goal.cell-requires-else-behind-place-clause-within
 cell-requires-else-behind-place-clause-within g c = end_inside c.requires.begun c.in-Some.ensures.right
 
 pub cell-requires-else-behind-place-clause-known : goal.cell-requires-else-behind-place-clause-known
-cell-requires-else-behind-place-clause-known g c = known_behind c.requires.begun c.in-Some.ensures.right c.if-behind-place.false (search rules)
+cell-requires-else-behind-place-clause-known g c = known_behind c.requires.begun c.in-Some.ensures.right c.if-behind-place.false (tail_part c.requires.begun.low c.requires.row)
 
 pub cell-requires-in-Some-cell-clause-within : goal.cell-requires-in-Some-cell-clause-within
 cell-requires-in-Some-cell-clause-within g c =
@@ -50,3 +51,9 @@ returns-in-Some-cell g c =
     let l = looked _ c.cell.ensures.counted in
     let m = on l c.cell-else-behind-place.ensures.counted in
     worked b c.requires.row (on m c.cell-in-Some-cell.ensures.counted) (omega arith) (tail_goes webidl c.args.reader.now.text _ _ _ _ _ _ c.in-Some.ensures.right c.if-behind-place.false c.in-Some-cell.ensures.right (row_ends c.requires.row c.cell-in-Some-cell.ensures.right))
+
+pub cell-requires-clause-low : goal.cell-requires-clause-low
+cell-requires-clause-low g c = tail_mark c.requires.begun.low c.requires.row
+
+pub cell-requires-else-behind-place-clause-low : goal.cell-requires-else-behind-place-clause-low
+cell-requires-else-behind-place-clause-low g c = tail_part c.requires.begun.low c.requires.row

@@ -8,6 +8,7 @@ use Rattle.weedle_rules.proofs.RowEnds.{seq_ends}
 use Rattle.weedle_rules.proofs.FewReads.{seq_few}
 use Rattle.weedle_rules.proofs.Looks.{its_count, none_yet, on, worked, known_if, counted_on}
 use Rattle.weedle_rules.proofs.ListFrom.{next_part, no_part}
+use Rattle.weedle_rules.proofs.TableRows.{among_all, part_is, seq_part}
 use Rattle.weedle_rules.proofs.work.parts.seq.Goals as goal
 
 pub loop-i-init : goal.loop-i-init
@@ -19,7 +20,7 @@ cell-requires-clause-opened g c = c.requires.begun.opened
 pub cell-requires-clause-room : goal.cell-requires-clause-room
 cell-requires-clause-room g c =
     let n = its_count c.loop-i.invariant.0 in
-    let k = seq_few c.requires.begun.low c.requires.row in
+    let k = seq_few (among_all c.requires.begun.low) c.requires.row in
     let i = c.loop-i-test.true in
     let e = c.len-i-end.ensures in
     omega arith
@@ -30,7 +31,7 @@ cell-requires-clause-within g c = c.loop-i.invariant.1.within
 pub cell-requires-clause-known : goal.cell-requires-clause-known
 cell-requires-clause-known g c =
     let a = rw (next_part (numbers_of c.args.parts) c.len-i-end.ensures c.loop-i-test.true c.rule.ensures.value) at c.loop-i.invariant.1 in
-    known_if c.requires.begun _ _ (along_known webidl c.args.reader.now.text takes ranked _ _ _ _ _ _ a c.rule.ensures.low)
+    known_if c.requires.begun _ _ (along_known webidl c.args.reader.now.text takes ranked _ _ _ _ _ _ a (part_is (numbers_of c.args.parts) c.loop-i.i c.rule.ensures.value (seq_part c.requires.begun.low c.requires.row c.loop-i.i)))
 
 pub returns-in-None : goal.returns-in-None
 returns-in-None g c =
@@ -50,7 +51,10 @@ loop-i-preserved g c =
 pub returns : goal.returns
 returns g c =
     let a = rw (no_part (numbers_of c.args.parts) c.len-i-end.ensures c.loop-i-test.false) at c.loop-i.invariant.1 in
-    let k = seq_few c.requires.begun.low c.requires.row in
+    let k = seq_few (among_all c.requires.begun.low) c.requires.row in
     let i = c.loop-i-test.false in
     let e = c.len-i-end.ensures in
     worked c.requires.begun c.requires.row c.loop-i.invariant.0 (omega arith) (seq_ends webidl c.args.reader.now.text _ _ _ (along_ends webidl c.args.reader.now.text takes _ _ _ _ a))
+
+pub cell-requires-clause-low : goal.cell-requires-clause-low
+cell-requires-clause-low g c = part_is (numbers_of c.args.parts) c.loop-i.i c.rule.ensures.value (seq_part c.requires.begun.low c.requires.row c.loop-i.i)

@@ -1,14 +1,15 @@
 use Rattle.std.proofs.Common.{arith}
 use Rattle.weedle_rules.proofs.FewReads.{bytes_few}
+use Rattle.weedle_rules.proofs.TableRows.{among_all}
 use Rattle.weedle_rules.proofs.Looks.{looked, worked}
 use Rattle.weedle_rules.proofs.ByteEnds.{stand_within, bytes_fit, bytes_other}
 use Rattle.weedle_rules.proofs.work.plain.bytes.Goals as goal
 
 pub stand_at-requires-clause-some : goal.stand_at-requires-clause-some
-stand_at-requires-clause-some g c = (bytes_few c.requires.begun.low c.requires.row).0
+stand_at-requires-clause-some g c = (bytes_few (among_all c.requires.begun.low) c.requires.row).0
 
 pub stand_at-requires-clause-few : goal.stand_at-requires-clause-few
-stand_at-requires-clause-few g c = (bytes_few c.requires.begun.low c.requires.row).1
+stand_at-requires-clause-few g c = (bytes_few (among_all c.requires.begun.low) c.requires.row).1
 
 pub overflow_add-result : goal.overflow_add-result
 overflow_add-result g c =

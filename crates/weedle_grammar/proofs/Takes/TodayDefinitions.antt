@@ -1,0 +1,8 @@
+-- Which rules of this section always take a byte. Written by tools/grammar.py, and not edited by hand.
+use Rattle.std.proofs.Common.{List, [], ◌∷◌, Bool, true, false}
+
+abbrev pub today_definitions : List Bool
+today_definitions =
+    true ∷ true ∷ true ∷ true ∷ true ∷ true ∷ true ∷ true ∷ true ∷ true ∷ true ∷ true ∷
+    true ∷ true ∷ true ∷ true ∷ true ∷ false ∷
+    []

@@ -1,0 +1,10 @@
+-- Which rules of this section always take a byte. Written by tools/grammar.py, and not edited by hand.
+use Rattle.std.proofs.Common.{List, [], ◌∷◌, Bool, true, false}
+
+abbrev pub today_types : List Bool
+today_types =
+    true ∷ true ∷ true ∷ true ∷ true ∷ true ∷ true ∷ true ∷ true ∷ true ∷ true ∷ true ∷
+    true ∷ true ∷ true ∷ true ∷ true ∷ true ∷ true ∷ true ∷ false ∷ true ∷ true ∷ true ∷
+    false ∷ false ∷ true ∷ false ∷ true ∷ true ∷ true ∷ false ∷ false ∷ true ∷ true ∷ true ∷
+    true ∷ true ∷ true ∷ true ∷ true ∷ false ∷ false ∷
+    []
